@@ -1,0 +1,52 @@
+-- The steps of the move, in the order in which the code takes them.
+use Rattle.std.proofs.Common.{◌≡◌, ◌≢◌, ◌∙◌, ap, sym, length, List}
+use Rattle.std.proofs.lemmas.List.{take_at}
+use Rattle.go_board.specs.declared.points.Stone.{Stone}
+use Rattle.go_board.specs.Position.{position_in, placed}
+use Rattle.go_board.specs.Play.{stone_of}
+use Rattle.go_board.proofs.Agreement.{Agree, write_places}
+use Rattle.go_board.proofs.Moves.{Steps, Steps-capture, Steps-quiet, Steps-plays, Steps-lists, Steps-taken, Steps-own}
+use Rattle.go_board.proofs.boards.Board.play.Goals as goal
+use Rattle.go_board.proofs.boards.Board.play.Goals.{then-taken-eq0, else-taken-eq0}
+
+steps : (c : goal.After-len) → Steps c.self.inside.size (position_in c.self.inside.size c.self.inside.stones.items) c.args.colour c.args.point
+    (position_in c.self.inside.size c.deref_mut.result.now) (position_in c.self.inside.size c.capture.new.stones)
+    (position_in c.if-taken-eq0.self-inside.size c.if-taken-eq0.self-inside.stones.items)
+    c.capture.new.removed.points c.if-taken-eq0.self-inside.removed.points
+steps c =
+    let agree : Agree c.self.inside.size (position_in c.self.inside.size c.deref_mut.result.now)
+    (placed (position_in c.self.inside.size c.self.inside.stones.items) c.args.point (stone_of c.args.colour)) =
+    rw (c.deref_mut.ensures.value, c.index-index.ensures.value, c.stone.ensures)
+    (write_places c.self.inside.size c.self.inside.stones.items c.args.point (stone_of c.args.colour) (rw (← c.self.view_is) at c.requires) c.self.invariant.whole) in
+    let full : length c.capture.new.stones ≡ c.self.inside.stones.len = c.capture.auto.stones ∙ c.deref_mut.ensures.len in
+    elim c.if-taken-eq0.branch [
+      | then-taken-eq0 w ↦ (
+          let none : length c.capture.new.removed.points ≡ 0 = sym c.len-taken.ensures.value ∙ w.if-taken-eq0.true in
+          let left : w.deref_mut-then-taken-eq0.result.now ≡ c.capture.new.stones = w.deref_mut-then-taken-eq0.ensures.value ∙ rw take_at in
+          let full' : length w.remove_if_dead.new.stones ≡ c.self.inside.stones.len = w.remove_if_dead.auto.stones ∙ ap (λ (l : List Stone). length l) left ∙ full in
+          rw (w.self-inside-is, take_at)
+          (Steps-quiet c.self.inside.size (position_in c.self.inside.size c.self.inside.stones.items) c.args.colour c.args.point
+          (position_in c.self.inside.size c.deref_mut.result.now) (position_in c.self.inside.size c.capture.new.stones)
+          c.capture.new.removed.points (rw (← c.self.view_is) at c.requires) agree c.capture.ensures.stones c.capture.ensures.removed
+          (position_in c.self.inside.size w.remove_if_dead.new.stones) w.remove_if_dead.new.removed.points none
+          (rw (left, w.stone-then-taken-eq0.ensures) at w.remove_if_dead.ensures.stones)
+          (rw (left, w.stone-then-taken-eq0.ensures) at w.remove_if_dead.ensures.removed)))
+      | else-taken-eq0 w ↦ (
+          let some : length c.capture.new.removed.points ≢ 0 = λ e. w.if-taken-eq0.false (c.len-taken.ensures.value ∙ e) in
+          rw (w.self-inside-is, take_at)
+          (Steps-capture c.self.inside.size (position_in c.self.inside.size c.self.inside.stones.items) c.args.colour c.args.point
+          (position_in c.self.inside.size c.deref_mut.result.now) (position_in c.self.inside.size c.capture.new.stones)
+          c.capture.new.removed.points (rw (← c.self.view_is) at c.requires) agree c.capture.ensures.stones c.capture.ensures.removed some))
+    ]
+
+pub returns-clause-position : goal.returns-clause-position
+returns-clause-position c = rw (← c.self.view_is) (Steps-plays _ _ _ _ _ _ _ _ _ (steps c))
+
+pub returns-clause-removed : goal.returns-clause-removed
+returns-clause-removed c = rw (← c.self.view_is) (Steps-lists _ _ _ _ _ _ _ _ _ (steps c) c.if-taken-eq0.self-inside.removed.size c.len.ensures.gathered)
+
+pub returns-clause-taken : goal.returns-clause-taken
+returns-clause-taken c = rw (← c.self.view_is) (c.len-taken.ensures.value ∙ Steps-taken _ _ _ _ _ _ _ _ _ (steps c))
+
+pub returns-clause-own_lost : goal.returns-clause-own_lost
+returns-clause-own_lost c = rw (← c.self.view_is, c.len.ensures.value, c.len-taken.ensures.value) (Steps-own _ _ _ _ _ _ _ _ _ (steps c))

@@ -1,0 +1,33 @@
+-- Sets of points of a board, as lists in which no point stands twice.
+use Rattle.std.specs.Prelude.{◌≡◌, ◌≢◌, ℕ, ◌*◌, ◌≤◌, Bool, true, false, List, length, take, slice_index_or, All, Contains}
+use Rattle.std.specs.List.{AllPairs}
+use Rattle.go_board.specs.declared.points.Point.{Point}
+use Rattle.go_board.specs.Extent.{Extent}
+use Rattle.go_board.specs.Point.{IsOn, index_of}
+
+-- a board's size and some of its points, in the order in which they came
+pub record Gathered : Type 0 where
+  pub size : Extent
+  pub points : List Point
+
+-- each point is on the board, and stands once
+pub record IsGathered (size : Extent) (points : List Point) : Type 0 where
+  pub on_board : All (IsOn size) points
+  pub once : AllPairs (λ p q. p ≢ q) points
+
+-- the mark at a point
+abbrev pub IsMarked : Extent → List Bool → Point → Type 0
+IsMarked size marks p = slice_index_or marks (index_of size p) false ≡ true
+
+-- the marks stand at the points of the list, and nowhere else on the board
+pub record MarksThese (size : Extent) (marks : List Bool) (points : List Point) : Type 0 where
+  pub each : All (IsMarked size marks) points
+  pub only : (q : Point) → IsOn size q → IsMarked size marks q → Contains points q
+
+-- room for each point of the board, of which the first `count` stand in the set
+pub record IsPointSet (size : Extent) (marks : List Bool) (members : List Point) (count : ℕ) : Type 0 where
+  pub room : length members ≡ size.columns * size.rows
+  pub all_marks : length marks ≡ size.columns * size.rows
+  pub within : count ≤ length members
+  pub gathered : IsGathered size (take count members)
+  pub marked : MarksThese size marks (take count members)

@@ -1,0 +1,7 @@
+pub mod Extent
+pub mod Point
+pub mod Position
+pub mod Play
+pub mod Board
+pub mod Gathered
+pub mod Groups

@@ -1,0 +1,172 @@
+//! Boards: stones set and moves played.
+use crate::faults::BoardFault;
+use crate::groups::{capture, is_alive, remove_if_dead};
+use crate::point_sets::PointSet;
+use crate::points::{Colour, Point, Size, Stone};
+use std::alloc::Global;
+use std::marker::Model;
+
+/// How many stones a move removed. At most one of the two numbers is above 0.
+#[derive(Clone, Copy, Debug, PartialEq, Eq)]
+pub struct Played {
+    /// The stones of the other colour.
+    pub taken: u32,
+    /// The stones of the mover's own colour, the one of the move among them.
+    pub own_lost: u32,
+}
+
+/// A position on a board, and the points that the last move emptied.
+///
+/// All memory is taken by `new`, for each point of the board.
+#[derive(Drop)]
+pub struct Board {
+    size: Size,
+    stones: Vec<Stone>,
+    group: PointSet,
+    removed: PointSet,
+}
+
+impl Model for Board {
+    ghost use Rattle.go_board.specs.Board.{Stones, IsHeld};
+
+    ghost Value = { Stones };
+
+    ghost view = { λ b. record { size = b.size; stones = b.stones.items; removed = b.removed.points } };
+
+    ghost invariant = { λ b. IsHeld b.size b.stones.items b.group.size b.removed };
+}
+
+impl Board {
+    ghost use Rattle.std.specs.Prelude.{◌≡◌, ◌≢◌, ◌+◌, ◌⊎◌, ◌↔◌, [], length, IsTrue, IfOk};
+    ghost use Rattle.go_board.specs.declared.points.Point.{Point};
+    ghost use Rattle.go_board.specs.declared.points.Stone.TheVariants as kind;
+    ghost use Rattle.go_board.specs.Point.{IsOn};
+    ghost use Rattle.go_board.specs.Position.{placed, IsAlive};
+    ghost use Rattle.go_board.specs.Play.{stone_of, other, count_of, Plays, IsRemoved, ListsOnce};
+    ghost use Rattle.go_board.specs.Board.{position_of, IsBoard};
+
+    /// An empty board of this size, from which nothing was removed.
+    ///
+    /// It takes memory for each point of the board. `BoardFault::Memory` comes where memory is refused.
+    pub fn new(alloc: Global, size: Size) -> Result<Board, BoardFault>
+        ensures size { IfOk result (λ board. board.size ≡ size) }
+        ensures empty { IfOk result (λ board. (q : Point) → IsOn size q → position_of board q ≡ kind.Empty) }
+        ensures removed { IfOk result (λ board. board.removed ≡ []) }
+        ensures board { IfOk result IsBoard }
+    {
+        let stones = vec![in alloc; Stone::Empty; size.area()].map_err(|_| BoardFault::Memory)?;
+        let group = PointSet::new(alloc, size).map_err(|_| BoardFault::Memory)?;
+        let removed = PointSet::new(alloc, size).map_err(|_| BoardFault::Memory)?;
+        Ok(Board {
+            size,
+            stones,
+            group,
+            removed,
+        })
+    }
+
+    /// The size of the board.
+    pub fn size(&self) -> Size
+        ensures value { result ≡ self.now.size }
+        ensures board { IsBoard self.now }
+    {
+        self.size
+    }
+
+    /// What stands on a point. The point is on the board.
+    pub fn cell(&self, point: Point) -> Stone
+        requires { IsOn self.now.size point }
+        ensures value { result ≡ position_of self.now point }
+        ensures board { IsBoard self.now }
+    {
+        self.stones[self.size.index(point)]
+    }
+
+    /// Puts a stone on a point, or empties it, whatever stood there; nothing is captured. The point is on the board.
+    pub fn set(&mut self, point: Point, stone: Stone)
+        requires { IsOn self.old.size point }
+        ensures size { self.new.size ≡ self.old.size }
+        ensures removed { self.new.removed ≡ self.old.removed }
+        ensures position { (q : Point) →
+            IsOn self.old.size q →
+            position_of self.new q ≡ placed (position_of self.old) point stone q }
+        ensures board { IsBoard self.new }
+    {
+        let index = self.size.index(point);
+        self.stones[index] = stone;
+    }
+
+    /// Plays a move, by the rule of capture: the stone is placed, whatever stood there; then the stones of the other
+    /// colour that are next to it, or joined to such, and have no liberty are removed; then its own group if that has
+    /// none. The point is on the board.
+    ///
+    /// It takes no memory, and its time is that of the groups that it looks at.
+    pub fn play(&mut self, colour: Colour, point: Point) -> Played
+        requires { IsOn self.old.size point }
+        ensures size { self.new.size ≡ self.old.size }
+        ensures position { Plays self.old.size (position_of self.old) colour point (position_of self.new) }
+        ensures removed { ListsOnce
+            (IsRemoved self.old.size (position_of self.old) colour point (position_of self.new))
+            self.new.removed }
+        ensures all { result.taken + result.own_lost ≡ length self.new.removed }
+        ensures taken { result.taken
+            ≡ count_of
+            (placed (position_of self.old) point (stone_of colour))
+            (stone_of (other colour))
+            self.new.removed }
+        ensures own_lost { result.own_lost
+            ≡ count_of
+            (placed (position_of self.old) point (stone_of colour))
+            (stone_of colour)
+            self.new.removed }
+        ensures one { (result.taken ≡ 0) ⊎ (result.own_lost ≡ 0) }
+        ensures board { IsBoard self.new }
+    {
+        let index = self.size.index(point);
+        self.stones[index] = colour.stone();
+        self.removed.clear();
+        capture(
+            self.size,
+            &mut self.stones,
+            &mut self.group,
+            &mut self.removed,
+            colour,
+            point,
+        );
+        let taken = self.removed.len();
+        if taken == 0 {
+            remove_if_dead(
+                self.size,
+                &mut self.stones,
+                &mut self.group,
+                &mut self.removed,
+                colour.stone(),
+                point,
+            );
+        }
+        let own_lost = self.removed.len() - taken;
+        Played {
+            taken: taken as u32,
+            own_lost: own_lost as u32,
+        }
+    }
+
+    /// Whether the stone on a point, or one joined to it, has an empty neighbour. The point is on the board, and a
+    /// stone stands there. The position stays, and the points that the last move emptied stay listed.
+    pub fn has_liberty(&mut self, point: Point) -> bool
+        requires on_board { IsOn self.old.size point }
+        requires stone { position_of self.old point ≢ kind.Empty }
+        ensures alive { IsTrue result ↔ IsAlive self.old.size (position_of self.old) point }
+        ensures same { self.new ≡ self.old }
+    {
+        is_alive(self.size, &self.stones, &mut self.group, point)
+    }
+
+    /// The points that the last `play` emptied, each once; none before the first. `set` and `has_liberty` leave them.
+    pub fn removed(&self) -> &[Point]
+        ensures value { result.now ≡ self.now.removed }
+        ensures board { IsBoard self.now }
+    {
+        self.removed.points()
+    }
+}

@@ -1,0 +1,89 @@
+//! Sets of points of one board, on lists whose length never changes.
+use crate::points::{Point, Size};
+use std::alloc::{AllocError, Global};
+use std::marker::Model;
+
+/// A set of points, in the order in which they came, with a mark at each of them.
+#[derive(Drop)]
+pub(crate) struct PointSet {
+    size: Size,
+    marks: Vec<bool>,
+    members: Vec<Point>,
+    count: usize,
+}
+
+impl Model for PointSet {
+    ghost use Rattle.std.specs.Prelude.{take};
+    ghost use Rattle.go_board.specs.Gathered.{Gathered, IsPointSet};
+
+    ghost Value = { Gathered };
+
+    ghost view = { λ s. record { size = s.size; points = take s.count s.members.items } };
+
+    ghost invariant = { λ s. IsPointSet s.size s.marks.items s.members.items s.count };
+}
+
+impl PointSet {
+    ghost use Rattle.std.specs.Prelude.{◌≡◌, ◌*◌, ◌≤◌, ◌<◌, ◌⊎◌, List, [], ◌∷◌, ◌++◌, length, slice_index_or, IfOk, Contains};
+    ghost use Rattle.go_board.specs.Gathered.{Gathered, IsGathered};
+    ghost use Rattle.go_board.specs.Point.{IsOn};
+
+    /// The set of no points, with room for each point of a board of this size.
+    pub fn new(alloc: Global, size: Size) -> Result<PointSet, AllocError>
+        ensures { IfOk result (λ set. set ≡ record { size = size; points = [] }) }
+    {
+        let area = size.area();
+        let corner = Point { column: 0, row: 0 };
+        let marks = vec![in alloc; false; area]?;
+        let members = vec![in alloc; corner; area]?;
+        Ok(PointSet {
+            size,
+            marks,
+            members,
+            count: 0,
+        })
+    }
+
+    /// The number of points.
+    pub fn len(&self) -> usize
+        ensures value { result ≡ length self.now.points }
+        ensures few { result ≤ self.now.size.columns * self.now.size.rows }
+        ensures gathered { IsGathered self.now.size self.now.points }
+    {
+        self.count
+    }
+
+    /// The points.
+    pub fn points(&self) -> &[Point]
+        ensures value { result.now ≡ self.now.points }
+        ensures gathered { IsGathered self.now.size self.now.points }
+    {
+        &self.members[..self.count]
+    }
+
+    /// Puts a point in, if it is not there.
+    pub fn add(&mut self, point: Point)
+        requires { IsOn self.old.size point }
+        ensures size { self.new.size ≡ self.old.size }
+        ensures points { ((self.new.points ≡ self.old.points) × Contains self.old.points point)
+            ⊎ (self.new.points ≡ self.old.points ++ point ∷ []) }
+    {
+        let index = self.size.index(point);
+        if !self.marks[index] {
+            self.marks[index] = true;
+            self.members[self.count] = point;
+            self.count += 1;
+        }
+    }
+
+    /// Takes all points out. The time is that of the points in the set, not of the board.
+    pub fn clear(&mut self)
+        ensures { self.new ≡ record { size = self.old.size; points = [] } }
+    {
+        for k in 0..self.count {
+            let index = self.size.index(self.members[k]);
+            self.marks[index] = false;
+        }
+        self.count = 0;
+    }
+}

@@ -1,0 +1,4 @@
+pub mod Colons
+pub mod Digits
+pub mod Collected
+mod Worked

@@ -1,0 +1,22 @@
+//! What a record does, one action after another.
+use go_board::{Colour, Point, Stone};
+
+/// One action of a record.
+#[derive(Clone, Copy, Debug, PartialEq, Eq)]
+pub enum Action {
+    /// Every point of a rectangle is set; `low` has its lesser column and row, `high` its greater.
+    Set {
+        low: Point,
+        high: Point,
+        stone: Stone,
+    },
+    /// A stone is played.
+    Move {
+        colour: Colour,
+        at: Point,
+    },
+    /// A player passes.
+    Pass {
+        colour: Colour,
+    },
+}

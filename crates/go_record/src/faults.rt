@@ -1,0 +1,19 @@
+//! What can be wrong with a record.
+use thiserror::Error;
+
+/// Why a tree gives no record. A place is the offset in the whole input of the first byte of the value at fault.
+#[derive(Clone, Copy, Debug, PartialEq, Eq, Error)]
+pub enum RecordFault {
+    /// The board's size is not one from 1 to 52 by 1 to 52.
+    #[error("G1 bad size at {0}")]
+    BadSize(usize),
+    /// A point, a rectangle or a move is not spelled as one.
+    #[error("G2 bad point at {0}")]
+    BadPoint(usize),
+    /// A point lies off the board.
+    #[error("G3 off the board at {0}")]
+    OffBoard(usize),
+    /// Memory was refused.
+    #[error("G4 no memory")]
+    Memory,
+}

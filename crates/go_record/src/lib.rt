@@ -1,0 +1,17 @@
+//! Trees to records of games.
+#![tactic(auto)]
+
+mod actions;
+mod adding;
+mod deeds;
+mod faults;
+mod names;
+mod nodes;
+mod reading;
+mod records;
+mod spelling;
+
+pub use actions::Action;
+pub use faults::RecordFault;
+pub use reading::read_record;
+pub use records::{Kind, Record};

@@ -1,0 +1,81 @@
+//! A tree, read into a record.
+ghost use Rattle.std.specs.Prelude.{◌≡◌, All, Ok, IfOk, IfErr};
+ghost use Rattle.sgf_core.specs.Tree.{GameTree, main_line_of};
+ghost use Rattle.sgf_core.specs.Marks.{marks_of};
+ghost use Rattle.go_record.specs.Record.{record_of, is_go, board_of, root_of, first_value, collected, node_deeds};
+ghost use Rattle.go_record.specs.Actions.{IsActionOn};
+ghost use Rattle.go_record.specs.Adding.{IsUnlessMemory, IsFaultOrMemory};
+ghost use Rattle.std.specs.Option.{option_map};
+ghost use Rattle.std.specs.List.{flat_map};
+
+use crate::actions::Action;
+use crate::faults::RecordFault;
+use crate::names::first_value;
+use crate::nodes::add_nodes;
+use crate::records::{Kind, Record};
+use crate::spelling::{number, size, trimmed};
+use go_board::Size;
+use sgf_core::{MainLine, Tree, Value};
+use std::alloc::Global;
+
+/// The first value of this name in the first node of a main line.
+fn root_value<'a>(mut line: MainLine<'_, 'a>, name: &[u8]) -> Option<Value<'a>>
+    ensures { option_map (λ v. record { at = v.at; bytes = v.bytes.now }) result ≡ first_value name.now (root_of line.entry) }
+{
+    let root = line.next()?;
+    first_value(&root, name)
+}
+
+/// Whether the tree is of Go, by its value of GM.
+fn is_go(value: Option<Value<'_>>) -> bool
+    ensures { result ≡ is_go (option_map (λ v. record { at = v.at; bytes = v.bytes.now }) value.entry) }
+{
+    let Some(value) = value else {
+        return true;
+    };
+    let text = trimmed(value.bytes);
+    text.is_empty() || number(text) == Some(1)
+}
+
+/// The board's size, by the value of SZ.
+fn board_of(value: Option<Value<'_>>) -> Result<Size, RecordFault>
+    ensures { result ≡ board_of (option_map (λ v. record { at = v.at; bytes = v.bytes.now }) value.entry) }
+{
+    match value {
+        None => Ok(Size::new(19, 19).unwrap()),
+        Some(value) => size(value.bytes).ok_or(RecordFault::BadSize(value.at)),
+    }
+}
+
+/// What is done on a board of this size along a main line.
+fn actions_of(alloc: Global, size: Size, line: MainLine<'_, '_>) -> Result<Vec<Action>, RecordFault>
+    ensures actions { IfOk result (λ actions. collected (flat_map (node_deeds size) line.entry) ≡ Ok actions.items) }
+    ensures fault { IfErr result (IsFaultOrMemory (collected (flat_map (node_deeds size) line.entry))) }
+    ensures on_board { IfOk result (λ actions. All (IsActionOn size) actions.items) }
+{
+    let mut actions = Vec::new(alloc);
+    add_nodes(size, line, &mut actions)?;
+    Ok(actions)
+}
+
+/// The record of a tree's main line, or that the tree is of another game.
+///
+/// GM and SZ count in the first node only, of several there the first, and of its values the first; no GM, an empty
+/// value and the number 1 are Go, no SZ and an empty value are 19 by 19. In each node all setup properties come first,
+/// in their order, and then all moves, in theirs; each value is an action of its own (this project's reading of SGF
+/// FF[4]).
+///
+/// # Errors
+///
+/// The first fault, of the size, and then of the nodes in order: `BadSize`, `BadPoint`, `OffBoard`, each with the place
+/// of its value. `Memory` where memory for the actions was refused.
+pub fn read_record(alloc: Global, tree: &Tree<'_>) -> Result<Kind, RecordFault>
+    ensures { (game : GameTree) → tree.now.marks ≡ marks_of game → IsUnlessMemory result (record_of (main_line_of game)) }
+{
+    if !is_go(root_value(tree.main_line(), b"GM")) {
+        return Ok(Kind::Other);
+    }
+    let size = board_of(root_value(tree.main_line(), b"SZ"))?;
+    let actions = actions_of(alloc, size, tree.main_line())?;
+    Ok(Kind::Go(Record::new(size, actions)))
+}

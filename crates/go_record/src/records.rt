@@ -1,0 +1,58 @@
+//! The record of a game: its board's size and its actions.
+use crate::actions::Action;
+use go_board::Size;
+use std::marker::Model;
+
+/// What a tree's main line gives.
+#[derive(Drop)]
+pub enum Kind {
+    /// A game of Go.
+    Go(Record),
+    /// A tree of another game.
+    Other,
+}
+
+/// A game of Go: the size of its board, and what was done on it. Every point of it is on the board.
+#[derive(Drop)]
+pub struct Record {
+    size: Size,
+    actions: Vec<Action>,
+}
+
+impl Model for Record {
+    ghost use Rattle.go_record.specs.Actions.{Actions, AreOnBoard};
+
+    ghost Value = { Actions };
+
+    ghost view = { λ r. record { size = r.size; actions = r.actions.items } };
+
+    ghost invariant = { λ r. AreOnBoard (record { size = r.size; actions = r.actions.items }) };
+}
+
+impl Record {
+    ghost use Rattle.std.specs.Prelude.{◌≡◌, All};
+    ghost use Rattle.go_record.specs.Actions.{AreOnBoard, IsActionOn};
+
+    /// The record of these actions, every point of which is on the board.
+    pub(crate) fn new(size: Size, actions: Vec<Action>) -> Record
+        requires { All (IsActionOn size) actions.items }
+        ensures { result ≡ record { size = size; actions = actions.items } }
+    {
+        Record { size, actions }
+    }
+
+    /// The size of the board.
+    pub fn size(&self) -> Size
+        ensures { result ≡ self.now.size }
+    {
+        self.size
+    }
+
+    /// The actions, in order.
+    pub fn actions(&self) -> &[Action]
+        ensures value { result.now ≡ self.now.actions }
+        ensures on_board { AreOnBoard self.now }
+    {
+        self.actions.as_slice()
+    }
+}

@@ -1,0 +1,153 @@
+//! How numbers, sizes and points are spelled in a value.
+ghost use Rattle.std.specs.Prelude.{◌≡◌, ◌<◌, ℕ, min, reverse, false, true, IsTrue, MatchOption, Option, map, position};
+ghost use Rattle.std.specs.Option.{option_map};
+ghost use Rattle.std.specs.List.{list_any, before_first, after_first};
+ghost use Rattle.sgf_core.specs.Bytes.{is_white, is_upper, is_lower};
+ghost use Rattle.go_record.specs.Spelling.{without_white_front, trimmed, is_digit, unsigned_of, number_of, side_of, is_colon, size_of};
+ghost use Rattle.go_record.specs.Point.{coordinate_of, point_of};
+ghost use Rattle.go_record.specs.declared.spelling.TheConstants.{CAP};
+
+use go_board::{Point, Size};
+
+/// Numbers are read up to this one; a greater one counts as it, which no rule takes for a smaller.
+const CAP: u32 = 100;
+
+fn is_white(byte: u8) -> bool
+    ensures { result ≡ is_white byte }
+{
+    matches!(byte, 0x09..=0x0d | b' ')
+}
+
+fn without_white_front(bytes: &[u8]) -> &[u8]
+    ensures { result.now ≡ without_white_front bytes.now }
+{
+    let mut rest = bytes;
+    while let [byte, after @ ..] = rest {
+        if !is_white(*byte) {
+            break;
+        }
+        rest = after;
+    }
+    rest
+}
+
+fn without_white_back(bytes: &[u8]) -> &[u8]
+    ensures { result.now ≡ reverse (without_white_front (reverse bytes.now)) }
+{
+    let mut rest = bytes;
+    while let [before @ .., byte] = rest {
+        if !is_white(*byte) {
+            break;
+        }
+        rest = before;
+    }
+    rest
+}
+
+/// Without the white bytes at both ends.
+pub(crate) fn trimmed(bytes: &[u8]) -> &[u8]
+    ensures { result.now ≡ trimmed bytes.now }
+{
+    without_white_back(without_white_front(bytes))
+}
+
+fn is_digit(byte: u8) -> bool
+    ensures { result ≡ is_digit byte }
+{
+    byte.is_ascii_digit()
+}
+
+/// The number of decimal digits, up to the cap.
+fn unsigned(digits: &[u8]) -> Option<u32>
+    ensures { result ≡ option_map (λ n. min n CAP) (unsigned_of digits.now) }
+{
+    if digits.is_empty() {
+        return None;
+    }
+    let mut total: u32 = 0;
+    for digit in digits {
+        if !is_digit(*digit) {
+            return None;
+        }
+        total = (10 * total + u32::from(*digit - b'0')).min(CAP);
+    }
+    Some(total)
+}
+
+/// The number that a text spells, up to the cap.
+pub(crate) fn number(text: &[u8]) -> Option<u32>
+    ensures { result ≡ option_map (λ n. min n CAP) (number_of text.now) }
+{
+    match text {
+        [b'+', digits @ ..] => unsigned(digits),
+        digits => unsigned(digits),
+    }
+}
+
+/// A side of a board.
+fn side(text: &[u8]) -> Option<u8>
+    ensures { result ≡ side_of text.now }
+{
+    let number = number(text)?;
+    if number >= 1 && number <= 52 {
+        Some(number as u8)
+    } else {
+        None
+    }
+}
+
+/// Where the first colon stands.
+fn colon_at(text: &[u8]) -> Option<usize>
+    ensures { result ≡ position is_colon text.now }
+{
+    text.iter().position(|byte| *byte == b':')
+}
+
+/// The parts before and behind the first colon.
+pub(crate) fn split_colon(text: &[u8]) -> Option<(&[u8], &[u8])>
+    ensures { MatchOption result (list_any is_colon text.now ≡ false) (λ parts. (list_any is_colon text.now ≡ true)
+        × (parts.0.now ≡ before_first is_colon text.now) × (parts.1.now ≡ after_first is_colon text.now)) }
+{
+    let at = colon_at(text)?;
+    Some((&text[..at], &text[at + 1..]))
+}
+
+fn coordinate(letter: u8) -> Option<u8>
+    ensures { result ≡ coordinate_of letter }
+{
+    match letter {
+        b'a'..=b'z' => Some(letter - b'a'),
+        b'A'..=b'Z' => Some(letter - b'A' + 26),
+        _ => None,
+    }
+}
+
+/// The point that a text spells.
+pub(crate) fn point(text: &[u8]) -> Option<Point>
+    ensures { result ≡ point_of text.now }
+{
+    match text {
+        [column, row] => Some(Point {
+            column: coordinate(*column)?,
+            row: coordinate(*row)?,
+        }),
+        _ => None,
+    }
+}
+
+/// The size that a value of SZ spells.
+pub(crate) fn size(bytes: &[u8]) -> Option<Size>
+    ensures { result ≡ size_of bytes.now }
+{
+    let text = trimmed(bytes);
+    if text.is_empty() {
+        return Size::new(19, 19);
+    }
+    match split_colon(text) {
+        Some((columns, rows)) => Size::new(side(trimmed(columns))?, side(trimmed(rows))?),
+        None => {
+            let side = side(text)?;
+            Size::new(side, side)
+        }
+    }
+}

@@ -1,0 +1,128 @@
+//! The main line of a tree, its nodes and their properties, each read from the tree's marks.
+ghost use Rattle.std.specs.Prelude.{◌≡◌, ◌+◌, ◌<◌, ◌∷◌, [], length, drop, MatchOption};
+ghost use Rattle.std.specs.Iterator.{YieldsFirst, YieldsFirstRef, item_count};
+ghost use Rattle.sgf_core.specs.Lines.{line_of, leading_properties};
+
+use crate::marks::{Mark, Prop};
+use std::iter::FusedIterator;
+use std::marker::Model;
+
+/// The nodes of a main line, in order.
+#[derive(Drop)]
+pub struct MainLine<'t, 'a> {
+    marks: &'t [Mark<'a>],
+}
+
+impl<'t, 'a> Model for MainLine<'t, 'a> {
+    ghost use Rattle.std.specs.Prelude.{List};
+    ghost use Rattle.sgf_core.specs.Tree.{Node};
+    ghost use Rattle.sgf_core.specs.Lines.{line_of};
+
+    ghost Value = { List Node };
+
+    ghost view = { λ line. line_of line.marks.now };
+}
+
+/// The place of the first node's mark, where one comes before the first end of a tree.
+fn node_place(marks: &[Mark<'_>]) -> Option<usize>
+    ensures { MatchOption result (line_of marks.now ≡ []) (λ place. (place < length marks.now)
+        × (line_of marks.now ≡ leading_properties (drop (place + 1) marks.now) ∷ line_of (drop (place + 1) marks.now))) }
+{
+    for (place, mark) in marks.iter().enumerate() {
+        match mark {
+            Mark::Node => return Some(place),
+            Mark::End => return None,
+            Mark::Begin | Mark::Prop(_) => {}
+        }
+    }
+    None
+}
+
+impl<'t, 'a> MainLine<'t, 'a> {
+    /// The main line of the tree with these marks.
+    pub(crate) fn new(marks: &'t [Mark<'a>]) -> MainLine<'t, 'a>
+        ensures { result ≡ line_of marks.now }
+    {
+        MainLine { marks }
+    }
+}
+
+impl<'t, 'a> Iterator for MainLine<'t, 'a> {
+    type Item = Node<'t, 'a>;
+
+    ghost next_gives = { YieldsFirst (λ line. line) };
+
+    ghost remaining = { item_count (λ line. line) };
+
+    fn next(&mut self) -> Option<Node<'t, 'a>> {
+        let marks = self.marks;
+        let place = node_place(marks)?;
+        self.marks = &marks[place + 1..];
+        Some(Node {
+            marks: &marks[place + 1..],
+        })
+    }
+}
+
+impl<'t, 'a> FusedIterator for MainLine<'t, 'a> {}
+
+/// A node: its properties, in order.
+#[derive(Drop)]
+pub struct Node<'t, 'a> {
+    marks: &'t [Mark<'a>],
+}
+
+impl<'t, 'a> Model for Node<'t, 'a> {
+    ghost use Rattle.sgf_core.specs.Tree.{Node};
+    ghost use Rattle.sgf_core.specs.Lines.{leading_properties};
+
+    ghost Value = { Node };
+
+    ghost view = { λ node. leading_properties node.marks.now };
+}
+
+impl<'t, 'a> Node<'t, 'a> {
+    /// The properties, in order.
+    pub fn props(&self) -> Props<'t, 'a>
+        ensures { result ≡ self.now }
+    {
+        Props { marks: self.marks }
+    }
+}
+
+/// The properties of a node, in order.
+#[derive(Drop)]
+pub struct Props<'t, 'a> {
+    marks: &'t [Mark<'a>],
+}
+
+impl<'t, 'a> Model for Props<'t, 'a> {
+    ghost use Rattle.std.specs.Prelude.{List};
+    ghost use Rattle.sgf_core.specs.Tree.{Property};
+    ghost use Rattle.sgf_core.specs.Lines.{leading_properties};
+
+    ghost Value = { List Property };
+
+    ghost view = { λ props. leading_properties props.marks.now };
+}
+
+impl<'t, 'a> Iterator for Props<'t, 'a> {
+    type Item = &'t Prop<'a>;
+
+    ghost next_gives = { YieldsFirstRef (λ props. props) };
+
+    ghost remaining = { item_count (λ props. props) };
+
+    fn next(&mut self) -> Option<&'t Prop<'a>> {
+        let marks = self.marks;
+        match marks.first()? {
+            Mark::Prop(property) => {
+                self.marks = &marks[1..];
+                Some(property)
+            }
+            Mark::Begin | Mark::Node | Mark::End => None,
+        }
+    }
+}
+
+impl<'t, 'a> FusedIterator for Props<'t, 'a> {}

@@ -1,0 +1,10 @@
+mod Worked
+mod Digits
+mod Codes
+mod Moves
+mod Images
+mod Exchanges
+mod Least
+mod Sums
+mod Spelled
+mod Reach

@@ -1,0 +1,7 @@
+use Rattle.std.proofs.Common.{◌≡◌, ap, ◌∙◌, sym, zero-add}
+use Rattle.shape_core.specs.Around.{word_around}
+use Rattle.shape_core.proofs.surroundings.around.Goals as goal
+
+pub returns : goal.returns
+unfolding word_around
+returns c = c.of_bits.ensures ∙ c.sum_around.ensures.value ∙ sym (zero-add _)

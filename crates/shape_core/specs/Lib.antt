@@ -1,0 +1,5 @@
+pub mod Offset
+pub mod Word
+pub mod Symmetry
+pub mod Around
+pub mod Glyph

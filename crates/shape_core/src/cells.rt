@@ -1,0 +1,82 @@
+//! Where the cells of a pattern lie round a point.
+ghost use Rattle.std.specs.Prelude.{◌≡◌, ◌<◌, ◌≤◌, ◌+◌, ℕ, MatchOption};
+ghost use Rattle.go_board.specs.declared.points.Point.{Point};
+ghost use Rattle.go_board.specs.Point.{IsOn};
+
+use go_board::{Point, Size};
+
+/// How far a cell lies from the middle: columns to the right and rows down, each three more.
+pub type Away = (u8, u8);
+
+/// The cells of a square, row by row from the top, each row from the left.
+pub const SQUARE_CELLS: [Away; 25] = [
+    (1, 1),
+    (2, 1),
+    (3, 1),
+    (4, 1),
+    (5, 1),
+    (1, 2),
+    (2, 2),
+    (3, 2),
+    (4, 2),
+    (5, 2),
+    (1, 3),
+    (2, 3),
+    (3, 3),
+    (4, 3),
+    (5, 3),
+    (1, 4),
+    (2, 4),
+    (3, 4),
+    (4, 4),
+    (5, 4),
+    (1, 5),
+    (2, 5),
+    (3, 5),
+    (4, 5),
+    (5, 5),
+];
+
+/// The cells of a diamond, row by row from the top, each row from the left.
+pub const DIAMOND_CELLS: [Away; 25] = [
+    (3, 0),
+    (2, 1),
+    (3, 1),
+    (4, 1),
+    (1, 2),
+    (2, 2),
+    (3, 2),
+    (4, 2),
+    (5, 2),
+    (0, 3),
+    (1, 3),
+    (2, 3),
+    (3, 3),
+    (4, 3),
+    (5, 3),
+    (6, 3),
+    (1, 4),
+    (2, 4),
+    (3, 4),
+    (4, 4),
+    (5, 4),
+    (2, 5),
+    (3, 5),
+    (4, 5),
+    (3, 6),
+];
+
+/// The point that lies so far from a point, or None where that is off the board.
+pub fn reached(size: Size, point: Point, away: Away) -> Option<Point>
+    requires on_board { IsOn size point }
+    requires columns { away.0 ≤ 6 }
+    requires rows { away.1 ≤ 6 }
+    ensures { MatchOption result
+        ((q : Point) → IsOn size q → q.column + 3 ≡ point.column + away.0 → q.row + 3 ≡ point.row + away.1 → ⊥)
+        (λ q. IsOn size q × (q.column + 3 ≡ point.column + away.0) × (q.row + 3 ≡ point.row + away.1)) }
+{
+    let column = (point.column + away.0).checked_sub(3)?;
+    let row = (point.row + away.1).checked_sub(3)?;
+    let reached = Point { column, row };
+    size.has(reached).then_some(reached)
+}

@@ -1,0 +1,16 @@
+//! Pattern words, their symmetries, and a field that keeps them.
+#![tactic(auto)]
+
+mod cells;
+mod masks;
+mod shapes;
+mod spelling;
+mod surroundings;
+mod symmetries;
+mod words;
+
+pub use shapes::{Shape, canonical, same_canonical};
+pub use spelling::{GlyphFault, from_diamond_glyphs, from_glyphs, glyphs};
+pub use surroundings::{around, diamond};
+pub use symmetries::{Symmetry, exchange, image};
+pub use words::{Kind, Kinds, Word};

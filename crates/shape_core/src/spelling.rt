@@ -1,0 +1,103 @@
+//! Words written as 25 glyphs: `.` empty, `X` black, `O` white, `#` off the board.
+ghost use Rattle.std.specs.Prelude.{◌≡◌, ◌≢◌, ◌↔◌, ◌<◌, ◌≤◌, ◌^◌, ℕ, length, IsSome, IfSome, IfOk, is_some};
+ghost use Rattle.shape_core.specs.Glyph.{glyph_of, is_glyph, glyphs_of, IsFirstBad};
+
+use crate::words::{DIAMOND, Word};
+use thiserror::Error;
+
+/// Why bytes are not the glyphs of a word.
+#[derive(Clone, Copy, Debug, PartialEq, Eq, Error)]
+pub enum GlyphFault {
+    /// There are not 25 bytes.
+    #[error("H2 bad length")]
+    BadLength,
+    /// The byte at this place, from 0, is no glyph; all before it are.
+    #[error("H1 bad glyph at {0}")]
+    BadGlyph(usize),
+}
+
+/// The glyphs of a word's cells, cell 0 first. Takes no memory.
+pub fn glyphs(word: Word) -> [u8; 25]
+    ensures { result ≡ glyphs_of word }
+{
+    let mut glyphs = [b'.'; 25];
+    for cell in 0..25 {
+        glyphs[cell] = glyph(word.code(cell));
+    }
+    glyphs
+}
+
+/// The glyph of a code.
+fn glyph(code: u8) -> u8
+    ensures { result ≡ glyph_of code }
+{
+    match code {
+        0 => b'.',
+        1 => b'X',
+        2 => b'O',
+        _ => b'#',
+    }
+}
+
+/// The code of a glyph, or None where the byte is none.
+fn code(glyph: u8) -> Option<u8>
+    ensures some { is_some result ≡ is_glyph glyph }
+    ensures value { IfSome result (λ code. (code < 4) × (glyph_of code ≡ glyph)) }
+{
+    match glyph {
+        b'.' => Some(0),
+        b'X' => Some(1),
+        b'O' => Some(2),
+        b'#' => Some(3),
+        _ => None,
+    }
+}
+
+/// The sum over the cells whose glyphs these are.
+fn sum_of_glyphs(bytes: &[u8]) -> Result<u64, GlyphFault>
+    ensures ok { IfOk result (λ sum. (sum < 2 ^ 50) × (glyphs_of sum ≡ bytes.now)) }
+    ensures found { (sum : ℕ) → sum < 2 ^ 50 → glyphs_of sum ≡ bytes.now → result ≡ Ok sum }
+    ensures length { (result ≡ Err GlyphFault.BadLength) ↔ (length bytes.now ≢ 25) }
+    ensures glyph { (at : ℕ) → (result ≡ Err (GlyphFault.BadGlyph at))
+        ↔ ((length bytes.now ≡ 25) × IsFirstBad bytes.now at) }
+{
+    if bytes.len() != 25 {
+        return Err(GlyphFault::BadLength);
+    }
+    let mut sum = 0;
+    for (at, byte) in bytes.iter().enumerate() {
+        let Some(code) = code(*byte) else {
+            return Err(GlyphFault::BadGlyph(at));
+        };
+        sum += u64::from(code) << (2 * at);
+    }
+    Ok(sum)
+}
+
+/// The square of these 25 glyphs, cell 0 first. Takes no memory.
+///
+/// `BadLength` comes exactly where there are not 25 bytes, and else `BadGlyph` at the first byte that is no glyph.
+pub fn from_glyphs(bytes: &[u8]) -> Result<Word, GlyphFault>
+    ensures ok { IfOk result (λ word. (word < 2 ^ 50) × (glyphs_of word ≡ bytes.now)) }
+    ensures found { (word : ℕ) → word < 2 ^ 50 → glyphs_of word ≡ bytes.now → result ≡ Ok word }
+    ensures length { (result ≡ Err GlyphFault.BadLength) ↔ (length bytes.now ≢ 25) }
+    ensures glyph { (at : ℕ) → (result ≡ Err (GlyphFault.BadGlyph at))
+        ↔ ((length bytes.now ≡ 25) × IsFirstBad bytes.now at) }
+{
+    let sum = sum_of_glyphs(bytes)?;
+    Ok(Word::of_bits(sum))
+}
+
+/// The diamond of these 25 glyphs, cell 0 first. Takes no memory.
+///
+/// `BadLength` comes exactly where there are not 25 bytes, and else `BadGlyph` at the first byte that is no glyph.
+pub fn from_diamond_glyphs(bytes: &[u8]) -> Result<Word, GlyphFault>
+    ensures ok { IfOk result (λ word. (2 ^ 50 ≤ word) × (word < 2 ^ 51) × (glyphs_of word ≡ bytes.now)) }
+    ensures found { (word : ℕ) → 2 ^ 50 ≤ word → word < 2 ^ 51 → glyphs_of word ≡ bytes.now → result ≡ Ok word }
+    ensures length { (result ≡ Err GlyphFault.BadLength) ↔ (length bytes.now ≢ 25) }
+    ensures glyph { (at : ℕ) → (result ≡ Err (GlyphFault.BadGlyph at))
+        ↔ ((length bytes.now ≡ 25) × IsFirstBad bytes.now at) }
+{
+    let sum = sum_of_glyphs(bytes)?;
+    Ok(Word::of_bits(DIAMOND + sum))
+}

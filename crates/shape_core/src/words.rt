@@ -1,0 +1,92 @@
+//! Pattern words: 25 cells of two bits each, and a bit for the kind.
+use std::marker::Model;
+
+/// The two kinds of pattern: the five-by-five square, and the diamond of the 25 points at most three steps away.
+#[derive(Clone, Copy, Debug, PartialEq, Eq)]
+pub enum Kind {
+    Square,
+    Diamond,
+}
+
+/// Which kinds are kept or counted.
+#[derive(Clone, Copy, Debug, PartialEq, Eq)]
+pub enum Kinds {
+    Squares,
+    Both,
+}
+
+/// The word of a pattern: below 2^50 that of a square, from there to 2^51 that of a diamond.
+///
+/// It is the sum over its 25 cells of the cell's code times 4 to the power of the cell's number, and 2^50 more for a
+/// diamond. Codes are 0 for empty, 1 for black, 2 for white and 3 for off the board. This is the project's own.
+#[derive(Clone, Copy, Debug, PartialEq, Eq, PartialOrd, Ord)]
+pub struct Word {
+    bits: u64,
+}
+
+impl Model for Word {
+    ghost use Rattle.std.specs.Prelude.{ℕ, ◌<◌, ◌^◌};
+
+    ghost Value = { ℕ };
+
+    ghost view = { λ w. w.bits };
+
+    ghost invariant = { λ w. w.bits < 2 ^ 51 };
+
+    ghost inverse = { λ n. record { bits = n } };
+}
+
+/// What the words of diamonds have beside the sum of their cells.
+pub const DIAMOND: u64 = 1 << 50;
+
+impl Word {
+    ghost use Rattle.std.specs.Prelude.{◌≡◌, ◌<◌, ◌^◌, SomeIff};
+    ghost use Rattle.shape_core.specs.Word.{code_at, kind_of};
+
+    /// The word of this number, or None where it is 2^51 or more.
+    pub fn new(bits: u64) -> Option<Word>
+        ensures { SomeIff result (bits < 2 ^ 51) bits }
+    {
+        if bits < 2 * DIAMOND {
+            Some(Word { bits })
+        } else {
+            None
+        }
+    }
+
+    /// The word of a number that is known to be one.
+    pub(crate) fn of_bits(bits: u64) -> Word
+        requires { bits < 2 ^ 51 }
+        ensures { result ≡ bits }
+    {
+        Word { bits }
+    }
+
+    /// The number that the word is.
+    pub fn bits(self) -> u64
+        ensures value { result ≡ self }
+        ensures small { self < 2 ^ 51 }
+    {
+        self.bits
+    }
+
+    /// The code of a cell: 0 empty, 1 black, 2 white, 3 off the board.
+    pub fn code(self, cell: usize) -> u8
+        requires { cell < 25 }
+        ensures value { result ≡ code_at self cell }
+        ensures small { result < 4 }
+    {
+        ((self.bits >> (2 * cell)) & 3) as u8
+    }
+
+    /// Whether it is the word of a square or of a diamond.
+    pub fn kind(self) -> Kind
+        ensures { result ≡ kind_of self }
+    {
+        if self.bits < DIAMOND {
+            Kind::Square
+        } else {
+            Kind::Diamond
+        }
+    }
+}
