@@ -240,3 +240,12 @@ module _ (size : Extent) (before : Position) (mover : Colour) (at : Point) (star
         rw h.1 (omega (arith, none)))
     | inr none ↦ (let all = count_all (placed before at (stone_of mover)) (stone_of mover) listed (all_own none) in omega (arith, all, none))
   ]
+
+  pub Steps-kept : (q : Point) → IsOn size q → (Contains listed q → ⊥) → after q ≡ placed before at (stone_of mover) q
+  Steps-kept q on unlisted = elim (s.captures q on) [
+    | inl h ↦ absurd (unlisted ((s.in_list q).1 (inl ((s.captured q).1 h.0))))
+    | inr h ↦ elim (s.suicide q on) [
+      | inl k ↦ absurd (unlisted ((s.in_list q).1 (inr k.0)))
+      | inr k ↦ k.1 ∙ h.1 ∙ s.start_is q on
+    ]
+  ]

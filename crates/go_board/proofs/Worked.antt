@@ -1,13 +1,13 @@
 -- The definitions at worked values: a stone of Black at (1, 1) and one of White at (0, 1) of a board of 3 by 3.
-use Rattle.std.proofs.Common.{◌≡◌, ℕ, List, [], ◌∷◌, true, false, refl, inl, inr, arith}
+use Rattle.std.proofs.Common.{◌≡◌, ℕ, List, [], ◌∷◌, true, false, refl, inr, arith}
 use Rattle.go_board.specs.declared.points.Point.{Point}
 use Rattle.go_board.specs.declared.points.Colour.TheVariants as colour
 use Rattle.go_board.specs.declared.points.Stone.{Stone}
 use Rattle.go_board.specs.declared.points.Stone.TheVariants as stone
 use Rattle.go_board.specs.Extent.{Extent}
-use Rattle.go_board.specs.Point.{IsOn, same_point, index_of}
-use Rattle.go_board.specs.Position.{Position, placed, position_in, Leads, AreJoined, IsAlive}
-use Rattle.go_board.specs.Play.{stone_of, other, count_of, IsCaptured}
+use Rattle.go_board.specs.Point.{same_point, index_of}
+use Rattle.go_board.specs.Position.{Position, placed, position_in, IsAlive}
+use Rattle.go_board.specs.Play.{stone_of, other, count_of}
 
 abbrev square : Extent
 square = record { columns = 3; rows = 3 }

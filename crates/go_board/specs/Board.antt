@@ -7,6 +7,7 @@ use Rattle.go_board.specs.declared.points.Stone.{Stone}
 use Rattle.go_board.specs.Gathered.{Gathered, IsGathered}
 use Rattle.go_board.specs.Position.{Position, position_in}
 
+-- a size, a stone or none for each point, and the removed points
 pub record Stones : Type 0 where
   pub size : Extent
   pub stones : List Stone

@@ -11,10 +11,12 @@ use Rattle.go_board.specs.declared.points.Stone.TheVariants as stone
 use Rattle.go_board.specs.Point.{IsOn, AreNeighbours}
 use Rattle.go_board.specs.Position.{Position, placed, AreJoined, IsAlive}
 
+-- the stone that a colour plays
 abbrev pub stone_of : Colour → Stone
 stone_of colour.Black = stone.Black
 stone_of colour.White = stone.White
 
+-- the colour of the opponent
 abbrev pub other : Colour → Colour
 other colour.Black = colour.White
 other colour.White = colour.Black
@@ -56,6 +58,7 @@ pub record ListsOnce (P : Point → Type 0) (points : List Point) : Type 0 where
   pub each : (q : Point) → P q → Contains points q
   pub once : AllPairs (λ p q. p ≢ q) points
 
+-- whether two points have the same stone, or none
 abbrev pub same_stone : Stone → Stone → Bool
 same_stone stone.Empty stone.Empty = true
 same_stone stone.Black stone.Black = true

@@ -16,6 +16,7 @@ abbrev pub AreNeighbours : Point → Point → Type 0
 AreNeighbours p q =
     (AreAdjacent p.column q.column × (p.row ≡ q.row)) ⊎ ((p.column ≡ q.column) × AreAdjacent p.row q.row)
 
+-- whether two points are one
 abbrev pub same_point : Point → Point → Bool
 same_point p q = (p.column == q.column) && (p.row == q.row)
 

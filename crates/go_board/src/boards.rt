@@ -37,7 +37,7 @@ impl Model for Board {
 }
 
 impl Board {
-    ghost use Rattle.std.specs.Prelude.{◌≡◌, ◌≢◌, ◌+◌, ◌⊎◌, ◌↔◌, [], length, IsTrue, IfOk};
+    ghost use Rattle.std.specs.Prelude.{◌≡◌, ◌≢◌, ◌+◌, ◌⊎◌, ◌↔◌, [], length, Contains, IsTrue, IfOk};
     ghost use Rattle.go_board.specs.declared.points.Point.{Point};
     ghost use Rattle.go_board.specs.declared.points.Stone.TheVariants as kind;
     ghost use Rattle.go_board.specs.Point.{IsOn};
@@ -108,6 +108,10 @@ impl Board {
         ensures removed { ListsOnce
             (IsRemoved self.old.size (position_of self.old) colour point (position_of self.new))
             self.new.removed }
+        ensures kept { (q : Point) →
+            IsOn self.old.size q →
+            ¬ Contains self.new.removed q →
+            position_of self.new q ≡ placed (position_of self.old) point (stone_of colour) q }
         ensures all { result.taken + result.own_lost ≡ length self.new.removed }
         ensures taken { result.taken
             ≡ count_of
@@ -122,11 +126,11 @@ impl Board {
         ensures one { (result.taken ≡ 0) ⊎ (result.own_lost ≡ 0) }
         ensures board { IsBoard self.new }
     {
-        let index = self.size.index(point);
-        self.stones[index] = colour.stone();
+        let size = self.size;
+        self.stones[size.index(point)] = colour.stone();
         self.removed.clear();
         capture(
-            self.size,
+            size,
             &mut self.stones,
             &mut self.group,
             &mut self.removed,
@@ -135,12 +139,13 @@ impl Board {
         );
         let taken = self.removed.len();
         if taken == 0 {
+            let own = colour.stone();
             remove_if_dead(
-                self.size,
+                size,
                 &mut self.stones,
                 &mut self.group,
                 &mut self.removed,
-                colour.stone(),
+                own,
                 point,
             );
         }

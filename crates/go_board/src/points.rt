@@ -105,7 +105,7 @@ impl Size {
         ensures value { result ≡ self.columns * self.rows }
         ensures size { IsExtent self }
     {
-        self.columns as usize * self.rows as usize
+        usize::from(self.columns) * usize::from(self.rows)
     }
 
     /// The place of a point in a list of the points row by row from the top, each row from the left.

@@ -162,3 +162,10 @@ fn the_largest_group_is_removed(rt: HostRuntime) -> Result<(), Fail> {
     }
     Ok(())
 }
+
+#[test]
+fn refused_memory_has_a_text(rt: HostRuntime) -> Result<(), Fail> {
+    let text = format!(in rt.alloc(); "{}", BoardFault::Memory)?;
+    assert_eq!(rt; text.as_str(), "B1 no memory");
+    Ok(())
+}

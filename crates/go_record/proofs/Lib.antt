@@ -2,3 +2,4 @@ pub mod Colons
 pub mod Digits
 pub mod Collected
 mod Worked
+pub mod Rectangles

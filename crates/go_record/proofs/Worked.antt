@@ -1,5 +1,5 @@
 -- The definitions on worked values.
-use Rattle.std.proofs.Common.{◌≡◌, refl, codes, Some, None, Ok, Err, [], ◌∷◌}
+use Rattle.std.proofs.Common.{◌≡◌, refl, codes, Some, None, Ok, Err}
 use Rattle.go_board.specs.declared.points.Colour.TheVariants as colour
 use Rattle.go_board.specs.declared.points.Stone.TheVariants as stone
 use Rattle.go_record.specs.declared.actions.Action.TheVariants as action

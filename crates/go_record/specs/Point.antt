@@ -1,6 +1,6 @@
 -- How points are spelled: two letters, the column from the left and the row from the top, of which `a` to `z` are the
 -- first to the 26th and `A` to `Z` the 27th to the 52nd (SGF FF[4], GM[1]). Columns and rows count from 0.
-use Rattle.std.specs.Prelude.{ℕ, ◌+◌, ◌-◌, nat_le, nat_lt, ◌&&◌, Bool, Option, Some, None, List, [], ◌∷◌, if◌then◌else◌}
+use Rattle.std.specs.Prelude.{ℕ, ◌+◌, ◌-◌, nat_lt, ◌&&◌, Bool, Option, Some, None, List, [], ◌∷◌, if◌then◌else◌}
 use Rattle.sgf_core.specs.Bytes.{is_upper, is_lower}
 use Rattle.go_board.specs.Extent.{Extent}
 use Rattle.go_board.specs.declared.points.Point.{Point}

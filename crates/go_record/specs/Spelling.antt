@@ -1,5 +1,5 @@
 -- How numbers are spelled in a value. White bytes at its ends are dropped (this project's own), digits are decimal.
-use Rattle.std.specs.Prelude.{ℕ, ◌+◌, ◌-◌, ◌*◌, ◌==◌, nat_le, ◌&&◌, ◌||◌, Bool, Option, Some, None, List, [], ◌∷◌, reverse, if◌then◌else◌}
+use Rattle.std.specs.Prelude.{ℕ, ◌+◌, ◌-◌, ◌*◌, ◌==◌, nat_le, ◌&&◌, Bool, Option, Some, None, List, [], ◌∷◌, reverse, if◌then◌else◌}
 use Rattle.std.specs.List.{list_all, list_any, before_first, after_first}
 use Rattle.sgf_core.specs.Bytes.{is_white}
 use Rattle.go_board.specs.Extent.{Extent}

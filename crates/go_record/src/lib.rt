@@ -9,9 +9,11 @@ mod names;
 mod nodes;
 mod reading;
 mod records;
+mod replaying;
 mod spelling;
 
 pub use actions::Action;
 pub use faults::RecordFault;
 pub use reading::read_record;
 pub use records::{Kind, Record};
+pub use replaying::{apply, replay};

@@ -2,7 +2,9 @@ pub mod Bytes
 pub mod Tree
 pub mod Grammar
 pub mod Next
+pub mod Values
 pub mod Marks
 pub mod Lines
 pub mod Written
 pub mod Reading
+pub mod Pieces

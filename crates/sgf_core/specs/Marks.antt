@@ -1,7 +1,7 @@
 -- A tree's marks: its parts one after another as it is written, each property whole.
 use Rattle.std.specs.Prelude.{List, [], ◌∷◌, ◌++◌, map}
 use Rattle.std.specs.List.{flat_map}
-use Rattle.sgf_core.specs.Tree.{Property, Node, Forest, no_trees, a_tree, GameTree}
+use Rattle.sgf_core.specs.Tree.{Node, Forest, no_trees, a_tree, GameTree}
 use Rattle.sgf_core.specs.declared.marks.Mark.{Mark}
 use Rattle.sgf_core.specs.declared.marks.Mark.TheVariants as mark
 

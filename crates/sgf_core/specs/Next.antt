@@ -1,5 +1,5 @@
 -- Which tree of the input is next, or which fault stands there. Places are byte offsets in the whole input, from 0.
-use Rattle.std.specs.Prelude.{◌≡◌, ◌≢◌, ℕ, ◌+◌, ◌<◌, ◌≤◌, IsTrue, List, [], ◌∷◌, ◌++◌, length, take, drop, slice_range, slice_get, Option, Some, None}
+use Rattle.std.specs.Prelude.{◌≡◌, ℕ, ◌+◌, ◌<◌, ◌≤◌, IsTrue, List, ◌∷◌, ◌++◌, length, drop, slice_range}
 use Rattle.std.specs.List.{list_all}
 use Rattle.sgf_core.specs.Bytes.{is_white, is_letter, open_parenthesis, semicolon}
 use Rattle.sgf_core.specs.Tree.{GameTree}

@@ -1,5 +1,5 @@
 -- What a reader of trees stands for: the input, the place where it goes on, and the fault that it has met.
-use Rattle.std.specs.Prelude.{◌≡◌, ℕ, ◌^◌, ◌≤◌, List, length, Option, Some, IfSome}
+use Rattle.std.specs.Prelude.{◌≡◌, ℕ, ◌^◌, ◌≤◌, List, length, Option, Some, None, IfSome}
 use Rattle.sgf_core.specs.Next.{IsTruncated, IsBadByte, IsNoValue}
 use Rattle.sgf_core.specs.declared.faults.SgfFault.{SgfFault}
 use Rattle.sgf_core.specs.declared.faults.SgfFault.TheVariants as fault
@@ -32,3 +32,8 @@ IsAfterFault before after found = after ≡ record before { fault = Some found }
 abbrev pub IsFaultOrMemory : List ℕ → ℕ → SgfFault → Type 0
 IsFaultOrMemory bytes from fault.Memory = Unit {0}
 IsFaultOrMemory bytes from found = IsFaultAt bytes from found
+
+-- the fault that a reader keeps: not want of memory
+abbrev pub kept_fault : SgfFault → Option SgfFault
+kept_fault fault.Memory = None
+kept_fault found = Some found

@@ -1,6 +1,6 @@
 //! The kinds of bytes that the grammar names, and the names of properties.
 ghost use Rattle.std.specs.Prelude.{◌≡◌, ◌↔◌, IsTrue};
-ghost use Rattle.sgf_core.specs.Bytes.{is_white, is_letter, is_upper};
+ghost use Rattle.sgf_core.specs.Bytes.{is_white, is_letter};
 ghost use Rattle.sgf_core.specs.Tree.{name_of};
 
 /// Whether white space may be written by this byte.

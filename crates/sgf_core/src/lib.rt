@@ -3,9 +3,19 @@
 
 mod bytes;
 mod faults;
+mod laws;
 mod lines;
 mod marks;
+mod parse;
+mod property;
+mod reader;
+mod scan;
 
 pub use faults::SgfFault;
+pub use laws::{one_answer, one_fault, one_next_tree};
 pub use lines::{MainLine, Node, Props};
 pub use marks::{Mark, Prop, Tree, Value};
+pub use reader::Trees;
+
+#[cfg(test)]
+mod tests;

@@ -7,7 +7,7 @@ use crate::marks::{Mark, Prop};
 use std::iter::FusedIterator;
 use std::marker::Model;
 
-/// The nodes of a main line, in order.
+/// The nodes of a main line, in order. It reads the tree's marks as it goes, and takes no memory.
 #[derive(Drop)]
 pub struct MainLine<'t, 'a> {
     marks: &'t [Mark<'a>],
@@ -66,7 +66,7 @@ impl<'t, 'a> Iterator for MainLine<'t, 'a> {
 
 impl<'t, 'a> FusedIterator for MainLine<'t, 'a> {}
 
-/// A node: its properties, in order.
+/// A node, as SGF FF[4] has it: its properties, in order.
 #[derive(Drop)]
 pub struct Node<'t, 'a> {
     marks: &'t [Mark<'a>],
@@ -82,7 +82,7 @@ impl<'t, 'a> Model for Node<'t, 'a> {
 }
 
 impl<'t, 'a> Node<'t, 'a> {
-    /// The properties, in order.
+    /// The properties, in order. Nothing is copied.
     pub fn props(&self) -> Props<'t, 'a>
         ensures { result ≡ self.now }
     {
@@ -90,7 +90,7 @@ impl<'t, 'a> Node<'t, 'a> {
     }
 }
 
-/// The properties of a node, in order.
+/// The properties of a node, in order. It reads the tree's marks as it goes, and takes no memory.
 #[derive(Drop)]
 pub struct Props<'t, 'a> {
     marks: &'t [Mark<'a>],

@@ -1,10 +1,11 @@
 -- Words as lists of 25 codes.
-use Rattle.std.proofs.Common.{◌≡◌, ℕ, ◌+◌, ◌*◌, ◌^◌, ◌<◌, ◌≤◌, List, length, get_or, set, sym, refl, ap, ◌∙◌, arith, All, div-one, le-ltb, lt-ltb, ext_get_or, ⊎_elim}
+use Rattle.std.proofs.Common.{◌≡◌, ℕ, ◌+◌, ◌*◌, ◌^◌, ◌<◌, ◌≤◌, List, length, get_or, set, sym, refl, ap, ◌∙◌, arith, All, div-one, le-ltb, lt-ltb, ext_get_or, ⊎_elim, length-set}
 use Rattle.std.proofs.lemmas.Bool.{cases_lt}
+use Rattle.std.proofs.lemmas.List.Elements.{All-set}
 use Rattle.shape_core.specs.declared.words.Kind.{Kind}
 use Rattle.shape_core.specs.declared.words.Kind.TheVariants as kind
-use Rattle.shape_core.specs.Word.{sum_of, word_of, kind_of, code_at, codes_of}
-use Rattle.shape_core.proofs.Digits.{digits, length-digits, digits-lt, get_or-digits, codes_from, sum_of-digits, sum_of-lt, digits-sum_of}
+use Rattle.shape_core.specs.Word.{sum_of, word_of, kind_of, code_at, codes_of, recoded}
+use Rattle.shape_core.proofs.Digits.{digits, length-digits, digits-lt, get_or-digits, codes_from, sum_of-digits, sum_of-lt, digits-sum_of, sum_of-set}
 
 -- what the codes of a word are like
 pub record AreCodes (codes : List ℕ) : Type 0 where
@@ -65,6 +66,33 @@ same_words v w p q k same =
     same_codes (digits 25 v) (digits 25 w) (AreCodes-digits v) (AreCodes-digits w) (λ i h. get_or-digits 25 v i h ∙ same i h ∙ sym (get_or-digits 25 w i h)) in
     sym (word_is v p) ∙ ap (λ t. word_of t (digits 25 v)) k ∙ ap (word_of (kind_of w)) codes ∙ word_is w q
 
--- the word with one code changed
-pub recoded : ℕ → ℕ → ℕ → ℕ
-recoded w i c = word_of (kind_of w) (set (digits 25 w) i c)
+AreCodes-set : (xs : List ℕ) (i c : ℕ) → AreCodes xs → c < 4 → AreCodes (set xs i c)
+AreCodes-set xs i c a h =
+    record { count = length-set xs i c ∙ a.count; small = All-set (λ x. x < 4) xs i c h a.small }
+
+recoded_is : (w i c : ℕ) → recoded w i c ≡ word_of (kind_of w) (set (digits 25 w) i c)
+unfolding recoded
+recoded_is w i c = ap (λ cs. word_of (kind_of w) (set cs i c)) (codes_as_digits w)
+
+pub recoded_small : (w i c : ℕ) → c < 4 → recoded w i c < 2 ^ 51
+recoded_small w i c h =
+    rw (recoded_is w i c) (word_of-lt (kind_of w) (set (digits 25 w) i c) (AreCodes-set (digits 25 w) i c (AreCodes-digits w) h))
+
+-- a code changed in a word is a code changed in the list
+pub recoded-word_of : (k : Kind) (xs : List ℕ) (i c : ℕ) → AreCodes xs → recoded (word_of k xs) i c ≡ word_of k (set xs i c)
+recoded-word_of k xs i c a =
+    recoded_is (word_of k xs) i c
+    ∙ ap (λ t. word_of t (set (digits 25 (word_of k xs)) i c)) (kind_of-word_of k xs a)
+    ∙ ap (λ cs. word_of k (set cs i c)) (digits-word_of k xs a)
+
+-- the number with one code taken off and another put in
+pub recoded_sum : (w i c : ℕ) → w < 2 ^ 51 → i < 25 → (code_at w i * 4 ^ i ≤ w) × (recoded w i c + code_at w i * 4 ^ i ≡ w + c * 4 ^ i)
+recoded_sum w i c small h =
+    let whole = word_is w small in
+    let within : i < length (digits 25 w) = omega (arith, length-digits 25 w) in
+    let code = get_or-digits 25 w i h in
+    let weight : get_or (digits 25 w) i 0 * 4 ^ i ≡ code_at w i * 4 ^ i = ap (λ x. x * 4 ^ i) code in
+    let changed = sum_of-set (digits 25 w) i c within in
+    let zeroed = sum_of-set (digits 25 w) i 0 within in
+    let is = recoded_is w i c in
+    (omega arith, omega arith)

@@ -8,3 +8,8 @@ mod Least
 mod Sums
 mod Spelled
 mod Reach
+mod Marking
+mod Mixing
+mod Agreeing
+mod Playing
+mod Removing

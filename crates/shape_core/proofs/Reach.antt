@@ -1,7 +1,6 @@
 -- The cells round a point: which point a cell is, and what its code is.
-use Rattle.std.proofs.Common.{◌≡◌, ℕ, ◌+◌, ◌-◌, ◌<◌, ◌≤◌, List, [], ◌∷◌, map, length, get_or, Bool, true, false, cond, ltb, ◌&&◌, Option, Some, None, sym, refl, ap, ap₂, ◌∙◌, arith, All, ⊎_elim, ◌⊎◌, inl, inr, subst}
+use Rattle.std.proofs.Common.{◌≡◌, ℕ, ◌+◌, ◌-◌, ◌<◌, ◌≤◌, List, map, length, get_or, Bool, true, false, cond, ltb, ◌&&◌, Option, Some, None, refl, ap, ap₂, ◌∙◌, arith, ⊎_elim, ◌⊎◌, inl, inr}
 use Rattle.std.proofs.lemmas.Bool.{cases_lt, lt-ltb, le-ltb}
-use Rattle.std.proofs.lemmas.Bool.Decides.{nat_tests}
 use Rattle.std.proofs.lemmas.List.{length-map, get_or-map}
 use Rattle.std.proofs.lemmas.List.Elements.{All-from_get_or}
 use Rattle.go_board.specs.Extent.{Extent}
@@ -11,9 +10,8 @@ use Rattle.go_board.specs.declared.points.Point.{Point}
 use Rattle.go_board.specs.declared.points.Stone.{Stone}
 use Rattle.go_board.specs.declared.points.Stone.TheVariants as stone
 use Rattle.shape_core.specs.declared.words.Kind.{Kind}
-use Rattle.shape_core.specs.declared.words.Kind.TheVariants as kind
 use Rattle.shape_core.specs.Offset.{Offset, offsets_of, less_three, offset_of}
-use Rattle.shape_core.specs.Word.{word_of, sum_of}
+use Rattle.shape_core.specs.Word.{word_of}
 use Rattle.shape_core.specs.Around.{shifted, stone_code, code_there, code_around, word_around}
 use Rattle.shape_core.proofs.Codes.{AreCodes}
 
@@ -101,3 +99,23 @@ AreCodes-codes_round size position p offsets count =
 pub word_around_is : (k : Kind) (size : Extent) (position : Position) (p : Point) → word_around k size position p ≡ word_of k (codes_round size position p (offsets_of k))
 unfolding word_around codes_round
 word_around_is k size position p = refl
+
+-- the point that lies so far from another, or that there is none on the board
+pub point_away : (size : Extent) (p : Point) (away : ℕ × ℕ) →
+    ((q : Point) × IsOn size q × (q.column + 3 ≡ p.column + away.0) × (q.row + 3 ≡ p.row + away.1))
+    ⊎ ((q : Point) → IsOn size q → q.column + 3 ≡ p.column + away.0 → q.row + 3 ≡ p.row + away.1 → ⊥)
+point_away size p away =
+    let q : Point = record { column = p.column + away.0 - 3; row = p.row + away.1 - 3 } in
+    ⊎_elim
+    (λ (left : p.column + away.0 < 3). inr (λ r on column row. omega arith))
+    (λ (right : 3 ≤ p.column + away.0). ⊎_elim
+    (λ (up : p.row + away.1 < 3). inr (λ r on column row. omega arith))
+    (λ (down : 3 ≤ p.row + away.1). ⊎_elim
+    (λ (columns : q.column < size.columns). ⊎_elim
+    (λ (rows : q.row < size.rows). inl (q, (columns, rows), (omega arith), (omega arith)))
+    (λ (rows : size.rows ≤ q.row). inr (λ r on column row. omega arith))
+    (cases_lt q.row size.rows))
+    (λ (columns : size.columns ≤ q.column). inr (λ r on column row. omega arith))
+    (cases_lt q.column size.columns))
+    (cases_lt (p.row + away.1) 3))
+    (cases_lt (p.column + away.0) 3)

@@ -1,19 +1,16 @@
 -- Glyphs and codes, each from the other.
-use Rattle.std.proofs.Common.{zero-add, ◌≡◌, ℕ, zero, suc, ◌+◌, ◌*◌, ◌%◌, ◌^◌, ◌<◌, ◌≤◌, List, [], ◌∷◌, ◌++◌, map, length, get_or, take, true, cond, eqb, sym, refl, ap, ap₂, ◌∙◌, arith, All, length-take-le, ext_get_or, mod-eq_of_lt, pow-suc}
-use Rattle.std.proofs.Math.Nat.{pow-le-pow_right}
-use Rattle.std.proofs.lemmas.List.{length-map, get_or-map, map_more}
-use Rattle.std.proofs.lemmas.Nat.{mul-le}
+use Rattle.std.proofs.Common.{zero-add, ◌≡◌, ℕ, zero, suc, ◌+◌, ◌*◌, ◌%◌, ◌^◌, ◌<◌, ◌≤◌, List, [], ◌∷◌, map, length, get_or, take, true, cond, eqb, sym, refl, ap, ap₂, ◌∙◌, arith, All, ext_get_or}
+use Rattle.std.proofs.lemmas.List.{length-map, get_or-map}
 use Rattle.std.proofs.lemmas.List.Elements.{All-from_get_or}
 use Rattle.std.proofs.lemmas.Bool.Decides.{nat_tests}
 use Rattle.shape_core.specs.declared.words.Kind.{Kind}
 use Rattle.shape_core.specs.declared.words.Kind.TheVariants as kind
 use Rattle.shape_core.specs.Word.{sum_of, word_of, kind_of, code_at}
 use Rattle.shape_core.specs.Glyph.{glyph_of, is_glyph, glyphs_of}
-use Rattle.shape_core.proofs.Digits.{digits, length-digits, get_or-digits, code_at-lt, sum_of-lt, sum_of-digits}
+use Rattle.shape_core.proofs.Digits.{digits, length-digits, get_or-digits, code_at-lt, sum_of-digits}
 use Rattle.std.proofs.lemmas.List.{take-map}
 use Rattle.shape_core.proofs.Sums.{sum_of-more, sum_of_fits}
 use Rattle.shape_core.proofs.Codes.{AreCodes, AreCodes-digits, codes_as_digits, same_words, digits-word_of, sum-lt}
-use Rattle.shape_core.proofs.Moves.{four_pow}
 
 pub glyphs_as_digits : (w : ℕ) → glyphs_of w ≡ map glyph_of (digits 25 w)
 unfolding glyphs_of

@@ -3,3 +3,4 @@ pub mod Word
 pub mod Symmetry
 pub mod Around
 pub mod Glyph
+pub mod Field

@@ -2,13 +2,20 @@
 #![tactic(auto)]
 
 mod cells;
+mod fields;
+mod keeping;
+mod kept;
+mod marks;
 mod masks;
 mod shapes;
 mod spelling;
 mod surroundings;
 mod symmetries;
+#[cfg(test)]
+mod tests;
 mod words;
 
+pub use fields::Field;
 pub use shapes::{Shape, canonical, same_canonical};
 pub use spelling::{GlyphFault, from_diamond_glyphs, from_glyphs, glyphs};
 pub use surroundings::{around, diamond};

@@ -1,8 +1,4 @@
-use Rattle.std.proofs.Common.{◌≡◌}
-use Rattle.sgf_core.specs.Tree.{PropertyValue}
 use Rattle.go_record.specs.Setup.{move_of, always}
-use Rattle.go_record.specs.Adding.{Adds}
-use Rattle.go_record.specs.Record.{moves_of}
 use Rattle.go_record.proofs.Collected.{adds-views}
 use Rattle.go_record.proofs.nodes.add_prop_moves.Goals as goal
 

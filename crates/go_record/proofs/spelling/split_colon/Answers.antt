@@ -1,4 +1,4 @@
-use Rattle.std.proofs.Common.{sym, ap, ◌∙◌, take, drop, refl, arith, rules, ◌+◌}
+use Rattle.std.proofs.Common.{sym, ap, take, arith, rules}
 use Rattle.go_record.specs.Spelling.{is_colon}
 use Rattle.std.proofs.lemmas.Grind.{common_steps}
 use Rattle.go_record.proofs.Colons.{position_found, position_none}

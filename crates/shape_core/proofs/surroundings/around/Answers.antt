@@ -1,4 +1,4 @@
-use Rattle.std.proofs.Common.{◌≡◌, ap, ◌∙◌, sym, zero-add}
+use Rattle.std.proofs.Common.{◌∙◌, sym, zero-add}
 use Rattle.shape_core.specs.Around.{word_around}
 use Rattle.shape_core.proofs.surroundings.around.Goals as goal
 

@@ -1,4 +1,4 @@
-use Rattle.std.proofs.Common.{◌≡◌, ap, ◌∙◌, sym}
+use Rattle.std.proofs.Common.{ap, ◌∙◌, sym}
 use Rattle.go_board.specs.Board.{position_of}
 use Rattle.shape_core.specs.Around.{stone_code}
 use Rattle.shape_core.proofs.Reach.{code_around_on, code_around_off}

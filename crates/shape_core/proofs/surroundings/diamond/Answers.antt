@@ -1,4 +1,4 @@
-use Rattle.std.proofs.Common.{◌≡◌, ◌+◌, ◌^◌, ap, ◌∙◌, sym}
+use Rattle.std.proofs.Common.{◌+◌, ◌^◌, ap, ◌∙◌}
 use Rattle.shape_core.specs.Around.{word_around}
 use Rattle.shape_core.proofs.surroundings.diamond.Goals as goal
 

@@ -5,7 +5,7 @@ use Rattle.go_board.specs.declared.points.Stone.{Stone}
 use Rattle.go_board.specs.Position.{position_in, placed}
 use Rattle.go_board.specs.Play.{stone_of}
 use Rattle.go_board.proofs.Agreement.{Agree, write_places}
-use Rattle.go_board.proofs.Moves.{Steps, Steps-capture, Steps-quiet, Steps-plays, Steps-lists, Steps-taken, Steps-own}
+use Rattle.go_board.proofs.Moves.{Steps, Steps-capture, Steps-quiet, Steps-plays, Steps-lists, Steps-taken, Steps-own, Steps-kept}
 use Rattle.go_board.proofs.boards.Board.play.Goals as goal
 use Rattle.go_board.proofs.boards.Board.play.Goals.{then-taken-eq0, else-taken-eq0}
 
@@ -16,7 +16,7 @@ steps : (c : goal.After-len) → Steps c.self.inside.size (position_in c.self.in
 steps c =
     let agree : Agree c.self.inside.size (position_in c.self.inside.size c.deref_mut.result.now)
     (placed (position_in c.self.inside.size c.self.inside.stones.items) c.args.point (stone_of c.args.colour)) =
-    rw (c.deref_mut.ensures.value, c.index-index.ensures.value, c.stone.ensures)
+    rw (c.deref_mut.ensures.value, c.index.ensures.value, c.stone.ensures)
     (write_places c.self.inside.size c.self.inside.stones.items c.args.point (stone_of c.args.colour) (rw (← c.self.view_is) at c.requires) c.self.invariant.whole) in
     let full : length c.capture.new.stones ≡ c.self.inside.stones.len = c.capture.auto.stones ∙ c.deref_mut.ensures.len in
     elim c.if-taken-eq0.branch [
@@ -24,13 +24,13 @@ steps c =
           let none : length c.capture.new.removed.points ≡ 0 = sym c.len-taken.ensures.value ∙ w.if-taken-eq0.true in
           let left : w.deref_mut-then-taken-eq0.result.now ≡ c.capture.new.stones = w.deref_mut-then-taken-eq0.ensures.value ∙ rw take_at in
           let full' : length w.remove_if_dead.new.stones ≡ c.self.inside.stones.len = w.remove_if_dead.auto.stones ∙ ap (λ (l : List Stone). length l) left ∙ full in
-          rw (w.self-inside-is, take_at)
+          rw (w.self-inside-is, take_at w.remove_if_dead.new.stones _ c.self.inside.stones.len full')
           (Steps-quiet c.self.inside.size (position_in c.self.inside.size c.self.inside.stones.items) c.args.colour c.args.point
           (position_in c.self.inside.size c.deref_mut.result.now) (position_in c.self.inside.size c.capture.new.stones)
           c.capture.new.removed.points (rw (← c.self.view_is) at c.requires) agree c.capture.ensures.stones c.capture.ensures.removed
           (position_in c.self.inside.size w.remove_if_dead.new.stones) w.remove_if_dead.new.removed.points none
-          (rw (left, w.stone-then-taken-eq0.ensures) at w.remove_if_dead.ensures.stones)
-          (rw (left, w.stone-then-taken-eq0.ensures) at w.remove_if_dead.ensures.removed)))
+          (rw (left, w.stone-own.ensures) at w.remove_if_dead.ensures.stones)
+          (rw (left, w.stone-own.ensures) at w.remove_if_dead.ensures.removed)))
       | else-taken-eq0 w ↦ (
           let some : length c.capture.new.removed.points ≢ 0 = λ e. w.if-taken-eq0.false (c.len-taken.ensures.value ∙ e) in
           rw (w.self-inside-is, take_at)
@@ -50,3 +50,6 @@ returns-clause-taken c = rw (← c.self.view_is) (c.len-taken.ensures.value ∙ 
 
 pub returns-clause-own_lost : goal.returns-clause-own_lost
 returns-clause-own_lost c = rw (← c.self.view_is, c.len.ensures.value, c.len-taken.ensures.value) (Steps-own _ _ _ _ _ _ _ _ _ (steps c))
+
+pub returns-clause-kept : goal.returns-clause-kept
+returns-clause-kept c = rw (← c.self.view_is) (Steps-kept _ _ _ _ _ _ _ _ _ (steps c))

@@ -1,0 +1,61 @@
+use Rattle.std.proofs.Common.{refl, sym, subst, arith}
+use Rattle.std.proofs.lemmas.Result.{err_from_is_err_and}
+use Rattle.sgf_core.specs.Bytes.{open_parenthesis, close_parenthesis, semicolon}
+use Rattle.sgf_core.specs.Grammar.{opens, begins_node, closes}
+use Rattle.sgf_core.specs.Pieces.{ReadsMark, MarkFault}
+use Rattle.sgf_core.specs.declared.marks.Mark.TheVariants as mark
+use Rattle.sgf_core.specs.declared.parse.Expects.TheVariants as expects
+use Rattle.sgf_core.proofs.MarkLemmas.{reads_behind, fault_behind, reads_sign, writes_sign, ends_here}
+use Rattle.sgf_core.proofs.parse.read_mark.Goals as goal
+
+pub returns-then-place-bytes-clause-fault : goal.returns-then-place-bytes-clause-fault
+returns-then-place-bytes-clause-fault c =
+    let place = c.white_end-place in
+    (refl, ends_here c.args.bytes.now c.args.from place.result place.ensures.within.0 place.ensures.within.1 place.ensures.white c.args.expects (omega arith))
+
+pub returns-in-Node-eq59-clause-read : goal.returns-in-Node-eq59-clause-read
+returns-in-Node-eq59-clause-read c =
+    let place = c.white_end-place in
+    reads_sign c.args.bytes.now c.args.from place.result c.args.expects expects.Node mark.Node semicolon place.ensures.within place.ensures.white c.if-place-bytes.false c.in-Node-eq59.is-0 c.in-Node-eq59.is-1 tt (writes_sign place.result begins_node semicolon (λ _. refl)) tt
+
+pub returns-in-Any-eq59-clause-read : goal.returns-in-Any-eq59-clause-read
+returns-in-Any-eq59-clause-read c =
+    let place = c.white_end-place in
+    reads_sign c.args.bytes.now c.args.from place.result c.args.expects expects.Any mark.Node semicolon place.ensures.within place.ensures.white c.if-place-bytes.false c.in-Any-eq59.is-0 c.in-Any-eq59.is-1 tt (writes_sign place.result begins_node semicolon (λ _. refl)) tt
+
+pub returns-in-Any-eq40-clause-read : goal.returns-in-Any-eq40-clause-read
+returns-in-Any-eq40-clause-read c =
+    let place = c.white_end-place in
+    reads_sign c.args.bytes.now c.args.from place.result c.args.expects expects.Any mark.Begin open_parenthesis place.ensures.within place.ensures.white c.if-place-bytes.false c.in-Any-eq40.is-0 c.in-Any-eq40.is-1 tt (writes_sign place.result opens open_parenthesis (λ _. refl)) tt
+
+pub returns-in-Any-eq41-clause-read : goal.returns-in-Any-eq41-clause-read
+returns-in-Any-eq41-clause-read c =
+    let place = c.white_end-place in
+    reads_sign c.args.bytes.now c.args.from place.result c.args.expects expects.Any mark.End close_parenthesis place.ensures.within place.ensures.white c.if-place-bytes.false c.in-Any-eq41.is-0 c.in-Any-eq41.is-1 tt (writes_sign place.result closes close_parenthesis (λ _. refl)) tt
+
+pub returns-in-Tree-eq40-clause-read : goal.returns-in-Tree-eq40-clause-read
+returns-in-Tree-eq40-clause-read c =
+    let place = c.white_end-place in
+    reads_sign c.args.bytes.now c.args.from place.result c.args.expects expects.Tree mark.Begin open_parenthesis place.ensures.within place.ensures.white c.if-place-bytes.false c.in-Tree-eq40.is-0 c.in-Tree-eq40.is-1 tt (writes_sign place.result opens open_parenthesis (λ _. refl)) tt
+
+pub returns-in-Tree-eq41-clause-read : goal.returns-in-Tree-eq41-clause-read
+returns-in-Tree-eq41-clause-read c =
+    let place = c.white_end-place in
+    reads_sign c.args.bytes.now c.args.from place.result c.args.expects expects.Tree mark.End close_parenthesis place.ensures.within place.ensures.white c.if-place-bytes.false c.in-Tree-eq41.is-0 c.in-Tree-eq41.is-1 tt (writes_sign place.result closes close_parenthesis (λ _. refl)) tt
+
+pub returns-in_ok-property-in-Any-default-clause-read : goal.returns-in_ok-property-in-Any-default-clause-read
+returns-in_ok-property-in-Any-default-clause-read c =
+    let place = c.white_end-place in
+    let found = c.in_ok-property-in-Any-default in
+    subst (λ e. ReadsMark c.args.bytes.now e c.args.from found.end (mark.Prop found.property)) (sym c.in-Any-default.is-0)
+    (reads_behind c.args.bytes.now c.args.from place.result place.ensures.within.0 place.ensures.within.1 place.ensures.white expects.Any found.end (mark.Prop found.property) found.ensures.read)
+
+pub returns-in_err-property-in-Any-default-clause-fault : goal.returns-in_err-property-in-Any-default-clause-fault
+returns-in_err-property-in-Any-default-clause-fault c =
+    let place = c.white_end-place in
+    let p = err_from_is_err_and c.from_residual.result c.from_residual.ensures.1 in
+    let found = c.in_err-property-in-Any-default in
+    rw (p.1, p.2) (
+    subst (λ e. MarkFault c.args.bytes.now c.args.at e c.args.from found.field-0.0) (sym c.in-Any-default.is-0)
+    (fault_behind c.args.bytes.now c.args.from place.result place.ensures.within.0 place.ensures.within.1 place.ensures.white c.args.at found.field-0.0 found.ensures.fault)
+    )

@@ -1,0 +1,30 @@
+//! Laws on what a collection is: its bytes have one reading.
+ghost use Rattle.std.specs.Prelude.{◌≡◌, ℕ, List};
+ghost use Rattle.sgf_core.specs.Tree.{GameTree};
+ghost use Rattle.sgf_core.specs.Next.{IsNextTree, HasNoTree};
+ghost use Rattle.sgf_core.specs.Reading.{IsFaultAt};
+ghost use Rattle.sgf_core.specs.declared.faults.SgfFault.{SgfFault};
+
+/// From a place on at most one tree is next, with one place where it begins and one where it ends. So a tree that is
+/// next is the one that is read.
+pub fn one_next_tree()
+    ensures { (bytes : List ℕ) (from at end : ℕ) (tree : GameTree) (other_at other_end : ℕ) (other : GameTree)
+        → IsNextTree bytes from at end tree → IsNextTree bytes from other_at other_end other
+        → (at ≡ other_at) × (end ≡ other_end) × (tree ≡ other) }
+{}
+
+/// From a place on at most one fault stands at the next tree. So a fault that stands there is the one that is answered.
+pub fn one_fault()
+    ensures { (bytes : List ℕ) (from : ℕ) (fault other : SgfFault)
+        → IsFaultAt bytes from fault → IsFaultAt bytes from other → fault ≡ other }
+{}
+
+/// From a place on there is never both a next tree and a fault, nor one of them where no tree begins.
+pub fn one_answer()
+    ensures tree_or_fault { (bytes : List ℕ) (from at end : ℕ) (tree : GameTree) (fault : SgfFault)
+        → IsNextTree bytes from at end tree → IsFaultAt bytes from fault → ⊥ }
+    ensures tree_or_none { (bytes : List ℕ) (from at end : ℕ) (tree : GameTree)
+        → IsNextTree bytes from at end tree → HasNoTree bytes from → ⊥ }
+    ensures fault_or_none { (bytes : List ℕ) (from : ℕ) (fault : SgfFault)
+        → IsFaultAt bytes from fault → HasNoTree bytes from → ⊥ }
+{}

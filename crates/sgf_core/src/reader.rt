@@ -1,0 +1,122 @@
+//! The reader of a collection: one tree after the other.
+ghost use Rattle.std.specs.Prelude.{◌≡◌, ◌<◌, ◌≤◌, ◌^◌, Some, None, IfOk, IfErr, IfSome, IfNone, IsOk, ◌↔◌, MatchOption, length};
+ghost use Rattle.sgf_core.specs.Tree.{GameTree};
+ghost use Rattle.sgf_core.specs.Next.{IsFirstBegin, HasNoTree, IsNextTree};
+ghost use Rattle.sgf_core.specs.Marks.{marks_of};
+ghost use Rattle.sgf_core.specs.Reading.{IsFaultOrMemory, IsAfterFault, kept_fault};
+ghost use Rattle.sgf_core.specs.declared.faults.SgfFault.TheVariants.{TooLarge};
+
+use crate::faults::SgfFault;
+use crate::marks::Tree;
+use crate::parse::read_tree;
+use crate::scan::white_end;
+use memchr::memchr;
+use std::alloc::Global;
+use std::marker::Model;
+
+/// The most bytes that an input may have.
+const LIMIT: usize = 1 << 28;
+
+/// Reads the trees of a collection in their order, as SGF FF[4] has them. Bytes outside trees are skipped: a tree begins
+/// where a parenthesis, white bytes and a semicolon stand (this project's own reading).
+#[derive(Drop)]
+pub struct Trees<'a> {
+    bytes: &'a [u8],
+    from: usize,
+    fault: Option<SgfFault>,
+}
+
+impl<'a> Model for Trees<'a> {
+    ghost use Rattle.sgf_core.specs.Reading.{Reading, IsReading};
+
+    ghost Value = { Reading };
+
+    ghost view = { λ trees. record { bytes = trees.bytes.now; from = trees.from; fault = trees.fault } };
+
+    ghost invariant = { λ trees. IsReading (record { bytes = trees.bytes.now; from = trees.from; fault = trees.fault }) };
+}
+
+/// The first place from `from` on at which a tree begins.
+fn first_begin(bytes: &[u8], from: usize) -> Option<usize>
+    requires { from ≤ length bytes.now }
+    ensures { MatchOption result (HasNoTree bytes.now from) (λ at. IsFirstBegin bytes.now from at) }
+{
+    let mut place = from;
+    while let Some(offset) = memchr(b'(', &bytes[place..]) {
+        let at = place + offset;
+        place = white_end(bytes, at + 1);
+        if place < bytes.len() && bytes[place] == b';' {
+            return Some(at);
+        }
+    }
+    None
+}
+
+/// The fault that each later call answers: want of memory passes.
+fn kept(fault: SgfFault) -> Option<SgfFault>
+    ensures { result ≡ kept_fault fault }
+{
+    match fault {
+        SgfFault::Memory => None,
+        _ => Some(fault),
+    }
+}
+
+impl<'a> Trees<'a> {
+    /// A reader at the beginning of this input, which takes no memory.
+    ///
+    /// S4 comes where the input has more than 2^28 bytes.
+    pub fn new(bytes: &'a [u8]) -> Result<Trees<'a>, SgfFault>
+        ensures small { IsOk result ↔ (length bytes.now ≤ 2 ^ 28) }
+        ensures begins { IfOk result (λ trees. trees ≡ record { bytes = bytes.now; from = 0; fault = None }) }
+        ensures large { IfErr result (λ fault. fault ≡ TooLarge) }
+    {
+        if bytes.len() > LIMIT {
+            return Err(SgfFault::TooLarge);
+        }
+        Ok(Trees {
+            bytes,
+            from: 0,
+            fault: None,
+        })
+    }
+
+    /// The next tree, or `None` where none is left.
+    ///
+    /// S1 comes where the input ends within the tree that is next, S2 where a byte of it fits nowhere, S3 where that
+    /// byte stands in the place of an identifier's first value. Each later call then answers the same. S5 comes where
+    /// memory was refused for the tree's marks or for the values of a property beside the first, and the reader
+    /// then stands where it stood.
+    pub fn next_tree(&mut self, alloc: Global) -> Result<Option<Tree<'a>>, SgfFault>
+        ensures tree { IfOk result (λ found. IfSome found (λ read. (tree : GameTree)
+            × IsNextTree self.old.bytes self.old.from read.at read.end tree × (read.marks ≡ marks_of tree))) }
+        ensures after_tree { IfOk result (λ found. IfSome found (λ read.
+            self.new ≡ record self.old { from = read.end })) }
+        ensures forward { IfOk result (λ found. IfSome found (λ read.
+            (self.old.from < read.end) × (read.end ≤ length self.old.bytes))) }
+        ensures none { IfOk result (λ found. IfNone found (HasNoTree self.old.bytes self.old.from)) }
+        ensures after_none { IfOk result (λ found. IfNone found
+            (self.new ≡ record self.old { from = length self.old.bytes })) }
+        ensures fault { IfErr result (λ fault. IsFaultOrMemory self.old.bytes self.old.from fault) }
+        ensures same { IfSome self.old.fault (λ fault. result ≡ Err fault) }
+        ensures after_fault { IfErr result (λ fault. IsAfterFault self.old self.new fault) }
+    {
+        if let Some(fault) = self.fault {
+            return Err(fault);
+        }
+        let Some(at) = first_begin(self.bytes, self.from) else {
+            self.from = self.bytes.len();
+            return Ok(None);
+        };
+        match read_tree(alloc, self.bytes, at) {
+            Ok(tree) => {
+                self.from = tree.end;
+                Ok(Some(tree))
+            }
+            Err(fault) => {
+                self.fault = kept(fault);
+                Err(fault)
+            }
+        }
+    }
+}

@@ -1,0 +1,46 @@
+use Rattle.std.proofs.Common.{◌≡◌, get_or, slice_index, refl, ap, ◌∙◌, arith, inl, inr, ⊎_elim}
+use Rattle.go_board.specs.Point.{index_of}
+use Rattle.shape_core.specs.Word.{recoded}
+use Rattle.shape_core.specs.Field.{IsMarked}
+use Rattle.shape_core.proofs.Mixing.{Sees, sees_or_not, mixed_before, mixed_after, mixed_round_more}
+use Rattle.shape_core.proofs.keeping.recode.Goals as goal
+
+pub loop-cell-init : goal.loop-cell-init
+loop-cell-init c = record {
+  count = c.requires.words;
+  marks = c.requires.marks;
+  stay = λ q was. was;
+  differing = λ q on. inl refl;
+  mixing = λ kind position stone offsets code words q on.
+      words.each q on ∙ mixed_before kind c.args.size position c.args.point stone q c.args.cells.now (omega arith) offsets;
+}
+
+pub loop-cell-preserved : goal.loop-cell-preserved
+loop-cell-preserved c =
+    let size = c.args.size in
+    let away = get_or c.args.cells.now c.loop-cell.cell (0, 0) in
+    record {
+      count = c.recode_cell.auto.words ∙ c.loop-cell.invariant.count;
+      marks = c.recode_cell.ensures.marks;
+      stay = λ q was. c.recode_cell.ensures.stay q (c.loop-cell.invariant.stay q was);
+      differing = λ q on. ⊎_elim
+          (λ (sees : Sees q away c.args.point). inr (c.recode_cell.ensures.there q on sees.0 sees.1).1)
+          (λ (blind : Sees q away c.args.point → ⊥). ⊎_elim
+          (λ (same : slice_index c.loop-cell.words (index_of size q) ≡ slice_index c.args.words.now (index_of size q)). inl (c.recode_cell.ensures.elsewhere q on blind ∙ same))
+          (λ (was : IsMarked c.loop-cell.changed q). inr (c.recode_cell.ensures.stay q was))
+          (c.loop-cell.invariant.differing q on))
+          (sees_or_not q away c.args.point);
+      mixing = λ kind position stone offsets code words q on.
+          mixed_round_more kind size position c.args.point stone q c.args.cells.now (omega arith) c.loop-cell.cell
+          (slice_index c.loop-cell.words (index_of size q)) (slice_index c.recode_cell.new.words (index_of size q))
+          (omega arith) c.requires.on_board (c.loop-cell.invariant.mixing kind position stone offsets code words q on)
+          (λ sees. (c.recode_cell.ensures.there q on sees.0 sees.1).0 ∙ ap (recoded (slice_index c.loop-cell.words (index_of size q)) c.loop-cell.cell) code)
+          (c.recode_cell.ensures.elsewhere q on);
+    }
+
+pub returns-clause-follow : goal.returns-clause-follow
+returns-clause-follow c = λ kind position stone offsets code words. record {
+  count = c.loop-cell.invariant.count;
+  each = λ q on. c.loop-cell.invariant.mixing kind position stone offsets code words q on
+      ∙ mixed_after kind c.args.size position c.args.point stone q c.args.cells.now c.loop-cell.cell (omega arith) (omega arith) offsets;
+}

@@ -1,0 +1,23 @@
+use Rattle.std.proofs.Common.{◌≡◌, ◌*◌, ◌⊎◌, length, map, slice_index}
+use Rattle.go_board.specs.declared.points.Point.{Point}
+use Rattle.go_board.specs.declared.points.Stone.{Stone}
+use Rattle.go_board.specs.Point.{IsOn, index_of}
+use Rattle.go_board.specs.Position.{Position}
+use Rattle.shape_core.specs.declared.words.Kind.{Kind}
+use Rattle.shape_core.specs.Offset.{offset_of, offsets_of}
+use Rattle.shape_core.specs.Word.{word_of}
+use Rattle.shape_core.specs.Around.{stone_code}
+use Rattle.shape_core.specs.Field.{IsMarked, AreMarks, AreWords}
+use Rattle.shape_core.proofs.Mixing.{mixed_round}
+use Rattle.shape_core.proofs.keeping.recode.Given as goal
+
+abbrev pub invariant-loop-cell : goal.invariant-loop-cell
+invariant-loop-cell l = record {
+  count : length l.words ≡ l.size.columns * l.size.rows;
+  marks : AreMarks l.size l.changed;
+  stay : (q : Point) → IsMarked l.initial.changed q → IsMarked l.changed q;
+  differing : (q : Point) → IsOn l.size q → (slice_index l.words (index_of l.size q) ≡ slice_index l.initial.words (index_of l.size q)) ⊎ IsMarked l.changed q;
+  mixing : (kind : Kind) (position : Position) (stone : Stone) → map offset_of l.cells ≡ offsets_of kind → l.code ≡ stone_code stone →
+      AreWords kind l.size position l.initial.words → (q : Point) → IsOn l.size q →
+      slice_index l.words (index_of l.size q) ≡ word_of kind (mixed_round l.cell l.size position l.point stone q l.cells);
+}

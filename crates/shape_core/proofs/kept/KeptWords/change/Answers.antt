@@ -1,0 +1,54 @@
+use Rattle.std.proofs.Common.{◌≡◌, ◌<◌, length, slice_index, refl, sym, ap, subst, ◌∙◌, arith}
+use Rattle.std.proofs.lemmas.List.{with_items_is, get_or_read}
+use Rattle.go_board.specs.Position.{placed}
+use Rattle.shape_core.specs.declared.words.Kind.TheVariants as kind
+use Rattle.shape_core.specs.Word.{code_at}
+use Rattle.shape_core.specs.Field.{AreWords}
+use Rattle.shape_core.proofs.Agreeing.{Follow-agree, placed_again, same_stones, middle}
+use Rattle.shape_core.proofs.kept.KeptWords.change.Goals as goal
+
+pub returns-in-Both-clause-follow : goal.returns-in-Both-clause-follow
+returns-in-Both-clause-follow c = λ position old.
+    let size = c.args.self.now.size in
+    let after = placed position c.args.point c.args.stone in
+    let squares = c.args.self.now.squares in
+    let diamonds = c.args.self.now.diamonds in
+    record {
+      squares_follow =
+          subst (λ ws. AreWords kind.Square size after ws) (sym (with_items_is squares c.recode.new.words (c.recode.auto.words ∙ c.deref_mut.ensures.len)))
+          (c.recode.ensures.follow kind.Square position c.args.stone refl c.code_of-code.ensures.value (rw c.deref_mut.ensures.value old.squares_follow));
+      diamonds_follow = λ both.
+          subst (λ ws. AreWords kind.Diamond size after ws) (sym (with_items_is diamonds c.recode-in-Both.new.words (c.recode-in-Both.auto.words ∙ c.deref_mut-in-Both.ensures.len)))
+          (c.recode-in-Both.ensures.follow kind.Diamond position c.args.stone refl c.code_of-code.ensures.value (rw c.deref_mut-in-Both.ensures.value (old.diamonds_follow both)));
+    }
+
+pub returns-in_default-clause-follow : goal.returns-in_default-clause-follow
+returns-in_default-clause-follow c = λ position old.
+    let size = c.args.self.now.size in
+    let after = placed position c.args.point c.args.stone in
+    let squares = c.args.self.now.squares in
+    record {
+      squares_follow =
+          subst (λ ws. AreWords kind.Square size after ws) (sym (with_items_is squares c.recode.new.words (c.recode.auto.words ∙ c.deref_mut.ensures.len)))
+          (c.recode.ensures.follow kind.Square position c.args.stone refl c.code_of-code.ensures.value (rw c.deref_mut.ensures.value old.squares_follow));
+      diamonds_follow = λ both. absurd (c.in_default.not-Both both);
+    }
+
+-- the code that is found is that of the stone on the point
+pub returns-else-code-clause-follow : goal.returns-else-code-clause-follow
+returns-else-code-clause-follow c = λ position old.
+    let kept = c.args.self.now in
+    let point = c.args.point in
+    let items = kept.squares.items in
+    let within : c.index.result < length items = omega (arith, c.index.ensures.below, old.squares_follow.count) in
+    let read = get_or_read items c.index.result c.index-2.result.now within c.index-2.ensures 0 in
+    let stands : position point ≡ c.args.stone =
+    same_stones (position point) c.args.stone
+    (sym (middle kept.size position point c.requires.on_board)
+    ∙ ap (λ w. code_at w 12) (sym (old.squares_follow.each point c.requires.on_board))
+    ∙ ap (λ i. code_at (slice_index items i) 12) (sym c.index.ensures.value)
+    ∙ ap (λ w. code_at w 12) (sym read)
+    ∙ sym c.code.ensures.value
+    ∙ c.if-code.false
+    ∙ c.code_of-code.ensures.value) in
+    Follow-agree kept.kinds kept.size position (placed position point c.args.stone) kept.squares.items kept.diamonds.items (placed_again kept.size position point c.args.stone stands) old

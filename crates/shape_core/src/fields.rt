@@ -1,0 +1,204 @@
+//! Fields: boards that keep the words of all their points.
+use crate::keeping::index;
+use crate::kept::KeptWords;
+use crate::marks::{is_marked, take_first};
+use crate::words::{Kinds, Word};
+use go_board::{Board, BoardFault, Colour, Played, Point, Size, Stone};
+use std::alloc::Global;
+use std::marker::Model;
+
+/// A board with the word of every point kept, and marks on the points whose words have changed.
+///
+/// All memory is taken by `new` and `with_kinds`.
+#[derive(Drop)]
+pub struct Field {
+    board: Board,
+    kept: KeptWords,
+}
+
+impl Model for Field {
+    ghost use Rattle.shape_core.specs.Field.{Kept, IsField};
+
+    ghost Value = { Kept };
+
+    ghost view = { λ f. record { board = f.board; kinds = f.kept.kinds; changed = f.kept.changed.items } };
+
+    ghost invariant = { λ f. IsField f.board f.kept.kinds f.kept.size f.kept.squares.items f.kept.diamonds.items f.kept.changed.items };
+}
+
+impl Field {
+    ghost use Rattle.std.specs.Prelude.{◌≡◌, ◌+◌, ◌⊎◌, ◌↔◌, [], length, IsTrue, IfOk, MatchOption};
+    ghost use Rattle.go_board.specs.declared.points.Point.{Point};
+    ghost use Rattle.go_board.specs.declared.points.Stone.TheVariants as stone;
+    ghost use Rattle.go_board.specs.Point.{IsOn};
+    ghost use Rattle.go_board.specs.Position.{placed};
+    ghost use Rattle.go_board.specs.Play.{stone_of, other, count_of, Plays, IsRemoved, ListsOnce};
+    ghost use Rattle.go_board.specs.Board.{position_of, IsBoard};
+    ghost use Rattle.shape_core.specs.declared.words.Kind.TheVariants as kind;
+    ghost use Rattle.shape_core.specs.Around.{word_around};
+    ghost use Rattle.shape_core.specs.Field.{IsMarked, AreMarks, MarksChanges, IsFirstMarked, Unmarks};
+
+    /// An empty board of this size, with the words of both kinds kept and no point marked.
+    ///
+    /// It takes memory for each point of the board. `BoardFault::Memory` comes where memory is refused.
+    pub fn new(alloc: Global, size: Size) -> Result<Field, BoardFault>
+        ensures size { IfOk result (λ field. field.board.size ≡ size) }
+        ensures empty { IfOk result (λ field. (q : Point) → IsOn size q → position_of field.board q ≡ stone.Empty) }
+        ensures removed { IfOk result (λ field. field.board.removed ≡ []) }
+        ensures kinds { IfOk result (λ field. field.kinds ≡ Kinds.Both) }
+        ensures unmarked { IfOk result (λ field. (q : Point) → IsMarked field.changed q → ⊥) }
+        ensures board { IfOk result (λ field. IsBoard field.board) }
+    {
+        Field::with_kinds(alloc, size, Kinds::Both)
+    }
+
+    /// An empty board of this size, with the words of these kinds kept and no point marked.
+    ///
+    /// It takes memory for each point of the board. `BoardFault::Memory` comes where memory is refused.
+    pub fn with_kinds(alloc: Global, size: Size, kinds: Kinds) -> Result<Field, BoardFault>
+        ensures size { IfOk result (λ field. field.board.size ≡ size) }
+        ensures empty { IfOk result (λ field. (q : Point) → IsOn size q → position_of field.board q ≡ stone.Empty) }
+        ensures removed { IfOk result (λ field. field.board.removed ≡ []) }
+        ensures kinds { IfOk result (λ field. field.kinds ≡ kinds) }
+        ensures unmarked { IfOk result (λ field. (q : Point) → IsMarked field.changed q → ⊥) }
+        ensures board { IfOk result (λ field. IsBoard field.board) }
+    {
+        let board = Board::new(alloc, size)?;
+        let kept = KeptWords::new(alloc, &board, kinds).map_err(|_| BoardFault::Memory)?;
+        Ok(Field { board, kept })
+    }
+
+    /// The size of the board.
+    pub fn size(&self) -> Size
+        ensures value { result ≡ self.now.board.size }
+        ensures board { IsBoard self.now.board }
+    {
+        self.board.size()
+    }
+
+    /// The kinds of pattern whose words are kept.
+    pub fn kinds(&self) -> Kinds
+        ensures { result ≡ self.now.kinds }
+    {
+        self.kept.kinds
+    }
+
+    /// What stands on a point. The point is on the board.
+    pub fn cell(&self, point: Point) -> Stone
+        requires { IsOn self.now.board.size point }
+        ensures value { result ≡ position_of self.now.board point }
+        ensures board { IsBoard self.now.board }
+    {
+        self.board.cell(point)
+    }
+
+    /// The points that the last `play` emptied, each once; none before the first. `set` leaves them.
+    pub fn removed(&self) -> &[Point]
+        ensures value { result.now ≡ self.now.board.removed }
+        ensures board { IsBoard self.now.board }
+    {
+        self.board.removed()
+    }
+
+    /// The square of a point, as it is now. The point is on the board.
+    pub fn word(&self, point: Point) -> Word
+        requires { IsOn self.now.board.size point }
+        ensures { result
+            ≡ word_around kind.Square self.now.board.size (position_of self.now.board) point }
+    {
+        self.kept.squares[index(self.kept.size, point)]
+    }
+
+    /// The diamond of a point, as it is now. The point is on the board, and diamonds are kept.
+    pub fn diamond(&self, point: Point) -> Word
+        requires on_board { IsOn self.now.board.size point }
+        requires kept { self.now.kinds ≡ Kinds.Both }
+        ensures { result
+            ≡ word_around kind.Diamond self.now.board.size (position_of self.now.board) point }
+    {
+        self.kept.diamonds[index(self.kept.size, point)]
+    }
+
+    /// Whether a point is marked: some kept word of it may be another than when it was last unmarked. The point is on
+    /// the board.
+    pub fn is_changed(&self, point: Point) -> bool
+        requires { IsOn self.now.board.size point }
+        ensures { IsTrue result ↔ IsMarked self.now.changed point }
+    {
+        is_marked(&self.kept.changed, point)
+    }
+
+    /// Unmarks the first marked point, row by row from the top and each row from the left, and says which it was; None
+    /// where no point is marked.
+    pub fn take_changed(&mut self) -> Option<Point>
+        ensures board { self.new.board ≡ self.old.board }
+        ensures kinds { self.new.kinds ≡ self.old.kinds }
+        ensures first { MatchOption result
+            ((q : Point) → IsMarked self.old.changed q → ⊥)
+            (IsFirstMarked self.old.board.size self.old.changed) }
+        ensures taken { MatchOption result
+            (self.new.changed ≡ self.old.changed)
+            (λ p. Unmarks self.old.changed p self.new.changed) }
+    {
+        take_first(&mut self.kept.changed)
+    }
+
+    /// Puts a stone on a point, or empties it, whatever stood there; nothing is captured. The point is on the board.
+    /// Each point of which a kept word changes is marked. Takes no memory.
+    pub fn set(&mut self, point: Point, stone: Stone)
+        requires { IsOn self.old.board.size point }
+        ensures size { self.new.board.size ≡ self.old.board.size }
+        ensures removed { self.new.board.removed ≡ self.old.board.removed }
+        ensures position { (q : Point) →
+            IsOn self.old.board.size q →
+            position_of self.new.board q ≡ placed (position_of self.old.board) point stone q }
+        ensures board { IsBoard self.new.board }
+        ensures kinds { self.new.kinds ≡ self.old.kinds }
+        ensures marks { MarksChanges self.old self.new }
+    {
+        self.board.set(point, stone);
+        self.kept.change(point, stone);
+    }
+
+    /// Plays a move, as the board does: the stone is placed, whatever stood there; then the stones of the other colour
+    /// next to it without a liberty are removed; then its own group if that has none. The point is on the board. Each
+    /// point of which a kept word changes is marked. Takes no memory.
+    pub fn play(&mut self, colour: Colour, point: Point) -> Played
+        requires { IsOn self.old.board.size point }
+        ensures size { self.new.board.size ≡ self.old.board.size }
+        ensures position { Plays
+            self.old.board.size
+            (position_of self.old.board)
+            colour
+            point
+            (position_of self.new.board) }
+        ensures removed { ListsOnce
+            (IsRemoved
+            self.old.board.size
+            (position_of self.old.board)
+            colour
+            point
+            (position_of self.new.board))
+            self.new.board.removed }
+        ensures all { result.taken + result.own_lost ≡ length self.new.board.removed }
+        ensures taken { result.taken
+            ≡ count_of
+            (placed (position_of self.old.board) point (stone_of colour))
+            (stone_of (other colour))
+            self.new.board.removed }
+        ensures own_lost { result.own_lost
+            ≡ count_of
+            (placed (position_of self.old.board) point (stone_of colour))
+            (stone_of colour)
+            self.new.board.removed }
+        ensures one { (result.taken ≡ 0) ⊎ (result.own_lost ≡ 0) }
+        ensures board { IsBoard self.new.board }
+        ensures kinds { self.new.kinds ≡ self.old.kinds }
+        ensures marks { MarksChanges self.old self.new }
+    {
+        let played = self.board.play(colour, point);
+        self.kept.change(point, colour.stone());
+        self.kept.empty(self.board.removed());
+        played
+    }
+}

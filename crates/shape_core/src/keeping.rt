@@ -1,0 +1,91 @@
+//! Words kept as a stone changes: one code exchanged in each word that has the point among its cells, and marks.
+ghost use Rattle.std.specs.Prelude.{◌≡◌, ◌<◌, ◌≤◌, ◌+◌, ◌*◌, ◌^◌, ◌⊎◌, ℕ, length, map, slice_index, slice_set, bit_or, All};
+ghost use Rattle.go_board.specs.declared.points.Point.{Point};
+ghost use Rattle.go_board.specs.declared.points.Stone.{Stone};
+ghost use Rattle.go_board.specs.Extent.{IsExtent};
+ghost use Rattle.go_board.specs.Point.{IsOn, index_of};
+ghost use Rattle.go_board.specs.Position.{Position, placed};
+ghost use Rattle.shape_core.specs.declared.words.Kind.{Kind};
+ghost use Rattle.shape_core.specs.Offset.{offset_of, offsets_of};
+ghost use Rattle.shape_core.specs.Word.{recoded};
+ghost use Rattle.shape_core.specs.Around.{stone_code};
+ghost use Rattle.shape_core.specs.Field.{IsMarked, AreMarks, AreWords, Follow, DifferingAreMarked, HaveRoom};
+
+use crate::cells::{Away, reached};
+use crate::marks::mark;
+use crate::words::Word;
+use go_board::{Point, Size};
+
+/// The place of a point in a list of the points row by row from the top, each row from the left.
+pub fn index(size: Size, point: Point) -> usize
+    requires { IsOn size point }
+    ensures value { result ≡ index_of size point }
+    ensures below { result < size.columns * size.rows }
+{
+    usize::from(point.row) * usize::from(size.columns()) + usize::from(point.column)
+}
+
+/// Gives the point that has this one so far away another code at that cell, and marks it. Where such a point would be
+/// off the board, nothing changes.
+fn recode_cell(
+    size: Size,
+    words: &mut [Word],
+    changed: &mut [u64],
+    point: Point,
+    away: Away,
+    cell: usize,
+    code: u8,
+)
+    requires extent { IsExtent size }
+    requires on_board { IsOn size point }
+    requires columns { away.0 ≤ 6 }
+    requires rows { away.1 ≤ 6 }
+    requires cell { cell < 25 }
+    requires code { code < 4 }
+    requires words { length words.old ≡ size.columns * size.rows }
+    requires marks { AreMarks size changed.old }
+    ensures marks { AreMarks size changed.new }
+    ensures stay { (q : Point) → IsMarked changed.old q → IsMarked changed.new q }
+    ensures there { (q : Point) → IsOn size q → q.column + away.0 ≡ point.column + 3 → q.row + away.1 ≡ point.row + 3
+        → (slice_index words.new (index_of size q) ≡ recoded (slice_index words.old (index_of size q)) cell code)
+        × IsMarked changed.new q }
+    ensures elsewhere { (q : Point) → IsOn size q
+        → ((q.column + away.0 ≡ point.column + 3) × (q.row + away.1 ≡ point.row + 3) → ⊥)
+        → slice_index words.new (index_of size q) ≡ slice_index words.old (index_of size q) }
+{
+    if let Some(near) = reached(size, point, (6 - away.0, 6 - away.1)) {
+        let index = index(size, near);
+        words[index] = words[index].with_code(cell, code);
+        mark(changed, near);
+    }
+}
+
+/// Makes the words follow a stone of this code at a point: each point that has it in one of these cells has that
+/// cell's code exchanged, and is marked.
+pub fn recode(
+    size: Size,
+    words: &mut [Word],
+    changed: &mut [u64],
+    cells: &[Away; 25],
+    point: Point,
+    code: u8,
+)
+    requires extent { IsExtent size }
+    requires on_board { IsOn size point }
+    requires columns { All (λ away. away.0 ≤ 6) cells.now }
+    requires rows { All (λ away. away.1 ≤ 6) cells.now }
+    requires code { code < 4 }
+    requires words { length words.old ≡ size.columns * size.rows }
+    requires marks { AreMarks size changed.old }
+    ensures marks { AreMarks size changed.new }
+    ensures stay { (q : Point) → IsMarked changed.old q → IsMarked changed.new q }
+    ensures differing { (q : Point) → IsOn size q
+        → (slice_index words.new (index_of size q) ≡ slice_index words.old (index_of size q)) ⊎ IsMarked changed.new q }
+    ensures follow { (kind : Kind) (position : Position) (stone : Stone)
+        → map offset_of cells.now ≡ offsets_of kind → code ≡ stone_code stone
+        → AreWords kind size position words.old → AreWords kind size (placed position point stone) words.new }
+{
+    for (cell, away) in cells.iter().enumerate() {
+        recode_cell(size, words, changed, point, *away, cell, code);
+    }
+}

@@ -1,0 +1,200 @@
+//! The words of all points of a board, kept as stones change, and the marks of the points whose words have changed.
+ghost use Rattle.std.specs.Prelude.{◌≡◌, ◌<◌, ◌*◌, ◌%◌, ◌/◌, ℕ, length, slice_index, IfOk, All};
+ghost use Rattle.go_board.specs.declared.points.Point.{Point};
+ghost use Rattle.go_board.specs.Board.{position_of};
+ghost use Rattle.go_board.specs.Point.{IsOn};
+ghost use Rattle.go_board.specs.Position.{Position, placed};
+ghost use Rattle.shape_core.specs.Around.{word_around};
+ghost use Rattle.shape_core.specs.Field.{IsMarked, AreWords, Follow, DifferingAreMarked, HaveRoom, emptied};
+
+use crate::cells::{DIAMOND_CELLS, SQUARE_CELLS};
+use crate::keeping::{index, recode};
+use crate::surroundings::{around, code_of, diamond};
+use crate::words::{Kind, Kinds, Word};
+use go_board::{Board, Point, Size, Stone};
+use std::alloc::{AllocError, Global};
+
+/// The cell in the middle of a pattern, of either kind.
+const MIDDLE: usize = 12;
+
+/// The words of a board's points, and the marks of those that have changed.
+#[derive(Drop)]
+pub struct KeptWords {
+    pub size: Size,
+    pub kinds: Kinds,
+    /// The words of the squares, row by row from the top, each row from the left.
+    pub squares: Vec<Word>,
+    /// Those of the diamonds, or none where diamonds are not kept.
+    pub diamonds: Vec<Word>,
+    /// For each row a bit for each column, set where the point is marked.
+    pub changed: Vec<u64>,
+}
+
+impl KeptWords {
+    /// The words of a board as it is, with no mark. It takes memory for each point of the board.
+    pub fn new(alloc: Global, board: &Board, kinds: Kinds) -> Result<KeptWords, AllocError>
+        ensures size { IfOk result (λ kept. kept.size ≡ board.now.size) }
+        ensures kinds { IfOk result (λ kept. kept.kinds ≡ kinds) }
+        ensures room { IfOk result (λ kept. HaveRoom kept.kinds kept.size kept.squares.items kept.diamonds.items kept.changed.items) }
+        ensures follow { IfOk result (λ kept. Follow kept.kinds kept.size (position_of board.now) kept.squares.items kept.diamonds.items) }
+        ensures unmarked { IfOk result (λ kept. (q : Point) → IsMarked kept.changed.items q → ⊥) }
+    {
+        let size = board.size();
+        let squares = words_of(alloc, board, Kind::Square)?;
+        let diamonds = match kinds {
+            Kinds::Squares => Vec::new(alloc),
+            Kinds::Both => words_of(alloc, board, Kind::Diamond)?,
+        };
+        let changed = vec![in alloc; 0; usize::from(size.rows())]?;
+        Ok(KeptWords {
+            size,
+            kinds,
+            squares,
+            diamonds,
+            changed,
+        })
+    }
+
+    /// Makes the words follow a stone set on a point, or the point emptied, and marks each point of which a kept word
+    /// changes.
+    pub fn change(&mut self, point: Point, stone: Stone)
+        requires on_board { IsOn self.old.size point }
+        requires room { HaveRoom
+            self.old.kinds
+            self.old.size
+            self.old.squares.items
+            self.old.diamonds.items
+            self.old.changed.items }
+        ensures size { self.new.size ≡ self.old.size }
+        ensures kinds { self.new.kinds ≡ self.old.kinds }
+        ensures room { HaveRoom
+            self.new.kinds
+            self.new.size
+            self.new.squares.items
+            self.new.diamonds.items
+            self.new.changed.items }
+        ensures stay { (q : Point) → IsMarked self.old.changed.items q → IsMarked self.new.changed.items q }
+        ensures squares { DifferingAreMarked
+            self.old.size
+            self.old.squares.items
+            self.new.squares.items
+            self.new.changed.items }
+        ensures diamonds { self.old.kinds ≡ Kinds.Both →
+            DifferingAreMarked
+            self.old.size
+            self.old.diamonds.items
+            self.new.diamonds.items
+            self.new.changed.items }
+        ensures follow { (position : Position) →
+            Follow
+            self.old.kinds
+            self.old.size
+            position
+            self.old.squares.items
+            self.old.diamonds.items →
+            Follow
+            self.new.kinds
+            self.new.size
+            (placed position point stone)
+            self.new.squares.items
+            self.new.diamonds.items }
+    {
+        let code = code_of(stone);
+        if self.squares[index(self.size, point)].code(MIDDLE) != code {
+            recode(
+                self.size,
+                &mut self.squares,
+                &mut self.changed,
+                &SQUARE_CELLS,
+                point,
+                code,
+            );
+            if let Kinds::Both = self.kinds {
+                recode(
+                    self.size,
+                    &mut self.diamonds,
+                    &mut self.changed,
+                    &DIAMOND_CELLS,
+                    point,
+                    code,
+                );
+            }
+        }
+    }
+
+    /// Makes the words follow these points emptied, and marks each point of which a kept word changes.
+    pub fn empty(&mut self, points: &[Point])
+        requires on_board { All (IsOn self.old.size) points.now }
+        requires room { HaveRoom
+            self.old.kinds
+            self.old.size
+            self.old.squares.items
+            self.old.diamonds.items
+            self.old.changed.items }
+        ensures size { self.new.size ≡ self.old.size }
+        ensures kinds { self.new.kinds ≡ self.old.kinds }
+        ensures room { HaveRoom
+            self.new.kinds
+            self.new.size
+            self.new.squares.items
+            self.new.diamonds.items
+            self.new.changed.items }
+        ensures stay { (q : Point) → IsMarked self.old.changed.items q → IsMarked self.new.changed.items q }
+        ensures squares { DifferingAreMarked
+            self.old.size
+            self.old.squares.items
+            self.new.squares.items
+            self.new.changed.items }
+        ensures diamonds { self.old.kinds ≡ Kinds.Both →
+            DifferingAreMarked
+            self.old.size
+            self.old.diamonds.items
+            self.new.diamonds.items
+            self.new.changed.items }
+        ensures follow { (position : Position) →
+            Follow
+            self.old.kinds
+            self.old.size
+            position
+            self.old.squares.items
+            self.old.diamonds.items →
+            Follow
+            self.new.kinds
+            self.new.size
+            (emptied position points.now)
+            self.new.squares.items
+            self.new.diamonds.items }
+    {
+        for point in points {
+            self.change(*point, Stone::Empty);
+        }
+    }
+}
+
+/// The words of this kind of all points of a board, row by row from the top, each row from the left.
+fn words_of(alloc: Global, board: &Board, kind: Kind) -> Result<Vec<Word>, AllocError>
+    ensures { IfOk result (λ words. AreWords kind board.now.size (position_of board.now) words.items) }
+{
+    let columns = usize::from(board.size().columns());
+    let count = columns * usize::from(board.size().rows());
+    let mut words = Vec::with_capacity(alloc, count)?;
+    for index in 0..count {
+        let point = Point {
+            column: (index % columns) as u8,
+            row: (index / columns) as u8,
+        };
+        words.push(word_at(board, point, kind))?;
+    }
+    Ok(words)
+}
+
+/// The word of this kind of a point.
+fn word_at(board: &Board, point: Point, kind: Kind) -> Word
+    requires { IsOn board.now.size point }
+    ensures { result ≡ word_around kind board.now.size (position_of board.now) point }
+{
+    match kind {
+        Kind::Square => around(board, point),
+        Kind::Diamond => diamond(board, point),
+    }
+}

@@ -1,0 +1,4 @@
+pub mod Known
+pub mod Rows
+pub mod Finals
+pub mod Runs

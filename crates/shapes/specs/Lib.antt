@@ -1,0 +1,4 @@
+pub mod Output
+pub mod Boards
+pub mod Runs
+pub mod Status

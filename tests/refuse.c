@@ -1,0 +1,62 @@
+// Stands between the program and the C library: refuses one request for memory, one read or one write, and cuts each
+// read and write to one byte. REFUSE names what: malloc, read, write, short (cuts alone), read_byte or write_byte (cuts,
+// and refuses a read or a write). REFUSE_AT says which one is refused, from 1, and REFUSE_MARK names a file that is made
+// when it was.
+#define _GNU_SOURCE
+#include <dlfcn.h>
+#include <errno.h>
+#include <fcntl.h>
+#include <stdlib.h>
+#include <string.h>
+#include <unistd.h>
+
+static long counted;
+
+static int asked(const char *what) {
+    const char *name = getenv("REFUSE");
+    return name != NULL && strcmp(name, what) == 0;
+}
+
+static int cut(void) { return asked("short") || asked("read_byte") || asked("write_byte"); }
+
+static int refused(const char *what) {
+    const char *at = getenv("REFUSE_AT");
+    if (!asked(what) || at == NULL || ++counted != atol(at)) return 0;
+    const char *mark = getenv("REFUSE_MARK");
+    if (mark != NULL) close(open(mark, O_CREAT | O_WRONLY, 0600));
+    return 1;
+}
+
+void *malloc(size_t size) {
+    static void *(*next)(size_t);
+    if (next == NULL) next = (void *(*)(size_t))dlsym(RTLD_NEXT, "malloc");
+    return refused("malloc") ? NULL : next(size);
+}
+
+void *realloc(void *old, size_t size) {
+    static void *(*next)(void *, size_t);
+    if (next == NULL) next = (void *(*)(void *, size_t))dlsym(RTLD_NEXT, "realloc");
+    return refused("malloc") ? NULL : next(old, size);
+}
+
+ssize_t read(int fd, void *to, size_t size) {
+    static ssize_t (*next)(int, void *, size_t);
+    if (next == NULL) next = (ssize_t (*)(int, void *, size_t))dlsym(RTLD_NEXT, "read");
+    if (fd == 0 && (refused("read") || refused("read_byte"))) {
+        errno = EIO;
+        return -1;
+    }
+    return next(fd, to, cut() && size > 1 ? 1 : size);
+}
+
+ssize_t write(int fd, const void *from, size_t size) {
+    static ssize_t (*next)(int, const void *, size_t);
+    if (next == NULL) next = (ssize_t (*)(int, const void *, size_t))dlsym(RTLD_NEXT, "write");
+    if (fd == 1 && (refused("write") || refused("write_byte"))) {
+        errno = EIO;
+        return -1;
+    }
+    return next(fd, from, cut() && size > 1 ? 1 : size);
+}
+
+ssize_t __write(int fd, const void *from, size_t size) { return write(fd, from, size); }
