@@ -19,3 +19,4 @@ pub mod OneReading
 pub mod OneAnswer
 pub mod StateLemmas
 pub mod Worked
+pub mod Counts

@@ -4,6 +4,7 @@ use Rattle.std.specs.Prelude.{codes}
 use Rattle.sgf_core.specs.Bytes.{is_white, is_letter}
 use Rattle.sgf_core.specs.Tree.{Property, no_trees, a_tree, GameTree, name_of, main_line_of}
 use Rattle.sgf_core.specs.Grammar.{is_value_text}
+use Rattle.sgf_core.specs.Counts.{value_count}
 use Rattle.sgf_core.specs.Marks.{marks_of}
 use Rattle.sgf_core.specs.declared.marks.Mark.TheVariants as mark
 
@@ -66,3 +67,7 @@ line = refl
 marks : marks_of game ≡ mark.Begin ∷ mark.Node ∷ mark.Prop first ∷ mark.Begin ∷ mark.Node ∷ mark.Prop second ∷ mark.End ∷ mark.Begin ∷ mark.Node ∷ mark.Prop third ∷ mark.End ∷ mark.End ∷ []
 unfolding game
 marks = refl
+
+values : value_count (main_line_of game) ≡ 2
+unfolding game first second move
+values = refl

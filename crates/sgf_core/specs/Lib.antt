@@ -8,3 +8,4 @@ pub mod Lines
 pub mod Written
 pub mod Reading
 pub mod Pieces
+pub mod Counts

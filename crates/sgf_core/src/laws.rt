@@ -1,6 +1,7 @@
-//! Laws on what a collection is: its bytes have one reading.
-ghost use Rattle.std.specs.Prelude.{◌≡◌, ℕ, List};
-ghost use Rattle.sgf_core.specs.Tree.{GameTree};
+//! Laws on what a collection is: its bytes have one reading, and its trees no more values than bytes.
+ghost use Rattle.std.specs.Prelude.{◌≡◌, ◌+◌, ◌<◌, ℕ, List};
+ghost use Rattle.sgf_core.specs.Tree.{GameTree, main_line_of};
+ghost use Rattle.sgf_core.specs.Counts.{value_count};
 ghost use Rattle.sgf_core.specs.Next.{IsNextTree, HasNoTree};
 ghost use Rattle.sgf_core.specs.Reading.{IsFaultAt};
 ghost use Rattle.sgf_core.specs.declared.faults.SgfFault.{SgfFault};
@@ -27,4 +28,11 @@ pub fn one_answer()
         → IsNextTree bytes from at end tree → HasNoTree bytes from → ⊥ }
     ensures fault_or_none { (bytes : List ℕ) (from : ℕ) (fault : SgfFault)
         → IsFaultAt bytes from fault → HasNoTree bytes from → ⊥ }
+{}
+
+/// A tree's main line has fewer values than the tree has bytes. So what is counted over the trees of a collection stays
+/// below the limit of its input.
+pub fn few_values()
+    ensures { (bytes : List ℕ) (from at end : ℕ) (tree : GameTree)
+        → IsNextTree bytes from at end tree → at + value_count (main_line_of tree) < end }
 {}

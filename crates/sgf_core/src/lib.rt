@@ -12,7 +12,7 @@ mod reader;
 mod scan;
 
 pub use faults::SgfFault;
-pub use laws::{one_answer, one_fault, one_next_tree};
+pub use laws::{few_values, one_answer, one_fault, one_next_tree};
 pub use lines::{MainLine, Node, Props};
 pub use marks::{Mark, Prop, Tree, Value};
 pub use reader::Trees;

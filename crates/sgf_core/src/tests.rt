@@ -6,20 +6,15 @@ ghost use Rattle.sgf_core.specs.Marks.{marks_of};
 use crate::{Mark, SgfFault, Tree, Trees};
 use std::alloc::{AllocError, Global};
 
-/// Where the trees of a collection begin and end, up to a fault.
-fn read(
-    alloc: Global,
-    bytes: &[u8],
-) -> Result<(Vec<(usize, usize)>, Option<SgfFault>), AllocError> {
+/// Where the trees of a collection begin and end, up to a fault. Want of memory is an `Err`.
+fn read(alloc: Global, bytes: &[u8]) -> Result<(Vec<(usize, usize)>, Option<SgfFault>), SgfFault> {
     let mut bounds = Vec::new(alloc);
-    let mut trees = match Trees::new(bytes) {
-        Ok(trees) => trees,
-        Err(fault) => return Ok((bounds, Some(fault))),
-    };
+    let mut trees = Trees::new(bytes)?;
     for _ in 0..bytes.len() + 1 {
         match trees.next_tree(alloc) {
             Ok(Some(tree)) => bounds.push((tree.at(), tree.end()))?,
             Ok(None) => return Ok((bounds, None)),
+            Err(SgfFault::Memory) => return Err(SgfFault::Memory),
             Err(fault) => return Ok((bounds, Some(fault))),
         }
     }
@@ -27,7 +22,7 @@ fn read(
 }
 
 #[test]
-fn trees_and_faults(rt: HostRuntime) -> Result<(), AllocError> {
+fn trees_and_faults(rt: HostRuntime) -> Result<(), SgfFault> {
     let rows: [(&[u8], &[(usize, usize)], Option<SgfFault>); 7] = [
         (b"(;SZ[1];C[a\\]", &[], Some(SgfFault::Truncated(0))),
         (
