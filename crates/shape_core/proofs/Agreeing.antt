@@ -11,11 +11,13 @@ use Rattle.go_board.specs.declared.points.Stone.{Stone}
 use Rattle.go_board.specs.declared.points.Stone.TheVariants as stone
 use Rattle.shape_core.specs.declared.words.Kind.{Kind}
 use Rattle.shape_core.specs.declared.words.Kind.TheVariants as kind
-use Rattle.shape_core.specs.declared.words.Kinds.{Kinds}
-use Rattle.shape_core.specs.Offset.{offset_of, offsets_of}
+use Rattle.shape_core.specs.Offset.{offsets_of}
+use Rattle.shape_core.specs.Table.{offset_of}
 use Rattle.shape_core.specs.Word.{word_of, code_at}
 use Rattle.shape_core.specs.Around.{shifted, stone_code, code_there, code_around, word_around}
-use Rattle.shape_core.specs.Field.{AreWords, Follow}
+use Rattle.shape_core.specs.KeptLists.{AreWords}
+use Rattle.shape_core.specs.Keeping.{Follows}
+use Rattle.shape_core.specs.declared.kept.KeptWords.{KeptWords}
 use Rattle.shape_core.proofs.Codes.{code_at-word_of}
 use Rattle.shape_core.proofs.Reach.{codes_round, get_or-codes_round, AreCodes-codes_round, word_around_is, code_around_on}
 
@@ -39,20 +41,20 @@ there_agree size p q same (Some column) (Some row) =
     (λ on. let parts = and_parts (ltb column size.columns) (ltb row size.rows) on in
     ap stone_code (same (record { column = column; row = row }) (ltb-true column size.columns parts.0, ltb-true row size.rows parts.1)))
 
-pub word_around_agree : (k : Kind) (size : Extent) (p q : Position) (at : Point) → Agree size p q → word_around k size p at ≡ word_around k size q at
+word_around_agree : (k : Kind) (size : Extent) (p q : Position) (at : Point) → Agree size p q → word_around k size p at ≡ word_around k size q at
 unfolding word_around
 word_around_agree k size p q at same =
     ap (word_of k) (map-same (code_around size p at) (code_around size q at) (λ o. there_agree size p q same (shifted at.column o.dx) (shifted at.row o.dy)) (offsets_of k))
 
-pub AreWords-agree : (k : Kind) (size : Extent) (p q : Position) (words : List ℕ) → Agree size p q → AreWords k size p words → AreWords k size q words
+AreWords-agree : (k : Kind) (size : Extent) (p q : Position) (words : List ℕ) → Agree size p q → AreWords k size p words → AreWords k size q words
 AreWords-agree k size p q words same are =
     record { count = are.count; each = λ at on. are.each at on ∙ word_around_agree k size p q at same }
 
-pub Follow-agree : (which : Kinds) (size : Extent) (p q : Position) (squares diamonds : List ℕ) → Agree size p q → Follow which size p squares diamonds → Follow which size q squares diamonds
-Follow-agree which size p q squares diamonds same follow =
+pub Follows-agree : (kept : KeptWords) (p q : Position) → Agree kept.size p q → Follows kept p → Follows kept q
+Follows-agree kept p q same follow =
     record {
-      squares_follow = AreWords-agree kind.Square size p q squares same follow.squares_follow;
-      diamonds_follow = λ both. AreWords-agree kind.Diamond size p q diamonds same (follow.diamonds_follow both);
+      squares_follow = AreWords-agree kind.Square kept.size p q kept.squares.items same follow.squares_follow;
+      diamonds_follow = λ both. AreWords-agree kind.Diamond kept.size p q kept.diamonds.items same (follow.diamonds_follow both);
     }
 
 -- the cell in the middle of a point's square has the code of its stone
@@ -61,7 +63,7 @@ middle size position p on =
     ap (λ w. code_at w 12) (word_around_is kind.Square size position p)
     ∙ code_at-word_of kind.Square (codes_round size position p (offsets_of kind.Square)) 12 (AreCodes-codes_round size position p (offsets_of kind.Square) refl) (omega arith)
     ∙ get_or-codes_round size position p (offsets_of kind.Square) 12 (offset_of (0, 0)) (omega arith)
-    ∙ code_around_on size position p p (3, 3) on refl refl
+    ∙ code_around_on size position p p (3, 3) on (refl, refl)
 
 -- stones with the same code are the same
 pub same_stones : (a b : Stone) → stone_code a ≡ stone_code b → a ≡ b

@@ -18,7 +18,7 @@ codes_as_digits w = codes_from 25 0 w ∙ ap (digits 25) (div-one w)
 pub AreCodes-digits : (w : ℕ) → AreCodes (digits 25 w)
 AreCodes-digits w = record { count = length-digits 25 w; small = digits-lt 25 w }
 
-pub same_codes : (xs ys : List ℕ) → AreCodes xs → AreCodes ys → ((i : ℕ) → i < 25 → get_or xs i 0 ≡ get_or ys i 0) → xs ≡ ys
+same_codes : (xs ys : List ℕ) → AreCodes xs → AreCodes ys → ((i : ℕ) → i < 25 → get_or xs i 0 ≡ get_or ys i 0) → xs ≡ ys
 same_codes xs ys a b same = ext_get_or 0 xs ys (a.count ∙ sym b.count) (λ i h. same i (omega (arith, a.count)))
 
 pub kind_below : (w : ℕ) → w < 2 ^ 50 → kind_of w ≡ kind.Square
@@ -28,7 +28,7 @@ pub kind_above : (w : ℕ) → 2 ^ 50 ≤ w → kind_of w ≡ kind.Diamond
 kind_above w h = rw (le-ltb w (2 ^ 50) h) refl
 
 -- a word is that of its kind and its codes
-pub word_is : (w : ℕ) → w < 2 ^ 51 → word_of (kind_of w) (digits 25 w) ≡ w
+word_is : (w : ℕ) → w < 2 ^ 51 → word_of (kind_of w) (digits 25 w) ≡ w
 word_is w h =
     let whole = sum_of-digits 25 w in
     ⊎_elim

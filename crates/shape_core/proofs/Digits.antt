@@ -10,11 +10,11 @@ digits zero w = []
 digits (suc n) w = w % 4 ∷ digits n (w / 4)
 
 -- the digit after one more
-pub code_at-suc : (w i : ℕ) → code_at w (suc i) ≡ code_at (w / 4) i
+code_at-suc : (w i : ℕ) → code_at w (suc i) ≡ code_at (w / 4) i
 code_at-suc w i =
     ap (λ p. (w / p) % 4) (pow-suc 4 i ∙ (omega arith)) ∙ ap (λ q. q % 4) (sym (div-div-eq-div-mul w 4 (4 ^ i)))
 
-pub code_at-zero : (w : ℕ) → code_at w 0 ≡ w % 4
+code_at-zero : (w : ℕ) → code_at w 0 ≡ w % 4
 code_at-zero w = ap (λ q. q % 4) (div-one w)
 
 pub code_at-lt : (w i : ℕ) → code_at w i < 4

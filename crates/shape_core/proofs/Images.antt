@@ -22,7 +22,7 @@ map-map : {A B C : Type 0} (f : B → C) (g : A → B) (xs : List A) → map f (
 map-map f g [] = refl
 map-map f g (x ∷ xs) = ap (λ ys. f (g x) ∷ ys) (map-map f g xs)
 
-pub length-sources : (k : Kind) (s : Symmetry) → length (sources k s) ≡ 25
+length-sources : (k : Kind) (s : Symmetry) → length (sources k s) ≡ 25
 unfolding sources
 length-sources kind.Square s = refl
 length-sources kind.Diamond s = refl
@@ -39,19 +39,19 @@ AreCodes-map w cells h =
           (λ i l. rw (get_or-map (code_at w) cells i 0 0 (omega (arith, length-map cells (code_at w)))) (code_at-lt w (get_or cells i 0)));
     }
 
-pub image_is : (s : Symmetry) (w : ℕ) → image_of s w ≡ rearranged (kind_of w) (sources (kind_of w) s) w
+image_is : (s : Symmetry) (w : ℕ) → image_of s w ≡ rearranged (kind_of w) (sources (kind_of w) s) w
 unfolding image_of sources rearranged
 image_is s w = ap (word_of (kind_of w)) (sym (map-map (code_at w) (source_cell (kind_of w) s) (offsets_of (kind_of w))))
 
-pub rearranged-lt : (k : Kind) (cells : List ℕ) (w : ℕ) → length cells ≡ 25 → rearranged k cells w < 2 ^ 51
+rearranged-lt : (k : Kind) (cells : List ℕ) (w : ℕ) → length cells ≡ 25 → rearranged k cells w < 2 ^ 51
 unfolding rearranged
 rearranged-lt k cells w h = word_of-lt k (map (code_at w) cells) (AreCodes-map w cells h)
 
-pub kind_of-rearranged : (k : Kind) (cells : List ℕ) (w : ℕ) → length cells ≡ 25 → kind_of (rearranged k cells w) ≡ k
+kind_of-rearranged : (k : Kind) (cells : List ℕ) (w : ℕ) → length cells ≡ 25 → kind_of (rearranged k cells w) ≡ k
 unfolding rearranged
 kind_of-rearranged k cells w h = kind_of-word_of k (map (code_at w) cells) (AreCodes-map w cells h)
 
-pub code_at-rearranged : (k : Kind) (cells : List ℕ) (w i : ℕ) → length cells ≡ 25 → i < 25 → code_at (rearranged k cells w) i ≡ code_at w (get_or cells i 0)
+code_at-rearranged : (k : Kind) (cells : List ℕ) (w i : ℕ) → length cells ≡ 25 → i < 25 → code_at (rearranged k cells w) i ≡ code_at w (get_or cells i 0)
 unfolding rearranged
 code_at-rearranged k cells w i h l =
     code_at-word_of k (map (code_at w) cells) i (AreCodes-map w cells h) l ∙ get_or-map (code_at w) cells i 0 0 (omega arith)
@@ -205,7 +205,7 @@ code_at-twice s t w i h =
     ∙ code_at-image t w (get_or (sources k s) i 0) (cell-lt k s i h)
     ∙ ap (code_at w) (sym (get_or-map (λ j. get_or (sources k t) j 0) (sources k s) i 0 0 (omega (arith, length-sources k s))))
 
-pub image_by : (s t u : Symmetry) (w : ℕ) → looked_up (sources (kind_of w) t) (sources (kind_of w) s) ≡ sources (kind_of w) u → image_of s (image_of t w) ≡ image_of u w
+image_by : (s t u : Symmetry) (w : ℕ) → looked_up (sources (kind_of w) t) (sources (kind_of w) s) ≡ sources (kind_of w) u → image_of s (image_of t w) ≡ image_of u w
 image_by s t u w e =
     same_words (image_of s (image_of t w)) (image_of u w) (image_of_small s (image_of t w)) (image_of_small u w)
     (kind_of-image s (image_of t w) ∙ kind_of-image t w ∙ sym (kind_of-image u w))

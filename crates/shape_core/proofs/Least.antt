@@ -7,7 +7,7 @@ use Rattle.go_board.specs.Play.{other}
 use Rattle.shape_core.specs.declared.symmetries.Symmetry.{Symmetry}
 use Rattle.shape_core.specs.declared.symmetries.Symmetry.TheVariants as symmetry
 use Rattle.shape_core.specs.Symmetry.{image_of, exchange_of, least_image, canonical_of, IsImageOf}
-use Rattle.shape_core.proofs.Images.{image_of_small, images_compose, images_return, image-same, image-half_turn, image-right_turn, image-left_turn, image-rising}
+use Rattle.shape_core.proofs.Images.{images_compose, images_return, image-same, image-half_turn, image-right_turn, image-left_turn, image-rising}
 use Rattle.shape_core.proofs.Exchanges.{exchange_of_small, exchange-exchange, exchange-image}
 
 least-le : (w : ℕ) (s : Symmetry) → least_image w ≤ image_of s w
@@ -30,9 +30,6 @@ least_is_image w =
     (either_image w _ _ (one symmetry.LeftTurn) (either_image w _ _ (one symmetry.LeftRight) (either_image w _ _ (one symmetry.TopBottom)
     (either_image w _ _ (one symmetry.FallingDiagonal) (one symmetry.RisingDiagonal)))))))
 
-pub least_image-lt : (w : ℕ) → least_image w < 2 ^ 51
-least_image-lt w = let found = least_is_image w in rw found.1 (image_of_small found.0 w)
-
 -- the least image of an image is not less
 least-image-ge : (s : Symmetry) (w : ℕ) → least_image w ≤ least_image (image_of s w)
 least-image-ge s w =
@@ -40,7 +37,7 @@ least-image-ge s w =
     let step = images_compose found.0 s w in
     omega (arith, found.1, step.1, least-le w step.0)
 
-pub least-image : (s : Symmetry) (w : ℕ) → w < 2 ^ 51 → least_image (image_of s w) ≡ least_image w
+least-image : (s : Symmetry) (w : ℕ) → w < 2 ^ 51 → least_image (image_of s w) ≡ least_image w
 least-image s w small =
     let back = images_return s w small in
     let other_way = least-image-ge back.0 (image_of s w) in

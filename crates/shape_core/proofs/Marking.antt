@@ -1,16 +1,17 @@
 -- Marks of points, and their places in lists of a board's points.
-use Rattle.std.proofs.Common.{◌≡◌, ◌≢◌, ℕ, ◌*◌, ◌^◌, ◌<◌, ◌≤◌, List, length, slice_index, slice_set, bit_or, sym, ap, ap₂, ◌∙◌, arith, All, ⊎_elim, length-set, get_or-set_same, get_or-set_other}
+use Rattle.std.proofs.Common.{◌≡◌, ◌≢◌, ℕ, ◌*◌, ◌^◌, ◌<◌, ◌≤◌, List, length, slice_index, slice_set, bit_or, sym, ap, ap₂, ◌∙◌, arith, ⊎_elim, length-set, get_or-set_same, get_or-set_other}
 use Rattle.std.proofs.Common.{Option, Some, None, MatchOption, subst, w64, bit_and, ◌%◌}
 use Rattle.std.specs.Int.{bit_at, bit_not, trailing_zeros}
 use Rattle.std.proofs.lemmas.Bool.{cases_eq, cases_lt}
 use Rattle.std.proofs.lemmas.Nat.{or_lt, and_le_l, pow_below, same_from_place}
 use Rattle.std.proofs.lemmas.List.{get_or_past}
 use Rattle.std.proofs.lemmas.Nat.Bits.{bit_at_or, bit_at-lt, bit_at-pow_same, bit_at-trailing_zeros, bit_at_clear_same, bit_at_clear_other, bit_at_above, bit_at-zero}
-use Rattle.std.proofs.lemmas.List.Elements.{All-set, All-get_or, All-weaker}
+use Rattle.std.proofs.lemmas.List.Elements.{All-set, All-get_or}
 use Rattle.go_board.specs.Extent.{Extent}
 use Rattle.go_board.specs.Point.{IsOn, index_of}
 use Rattle.go_board.specs.declared.points.Point.{Point}
-use Rattle.shape_core.specs.Field.{IsMarked, AreMarks, ComesBefore, Unmarks, IsFirstMarked}
+use Rattle.shape_core.specs.Field.{IsMarked, ComesBefore, Unmarks, IsFirstMarked}
+use Rattle.shape_core.specs.KeptLists.{AreMarks}
 
 -- points of one place are one
 pub same_point_from : (p q : Point) → p.column ≡ q.column → p.row ≡ q.row → p ≡ q
@@ -101,14 +102,8 @@ Unmarks-unmarked changed row h fits within =
           (cases_eq q.row row);
     }
 
--- rows are numbers of 64 bits
-pub rows_fit : (size : Extent) (changed : List ℕ) → size.columns ≤ 52 → AreMarks size changed → All (λ row. row < 2 ^ 64) changed
-rows_fit size changed few are =
-    All-weaker (λ row. row < 2 ^ size.columns) (λ row. row < 2 ^ 64)
-    (λ row h. omega (arith, h, pow_below size.columns 64 (omega arith))) changed are.within
-
 -- a marked point is on the board
-pub marked_on_board : (size : Extent) (changed : List ℕ) (p : Point) → AreMarks size changed → IsMarked changed p → IsOn size p
+marked_on_board : (size : Extent) (changed : List ℕ) (p : Point) → AreMarks size changed → IsMarked changed p → IsOn size p
 marked_on_board size changed p are is =
     ⊎_elim
     (λ (inside : p.row < size.rows). ⊎_elim

@@ -9,9 +9,11 @@ use Rattle.go_board.specs.Position.{Position, placed}
 use Rattle.go_board.specs.declared.points.Point.{Point}
 use Rattle.go_board.specs.declared.points.Stone.{Stone}
 use Rattle.shape_core.specs.declared.words.Kind.{Kind}
-use Rattle.shape_core.specs.Offset.{offset_of, offsets_of}
+use Rattle.shape_core.specs.Offset.{offsets_of}
+use Rattle.shape_core.specs.Table.{offset_of}
 use Rattle.shape_core.specs.Word.{word_of, recoded}
 use Rattle.shape_core.specs.Around.{stone_code, code_around, word_around}
+use Rattle.shape_core.specs.Table.{Sees}
 use Rattle.shape_core.proofs.Codes.{AreCodes, recoded-word_of}
 use Rattle.shape_core.proofs.Reach.{codes_round, get_or-codes_round, AreCodes-codes_round, code_around_on, code_around_off, point_away, word_around_is}
 
@@ -19,15 +21,15 @@ use Rattle.shape_core.proofs.Reach.{codes_round, get_or-codes_round, AreCodes-co
 unfoldable pub mixed : ℕ → List ℕ → List ℕ → List ℕ
 mixed i new old = take i new ++ drop i old
 
-pub mixed_none : (new old : List ℕ) → mixed 0 new old ≡ old
+mixed_none : (new old : List ℕ) → mixed 0 new old ≡ old
 unfolding mixed
 mixed_none new old = refl
 
-pub mixed_all : (new old : List ℕ) (i : ℕ) → length new ≤ i → length old ≤ i → mixed i new old ≡ new
+mixed_all : (new old : List ℕ) (i : ℕ) → length new ≤ i → length old ≤ i → mixed i new old ≡ new
 unfolding mixed
 mixed_all new old i p q = ap₂ ◌++◌ (take_all i new p) (drop_all i old q) ∙ append-nil new
 
-pub AreCodes-mixed : (i : ℕ) (new old : List ℕ) → i ≤ 25 → AreCodes new → AreCodes old → AreCodes (mixed i new old)
+AreCodes-mixed : (i : ℕ) (new old : List ℕ) → i ≤ 25 → AreCodes new → AreCodes old → AreCodes (mixed i new old)
 unfolding mixed
 AreCodes-mixed i new old h a b =
     record {
@@ -40,7 +42,7 @@ unfolding mixed
 mixed_next i new old p q =
     ap (λ front. front ++ drop (i + 1) old) (take_more new i 0 p) ∙ append_assoc (take i new) (get_or new i 0 ∷ []) (drop (i + 1) old)
 
-pub mixed_set : (i c : ℕ) (new old : List ℕ) → i < length new → i < length old → get_or new i 0 ≡ c → set (mixed i new old) i c ≡ mixed (i + 1) new old
+mixed_set : (i c : ℕ) (new old : List ℕ) → i < length new → i < length old → get_or new i 0 ≡ c → set (mixed i new old) i c ≡ mixed (i + 1) new old
 unfolding mixed
 mixed_set i c new old p q e =
     ap (λ back. set (take i new ++ back) i c) (drop_more old i 0 q)
@@ -48,7 +50,7 @@ mixed_set i c new old p q e =
     ∙ ap (λ x. take i new ++ x ∷ drop (i + 1) old) (sym e)
     ∙ sym (mixed_next i new old p q)
 
-pub mixed_same : (i : ℕ) (new old : List ℕ) → i < length new → i < length old → get_or new i 0 ≡ get_or old i 0 → mixed (i + 1) new old ≡ mixed i new old
+mixed_same : (i : ℕ) (new old : List ℕ) → i < length new → i < length old → get_or new i 0 ≡ get_or old i 0 → mixed (i + 1) new old ≡ mixed i new old
 unfolding mixed
 mixed_same i new old p q e =
     mixed_next i new old p q ∙ ap (λ x. take i new ++ x ∷ drop (i + 1) old) e ∙ ap (λ back. take i new ++ back) (sym (drop_more old i 0 q))
@@ -68,23 +70,19 @@ placed_other position p q stone apart =
     (λ (column : q.column ≡ p.column → ⊥). rw (ne_eqb q.column p.column column) refl)
     (cases_eq q.column p.column)
 
--- the point has this cell at the point where the stone is placed
-abbrev pub Sees : Point → ℕ × ℕ → Point → Type 0
-Sees q away p = (q.column + away.0 ≡ p.column + 3) × (q.row + away.1 ≡ p.row + 3)
-
 code_there : (size : Extent) (position : Position) (p q : Point) (stone : Stone) (away : ℕ × ℕ) → IsOn size p → Sees q away p → code_around size (placed position p stone) q (offset_of away) ≡ stone_code stone
 code_there size position p q stone away on sees =
-    code_around_on size (placed position p stone) q p away on (sym sees.0) (sym sees.1) ∙ ap stone_code (placed_there position p stone)
+    code_around_on size (placed position p stone) q p away on sees ∙ ap stone_code (placed_there position p stone)
 
 code_elsewhere : (size : Extent) (position : Position) (p q : Point) (stone : Stone) (away : ℕ × ℕ) → (Sees q away p → ⊥) → code_around size (placed position p stone) q (offset_of away) ≡ code_around size position q (offset_of away)
 code_elsewhere size position p q stone away blind =
     ⊎_elim
-    (λ (there : (r : Point) × IsOn size r × (r.column + 3 ≡ q.column + away.0) × (r.row + 3 ≡ q.row + away.1)).
-    let apart : (there.0.column ≡ p.column) × (there.0.row ≡ p.row) → ⊥ = λ same. blind ((omega (arith, there.2, same.0)), (omega (arith, there.3, same.1))) in
-    code_around_on size (placed position p stone) q there.0 away there.1 there.2 there.3
+    (λ (there : (r : Point) × IsOn size r × Sees q away r).
+    let apart : (there.0.column ≡ p.column) × (there.0.row ≡ p.row) → ⊥ = λ same. blind ((omega (arith, there.2.0, same.0)), (omega (arith, there.2.1, same.1))) in
+    code_around_on size (placed position p stone) q there.0 away there.1 there.2
     ∙ ap stone_code (placed_other position p there.0 stone apart)
-    ∙ sym (code_around_on size position q there.0 away there.1 there.2 there.3))
-    (λ (none : (r : Point) → IsOn size r → r.column + 3 ≡ q.column + away.0 → r.row + 3 ≡ q.row + away.1 → ⊥).
+    ∙ sym (code_around_on size position q there.0 away there.1 there.2))
+    (λ (none : (r : Point) → IsOn size r → Sees q away r → ⊥).
     code_around_off size (placed position p stone) q away none ∙ sym (code_around_off size position q away none))
     (point_away size q away)
 
@@ -120,11 +118,11 @@ module _ (k : Kind) (size : Extent) (position : Position) (p : Point) (stone : S
   new_codes : AreCodes (codes_round size (placed position p stone) q (map offset_of cells))
   new_codes = AreCodes-codes_round size (placed position p stone) q (map offset_of cells) offsets_count
 
-  pub mixed_round_none : mixed_round 0 size position p stone q cells ≡ codes_round size position q (map offset_of cells)
+  mixed_round_none : mixed_round 0 size position p stone q cells ≡ codes_round size position q (map offset_of cells)
   unfolding mixed_round
   mixed_round_none = mixed_none (codes_round size (placed position p stone) q (map offset_of cells)) (codes_round size position q (map offset_of cells))
 
-  pub mixed_round_all : (i : ℕ) → 25 ≤ i → mixed_round i size position p stone q cells ≡ codes_round size (placed position p stone) q (map offset_of cells)
+  mixed_round_all : (i : ℕ) → 25 ≤ i → mixed_round i size position p stone q cells ≡ codes_round size (placed position p stone) q (map offset_of cells)
   unfolding mixed_round
   mixed_round_all i h =
       mixed_all (codes_round size (placed position p stone) q (map offset_of cells)) (codes_round size position q (map offset_of cells)) i

@@ -78,7 +78,7 @@ any_of-cond w true is = refl
 any_of-cond w false is = refl
 
 -- each bit is that of its sources
-pub bit_at-made_of : (e : Moves) (w i : ℕ) → bit_at (made_of e w) i ≡ any_of w (sources_of e i)
+bit_at-made_of : (e : Moves) (w i : ℕ) → bit_at (made_of e w) i ≡ any_of w (sources_of e i)
 bit_at-made_of whole w i = omega arith
 bit_at-made_of (masked e m) w i =
     bit_at_and (made_of e w) m i
@@ -102,7 +102,7 @@ bit_at-made_of (joined e f) w i =
     ∙ ap₂ max (bit_at-made_of e w i) (bit_at-made_of f w i)
     ∙ sym (any_of-append w (sources_of e i) (sources_of f i))
 
-pub made_of-lt : (e : Moves) (w : ℕ) → w < 2 ^ 64 → made_of e w < 2 ^ 64
+made_of-lt : (e : Moves) (w : ℕ) → w < 2 ^ 64 → made_of e w < 2 ^ 64
 made_of-lt whole w h = h
 made_of-lt (masked e m) w h = omega (arith, and_le_l (made_of e w) m, made_of-lt e w h)
 made_of-lt (raised e s) w h = omega arith
@@ -188,7 +188,7 @@ below_51 n h none =
     same_from_bits_below 13 (n / 2 ^ 51) 0 (omega arith) (omega arith) (λ j l. bit_at-lowered n 51 j ∙ none j l ∙ sym (bit_at-zero j)) in
     omega arith
 
-pub kind_of-bit : (n : ℕ) → n < 2 ^ 51 → kind_of n ≡ cond (eqb (bit_at n 50) 1) kind.Diamond kind.Square
+kind_of-bit : (n : ℕ) → n < 2 ^ 51 → kind_of n ≡ cond (eqb (bit_at n 50) 1) kind.Diamond kind.Square
 kind_of-bit n h =
     ⊎_elim
     (λ (low : n < 2 ^ 50). let b : bit_at n 50 ≡ 0 = omega arith in rw (kind_below n low) (rw b refl))

@@ -1,5 +1,5 @@
 -- The cells round a point: which point a cell is, and what its code is.
-use Rattle.std.proofs.Common.{◌≡◌, ℕ, ◌+◌, ◌-◌, ◌<◌, ◌≤◌, List, map, length, get_or, Bool, true, false, cond, ltb, ◌&&◌, Option, Some, None, refl, ap, ap₂, ◌∙◌, arith, ⊎_elim, ◌⊎◌, inl, inr}
+use Rattle.std.proofs.Common.{◌≡◌, ℕ, ◌+◌, ◌-◌, ◌<◌, ◌≤◌, List, map, length, get_or, Bool, true, false, cond, ltb, ◌&&◌, Option, Some, None, sym, refl, ap, ap₂, ◌∙◌, arith, ⊎_elim, ◌⊎◌, inl, inr}
 use Rattle.std.proofs.lemmas.Bool.{cases_lt, lt-ltb, le-ltb}
 use Rattle.std.proofs.lemmas.List.{length-map, get_or-map}
 use Rattle.std.proofs.lemmas.List.Elements.{All-from_get_or}
@@ -10,9 +10,11 @@ use Rattle.go_board.specs.declared.points.Point.{Point}
 use Rattle.go_board.specs.declared.points.Stone.{Stone}
 use Rattle.go_board.specs.declared.points.Stone.TheVariants as stone
 use Rattle.shape_core.specs.declared.words.Kind.{Kind}
-use Rattle.shape_core.specs.Offset.{Offset, offsets_of, less_three, offset_of}
+use Rattle.shape_core.specs.Offset.{Offset, offsets_of}
+use Rattle.shape_core.specs.Table.{less_three, offset_of}
 use Rattle.shape_core.specs.Word.{word_of}
 use Rattle.shape_core.specs.Around.{shifted, stone_code, code_there, code_around, word_around}
+use Rattle.shape_core.specs.Table.{Sees}
 use Rattle.shape_core.proofs.Codes.{AreCodes}
 
 shifted_there : (n a m : ℕ) → m + 3 ≡ n + a → shifted n (less_three a) ≡ Some m
@@ -32,9 +34,9 @@ there_on : (size : Extent) (position : Position) (q : Point) → IsOn size q →
 there_on size position q on = rw (lt-ltb q.column size.columns on.0, lt-ltb q.row size.rows on.1) refl
 
 -- a cell that is on the board has the code of its stone
-pub code_around_on : (size : Extent) (position : Position) (p q : Point) (away : ℕ × ℕ) → IsOn size q → q.column + 3 ≡ p.column + away.0 → q.row + 3 ≡ p.row + away.1 → code_around size position p (offset_of away) ≡ stone_code (position q)
-code_around_on size position p q away on column row =
-    ap₂ (code_there size position) (shifted_there p.column away.0 q.column column) (shifted_there p.row away.1 q.row row)
+pub code_around_on : (size : Extent) (position : Position) (p q : Point) (away : ℕ × ℕ) → IsOn size q → Sees p away q → code_around size position p (offset_of away) ≡ stone_code (position q)
+code_around_on size position p q away on sees =
+    ap₂ (code_there size position) (shifted_there p.column away.0 q.column (sym sees.0)) (shifted_there p.row away.1 q.row (sym sees.1))
     ∙ there_on size position q on
 
 there_off : (size : Extent) (position : Position) (column row : ℕ) → ((column < size.columns) × (row < size.rows) → ⊥) → code_there size position (Some column) (Some row) ≡ 3
@@ -48,7 +50,7 @@ there_off size position column row off =
     (cases_lt column size.columns)
 
 -- every other has the code 3
-pub code_around_off : (size : Extent) (position : Position) (p : Point) (away : ℕ × ℕ) → ((q : Point) → IsOn size q → q.column + 3 ≡ p.column + away.0 → q.row + 3 ≡ p.row + away.1 → ⊥) → code_around size position p (offset_of away) ≡ 3
+pub code_around_off : (size : Extent) (position : Position) (p : Point) (away : ℕ × ℕ) → ((q : Point) → IsOn size q → Sees p away q → ⊥) → code_around size position p (offset_of away) ≡ 3
 code_around_off size position p away none =
     ⊎_elim
     (λ (left : p.column + away.0 < 3). ap (λ o. code_there size position o (shifted p.row (less_three away.1))) (shifted_none p.column away.0 left))
@@ -56,7 +58,7 @@ code_around_off size position p away none =
     (λ (up : p.row + away.1 < 3). ap₂ (code_there size position) (shifted_there p.column away.0 (p.column + away.0 - 3) (omega arith)) (shifted_none p.row away.1 up))
     (λ (down : 3 ≤ p.row + away.1).
     ap₂ (code_there size position) (shifted_there p.column away.0 (p.column + away.0 - 3) (omega arith)) (shifted_there p.row away.1 (p.row + away.1 - 3) (omega arith))
-    ∙ there_off size position (p.column + away.0 - 3) (p.row + away.1 - 3) (λ on. none (record { column = p.column + away.0 - 3; row = p.row + away.1 - 3 }) on (omega arith) (omega arith)))
+    ∙ there_off size position (p.column + away.0 - 3) (p.row + away.1 - 3) (λ on. none (record { column = p.column + away.0 - 3; row = p.row + away.1 - 3 }) on ((omega arith), (omega arith))))
     (cases_lt (p.row + away.1) 3))
     (cases_lt (p.column + away.0) 3)
 
@@ -75,7 +77,7 @@ there-lt size position (Some column) None = omega arith
 there-lt size position (Some column) (Some row) =
     cond-lt (ltb column size.columns && ltb row size.rows) (stone_code (position (record { column = column; row = row }))) 3 (stone_code-lt (position (record { column = column; row = row }))) (omega arith)
 
-pub code_around-lt : (size : Extent) (position : Position) (p : Point) (o : Offset) → code_around size position p o < 4
+code_around-lt : (size : Extent) (position : Position) (p : Point) (o : Offset) → code_around size position p o < 4
 code_around-lt size position p o = there-lt size position (shifted p.column o.dx) (shifted p.row o.dy)
 
 -- the codes of the cells at these offsets round a point
@@ -102,20 +104,20 @@ word_around_is k size position p = refl
 
 -- the point that lies so far from another, or that there is none on the board
 pub point_away : (size : Extent) (p : Point) (away : ℕ × ℕ) →
-    ((q : Point) × IsOn size q × (q.column + 3 ≡ p.column + away.0) × (q.row + 3 ≡ p.row + away.1))
-    ⊎ ((q : Point) → IsOn size q → q.column + 3 ≡ p.column + away.0 → q.row + 3 ≡ p.row + away.1 → ⊥)
+    ((q : Point) × IsOn size q × Sees p away q)
+    ⊎ ((q : Point) → IsOn size q → Sees p away q → ⊥)
 point_away size p away =
     let q : Point = record { column = p.column + away.0 - 3; row = p.row + away.1 - 3 } in
     ⊎_elim
-    (λ (left : p.column + away.0 < 3). inr (λ r on column row. omega arith))
+    (λ (left : p.column + away.0 < 3). inr (λ r on sees. omega arith))
     (λ (right : 3 ≤ p.column + away.0). ⊎_elim
-    (λ (up : p.row + away.1 < 3). inr (λ r on column row. omega arith))
+    (λ (up : p.row + away.1 < 3). inr (λ r on sees. omega arith))
     (λ (down : 3 ≤ p.row + away.1). ⊎_elim
     (λ (columns : q.column < size.columns). ⊎_elim
-    (λ (rows : q.row < size.rows). inl (q, (columns, rows), (omega arith), (omega arith)))
-    (λ (rows : size.rows ≤ q.row). inr (λ r on column row. omega arith))
+    (λ (rows : q.row < size.rows). inl (q, (columns, rows), ((omega arith), (omega arith))))
+    (λ (rows : size.rows ≤ q.row). inr (λ r on sees. omega arith))
     (cases_lt q.row size.rows))
-    (λ (columns : size.columns ≤ q.column). inr (λ r on column row. omega arith))
+    (λ (columns : size.columns ≤ q.column). inr (λ r on sees. omega arith))
     (cases_lt q.column size.columns))
     (cases_lt (p.row + away.1) 3))
     (cases_lt (p.column + away.0) 3)

@@ -12,11 +12,11 @@ use Rattle.std.proofs.lemmas.List.{take-map}
 use Rattle.shape_core.proofs.Sums.{sum_of-more, sum_of_fits}
 use Rattle.shape_core.proofs.Codes.{AreCodes, AreCodes-digits, codes_as_digits, same_words, digits-word_of, sum-lt}
 
-pub glyphs_as_digits : (w : ℕ) → glyphs_of w ≡ map glyph_of (digits 25 w)
+glyphs_as_digits : (w : ℕ) → glyphs_of w ≡ map glyph_of (digits 25 w)
 unfolding glyphs_of
 glyphs_as_digits w = ap (map glyph_of) (codes_as_digits w)
 
-pub get_or-glyphs_of : (w i : ℕ) → i < 25 → get_or (glyphs_of w) i 0 ≡ glyph_of (code_at w i)
+get_or-glyphs_of : (w i : ℕ) → i < 25 → get_or (glyphs_of w) i 0 ≡ glyph_of (code_at w i)
 get_or-glyphs_of w i h =
     ap (λ gs. get_or gs i 0) (glyphs_as_digits w) ∙ get_or-map glyph_of (digits 25 w) i 0 0 (omega (arith, length-digits 25 w)) ∙ ap glyph_of (get_or-digits 25 w i h)
 
@@ -42,7 +42,7 @@ each_is_glyph w i h = ap is_glyph (get_or-glyphs_of w i h) ∙ is_glyph-glyph_of
 abbrev pub code_from : ℕ → ℕ
 code_from byte = cond (eqb byte 46) 0 (cond (eqb byte 88) 1 (cond (eqb byte 79) 2 3))
 
-pub code_from-glyph_of : (c : ℕ) → c < 4 → code_from (glyph_of c) ≡ c
+code_from-glyph_of : (c : ℕ) → c < 4 → code_from (glyph_of c) ≡ c
 code_from-glyph_of zero h = refl
 code_from-glyph_of (suc zero) h = refl
 code_from-glyph_of (suc (suc zero)) h = refl
@@ -95,7 +95,7 @@ glyphs_back (b ∷ bytes) h =
     ap₂ ◌∷◌ (glyph_of-code_from b (h 0 (omega arith))) (glyphs_back bytes (λ k l. h (suc k) (omega arith)))
 
 -- the word of either kind with this sum has these glyphs
-pub glyphs_of-word : (k : Kind) (bytes : List ℕ) → length bytes ≡ 25 → ((i : ℕ) → i < 25 → is_glyph (get_or bytes i 0) ≡ true) → glyphs_of (word_of k (map code_from bytes)) ≡ bytes
+glyphs_of-word : (k : Kind) (bytes : List ℕ) → length bytes ≡ 25 → ((i : ℕ) → i < 25 → is_glyph (get_or bytes i 0) ≡ true) → glyphs_of (word_of k (map code_from bytes)) ≡ bytes
 glyphs_of-word k bytes count all =
     glyphs_as_digits (word_of k (map code_from bytes))
     ∙ ap (map glyph_of) (digits-word_of k (map code_from bytes) (codes_from_glyphs bytes count))

@@ -1,6 +1,5 @@
 -- The definitions on worked values.
 use Rattle.std.proofs.Common.{◌≡◌, refl, codes}
-use Rattle.go_board.specs.Extent.{Extent}
 use Rattle.go_board.specs.Position.{Position}
 use Rattle.go_board.specs.declared.points.Colour.TheVariants as colour
 use Rattle.go_board.specs.declared.points.Stone.TheVariants as stone

@@ -14,6 +14,7 @@ abbrev pub shifted : ℕ → ℤ → Option ℕ
 shifted n (pos d) = Some (n + d)
 shifted n (negsuc d) = if nat_lt d n then Some (n - (d + 1)) else None
 
+-- the code of what stands on a point
 abbrev pub stone_code : Stone → ℕ
 stone_code stone.Empty = 0
 stone_code stone.Black = 1
@@ -27,6 +28,7 @@ code_there size position (Some column) (Some row) =
     else 3
 code_there size position _ _ = 3
 
+-- the code of the cell at an offset from a point
 abbrev pub code_around : Extent → Position → Point → Offset → ℕ
 code_around size position point offset =
     code_there size position (shifted point.column offset.dx) (shifted point.row offset.dy)

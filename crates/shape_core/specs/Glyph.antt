@@ -6,6 +6,7 @@ use Rattle.shape_core.specs.Word.{codes_of}
 abbrev pub glyph_of : ℕ → ℕ
 glyph_of code = if code == 0 then 46 else (if code == 1 then 88 else (if code == 2 then 79 else 35))
 
+-- the byte is one of the four glyphs
 abbrev pub is_glyph : ℕ → Bool
 is_glyph byte = byte == 46 || byte == 88 || byte == 79 || byte == 35
 

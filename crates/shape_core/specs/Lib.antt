@@ -2,5 +2,8 @@ pub mod Offset
 pub mod Word
 pub mod Symmetry
 pub mod Around
+pub mod Table
 pub mod Glyph
 pub mod Field
+pub mod KeptLists
+pub mod Keeping

@@ -32,6 +32,7 @@ moved symmetry.TopBottom o = record { dx = o.dx; dy = neg_ℤ o.dy }
 moved symmetry.FallingDiagonal o = record { dx = o.dy; dy = o.dx }
 moved symmetry.RisingDiagonal o = record { dx = neg_ℤ o.dy; dy = neg_ℤ o.dx }
 
+-- the two offsets are the same
 abbrev pub same_offset : Offset → Offset → Bool
 same_offset o q = int_eq o.dx q.dx && int_eq o.dy q.dy
 
@@ -49,6 +50,7 @@ image_of s word =
 abbrev pub exchanged_code : ℕ → ℕ
 exchanged_code code = if code == 1 then 2 else (if code == 2 then 1 else code)
 
+-- the word with every code exchanged
 unfoldable pub exchange_of : ℕ → ℕ
 exchange_of word = word_of (kind_of word) (map exchanged_code (codes_of word))
 

@@ -14,9 +14,11 @@ abbrev pub mark_of : Kind → ℕ
 mark_of kind.Square = 0
 mark_of kind.Diamond = 2 ^ 50
 
+-- the word of a kind with these codes
 abbrev pub word_of : Kind → List ℕ → ℕ
 word_of kind codes = mark_of kind + sum_of codes
 
+-- words below 2 ^ 50 are those of squares
 abbrev pub kind_of : ℕ → Kind
 kind_of word = if nat_lt word (2 ^ 50) then kind.Square else kind.Diamond
 

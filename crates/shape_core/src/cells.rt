@@ -2,6 +2,7 @@
 ghost use Rattle.std.specs.Prelude.{◌≡◌, ◌<◌, ◌≤◌, ◌+◌, ℕ, MatchOption};
 ghost use Rattle.go_board.specs.declared.points.Point.{Point};
 ghost use Rattle.go_board.specs.Point.{IsOn};
+ghost use Rattle.shape_core.specs.Table.{Sees};
 
 use go_board::{Point, Size};
 
@@ -72,8 +73,8 @@ pub fn reached(size: Size, point: Point, away: Away) -> Option<Point>
     requires columns { away.0 ≤ 6 }
     requires rows { away.1 ≤ 6 }
     ensures { MatchOption result
-        ((q : Point) → IsOn size q → q.column + 3 ≡ point.column + away.0 → q.row + 3 ≡ point.row + away.1 → ⊥)
-        (λ q. IsOn size q × (q.column + 3 ≡ point.column + away.0) × (q.row + 3 ≡ point.row + away.1)) }
+        ((q : Point) → IsOn size q → ¬ Sees point away q)
+        (λ q. IsOn size q × Sees point away q) }
 {
     let column = (point.column + away.0).checked_sub(3)?;
     let row = (point.row + away.1).checked_sub(3)?;

@@ -17,17 +17,18 @@ pub struct Field {
 }
 
 impl Model for Field {
-    ghost use Rattle.shape_core.specs.Field.{Kept, IsField};
+    ghost use Rattle.shape_core.specs.Field.{Kept};
+    ghost use Rattle.shape_core.specs.Keeping.{IsField};
 
     ghost Value = { Kept };
 
     ghost view = { λ f. record { board = f.board; kinds = f.kept.kinds; changed = f.kept.changed.items } };
 
-    ghost invariant = { λ f. IsField f.board f.kept.kinds f.kept.size f.kept.squares.items f.kept.diamonds.items f.kept.changed.items };
+    ghost invariant = { λ f. IsField f.board f.kept };
 }
 
 impl Field {
-    ghost use Rattle.std.specs.Prelude.{◌≡◌, ◌+◌, ◌⊎◌, ◌↔◌, [], length, IsTrue, IfOk, MatchOption};
+    ghost use Rattle.std.specs.Prelude.{◌≡◌, ◌+◌, ◌⊎◌, ◌↔◌, [], length, Contains, IsTrue, IfOk, MatchOption};
     ghost use Rattle.go_board.specs.declared.points.Point.{Point};
     ghost use Rattle.go_board.specs.declared.points.Stone.TheVariants as stone;
     ghost use Rattle.go_board.specs.Point.{IsOn};
@@ -36,17 +37,18 @@ impl Field {
     ghost use Rattle.go_board.specs.Board.{position_of, IsBoard};
     ghost use Rattle.shape_core.specs.declared.words.Kind.TheVariants as kind;
     ghost use Rattle.shape_core.specs.Around.{word_around};
-    ghost use Rattle.shape_core.specs.Field.{IsMarked, AreMarks, MarksChanges, IsFirstMarked, Unmarks};
+    ghost use Rattle.shape_core.specs.Field.{IsMarked, MarksChanges, IsFirstMarked, Unmarks};
 
     /// An empty board of this size, with the words of both kinds kept and no point marked.
     ///
     /// It takes memory for each point of the board. `BoardFault::Memory` comes where memory is refused.
     pub fn new(alloc: Global, size: Size) -> Result<Field, BoardFault>
         ensures size { IfOk result (λ field. field.board.size ≡ size) }
-        ensures empty { IfOk result (λ field. (q : Point) → IsOn size q → position_of field.board q ≡ stone.Empty) }
+        ensures empty { IfOk result
+            (λ field. (q : Point) → IsOn size q → position_of field.board q ≡ stone.Empty) }
         ensures removed { IfOk result (λ field. field.board.removed ≡ []) }
         ensures kinds { IfOk result (λ field. field.kinds ≡ Kinds.Both) }
-        ensures unmarked { IfOk result (λ field. (q : Point) → IsMarked field.changed q → ⊥) }
+        ensures unmarked { IfOk result (λ field. (q : Point) → ¬ IsMarked field.changed q) }
         ensures board { IfOk result (λ field. IsBoard field.board) }
     {
         Field::with_kinds(alloc, size, Kinds::Both)
@@ -57,10 +59,11 @@ impl Field {
     /// It takes memory for each point of the board. `BoardFault::Memory` comes where memory is refused.
     pub fn with_kinds(alloc: Global, size: Size, kinds: Kinds) -> Result<Field, BoardFault>
         ensures size { IfOk result (λ field. field.board.size ≡ size) }
-        ensures empty { IfOk result (λ field. (q : Point) → IsOn size q → position_of field.board q ≡ stone.Empty) }
+        ensures empty { IfOk result
+            (λ field. (q : Point) → IsOn size q → position_of field.board q ≡ stone.Empty) }
         ensures removed { IfOk result (λ field. field.board.removed ≡ []) }
         ensures kinds { IfOk result (λ field. field.kinds ≡ kinds) }
-        ensures unmarked { IfOk result (λ field. (q : Point) → IsMarked field.changed q → ⊥) }
+        ensures unmarked { IfOk result (λ field. (q : Point) → ¬ IsMarked field.changed q) }
         ensures board { IfOk result (λ field. IsBoard field.board) }
     {
         let board = Board::new(alloc, size)?;
@@ -134,7 +137,7 @@ impl Field {
         ensures board { self.new.board ≡ self.old.board }
         ensures kinds { self.new.kinds ≡ self.old.kinds }
         ensures first { MatchOption result
-            ((q : Point) → IsMarked self.old.changed q → ⊥)
+            ((q : Point) → ¬ IsMarked self.old.changed q)
             (IsFirstMarked self.old.board.size self.old.changed) }
         ensures taken { MatchOption result
             (self.new.changed ≡ self.old.changed)
@@ -180,6 +183,11 @@ impl Field {
             point
             (position_of self.new.board))
             self.new.board.removed }
+        ensures kept { (q : Point) →
+            IsOn self.old.board.size q →
+            ¬ Contains self.new.board.removed q →
+            position_of self.new.board q
+            ≡ placed (position_of self.old.board) point (stone_of colour) q }
         ensures all { result.taken + result.own_lost ≡ length self.new.board.removed }
         ensures taken { result.taken
             ≡ count_of

@@ -6,10 +6,13 @@ ghost use Rattle.go_board.specs.Extent.{IsExtent};
 ghost use Rattle.go_board.specs.Point.{IsOn, index_of};
 ghost use Rattle.go_board.specs.Position.{Position, placed};
 ghost use Rattle.shape_core.specs.declared.words.Kind.{Kind};
-ghost use Rattle.shape_core.specs.Offset.{offset_of, offsets_of};
+ghost use Rattle.shape_core.specs.Offset.{offsets_of};
+ghost use Rattle.shape_core.specs.Table.{offset_of};
 ghost use Rattle.shape_core.specs.Word.{recoded};
 ghost use Rattle.shape_core.specs.Around.{stone_code};
-ghost use Rattle.shape_core.specs.Field.{IsMarked, AreMarks, AreWords, Follow, DifferingAreMarked, HaveRoom};
+ghost use Rattle.shape_core.specs.Table.{Sees};
+ghost use Rattle.shape_core.specs.Field.{IsMarked};
+ghost use Rattle.shape_core.specs.KeptLists.{AreMarks, AreWords, DifferingAreMarked};
 
 use crate::cells::{Away, reached};
 use crate::marks::mark;
@@ -46,12 +49,16 @@ fn recode_cell(
     requires marks { AreMarks size changed.old }
     ensures marks { AreMarks size changed.new }
     ensures stay { (q : Point) → IsMarked changed.old q → IsMarked changed.new q }
-    ensures there { (q : Point) → IsOn size q → q.column + away.0 ≡ point.column + 3 → q.row + away.1 ≡ point.row + 3
-        → (slice_index words.new (index_of size q) ≡ recoded (slice_index words.old (index_of size q)) cell code)
+    ensures there { (q : Point) →
+        IsOn size q →
+        Sees q away point →
+        (slice_index words.new (index_of size q)
+        ≡ recoded (slice_index words.old (index_of size q)) cell code)
         × IsMarked changed.new q }
-    ensures elsewhere { (q : Point) → IsOn size q
-        → ((q.column + away.0 ≡ point.column + 3) × (q.row + away.1 ≡ point.row + 3) → ⊥)
-        → slice_index words.new (index_of size q) ≡ slice_index words.old (index_of size q) }
+    ensures elsewhere { (q : Point) →
+        IsOn size q →
+        ¬ Sees q away point →
+        slice_index words.new (index_of size q) ≡ slice_index words.old (index_of size q) }
 {
     if let Some(near) = reached(size, point, (6 - away.0, 6 - away.1)) {
         let index = index(size, near);
@@ -79,11 +86,12 @@ pub fn recode(
     requires marks { AreMarks size changed.old }
     ensures marks { AreMarks size changed.new }
     ensures stay { (q : Point) → IsMarked changed.old q → IsMarked changed.new q }
-    ensures differing { (q : Point) → IsOn size q
-        → (slice_index words.new (index_of size q) ≡ slice_index words.old (index_of size q)) ⊎ IsMarked changed.new q }
-    ensures follow { (kind : Kind) (position : Position) (stone : Stone)
-        → map offset_of cells.now ≡ offsets_of kind → code ≡ stone_code stone
-        → AreWords kind size position words.old → AreWords kind size (placed position point stone) words.new }
+    ensures differing { DifferingAreMarked size words.old words.new changed.new }
+    ensures follow { (kind : Kind) (position : Position) (stone : Stone) →
+        map offset_of cells.now ≡ offsets_of kind →
+        code ≡ stone_code stone →
+        AreWords kind size position words.old →
+        AreWords kind size (placed position point stone) words.new }
 {
     for (cell, away) in cells.iter().enumerate() {
         recode_cell(size, words, changed, point, *away, cell, code);

@@ -5,7 +5,8 @@ ghost use Rattle.go_board.specs.Board.{position_of};
 ghost use Rattle.go_board.specs.Point.{IsOn};
 ghost use Rattle.go_board.specs.Position.{Position, placed};
 ghost use Rattle.shape_core.specs.Around.{word_around};
-ghost use Rattle.shape_core.specs.Field.{IsMarked, AreWords, Follow, DifferingAreMarked, HaveRoom, emptied};
+ghost use Rattle.shape_core.specs.Field.{IsMarked};
+ghost use Rattle.shape_core.specs.KeptLists.{AreWords, emptied};
 
 use crate::cells::{DIAMOND_CELLS, SQUARE_CELLS};
 use crate::keeping::{index, recode};
@@ -31,13 +32,15 @@ pub struct KeptWords {
 }
 
 impl KeptWords {
+    ghost use Rattle.shape_core.specs.Keeping.{HasRoom, Follows, Changes};
+
     /// The words of a board as it is, with no mark. It takes memory for each point of the board.
     pub fn new(alloc: Global, board: &Board, kinds: Kinds) -> Result<KeptWords, AllocError>
         ensures size { IfOk result (λ kept. kept.size ≡ board.now.size) }
         ensures kinds { IfOk result (λ kept. kept.kinds ≡ kinds) }
-        ensures room { IfOk result (λ kept. HaveRoom kept.kinds kept.size kept.squares.items kept.diamonds.items kept.changed.items) }
-        ensures follow { IfOk result (λ kept. Follow kept.kinds kept.size (position_of board.now) kept.squares.items kept.diamonds.items) }
-        ensures unmarked { IfOk result (λ kept. (q : Point) → IsMarked kept.changed.items q → ⊥) }
+        ensures room { IfOk result HasRoom }
+        ensures follow { IfOk result (λ kept. Follows kept (position_of board.now)) }
+        ensures unmarked { IfOk result (λ kept. (q : Point) → ¬ IsMarked kept.changed.items q) }
     {
         let size = board.size();
         let squares = words_of(alloc, board, Kind::Square)?;
@@ -59,45 +62,11 @@ impl KeptWords {
     /// changes.
     pub fn change(&mut self, point: Point, stone: Stone)
         requires on_board { IsOn self.old.size point }
-        requires room { HaveRoom
-            self.old.kinds
-            self.old.size
-            self.old.squares.items
-            self.old.diamonds.items
-            self.old.changed.items }
-        ensures size { self.new.size ≡ self.old.size }
-        ensures kinds { self.new.kinds ≡ self.old.kinds }
-        ensures room { HaveRoom
-            self.new.kinds
-            self.new.size
-            self.new.squares.items
-            self.new.diamonds.items
-            self.new.changed.items }
-        ensures stay { (q : Point) → IsMarked self.old.changed.items q → IsMarked self.new.changed.items q }
-        ensures squares { DifferingAreMarked
-            self.old.size
-            self.old.squares.items
-            self.new.squares.items
-            self.new.changed.items }
-        ensures diamonds { self.old.kinds ≡ Kinds.Both →
-            DifferingAreMarked
-            self.old.size
-            self.old.diamonds.items
-            self.new.diamonds.items
-            self.new.changed.items }
+        requires room { HasRoom self.old }
+        ensures room { HasRoom self.new }
+        ensures change { Changes self.old self.new }
         ensures follow { (position : Position) →
-            Follow
-            self.old.kinds
-            self.old.size
-            position
-            self.old.squares.items
-            self.old.diamonds.items →
-            Follow
-            self.new.kinds
-            self.new.size
-            (placed position point stone)
-            self.new.squares.items
-            self.new.diamonds.items }
+            Follows self.old position → Follows self.new (placed position point stone) }
     {
         let code = code_of(stone);
         if self.squares[index(self.size, point)].code(MIDDLE) != code {
@@ -125,45 +94,11 @@ impl KeptWords {
     /// Makes the words follow these points emptied, and marks each point of which a kept word changes.
     pub fn empty(&mut self, points: &[Point])
         requires on_board { All (IsOn self.old.size) points.now }
-        requires room { HaveRoom
-            self.old.kinds
-            self.old.size
-            self.old.squares.items
-            self.old.diamonds.items
-            self.old.changed.items }
-        ensures size { self.new.size ≡ self.old.size }
-        ensures kinds { self.new.kinds ≡ self.old.kinds }
-        ensures room { HaveRoom
-            self.new.kinds
-            self.new.size
-            self.new.squares.items
-            self.new.diamonds.items
-            self.new.changed.items }
-        ensures stay { (q : Point) → IsMarked self.old.changed.items q → IsMarked self.new.changed.items q }
-        ensures squares { DifferingAreMarked
-            self.old.size
-            self.old.squares.items
-            self.new.squares.items
-            self.new.changed.items }
-        ensures diamonds { self.old.kinds ≡ Kinds.Both →
-            DifferingAreMarked
-            self.old.size
-            self.old.diamonds.items
-            self.new.diamonds.items
-            self.new.changed.items }
+        requires room { HasRoom self.old }
+        ensures room { HasRoom self.new }
+        ensures change { Changes self.old self.new }
         ensures follow { (position : Position) →
-            Follow
-            self.old.kinds
-            self.old.size
-            position
-            self.old.squares.items
-            self.old.diamonds.items →
-            Follow
-            self.new.kinds
-            self.new.size
-            (emptied position points.now)
-            self.new.squares.items
-            self.new.diamonds.items }
+            Follows self.old position → Follows self.new (emptied position points.now) }
     {
         for point in points {
             self.change(*point, Stone::Empty);

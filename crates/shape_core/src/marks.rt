@@ -2,7 +2,8 @@
 ghost use Rattle.std.specs.Prelude.{◌≡◌, ◌≢◌, ◌<◌, ◌≤◌, ◌^◌, ◌↔◌, ℕ, length, slice_index, slice_set, bit_or, IsTrue, MatchOption, EachIndex, All};
 ghost use Rattle.go_board.specs.declared.points.Point.{Point};
 ghost use Rattle.go_board.specs.Extent.{Extent};
-ghost use Rattle.shape_core.specs.Field.{IsMarked, AreMarks, ComesBefore, Unmarks};
+ghost use Rattle.shape_core.specs.Field.{IsMarked, ComesBefore, Unmarks};
+ghost use Rattle.shape_core.specs.KeptLists.{AreMarks};
 
 use go_board::Point;
 
@@ -30,10 +31,14 @@ pub fn take_first(changed: &mut [u64]) -> Option<Point>
     requires few { length changed.old ≤ 256 }
     requires fit { All (λ row. row < 2 ^ 64) changed.old }
     ensures first { MatchOption result
-        ((q : Point) → IsMarked changed.old q → ⊥)
-        (λ p. IsMarked changed.old p × (p.column < 64) × ((q : Point) → IsMarked changed.old q → ComesBefore q p → ⊥)) }
+        ((q : Point) → ¬ IsMarked changed.old q)
+        (λ p.
+        IsMarked changed.old p × (p.column < 64)
+        × ((q : Point) → IsMarked changed.old q → ¬ ComesBefore q p)) }
     ensures marks { (size : Extent) → AreMarks size changed.old → AreMarks size changed.new }
-    ensures taken { MatchOption result (changed.new ≡ changed.old) (λ p. Unmarks changed.old p changed.new) }
+    ensures taken { MatchOption result
+        (changed.new ≡ changed.old)
+        (λ p. Unmarks changed.old p changed.new) }
 {
     let row = first_row(changed)?;
     let column = changed[row].trailing_zeros();

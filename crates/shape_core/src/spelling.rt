@@ -93,7 +93,11 @@ pub fn from_glyphs(bytes: &[u8]) -> Result<Word, GlyphFault>
 /// `BadLength` comes exactly where there are not 25 bytes, and else `BadGlyph` at the first byte that is no glyph.
 pub fn from_diamond_glyphs(bytes: &[u8]) -> Result<Word, GlyphFault>
     ensures ok { IfOk result (λ word. (2 ^ 50 ≤ word) × (word < 2 ^ 51) × (glyphs_of word ≡ bytes.now)) }
-    ensures found { (word : ℕ) → 2 ^ 50 ≤ word → word < 2 ^ 51 → glyphs_of word ≡ bytes.now → result ≡ Ok word }
+    ensures found { (word : ℕ) →
+        2 ^ 50 ≤ word →
+        word < 2 ^ 51 →
+        glyphs_of word ≡ bytes.now →
+        result ≡ Ok word }
     ensures length { (result ≡ Err GlyphFault.BadLength) ↔ (length bytes.now ≢ 25) }
     ensures glyph { (at : ℕ) → (result ≡ Err (GlyphFault.BadGlyph at))
         ↔ ((length bytes.now ≡ 25) × IsFirstBad bytes.now at) }

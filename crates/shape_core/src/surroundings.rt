@@ -3,7 +3,7 @@ ghost use Rattle.std.specs.Prelude.{◌≡◌, ◌<◌, ◌≤◌, ◌^◌, leng
 ghost use Rattle.go_board.specs.Point.{IsOn};
 ghost use Rattle.go_board.specs.Board.{position_of};
 ghost use Rattle.shape_core.specs.declared.words.Kind.TheVariants as kind;
-ghost use Rattle.shape_core.specs.Offset.{offset_of};
+ghost use Rattle.shape_core.specs.Table.{offset_of};
 ghost use Rattle.shape_core.specs.Word.{sum_of};
 ghost use Rattle.shape_core.specs.Around.{stone_code, code_around, word_around};
 
@@ -38,7 +38,10 @@ fn sum_around(board: &Board, point: Point, cells: &[Away; 25]) -> u64
     requires columns { All (λ away. away.0 ≤ 6) cells.now }
     requires rows { All (λ away. away.1 ≤ 6) cells.now }
     ensures value { result
-        ≡ sum_of (map (code_around board.now.size (position_of board.now) point) (map offset_of cells.now)) }
+        ≡ sum_of
+        (map
+        (code_around board.now.size (position_of board.now) point)
+        (map offset_of cells.now)) }
     ensures small { result < 2 ^ 50 }
 {
     let mut sum = 0;

@@ -4,14 +4,18 @@ use std::marker::Model;
 /// The two kinds of pattern: the five-by-five square, and the diamond of the 25 points at most three steps away.
 #[derive(Clone, Copy, Debug, PartialEq, Eq)]
 pub enum Kind {
+    /// Five columns and five rows, two to each side of the middle.
     Square,
+    /// Rows of one, three, five, seven, five, three and one.
     Diamond,
 }
 
 /// Which kinds are kept or counted.
 #[derive(Clone, Copy, Debug, PartialEq, Eq)]
 pub enum Kinds {
+    /// Squares alone.
     Squares,
+    /// Squares and diamonds.
     Both,
 }
 

@@ -2,7 +2,8 @@ use Rattle.std.proofs.Common.{◌≡◌, get_or, slice_index, refl, ap, ◌∙�
 use Rattle.go_board.specs.Point.{index_of}
 use Rattle.shape_core.specs.Word.{recoded}
 use Rattle.shape_core.specs.Field.{IsMarked}
-use Rattle.shape_core.proofs.Mixing.{Sees, sees_or_not, mixed_before, mixed_after, mixed_round_more}
+use Rattle.shape_core.specs.Table.{Sees}
+use Rattle.shape_core.proofs.Mixing.{sees_or_not, mixed_before, mixed_after, mixed_round_more}
 use Rattle.shape_core.proofs.keeping.recode.Goals as goal
 
 pub loop-cell-init : goal.loop-cell-init
@@ -24,7 +25,7 @@ loop-cell-preserved c =
       marks = c.recode_cell.ensures.marks;
       stay = λ q was. c.recode_cell.ensures.stay q (c.loop-cell.invariant.stay q was);
       differing = λ q on. ⊎_elim
-          (λ (sees : Sees q away c.args.point). inr (c.recode_cell.ensures.there q on sees.0 sees.1).1)
+          (λ (sees : Sees q away c.args.point). inr (c.recode_cell.ensures.there q on sees).1)
           (λ (blind : Sees q away c.args.point → ⊥). ⊎_elim
           (λ (same : slice_index c.loop-cell.words (index_of size q) ≡ slice_index c.args.words.now (index_of size q)). inl (c.recode_cell.ensures.elsewhere q on blind ∙ same))
           (λ (was : IsMarked c.loop-cell.changed q). inr (c.recode_cell.ensures.stay q was))
@@ -34,7 +35,7 @@ loop-cell-preserved c =
           mixed_round_more kind size position c.args.point stone q c.args.cells.now (omega arith) c.loop-cell.cell
           (slice_index c.loop-cell.words (index_of size q)) (slice_index c.recode_cell.new.words (index_of size q))
           (omega arith) c.requires.on_board (c.loop-cell.invariant.mixing kind position stone offsets code words q on)
-          (λ sees. (c.recode_cell.ensures.there q on sees.0 sees.1).0 ∙ ap (recoded (slice_index c.loop-cell.words (index_of size q)) c.loop-cell.cell) code)
+          (λ sees. (c.recode_cell.ensures.there q on sees).0 ∙ ap (recoded (slice_index c.loop-cell.words (index_of size q)) c.loop-cell.cell) code)
           (c.recode_cell.ensures.elsewhere q on);
     }
 

@@ -15,9 +15,9 @@ returns-in-Some-clause-stay c =
     rw c.mark.ensures (λ q was. marked_stay c.args.changed.now c.in-Some.near q (omega (arith, c.requires.marks.rows, c.in-Some.ensures.0.1)) was)
 
 pub returns-in-Some-clause-there : goal.returns-in-Some-clause-there
-returns-in-Some-clause-there c = λ q on column row.
+returns-in-Some-clause-there c = λ q on sees.
     let near = c.in-Some.ensures in
-    let same : q ≡ c.in-Some.near = same_point_from q c.in-Some.near (omega (arith, near.1, column)) (omega (arith, near.2, row)) in
+    let same : q ≡ c.in-Some.near = same_point_from q c.in-Some.near (omega (arith, near.1.0, sees.0)) (omega (arith, near.1.1, sees.1)) in
     let words = c.args.words.now in
     let at : index_of c.args.size q ≡ c.index-index.result = ap (index_of c.args.size) same ∙ sym c.index-index.ensures.value in
     let within : c.index-index.result < length words = omega (arith, c.requires.words, c.index-index.ensures.below) in
@@ -31,5 +31,8 @@ returns-in-Some-clause-elsewhere c = λ q on away.
     let near = c.in-Some.ensures in
     let apart : index_of c.args.size q ≡ c.index-index.result → ⊥ = λ e.
     let same = same_from_index c.args.size q c.in-Some.near on near.0 (e ∙ c.index-index.ensures.value) in
-    away ((omega (arith, near.1, ap (λ (p : Point). p.column) same)), (omega (arith, near.2, ap (λ (p : Point). p.row) same))) in
+    away ((omega (arith, near.1.0, ap (λ (p : Point). p.column) same)), (omega (arith, near.1.1, ap (λ (p : Point). p.row) same))) in
     get_or-set_other c.args.words.now c.index-index.result (index_of c.args.size q) c.with_code.result 0 apart
+
+pub returns-in_default-clause-there : goal.returns-in_default-clause-there
+returns-in_default-clause-there c = λ q on sees. absurd (c.in_default.ensures q on ((omega (arith, sees.0)), (omega (arith, sees.1))))

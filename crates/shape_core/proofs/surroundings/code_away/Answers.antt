@@ -9,7 +9,7 @@ returns-in-Some c =
     let board = c.args.board.now in
     let near = rw c.size.ensures.value at c.in-Some.ensures in
     c.code_of.ensures.value ∙ ap stone_code c.cell.ensures.value
-    ∙ sym (code_around_on board.size (position_of board) c.args.point c.in-Some.near c.args.away near.0 near.1 near.2)
+    ∙ sym (code_around_on board.size (position_of board) c.args.point c.in-Some.near c.args.away near.0 near.1)
 
 pub returns-in-None : goal.returns-in-None
 returns-in-None c =

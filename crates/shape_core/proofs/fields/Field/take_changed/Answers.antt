@@ -1,6 +1,6 @@
 use Rattle.std.proofs.Common.{subst, ◌∙◌, sym}
 use Rattle.std.proofs.lemmas.List.{with_items_is}
-use Rattle.shape_core.specs.Field.{AreMarks}
+use Rattle.shape_core.specs.KeptLists.{AreMarks}
 use Rattle.shape_core.proofs.Marking.{first_on_board}
 use Rattle.shape_core.proofs.fields.Field.take_changed.Goals as goal
 
@@ -20,7 +20,7 @@ invariant_of-self c =
             subst (AreMarks kept.size) (sym (with_items_is kept.changed c.take_first.new.changed (c.take_first.auto.changed ∙ c.deref_mut.ensures.len)))
             (c.take_first.ensures.marks kept.size (rw c.deref_mut.ensures.value room.marks));
       };
-      follow = is.follow;
+      follow = record { squares_follow = is.follow.squares_follow; diamonds_follow = is.follow.diamonds_follow };
     }
 
 pub returns-clause-first : goal.returns-clause-first

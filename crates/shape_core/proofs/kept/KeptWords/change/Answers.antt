@@ -3,8 +3,10 @@ use Rattle.std.proofs.lemmas.List.{with_items_is, get_or_read}
 use Rattle.go_board.specs.Position.{placed}
 use Rattle.shape_core.specs.declared.words.Kind.TheVariants as kind
 use Rattle.shape_core.specs.Word.{code_at}
-use Rattle.shape_core.specs.Field.{AreWords}
-use Rattle.shape_core.proofs.Agreeing.{Follow-agree, placed_again, same_stones, middle}
+use Rattle.shape_core.specs.KeptLists.{AreWords}
+use Rattle.std.specs.Vec.{with_items}
+use Rattle.shape_core.proofs.Playing.{Changes-of_both}
+use Rattle.shape_core.proofs.Agreeing.{Follows-agree, placed_again, same_stones, middle}
 use Rattle.shape_core.proofs.kept.KeptWords.change.Goals as goal
 
 pub returns-in-Both-clause-follow : goal.returns-in-Both-clause-follow
@@ -51,4 +53,19 @@ returns-else-code-clause-follow c = λ position old.
     ∙ sym c.code.ensures.value
     ∙ c.if-code.false
     ∙ c.code_of-code.ensures.value) in
-    Follow-agree kept.kinds kept.size position (placed position point c.args.stone) kept.squares.items kept.diamonds.items (placed_again kept.size position point c.args.stone stands) old
+    Follows-agree kept position (placed position point c.args.stone) (placed_again kept.size position point c.args.stone stands) old
+
+pub returns-in-Both-clause-change : goal.returns-in-Both-clause-change
+returns-in-Both-clause-change c =
+    let kept = c.args.self.now in
+    let marked = c.recode.new.changed in
+    let later = c.recode-in-Both.new.changed in
+    let squares = with_items_is kept.squares c.recode.new.words (c.recode.auto.words ∙ c.deref_mut.ensures.len) in
+    let diamonds = with_items_is kept.diamonds c.recode-in-Both.new.words (c.recode-in-Both.auto.words ∙ c.deref_mut-in-Both.ensures.len) in
+    let once = with_items_is kept.changed marked (c.recode.auto.changed ∙ c.deref_mut-then-code.ensures.len) in
+    let twice = with_items_is (with_items kept.changed marked) later (c.recode-in-Both.auto.changed ∙ c.deref_mut-in-Both-2.ensures.len) in
+    Changes-of_both kept _ c.recode.new.words marked c.recode-in-Both.new.words later refl refl squares diamonds twice
+    (rw c.deref_mut-then-code.ensures.value at c.recode.ensures.stay)
+    (rw c.deref_mut.ensures.value at c.recode.ensures.differing)
+    (rw (c.deref_mut-in-Both-2.ensures.value ∙ once) at c.recode-in-Both.ensures.stay)
+    (rw c.deref_mut-in-Both.ensures.value at c.recode-in-Both.ensures.differing)

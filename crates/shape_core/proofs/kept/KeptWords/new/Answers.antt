@@ -1,4 +1,4 @@
-use Rattle.std.proofs.Common.{◌≡◌, ◌<◌, ◌^◌, length, ap, ◌∙◌}
+use Rattle.std.proofs.Common.{◌<◌, ◌^◌, length, ap, ◌∙◌}
 use Rattle.std.proofs.lemmas.Nat.{pow_pos}
 use Rattle.std.proofs.lemmas.List.{length-replicate}
 use Rattle.std.proofs.lemmas.List.Elements.{All-replicate}
@@ -8,18 +8,18 @@ use Rattle.shape_core.proofs.kept.KeptWords.new.Goals.{in-Squares, in-Both+in_ok
 pub returns-clause-room : goal.returns-clause-room
 returns-clause-room c =
     let size = c.size-size.ensures.value in
-    rw size (record {
-      extent = c.size-size.ensures.board.extent;
-      squares_count = c.in_ok-squares.ensures.count;
+    record {
+      extent = rw size c.size-size.ensures.board.extent;
+      squares_count = rw size c.in_ok-squares.ensures.count;
       diamonds_count = λ both. elim c.match-kinds.branch [
         | in-Squares w ↦ let squares = w.in-Squares.is in cc
-        | in-Both+in_ok-diamonds-in-Both w ↦ ap (λ v. length v.items) w.diamonds-is ∙ w.in_ok-diamonds-in-Both.ensures.count
+        | in-Both+in_ok-diamonds-in-Both w ↦ rw size (ap (λ v. length v.items) w.diamonds-is ∙ w.in_ok-diamonds-in-Both.ensures.count)
       ];
       marks =
           let items = c.in_ok-changed.ensures.items_if_clones_equal (λ y e. e) in
-          let rows : c.from.result ≡ c.args.board.now.size.rows = c.from.ensures ∙ c.rows.ensures.value ∙ ap (λ s. s.rows) size in
+          let rows = c.from.ensures ∙ c.rows.ensures.value in
           record {
             rows = ap length items ∙ length-replicate c.from.result 0 ∙ rows;
-            within = rw items (All-replicate (λ row. row < 2 ^ c.args.board.now.size.columns) c.from.result 0 (pow_pos c.args.board.now.size.columns));
+            within = rw items (All-replicate (λ row. row < 2 ^ c.size-size.result.columns) c.from.result 0 (pow_pos c.size-size.result.columns));
           };
-    })
+    }
