@@ -1,0 +1,11 @@
+pub mod Begun
+pub mod Climbing
+pub mod Decimals
+pub mod Faultless
+pub mod Hexadecimal
+pub mod Joined
+pub mod Known
+pub mod Merging
+pub mod Read
+pub mod Unique
+pub mod Worked

@@ -1,0 +1,7 @@
+pub mod Contents
+pub mod Text
+pub mod Reading
+pub mod Join
+pub mod Writing
+pub mod Merging
+pub mod Parsing

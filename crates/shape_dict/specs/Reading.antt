@@ -1,0 +1,172 @@
+-- Which dictionary a text is, and which fault stands first in one that is none. Lines count from 1 at the header.
+use Rattle.std.specs.Prelude.{◌≡◌, ◌≢◌, ℕ, ◌+◌, ◌^◌, ◌<◌, ◌≤◌, ◌⊎◌, Bool, is_some, nat_lt, List, [], ◌∷◌, ◌++◌, length, map, All, Option, None, IfSome, unwrap_or, if◌then◌else◌}
+use Rattle.std.specs.List.{flat_map}
+use Rattle.std.specs.List.Sorted.{IsStrictlyIncreasing}
+use Rattle.shape_core.specs.Symmetry.{least_image}
+use Rattle.shape_core.specs.Word.{kind_of}
+use Rattle.shape_core.specs.declared.words.Kind.{Kind}
+use Rattle.shape_core.specs.declared.words.Kind.TheVariants as kind
+use Rattle.shape_dict.specs.declared.entries.Entry.{Entry}
+use Rattle.shape_dict.specs.declared.entries.Text.{Text}
+use Rattle.shape_dict.specs.declared.entries.Text.TheVariants as text
+use Rattle.shape_dict.specs.declared.faults.DictFault.{DictFault}
+use Rattle.shape_dict.specs.declared.headers.Header.{Header}
+use Rattle.shape_dict.specs.declared.faults.DictFault.TheVariants as fault
+use Rattle.shape_dict.specs.Contents.{Contents, IsDictionary, HasTotals}
+use Rattle.shape_dict.specs.Text.{header_text, line_text, text_of, IsWhole, IsSmall, IsSmallEntry}
+
+-- the bytes are a text of the dictionary that leaves nothing of it out
+pub record IsTextOf (contents : Contents) (bytes : List ℕ) : Type 0 where
+  pub text : Text
+  pub dictionary : IsDictionary contents
+  pub small : IsSmall contents
+  pub whole : IsWhole text contents
+  pub same : bytes ≡ text_of text contents
+
+-- a header's numbers are below 2 ^ 64, and a text 1 has no diamonds
+pub record IsHeader (header : Header) : Type 0 where
+  pub games : header.games < 2 ^ 64
+  pub moves : header.moves < 2 ^ 64
+  pub squares : header.squares < 2 ^ 64
+  pub diamonds : IfSome header.diamonds (λ n. n < 2 ^ 64)
+  pub first_text : header.text ≡ text.One → header.diamonds ≡ None
+
+-- how many lines follow a header
+abbrev pub lines_after : Header → ℕ
+lines_after header = header.squares + unwrap_or header.diamonds 0
+
+-- the squares come first
+abbrev pub kind_at : Header → ℕ → Kind
+kind_at header place = if nat_lt place header.squares then kind.Square else kind.Diamond
+
+-- what a text says of a first game
+abbrev pub IsFirst : Text → ℕ → Option ℕ → Type 0
+IsFirst text.One games first = first ≡ None
+IsFirst text.Two games first = first ≡ None
+IsFirst text.Three games first = IfSome first (λ game. game < games)
+
+-- what the line at a place may say by itself
+pub record IsLine (header : Header) (place : ℕ) (entry : Entry) : Type 0 where
+  pub word : entry.shape < 2 ^ 51
+  pub kind : kind_of entry.shape ≡ kind_at header place
+  pub there : 1 ≤ entry.there
+  pub played : entry.played ≤ entry.there
+  pub small : IsSmallEntry entry
+  pub first : IsFirst header.text header.games entry.first
+
+-- each of these entries may stand in its line, from a place on
+abbrev pub AreLines : Header → ℕ → List Entry → Type 0
+AreLines header place [] = Unit {0}
+AreLines header place (entry ∷ entries) = IsLine header place entry × AreLines header (place + 1) entries
+
+-- the words rise, and each is the least of its images
+pub record AreShapes (entries : List Entry) : Type 0 where
+  pub rises : IsStrictlyIncreasing (map (λ entry. entry.shape) entries)
+  pub canonical : All (λ entry. least_image entry.shape ≡ entry.shape) entries
+
+-- the bytes begin with a header and these entries' lines, without a fault; `left` is what follows
+pub record BeginsWith (bytes : List ℕ) (header : Header) (entries : List Entry) (left : List ℕ) : Type 0 where
+  pub is_header : IsHeader header
+  pub lines : AreLines header 0 entries
+  pub shapes : AreShapes entries
+  pub few : length entries ≤ lines_after header
+  pub same : bytes ≡ header_text header ++ flat_map (line_text header.text) entries ++ left
+
+-- the bytes do not begin with a header
+abbrev pub HasNoHeader : List ℕ → Type 0
+HasNoHeader bytes = (header : Header) → (left : List ℕ) → IsHeader header → bytes ≡ header_text header ++ left → ⊥
+
+-- what follows does not begin with a line that may stand at this place
+abbrev pub HasNoLine : Header → ℕ → List ℕ → Type 0
+HasNoLine header place left = (entry : Entry) → (rest : List ℕ) → IsLine header place entry → left ≡ line_text header.text entry ++ rest → ⊥
+
+-- the next line may stand at its place by itself
+pub record NextLine (bytes : List ℕ) (header : Header) (entries : List Entry) (entry : Entry) : Type 0 where
+  pub left : List ℕ
+  pub rest : List ℕ
+  pub begins : BeginsWith bytes header entries left
+  pub more : length entries < lines_after header
+  pub line : IsLine header (length entries) entry
+  pub same : left ≡ line_text header.text entry ++ rest
+
+abbrev pub counts_of : Header → Bool
+counts_of header = is_some header.diamonds
+
+-- a line is missing or is none: no line that may stand at its place follows
+pub record IsBadLine (bytes : List ℕ) (line : ℕ) : Type 0 where
+  pub header : Header
+  pub entries : List Entry
+  pub left : List ℕ
+  pub begins : BeginsWith bytes header entries left
+  pub more : length entries < lines_after header
+  pub none : HasNoLine header (length entries) left
+  pub at : line ≡ length entries + 2
+
+-- a line's word is not above that of the line before
+pub record IsNotRising (bytes : List ℕ) (line : ℕ) : Type 0 where
+  pub header : Header
+  pub before : List Entry
+  pub last : Entry
+  pub entry : Entry
+  pub next : NextLine bytes header (before ++ last ∷ []) entry
+  pub falls : entry.shape ≤ last.shape
+  pub at : line ≡ length before + 3
+
+-- a line's word rises and is not the least of its images
+pub record IsNotCanonical (bytes : List ℕ) (line : ℕ) : Type 0 where
+  pub header : Header
+  pub entries : List Entry
+  pub entry : Entry
+  pub next : NextLine bytes header entries entry
+  pub rises : IsStrictlyIncreasing (map (λ e. e.shape) (entries ++ entry ∷ []))
+  pub other : least_image entry.shape ≢ entry.shape
+  pub at : line ≡ length entries + 2
+
+-- all lines are there
+pub record HasAllLines (bytes : List ℕ) (header : Header) (entries : List Entry) (left : List ℕ) : Type 0 where
+  pub begins : BeginsWith bytes header entries left
+  pub all : length entries ≡ lines_after header
+
+-- all lines are there, and the totals do not agree
+pub record HasWrongTotals (bytes : List ℕ) : Type 0 where
+  pub header : Header
+  pub entries : List Entry
+  pub left : List ℕ
+  pub lines : HasAllLines bytes header entries left
+  pub wrong : HasTotals header.games header.moves entries (counts_of header) → ⊥
+
+-- a text is there, and bytes after it
+pub record HasMore (bytes : List ℕ) (line : ℕ) : Type 0 where
+  pub header : Header
+  pub entries : List Entry
+  pub left : List ℕ
+  pub lines : HasAllLines bytes header entries left
+  pub totals : HasTotals header.games header.moves entries (counts_of header)
+  pub more : left ≢ []
+  pub at : line ≡ lines_after header + 2
+
+-- the fault stands first in bytes that are to begin with a text; want of memory may be answered anywhere
+abbrev pub IsFrontFault : List ℕ → DictFault → Type 0
+IsFrontFault bytes fault.TooLarge = 2 ^ 28 < length bytes
+IsFrontFault bytes fault.BadHeader = HasNoHeader bytes
+IsFrontFault bytes (fault.BadLine line) = IsBadLine bytes line
+IsFrontFault bytes (fault.NotRising line) = IsNotRising bytes line
+IsFrontFault bytes (fault.NotCanonical line) = IsNotCanonical bytes line
+IsFrontFault bytes fault.WrongTotals = HasWrongTotals bytes
+IsFrontFault bytes fault.Memory = Unit {0}
+IsFrontFault bytes fault.Overflow = ⊥
+IsFrontFault bytes fault.MixedKinds = ⊥
+
+-- the same of bytes that are to be one text
+abbrev pub IsTextFault : List ℕ → DictFault → Type 0
+IsTextFault bytes (fault.BadLine line) = IsBadLine bytes line ⊎ HasMore bytes line
+IsTextFault bytes found = IsFrontFault bytes found
+
+-- the dictionary that a text at the front of the bytes says, and what follows it
+pub record IsRead (bytes : List ℕ) (contents : Contents) (left : List ℕ) : Type 0 where
+  pub header : Header
+  pub lines : HasAllLines bytes header contents.entries left
+  pub totals : HasTotals header.games header.moves contents.entries (counts_of header)
+  pub games : contents.games ≡ header.games
+  pub moves : contents.moves ≡ header.moves
+  pub kinds : contents.counts_diamonds ≡ counts_of header

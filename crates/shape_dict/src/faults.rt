@@ -1,0 +1,34 @@
+//! What can be wrong with a text of a dictionary, or with a join.
+use thiserror::Error;
+
+/// Why no dictionary was read, written or made. Lines count from 1 at the dictionary's header.
+#[derive(Clone, Copy, Debug, PartialEq, Eq, Error)]
+pub enum DictFault {
+    /// The input does not begin with a header.
+    #[error("X1 bad header")]
+    BadHeader,
+    /// A line is missing or is none, or bytes follow the text.
+    #[error("X2 bad line {0}")]
+    BadLine(u64),
+    /// A line's word is not above that of the line before.
+    #[error("X3 not rising at line {0}")]
+    NotRising(u64),
+    /// A line's word is not the least of its images.
+    #[error("X4 not canonical at line {0}")]
+    NotCanonical(u64),
+    /// The plays do not add up to the moves, or there are moves and no games.
+    #[error("X5 wrong totals")]
+    WrongTotals,
+    /// Memory was refused.
+    #[error("X6 no memory")]
+    Memory,
+    /// A sum is over 2^64 - 1.
+    #[error("X7 sum too large")]
+    Overflow,
+    /// The input has more than 2^28 bytes.
+    #[error("X8 input too large")]
+    TooLarge,
+    /// One of the two counts diamonds and the other does not.
+    #[error("X9 mixed kinds")]
+    MixedKinds,
+}

@@ -1,0 +1,90 @@
+//! Headers of dictionaries.
+ghost use Rattle.std.specs.Prelude.{◌≡◌, ◌++◌, ◌<◌, ◌^◌, ℕ, List, IfSome, IfNone, IsSomeAnd, Option, None, codes};
+ghost use Rattle.std.specs.Fmt.{decimal};
+ghost use Rattle.shape_dict.specs.Text.{front_text, counts_text, header_text};
+ghost use Rattle.shape_dict.specs.Parsing.{IsEnded};
+ghost use Rattle.shape_dict.specs.Reading.{IsHeader, HasNoHeader};
+ghost use Rattle.shape_dict.specs.declared.entries.Text.{Text as Kind};
+ghost use Rattle.shape_dict.specs.declared.entries.Text.TheVariants as kind;
+
+use crate::entries::Text;
+use crate::numbers::{after, number, number_after, optional_after};
+
+/// What a header says: which text it is, the games and moves, how many squares follow, and how many diamonds where they
+/// are counted.
+#[derive(Clone, Copy)]
+pub(crate) struct Header {
+    pub(crate) text: Text,
+    pub(crate) games: u64,
+    pub(crate) moves: u64,
+    pub(crate) squares: u64,
+    pub(crate) diamonds: Option<u64>,
+}
+
+/// Which text it is, and what follows.
+fn front(bytes: &[u8]) -> Option<(Text, &[u8])>
+    ensures found { IfSome result (λ p. bytes.now ≡ front_text p.0 ++ p.1.now) }
+    ensures only { (text : Kind) → (left : List ℕ) → bytes.now ≡ front_text text ++ left → IsSomeAnd result (λ p. (p.0 ≡ text) × (p.1.now ≡ left)) }
+{
+    if let Some(rest) = after(bytes, b"shapes 1 games ") {
+        return Some((Text::One, rest));
+    }
+    if let Some(rest) = after(bytes, b"shapes 2 games ") {
+        return Some((Text::Two, rest));
+    }
+    let rest = after(bytes, b"shapes 3 games ")?;
+    Some((Text::Three, rest))
+}
+
+/// The games and moves, and what follows.
+fn games_and_moves(bytes: &[u8]) -> Option<(u64, u64, &[u8])>
+    ensures found { IfSome result (λ p. (bytes.now ≡ decimal p.0 ++ (codes " moves " ++ (decimal p.1 ++ p.2.now))) × (p.0 < 2 ^ 64) × (p.1 < 2 ^ 64)) }
+    ensures only { (games : ℕ) → (moves : ℕ) → (left : List ℕ) → games < 2 ^ 64 → moves < 2 ^ 64 → IsEnded left
+        → bytes.now ≡ decimal games ++ (codes " moves " ++ (decimal moves ++ left))
+        → IsSomeAnd result (λ p. (p.0 ≡ games) × (p.1 ≡ moves) × (p.2.now ≡ left)) }
+{
+    let (games, rest) = number(bytes)?;
+    let (moves, rest) = number_after(rest, b" moves ")?;
+    Some((games, moves, rest))
+}
+
+/// How many patterns follow, and what follows.
+fn counts(bytes: &[u8], text: Text) -> Option<(u64, Option<u64>, &[u8])>
+    ensures found { IfSome result (λ p. (bytes.now ≡ counts_text text p.0 p.1 ++ p.2.now) × (p.0 < 2 ^ 64) × IfSome p.1 (λ n. n < 2 ^ 64) × (text ≡ kind.One → p.1 ≡ None)) }
+    ensures only { (squares : ℕ) → (diamonds : Option ℕ) → (left : List ℕ) → squares < 2 ^ 64 → IfSome diamonds (λ n. n < 2 ^ 64) → (text ≡ kind.One → diamonds ≡ None) → IsEnded left
+        → bytes.now ≡ counts_text text squares diamonds ++ left
+        → IsSomeAnd result (λ p. (p.0 ≡ squares) × (p.1 ≡ diamonds) × (p.2.now ≡ left)) }
+{
+    match text {
+        Text::One => {
+            let (squares, rest) = number_after(bytes, b" patterns ")?;
+            Some((squares, None, rest))
+        }
+        Text::Two | Text::Three => {
+            let (squares, rest) = number_after(bytes, b" squares ")?;
+            let (diamonds, rest) = optional_after(rest, b" diamonds ")?;
+            Some((squares, diamonds, rest))
+        }
+    }
+}
+
+/// The header, and what follows it.
+pub(crate) fn read_header(bytes: &[u8]) -> Option<(Header, &[u8])>
+    ensures found { IfSome result (λ p. IsHeader p.0 × (bytes.now ≡ header_text p.0 ++ p.1.now)) }
+    ensures none { IfNone result (HasNoHeader bytes.now) }
+{
+    let (text, rest) = front(bytes)?;
+    let (games, moves, rest) = games_and_moves(rest)?;
+    let (squares, diamonds, rest) = counts(rest, text)?;
+    let rest = after(rest, b"\n")?;
+    Some((
+        Header {
+            text,
+            games,
+            moves,
+            squares,
+            diamonds,
+        },
+        rest,
+    ))
+}

@@ -1,0 +1,25 @@
+//! Dictionaries of patterns: read, written, asked and joined, in three texts.
+#![tactic(auto)]
+
+mod dictionaries;
+mod entries;
+mod faults;
+mod finding;
+mod headers;
+mod hexadecimals;
+mod joining;
+mod laws;
+mod lines;
+mod numbers;
+mod reading;
+mod texts;
+mod totals;
+mod writing;
+
+pub use dictionaries::Dictionary;
+pub use entries::{Entry, Text};
+pub use faults::DictFault;
+pub use laws::texts_are_distinct;
+
+#[cfg(test)]
+mod tests;

@@ -1,0 +1,146 @@
+//! Dictionaries read off the front of bytes.
+ghost use Rattle.std.specs.Prelude.{◌≡◌, ◌++◌, ◌∷◌, [], ◌<◌, ◌≤◌, ◌-◌, ◌+◌, ◌^◌, ℕ, List, length, map, slice_index, IfOk, IfErr, MatchBool, min, take};
+ghost use Rattle.shape_dict.specs.Text.{header_text};
+ghost use Rattle.shape_dict.specs.Reading.{IsHeader, BeginsWith, HasAllLines, IsFrontFault, IsTextFault, IsTextOf, IsRead, lines_after};
+ghost use Rattle.shape_dict.specs.declared.faults.DictFault.TheVariants as fault;
+
+use crate::dictionaries::Dictionary;
+use crate::entries::Entry;
+use crate::faults::DictFault;
+use crate::headers::{Header, read_header};
+use crate::joining::push;
+use crate::lines::read_line;
+use crate::totals::have_totals;
+use shape_core::{Shape, Word};
+use std::alloc::Global;
+
+/// Whether a word is above that of the last entry.
+fn is_above(entries: &[Entry], word: Word) -> bool
+    ensures { MatchBool result (0 < length entries.now → slice_index (map (λ entry. entry.shape) entries.now) (length entries.now - 1) < word)
+        ((0 < length entries.now) × (word ≤ slice_index (map (λ entry. entry.shape) entries.now) (length entries.now - 1))) }
+{
+    if entries.is_empty() {
+        return true;
+    }
+    let last = entries[entries.len() - 1];
+    last.shape.word().bits() < word.bits()
+}
+
+/// The entry of the next line, and what follows it.
+fn next_entry<'a>(
+    header: &Header,
+    entries: &[Entry],
+    bytes: &'a [u8],
+) -> Result<(Entry, &'a [u8]), DictFault>
+    ensures ok { IfOk result (λ p. (whole : List ℕ) → BeginsWith whole header.now entries.now bytes.now → length entries.now < lines_after header.now
+        → BeginsWith whole header.now (entries.now ++ p.0 ∷ []) p.1.now) }
+    ensures shorter { IfOk result (λ p. length p.1.now < length bytes.now) }
+    ensures fault { IfErr result (λ found. (whole : List ℕ) → BeginsWith whole header.now entries.now bytes.now → length entries.now < lines_after header.now
+        → IsFrontFault whole found) }
+{
+    let place = entries.len() as u64;
+    let Some((line, rest)) = read_line(header, place, bytes) else {
+        return Err(DictFault::BadLine(place + 2));
+    };
+    if !is_above(entries, line.word) {
+        return Err(DictFault::NotRising(place + 2));
+    }
+    let Some(shape) = Shape::of_word(line.word) else {
+        return Err(DictFault::NotCanonical(place + 2));
+    };
+    let entry = Entry {
+        shape,
+        there: line.there,
+        played: line.played,
+        first: line.first,
+    };
+    Ok((entry, rest))
+}
+
+/// How many lines follow a header, or 2^64 - 1 where they are more.
+fn count_lines(header: &Header) -> u64
+    ensures { result ≡ min (lines_after header.now) (2 ^ 64 - 1) }
+{
+    header.squares.saturating_add(header.diamonds.unwrap_or(0))
+}
+
+/// The entries of all lines behind a header, and what follows them.
+fn read_lines<'a>(
+    alloc: Global,
+    header: &Header,
+    bytes: &'a [u8],
+) -> Result<(Vec<Entry>, &'a [u8]), DictFault>
+    requires { IsHeader header.now }
+    ensures ok { IfOk result (λ p. HasAllLines (header_text header.now ++ bytes.now) header.now p.0.items p.1.now) }
+    ensures fault { IfErr result (IsFrontFault (header_text header.now ++ bytes.now)) }
+{
+    let mut entries = Vec::new(alloc);
+    let mut left = bytes;
+    for _place in 0..count_lines(header) {
+        let (entry, rest) = match next_entry(header, entries.as_slice(), left) {
+            Ok(next) => next,
+            Err(fault) => return Err(fault),
+        };
+        push(&mut entries, entry)?;
+        left = rest;
+    }
+    Ok((entries, left))
+}
+
+/// The dictionary of the text that the bytes begin with, and what follows it.
+fn read_text(alloc: Global, bytes: &[u8]) -> Result<(Dictionary, &[u8]), DictFault>
+    ensures found { IfOk result (λ p. IsRead bytes.now p.0 p.1.now) }
+    ensures fault { IfErr result (IsFrontFault bytes.now) }
+{
+    let Some((header, rest)) = read_header(bytes) else {
+        return Err(DictFault::BadHeader);
+    };
+    let (entries, left) = match read_lines(alloc, &header, rest) {
+        Ok(lines) => lines,
+        Err(fault) => return Err(fault),
+    };
+    if !have_totals(&header, entries.as_slice()) {
+        return Err(DictFault::WrongTotals);
+    }
+    let counts = header.diamonds.is_some();
+    Ok((
+        Dictionary::new(header.games, header.moves, entries, counts),
+        left,
+    ))
+}
+
+/// The dictionary of the text that the bytes begin with, and how many bytes the text has.
+pub(crate) fn front_of(alloc: Global, bytes: &[u8]) -> Result<(Dictionary, usize), DictFault>
+    ensures found { IfOk result (λ p. (p.1 ≤ length bytes.now) × IsTextOf p.0 (take p.1 bytes.now) × (length bytes.now ≤ 2 ^ 28)) }
+    ensures fault { IfErr result (IsFrontFault bytes.now) }
+    ensures large { 2 ^ 28 < length bytes.now → IfErr result (λ found. found ≡ fault.TooLarge) }
+{
+    if bytes.len() > 1 << 28 {
+        return Err(DictFault::TooLarge);
+    }
+    match read_text(alloc, bytes) {
+        Ok((dictionary, left)) => Ok((dictionary, bytes.len() - left.len())),
+        Err(fault) => Err(fault),
+    }
+}
+
+/// The dictionary whose text the bytes are.
+pub(crate) fn read_whole(alloc: Global, bytes: &[u8]) -> Result<Dictionary, DictFault>
+    ensures found { IfOk result (λ d. IsTextOf d bytes.now × (length bytes.now ≤ 2 ^ 28)) }
+    ensures fault { IfErr result (IsTextFault bytes.now) }
+    ensures large { 2 ^ 28 < length bytes.now → IfErr result (λ found. found ≡ fault.TooLarge) }
+{
+    if bytes.len() > 1 << 28 {
+        return Err(DictFault::TooLarge);
+    }
+    match read_text(alloc, bytes) {
+        Ok((dictionary, left)) => {
+            if left.is_empty() {
+                Ok(dictionary)
+            } else {
+                Err(DictFault::BadLine(dictionary.entries().len() as u64 + 2))
+            }
+        }
+        Err(fault) => Err(fault),
+    }
+}

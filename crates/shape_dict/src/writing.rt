@@ -1,0 +1,122 @@
+//! The texts of a dictionary, appended to bytes.
+ghost use Rattle.std.specs.Prelude.{◌≡◌, ◌++◌, ◌∷◌, [], ◌<◌, ◌^◌, ℕ, length, OnOk, OnErr, IfErr, Option};
+ghost use Rattle.std.specs.List.{flat_map};
+ghost use Rattle.std.specs.Fmt.{decimal};
+ghost use Rattle.shape_dict.specs.Text.{hexadecimal_digit, word_text, optional_number, uses_text, first_text, line_text};
+ghost use Rattle.shape_dict.specs.Writing.{Begins};
+ghost use Rattle.shape_dict.specs.declared.entries.Entry.{Entry};
+ghost use Rattle.shape_dict.specs.declared.faults.DictFault.TheVariants as fault;
+
+use crate::entries::{Entry, Text};
+use crate::faults::DictFault;
+use itoa::Buffer;
+use shape_core::Shape;
+
+/// Appends bytes, or none.
+pub(crate) fn push_bytes(out: &mut Vec<u8>, bytes: &[u8]) -> Result<(), DictFault>
+    ensures ok { OnOk result (out.new.items ≡ out.old.items ++ bytes.now) }
+    ensures begins { Begins out.old.items out.new.items }
+    ensures fault { IfErr result (λ found. found ≡ fault.Memory) }
+{
+    match out.extend_from_slice(bytes) {
+        Ok(()) => Ok(()),
+        Err(_) => Err(DictFault::Memory),
+    }
+}
+
+/// Appends a number in decimal digits.
+pub(crate) fn push_number(out: &mut Vec<u8>, number: u64) -> Result<(), DictFault>
+    ensures ok { OnOk result (out.new.items ≡ out.old.items ++ decimal number) }
+    ensures begins { Begins out.old.items out.new.items }
+    ensures fault { IfErr result (λ found. found ≡ fault.Memory) }
+{
+    let mut buffer = Buffer::new();
+    let digits = buffer.format(number);
+    push_bytes(out, digits.as_bytes())
+}
+
+/// A hexadecimal digit in lower case.
+fn hexadecimal_digit(digit: u8) -> u8
+    requires { digit < 16 }
+    ensures { result ≡ hexadecimal_digit digit }
+{
+    if digit < 10 {
+        b'0' + digit
+    } else {
+        b'a' + (digit - 10)
+    }
+}
+
+/// Appends a word in 13 hexadecimal digits.
+fn push_word(out: &mut Vec<u8>, shape: Shape) -> Result<(), DictFault>
+    ensures ok { OnOk result (out.new.items ≡ out.old.items ++ word_text shape) }
+    ensures begins { Begins out.old.items out.new.items }
+    ensures fault { IfErr result (λ found. found ≡ fault.Memory) }
+{
+    let digits = word_digits(shape.word().bits());
+    push_bytes(out, &digits)
+}
+
+/// The 13 lowest hexadecimal digits of a number, the highest first.
+fn word_digits(number: u64) -> [u8; 13]
+    ensures { result ≡ word_text number }
+{
+    let mut digits = [0u8; 13];
+    let mut left = number;
+    for place in (0..13).rev() {
+        digits[place] = hexadecimal_digit((left % 16) as u8);
+        left /= 16;
+    }
+    digits
+}
+
+/// Appends a number, or `-` where there is none.
+pub(crate) fn push_optional(out: &mut Vec<u8>, number: Option<u64>) -> Result<(), DictFault>
+    ensures ok { OnOk result (out.new.items ≡ out.old.items ++ optional_number number) }
+    ensures begins { Begins out.old.items out.new.items }
+    ensures fault { IfErr result (λ found. found ≡ fault.Memory) }
+{
+    match number {
+        None => push_bytes(out, b"-"),
+        Some(number) => push_number(out, number),
+    }
+}
+
+/// Appends what a line says of a first game.
+fn push_first(out: &mut Vec<u8>, text: Text, first: Option<u64>) -> Result<(), DictFault>
+    ensures ok { OnOk result (out.new.items ≡ out.old.items ++ first_text text first) }
+    ensures begins { Begins out.old.items out.new.items }
+    ensures fault { IfErr result (λ found. found ≡ fault.Memory) }
+{
+    match text {
+        Text::One | Text::Two => Ok(()),
+        Text::Three => {
+            push_bytes(out, b" ")?;
+            push_optional(out, first)
+        }
+    }
+}
+
+/// Appends how often a pattern was there, and how often it was played.
+fn push_uses(out: &mut Vec<u8>, entry: &Entry) -> Result<(), DictFault>
+    ensures ok { OnOk result (out.new.items ≡ out.old.items ++ uses_text entry.now) }
+    ensures begins { Begins out.old.items out.new.items }
+    ensures fault { IfErr result (λ found. found ≡ fault.Memory) }
+{
+    push_bytes(out, b" ")?;
+    push_number(out, entry.there)?;
+    push_bytes(out, b" ")?;
+    push_number(out, entry.played)
+}
+
+/// Appends a pattern's line.
+pub(crate) fn push_line(out: &mut Vec<u8>, text: Text, entry: &Entry) -> Result<(), DictFault>
+    ensures ok { OnOk result (out.new.items ≡ out.old.items ++ line_text text entry.now) }
+    ensures begins { Begins out.old.items out.new.items }
+    ensures fault { IfErr result (λ found. found ≡ fault.Memory) }
+{
+    push_word(out, entry.shape)?;
+    push_uses(out, entry)?;
+    push_first(out, text, entry.first)?;
+    push_bytes(out, b"\n")
+}
