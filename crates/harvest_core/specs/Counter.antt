@@ -1,0 +1,77 @@
+-- Counts of patterns, as an ordered map keeps them.
+use Rattle.std.specs.Prelude.{◌≡◌, ℕ, zero, suc, ◌+◌, ◌≤◌, ◌==◌, List, ◌++◌, length, count_by, Option, Some, None}
+use Rattle.std.specs.Ordering.{nat_cmp}
+use Rattle.std.specs.BTreeMap.{get, BTreeMap}
+use Rattle.std.specs.List.{flat_map}
+use Rattle.go_board.specs.Extent.{Extent}
+use Rattle.go_board.specs.Position.{Position}
+use Rattle.go_record.specs.Actions.{Actions}
+use Rattle.go_record.specs.declared.actions.Action.{Action}
+use Rattle.shape_core.specs.declared.words.Kinds.{Kinds}
+use Rattle.harvest_core.specs.Occasions.{Occasion, HasOccasions, AreOccasions}
+use Rattle.harvest_core.specs.Counts.{kinds_of, patterns_there, patterns_played}
+use Rattle.harvest_core.specs.declared.counters.Count.{Count}
+
+-- the count of a pattern that a map has, if it has one
+abbrev pub count_in : BTreeMap ℕ Count → ℕ → Option Count
+count_in counts shape = get nat_cmp counts shape
+
+abbrev pub there_at : Option Count → ℕ
+there_at None = 0
+there_at (Some count) = count.there
+
+abbrev pub played_at : Option Count → ℕ
+played_at None = 0
+played_at (Some count) = count.played
+
+abbrev pub first_at : Option Count → Option ℕ
+first_at None = None
+first_at (Some count) = Some count.first
+
+-- a pattern's count once it was there so many times more, in a game
+abbrev pub seen : ℕ → ℕ → Option Count → Option Count
+seen game zero old = old
+seen game (suc times) None = Some (record { there = suc times; played = 0; first = game })
+seen game (suc times) (Some count) = Some (record count { there = count.there + suc times })
+
+-- a pattern's count once it was played so many times more
+abbrev pub played_again : ℕ → Option Count → Option Count
+played_again zero old = old
+played_again (suc times) None = None
+played_again (suc times) (Some count) = Some (record count { played = count.played + suc times })
+
+-- what each pattern's count is once these patterns were there in a game
+abbrev pub Sees : ℕ → List ℕ → BTreeMap ℕ Count → BTreeMap ℕ Count → Type 0
+Sees game shapes before after =
+    (shape : ℕ) → count_in after shape ≡ seen game (count_by (λ c. c == shape) shapes) (count_in before shape)
+
+-- what each pattern's count is once these patterns were played, where each was there before
+abbrev pub Plays : List ℕ → BTreeMap ℕ Count → BTreeMap ℕ Count → Type 0
+Plays shapes before after =
+    (shape : ℕ) → count_in after shape ≡ played_again (count_by (λ c. c == shape) shapes) (count_in before shape)
+
+-- what each pattern's count is once the first were there and the second were played, in a game
+abbrev pub Counts : ℕ → List ℕ → List ℕ → BTreeMap ℕ Count → BTreeMap ℕ Count → Type 0
+Counts game there played before after =
+    (shape : ℕ) → count_in after shape
+    ≡ played_again (count_by (λ c. c == shape) played) (seen game (count_by (λ c. c == shape) there) (count_in before shape))
+
+-- each of the first is among the second, as often
+abbrev pub AreAmong : List ℕ → List ℕ → Type 0
+AreAmong played there = (shape : ℕ) → count_by (λ c. c == shape) played ≤ count_by (λ c. c == shape) there
+
+-- a game of so many occasions was counted
+pub record CountsGame (kinds : Kinds) (game : Actions) (number : ℕ) (before after : BTreeMap ℕ Count) (moves : ℕ) : Type 0 where
+  pub occasions : List Occasion
+  pub replayed : AreOccasions game occasions
+  pub moves_counted : moves ≡ length occasions
+  pub counted : Counts number (flat_map (patterns_there (kinds_of kinds) game.size) occasions) (flat_map (patterns_played (kinds_of kinds) game.size) occasions) before after
+  pub among : AreAmong (flat_map (patterns_played (kinds_of kinds) game.size) occasions) (flat_map (patterns_there (kinds_of kinds) game.size) occasions)
+
+-- the first actions of a game were counted: whatever occasions the others have, all have these and those
+pub record CountsFront (kinds : Kinds) (size : Extent) (all left : List Action) (start now : Position) (number : ℕ) (before after : BTreeMap ℕ Count) (moves : ℕ) : Type 0 where
+  pub done : List Occasion
+  pub others : (others : List Occasion) → HasOccasions size left now others → HasOccasions size all start (done ++ others)
+  pub moves_counted : moves ≡ length done
+  pub counted : Counts number (flat_map (patterns_there (kinds_of kinds) size) done) (flat_map (patterns_played (kinds_of kinds) size) done) before after
+  pub among : AreAmong (flat_map (patterns_played (kinds_of kinds) size) done) (flat_map (patterns_there (kinds_of kinds) size) done)
