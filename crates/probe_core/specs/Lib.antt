@@ -1,0 +1,9 @@
+pub mod Order
+pub mod Stepping
+pub mod Machine
+pub mod Probing
+pub mod Turn
+pub mod Sequential
+pub mod History
+pub mod World
+pub mod Placing

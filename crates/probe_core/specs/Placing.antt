@@ -1,0 +1,25 @@
+-- Where keys stand among the words of a table: never behind a free place of their order.
+use Rattle.std.specs.Prelude.{◌≡◌, ◌≢◌, ℕ, ◌<◌, List, slice_index_or}
+use Rattle.probe_core.specs.Machine.{code_of}
+
+-- the word of another key
+pub record IsOther (word key : ℕ) : Type 0 where
+  pub taken : word ≢ 0
+  pub other : word ≢ code_of key
+
+-- the places of a key's order before an index hold other keys
+abbrev pub HoldOthers : (ℕ → ℕ) → List ℕ → ℕ → ℕ → Type 0
+HoldOthers place words key i = (j : ℕ) → j < i → IsOther (slice_index_or words (place j) 0) key
+
+-- each key that stands among n places has all earlier places of its order taken by other keys
+abbrev pub IsPlaced : ℕ → (ℕ → ℕ → ℕ) → List ℕ → Type 0
+IsPlaced n place words =
+    (key i : ℕ) → i < n → slice_index_or words (place key i) 0 ≡ code_of key → HoldOthers (place key) words key i
+
+-- the key stands at none of n places
+abbrev pub IsNowhere : ℕ → List ℕ → ℕ → Type 0
+IsNowhere n words key = (p : ℕ) → p < n → slice_index_or words p 0 ≢ code_of key
+
+-- none of n places is free
+abbrev pub AreAllTaken : ℕ → List ℕ → Type 0
+AreAllTaken n words = (p : ℕ) → p < n → slice_index_or words p 0 ≢ 0
