@@ -56,7 +56,7 @@ exchange_is w = ap (λ cs. word_of (kind_of w) (map exchanged_code cs)) (codes_a
 pub exchange_of_small : (w : ℕ) → exchange_of w < 2 ^ 51
 exchange_of_small w = rw (exchange_is w) (word_of-lt (kind_of w) (exchanged_codes w) (AreCodes-exchanged w))
 
-kind_of-exchange : (w : ℕ) → kind_of (exchange_of w) ≡ kind_of w
+pub kind_of-exchange : (w : ℕ) → kind_of (exchange_of w) ≡ kind_of w
 kind_of-exchange w = ap kind_of (exchange_is w) ∙ kind_of-word_of (kind_of w) (exchanged_codes w) (AreCodes-exchanged w)
 
 code_at-exchange : (w i : ℕ) → i < 25 → code_at (exchange_of w) i ≡ exchanged_code (code_at w i)

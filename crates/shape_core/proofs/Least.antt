@@ -22,7 +22,7 @@ either_image w a b p q =
     (λ (h : b ≤ a). let e : min a b ≡ b = omega arith in (q.0, e ∙ q.1))
     (cases_lt a b)
 
-least_is_image : (w : ℕ) → (s : Symmetry) × (least_image w ≡ image_of s w)
+pub least_is_image : (w : ℕ) → (s : Symmetry) × (least_image w ≡ image_of s w)
 unfolding least_image
 least_is_image w =
     let one : (s : Symmetry) → (t : Symmetry) × (image_of s w ≡ image_of t w) = λ s. (s, refl) in

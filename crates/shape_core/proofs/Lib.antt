@@ -13,3 +13,4 @@ mod Mixing
 mod Agreeing
 mod Playing
 mod Removing
+mod Staying

@@ -16,7 +16,7 @@ mod tests;
 mod words;
 
 pub use fields::Field;
-pub use shapes::{Shape, canonical, same_canonical};
+pub use shapes::{Shape, canonical, kinds_stay, same_canonical};
 pub use spelling::{GlyphFault, from_diamond_glyphs, from_glyphs, glyphs};
 pub use surroundings::{around, diamond};
 pub use symmetries::{Symmetry, exchange, image};
