@@ -3,3 +3,4 @@ pub mod Digits
 pub mod Collected
 mod Worked
 pub mod Rectangles
+pub mod Few

@@ -5,6 +5,7 @@ mod actions;
 mod adding;
 mod deeds;
 mod faults;
+mod laws;
 mod names;
 mod nodes;
 mod reading;
@@ -14,6 +15,7 @@ mod spelling;
 
 pub use actions::Action;
 pub use faults::RecordFault;
+pub use laws::few_actions;
 pub use reading::read_record;
 pub use records::{Kind, Record};
 pub use replaying::{apply, replay};
