@@ -4,3 +4,13 @@ pub mod Among
 pub mod Fronts
 pub mod Entered
 pub mod Lookups
+pub mod Games
+pub mod DoubleCounting
+pub mod PlayedPatterns
+pub mod RisingEntries
+pub mod CountedEntries
+pub mod Gathered
+pub mod PlayedThere
+pub mod PutTogether
+pub mod Bounds
+pub mod Trees

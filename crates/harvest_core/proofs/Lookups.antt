@@ -13,13 +13,15 @@ use Rattle.harvest_core.specs.Tally.{tallied_entry}
 use Rattle.shape_dict.specs.declared.entries.Entry.{Entry}
 use Rattle.shape_dict.specs.Contents.{entry_of}
 use Rattle.harvest_core.specs.declared.counters.Count.{Count}
+use Rattle.harvest_core.specs.declared.dictionaries.FirstGames.{FirstGames}
+use Rattle.harvest_core.specs.declared.dictionaries.FirstGames.TheVariants as first_games
 use Rattle.harvest_core.specs.Counter.{seen, played_again, CountsGame}
 use Rattle.harvest_core.specs.Entries.{entry_of_pair}
 
 -- the entry of a pattern with this count
-pub entered : ℕ → Option Count → Option Entry
-entered shape None = None
-entered shape (Some count) = Some (entry_of_pair (shape, count))
+unfoldable pub entered : FirstGames → ℕ → Option Count → Option Entry
+entered firsts shape None = None
+entered firsts shape (Some count) = Some (entry_of_pair firsts (shape, count))
 
 test_same : (a b : ℕ) → is_eq (nat_cmp a b) ≡ (b == a)
 test_same a b = Prim.grind (arith, nat_tests)
@@ -28,7 +30,7 @@ test_tells : (a b : ℕ) → (a == b) ≡ true → a ≡ b
 test_tells a b h = Prim.grind (arith, nat_tests)
 
 -- the entry of a pattern that was there and played so often in a game counted alone
-tallied_numbers : (shape there played : ℕ) → played ≤ there → entered shape (played_again played (seen 0 there None))
+tallied_numbers : (shape there played : ℕ) → played ≤ there → entered first_games.LeftOut shape (played_again played (seen 0 there None))
     ≡ cond (nat_lt 0 there) (Some (record { shape = shape; there = there; played = played; first = None })) None
 unfolding entered
 tallied_numbers shape zero zero among = refl
@@ -38,33 +40,33 @@ tallied_numbers shape (suc there) (suc played) among =
     ap (λ n. Some (record { shape = shape; there = suc there; played = n; first = None })) (zero-add (suc played))
     ∙ sym (ap (λ b. cond b (Some (record { shape = shape; there = suc there; played = suc played; first = None })) None) (leb-suc-suc 0 there ∙ leb-zero there))
 
-pub entry_of-pairs : (shape : ℕ) (pairs : List (ℕ × Count)) → entry_of shape (map entry_of_pair pairs) ≡ entered shape (lookup (is_at (nat_cmp shape)) pairs)
+pub entry_of-pairs : (firsts : FirstGames) (shape : ℕ) (pairs : List (ℕ × Count)) → entry_of shape (map (entry_of_pair firsts) pairs) ≡ entered firsts shape (lookup (is_at (nat_cmp shape)) pairs)
 unfolding entered
-entry_of-pairs shape [] = refl
-entry_of-pairs shape (pair ∷ pairs) =
+entry_of-pairs firsts shape [] = refl
+entry_of-pairs firsts shape (pair ∷ pairs) =
     elim (pair.0 == shape) as (λ b. (pair.0 == shape) ≡ b →
-    cond b (Some (entry_of_pair pair)) (entry_of shape (map entry_of_pair pairs))
-    ≡ entered shape (cond (is_at (nat_cmp shape) pair.0) (Some pair.1) (lookup (is_at (nat_cmp shape)) pairs))) [
-      | true ↦ λ same. ap (λ key. Some (entry_of_pair (key, pair.1))) (test_tells pair.0 shape same)
-          ∙ sym (ap (λ b. entered shape (cond b (Some pair.1) (lookup (is_at (nat_cmp shape)) pairs))) (test_same shape pair.0 ∙ same))
-      | false ↦ λ other. entry_of-pairs shape pairs
-          ∙ sym (ap (λ b. entered shape (cond b (Some pair.1) (lookup (is_at (nat_cmp shape)) pairs))) (test_same shape pair.0 ∙ other))
+    cond b (Some (entry_of_pair firsts pair)) (entry_of shape (map (entry_of_pair firsts) pairs))
+    ≡ entered firsts shape (cond (is_at (nat_cmp shape) pair.0) (Some pair.1) (lookup (is_at (nat_cmp shape)) pairs))) [
+      | true ↦ λ same. ap (λ key. Some (entry_of_pair firsts (key, pair.1))) (test_tells pair.0 shape same)
+          ∙ sym (ap (λ b. entered firsts shape (cond b (Some pair.1) (lookup (is_at (nat_cmp shape)) pairs))) (test_same shape pair.0 ∙ same))
+      | false ↦ λ other. entry_of-pairs firsts shape pairs
+          ∙ sym (ap (λ b. entered firsts shape (cond b (Some pair.1) (lookup (is_at (nat_cmp shape)) pairs))) (test_same shape pair.0 ∙ other))
     ] refl
 
 -- what a pattern counts in a game that is counted alone
 pub tallied : (kinds : List Kind) (game : Replayed) (shape : ℕ) → played_in kinds game shape ≤ there_in kinds game shape →
-    entered shape (played_again (played_in kinds game shape) (seen 0 (there_in kinds game shape) None)) ≡ tallied_entry kinds game shape
+    entered first_games.LeftOut shape (played_again (played_in kinds game shape) (seen 0 (there_in kinds game shape) None)) ≡ tallied_entry kinds game shape
 unfolding entered
 tallied kinds game shape among = tallied_numbers shape (there_in kinds game shape) (played_in kinds game shape) among
 
 -- the entries of a map in which one game was counted are those of its tally
 pub tally_entries : (kinds : Kinds) (game : Actions) (none counts : BTreeMap ℕ Count) (moves : ℕ) (entries : List Entry) →
-    none.entries ≡ [] → entries ≡ map entry_of_pair counts.entries → (counted : CountsGame kinds game 0 none counts moves) →
+    none.entries ≡ [] → entries ≡ map (entry_of_pair first_games.LeftOut) counts.entries → (counted : CountsGame kinds game 0 none counts moves) →
     (shape : ℕ) → entry_of shape entries ≡ tallied_entry (kinds_of kinds) (record { size = game.size; occasions = counted.occasions }) shape
 unfolding entered
 tally_entries kinds game none counts moves entries empty same counted shape =
     let replayed : Replayed = record { size = game.size; occasions = counted.occasions } in
     let k = kinds_of kinds in
-    ap (entry_of shape) same ∙ entry_of-pairs shape counts.entries
-    ∙ ap (entered shape) (counted.counted shape ∙ ap (λ pairs. played_again (played_in k replayed shape) (seen 0 (there_in k replayed shape) (lookup (is_at (nat_cmp shape)) pairs))) empty)
+    ap (entry_of shape) same ∙ entry_of-pairs first_games.LeftOut shape counts.entries
+    ∙ ap (entered first_games.LeftOut shape) (counted.counted shape ∙ ap (λ pairs. played_again (played_in k replayed shape) (seen 0 (there_in k replayed shape) (lookup (is_at (nat_cmp shape)) pairs))) empty)
     ∙ tallied k replayed shape (counted.among shape)

@@ -1,7 +1,9 @@
 -- Patterns that are counted one after another.
-use Rattle.std.proofs.Common.{◌≡◌, ℕ, zero, suc, ◌+◌, ◌<◌, ◌≤◌, ◌==◌, List, [], ◌++◌, Option, Some, None, refl, ap, sym, ◌∙◌, cond, arith, zero-add, add-zero, add_assoc}
+use Rattle.std.proofs.Common.{◌≡◌, ℕ, zero, suc, ◌+◌, ◌<◌, ◌≤◌, ◌==◌, true, false, List, [], ◌∷◌, ◌++◌, Option, Some, None, refl, ap, sym, ◌∙◌, cond, arith, zero-add, add-zero, add_assoc}
 use Rattle.std.specs.Prelude.{count_by}
-use Rattle.std.specs.BTreeMap.{BTreeMap}
+use Rattle.std.specs.Ordering.{nat_cmp}
+use Rattle.std.specs.BTreeMap.{BTreeMap, is_at}
+use Rattle.std.proofs.lemmas.Bool.Decides.{nat_tests}
 use Rattle.std.proofs.lemmas.List.Sums.{sum_by-append}
 use Rattle.harvest_core.specs.declared.counters.Count.{Count}
 use Rattle.harvest_core.specs.Counter.{count_in, seen, played_again, Sees, Plays, Counts, AreAmong}
@@ -94,3 +96,19 @@ counts-append game there more_there played more_played a b c among h k shape =
 pub among-append : (played there more_played more_there : List ℕ) → AreAmong played there → AreAmong more_played more_there → AreAmong (played ++ more_played) (there ++ more_there)
 among-append played there more_played more_there h k shape =
     rw (count-append shape played more_played, count-append shape there more_there) (omega (arith, h shape, k shape))
+
+at_test : (a b : ℕ) → is_at (nat_cmp a) b ≡ (a == b)
+at_test a b = Prim.grind (arith, nat_tests)
+
+-- a pattern that was not counted before was there once
+pub sees_new : (game shape : ℕ) (a b : BTreeMap ℕ Count) → count_in a shape ≡ None →
+    ((q : ℕ) → count_in b q ≡ cond (is_at (nat_cmp shape) q) (Some (record { there = 1; played = 0; first = game })) (count_in a q)) →
+    Sees game (shape ∷ []) a b
+sees_new game shape a b none updated q =
+    let new : Option Count = Some (record { there = 1; played = 0; first = game }) in
+    elim (shape == q) as (λ t. (shape == q) ≡ t → count_in b q ≡ seen game (0 + cond t 1 0) (count_in a q)) [
+      | true ↦ λ same.
+          updated q ∙ ap (λ t. cond t new (count_in a q)) (at_test shape q ∙ same)
+          ∙ ap (seen game 1) (sym none ∙ ap (count_in a) (Prim.grind (arith, nat_tests)))
+      | false ↦ λ other. updated q ∙ ap (λ t. cond t new (count_in a q)) (at_test shape q ∙ other)
+    ] refl

@@ -1,16 +1,19 @@
 -- Counts of patterns, as an ordered map keeps them.
-use Rattle.std.specs.Prelude.{◌≡◌, ℕ, zero, suc, ◌+◌, ◌≤◌, ◌==◌, List, ◌++◌, length, count_by, Option, Some, None}
+use Rattle.std.specs.Prelude.{◌≡◌, ℕ, zero, suc, ◌+◌, ◌^◌, ◌≤◌, ◌==◌, nat_lt, List, ◌++◌, length, count_by, sum_by, Option, Some, None, if◌then◌else◌}
 use Rattle.std.specs.Ordering.{nat_cmp}
 use Rattle.std.specs.BTreeMap.{get, BTreeMap}
-use Rattle.std.specs.List.{flat_map}
+use Rattle.std.specs.List.{flat_map, position_or_len}
 use Rattle.go_board.specs.Extent.{Extent}
 use Rattle.go_board.specs.Position.{Position}
 use Rattle.go_record.specs.Actions.{Actions}
 use Rattle.go_record.specs.declared.actions.Action.{Action}
 use Rattle.shape_core.specs.declared.words.Kinds.{Kinds}
 use Rattle.harvest_core.specs.Occasions.{Occasion, HasOccasions, AreOccasions}
-use Rattle.harvest_core.specs.Counts.{kinds_of, patterns_there, patterns_played}
+use Rattle.harvest_core.specs.Counts.{Replayed, kinds_of, patterns_there, patterns_played, there_in}
+use Rattle.harvest_core.specs.Games.{there_sum, played_sum}
 use Rattle.harvest_core.specs.declared.counters.Count.{Count}
+use Rattle.harvest_core.specs.declared.faults.HarvestFault.{HarvestFault}
+use Rattle.harvest_core.specs.declared.faults.HarvestFault.TheVariants as fault
 
 -- the count of a pattern that a map has, if it has one
 abbrev pub count_in : BTreeMap ℕ Count → ℕ → Option Count
@@ -27,6 +30,21 @@ played_at (Some count) = count.played
 abbrev pub first_at : Option Count → Option ℕ
 first_at None = None
 first_at (Some count) = Some count.first
+
+-- how often a pattern was counted, both counts together
+abbrev pub uses_at : Option Count → ℕ
+uses_at None = 0
+uses_at (Some count) = count.there + count.played
+
+-- no pattern was counted more often since than this
+abbrev pub GrowsBy : ℕ → BTreeMap ℕ Count → BTreeMap ℕ Count → Type 0
+GrowsBy most before after = (shape : ℕ) → uses_at (count_in after shape) ≤ uses_at (count_in before shape) + most
+
+-- memory was wanting, or some pattern was counted so often that so many more would pass 2 ^ 64 - 1
+abbrev pub IsCountingFault : ℕ → BTreeMap ℕ Count → HarvestFault → Type 0
+IsCountingFault most before fault.Memory = Unit {0}
+IsCountingFault most before fault.Overflow = (shape : ℕ) × (2 ^ 64 ≤ uses_at (count_in before shape) + most)
+IsCountingFault most before found = ⊥
 
 -- a pattern's count once it was there so many times more, in a game
 abbrev pub seen : ℕ → ℕ → Option Count → Option Count
@@ -75,3 +93,20 @@ pub record CountsFront (kinds : Kinds) (size : Extent) (all left : List Action) 
   pub moves_counted : moves ≡ length done
   pub counted : Counts number (flat_map (patterns_there (kinds_of kinds) size) done) (flat_map (patterns_played (kinds_of kinds) size) done) before after
   pub among : AreAmong (flat_map (patterns_played (kinds_of kinds) size) done) (flat_map (patterns_there (kinds_of kinds) size) done)
+
+-- what a map has of a pattern once these games were counted
+abbrev pub games_count : Kinds → List Replayed → ℕ → Option Count
+games_count kinds games shape =
+    if nat_lt 0 (there_sum kinds games shape)
+    then Some (record {
+      there = there_sum kinds games shape;
+      played = played_sum kinds games shape;
+      first = position_or_len (λ game. nat_lt 0 (there_in (kinds_of kinds) game shape)) games;
+    })
+    else None
+
+-- these games were counted
+pub record CountsGames (kinds : Kinds) (games : List Replayed) (counts : BTreeMap ℕ Count) (moves : ℕ) : Type 0 where
+  pub counted : (shape : ℕ) → count_in counts shape ≡ games_count kinds games shape
+  pub among : (shape : ℕ) → played_sum kinds games shape ≤ there_sum kinds games shape
+  pub moves_counted : moves ≡ sum_by (λ game. length game.occasions) games

@@ -6,3 +6,5 @@ pub mod Counter
 pub mod Entries
 pub mod Tally
 pub mod Limits
+pub mod Counted
+pub mod Counting

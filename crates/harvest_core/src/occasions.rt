@@ -1,12 +1,12 @@
 //! What one occasion counts.
-ghost use Rattle.std.specs.Prelude.{◌≡◌, ◌<◌, ◌+◌, ◌^◌, ◌≤◌, ◌∷◌, [], ℕ, length, IfOk, OnOk, filter};
+ghost use Rattle.std.specs.Prelude.{◌≡◌, ◌<◌, ◌+◌, ◌^◌, ◌≤◌, ◌∷◌, [], ℕ, length, IfOk, IfErr, OnOk, filter};
 ghost use Rattle.std.specs.List.{flat_map};
 ghost use Rattle.go_board.specs.Point.{IsOn};
 ghost use Rattle.go_record.specs.Actions.{IsActionOn};
 ghost use Rattle.go_board.specs.Board.{position_of};
 ghost use Rattle.harvest_core.specs.Occasions.{is_empty, occasion_of};
 ghost use Rattle.harvest_core.specs.Counts.{kinds_of, patterns_at, patterns_there, patterns_played, row_of, points_of};
-ghost use Rattle.harvest_core.specs.Counter.{Sees, Plays, Counts};
+ghost use Rattle.harvest_core.specs.Counter.{Sees, Plays, Counts, GrowsBy, IsCountingFault};
 
 use crate::counters::{Count, play, see};
 use crate::faults::HarvestFault;
@@ -26,6 +26,8 @@ fn see_point(
 ) -> Result<(), HarvestFault>
     requires { IsOn board.now.size point }
     ensures ok { OnOk result (Sees game (patterns_at (kinds_of kinds) board.now.size (position_of board.now) mover point) counts.old counts.new) }
+    ensures grows { OnOk result (GrowsBy 2 counts.old counts.new) }
+    ensures fault { IfErr result (IsCountingFault 2 counts.old) }
 {
     see(counts, canonical(around(board, point), mover), game)?;
     match kinds {
@@ -46,6 +48,8 @@ fn see_empty(
     requires { IsOn board.now.size point }
     ensures ok { OnOk result (Sees game (flat_map (patterns_at (kinds_of kinds) board.now.size (position_of board.now) mover)
         (filter (λ q. is_empty (position_of board.now q)) (point ∷ []))) counts.old counts.new) }
+    ensures grows { OnOk result (GrowsBy 2 counts.old counts.new) }
+    ensures fault { IfErr result (IsCountingFault 2 counts.old) }
 {
     if board.cell(point) == Stone::Empty {
         see_point(counts, kinds, board, mover, point, game)
@@ -66,6 +70,8 @@ fn see_row(
     requires { row < board.now.size.rows }
     ensures ok { OnOk result (Sees game (flat_map (patterns_at (kinds_of kinds) board.now.size (position_of board.now) mover)
         (filter (λ point. is_empty (position_of board.now point)) (row_of board.now.size row))) counts.old counts.new) }
+    ensures grows { OnOk result (GrowsBy 104 counts.old counts.new) }
+    ensures fault { IfErr result (IsCountingFault 104 counts.old) }
 {
     for column in 0..board.size().columns() {
         see_empty(counts, kinds, board, mover, Point { column, row }, game)?;
@@ -83,6 +89,8 @@ fn see_all(
 ) -> Result<(), HarvestFault>
     ensures ok { OnOk result (Sees game (flat_map (patterns_at (kinds_of kinds) board.now.size (position_of board.now) mover)
         (filter (λ point. is_empty (position_of board.now point)) (points_of board.now.size))) counts.old counts.new) }
+    ensures grows { OnOk result (GrowsBy 5408 counts.old counts.new) }
+    ensures fault { IfErr result (IsCountingFault 5408 counts.old) }
 {
     for row in 0..board.size().rows() {
         see_row(counts, kinds, board, mover, row, game)?;
@@ -100,6 +108,8 @@ fn play_point(
 ) -> Result<(), HarvestFault>
     requires { IsOn board.now.size point }
     ensures ok { OnOk result (Plays (patterns_at (kinds_of kinds) board.now.size (position_of board.now) mover point) counts.old counts.new) }
+    ensures grows { OnOk result (GrowsBy 2 counts.old counts.new) }
+    ensures fault { IfErr result (IsCountingFault 2 counts.old) }
 {
     play(counts, canonical(around(board, point), mover))?;
     match kinds {
@@ -122,6 +132,8 @@ fn count_occasion(
         (patterns_there (kinds_of kinds) board.now.size (record { position = position_of board.now; mover = mover; at = at }))
         (patterns_played (kinds_of kinds) board.now.size (record { position = position_of board.now; mover = mover; at = at }))
         counts.old counts.new) }
+    ensures grows { OnOk result (GrowsBy 5410 counts.old counts.new) }
+    ensures fault { IfErr result (IsCountingFault 5410 counts.old) }
 {
     see_all(counts, kinds, board, mover, game)?;
     play_point(counts, kinds, board, mover, at)
@@ -141,6 +153,8 @@ pub(crate) fn count_action(
         (flat_map (patterns_there (kinds_of kinds) board.now.size) (occasion_of (position_of board.now) action))
         (flat_map (patterns_played (kinds_of kinds) board.now.size) (occasion_of (position_of board.now) action))
         counts.old counts.new) }
+    ensures grows { OnOk result (GrowsBy 5410 counts.old counts.new) }
+    ensures fault { IfErr result (IsCountingFault 5410 counts.old) }
 {
     match action {
         Action::Move { colour, at } => {

@@ -1,8 +1,8 @@
 //! A game, replayed and counted.
-ghost use Rattle.std.specs.Prelude.{[], All, IfOk};
+ghost use Rattle.std.specs.Prelude.{[], ◌*◌, ◌≤◌, length, All, IfOk, IfErr, OnOk};
 ghost use Rattle.go_board.specs.Board.{position_of};
 ghost use Rattle.go_record.specs.Actions.{IsActionOn};
-ghost use Rattle.harvest_core.specs.Counter.{CountsFront, CountsGame};
+ghost use Rattle.harvest_core.specs.Counter.{CountsFront, CountsGame, GrowsBy, IsCountingFault};
 
 use crate::counters::Count;
 use crate::faults::HarvestFault;
@@ -22,7 +22,10 @@ fn count_actions(
     game: u64,
 ) -> Result<u64, HarvestFault>
     requires { All (IsActionOn board.old.size) actions.now }
-    ensures { IfOk result (CountsFront kinds board.old.size actions.now [] (position_of board.old) (position_of board.new) game counts.old counts.new) }
+    ensures counts { IfOk result (CountsFront kinds board.old.size actions.now [] (position_of board.old) (position_of board.new) game counts.old counts.new) }
+    ensures few { IfOk result (λ moves. moves ≤ length actions.now) }
+    ensures grows { OnOk result (GrowsBy (5410 * length actions.now) counts.old counts.new) }
+    ensures fault { IfErr result (IsCountingFault (5410 * length actions.now) counts.old) }
 {
     let mut moves = 0;
     for action in actions {
@@ -40,7 +43,10 @@ pub(crate) fn count_game(
     replayed: &Record,
     game: u64,
 ) -> Result<u64, HarvestFault>
-    ensures { IfOk result (CountsGame kinds replayed.now game counts.old counts.new) }
+    ensures counts { IfOk result (CountsGame kinds replayed.now game counts.old counts.new) }
+    ensures few { IfOk result (λ moves. moves ≤ length replayed.now.actions) }
+    ensures grows { OnOk result (GrowsBy (5410 * length replayed.now.actions) counts.old counts.new) }
+    ensures fault { IfErr result (IsCountingFault (5410 * length replayed.now.actions) counts.old) }
 {
     let Ok(mut board) = Board::new(alloc, replayed.size()) else {
         return Err(HarvestFault::Memory);

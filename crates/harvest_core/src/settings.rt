@@ -7,7 +7,7 @@ use std::marker::Model;
 #[derive(Clone, Copy, Debug, PartialEq, Eq)]
 pub struct Settings {
     workers: u8,
-    k: u8,
+    exponent: u8,
     kinds: Kinds,
 }
 
@@ -16,11 +16,11 @@ impl Model for Settings {
 
     ghost Value = { Limits };
 
-    ghost view = { λ s. record { workers = s.workers; k = s.k; kinds = s.kinds } };
+    ghost view = { λ s. record { workers = s.workers; k = s.exponent; kinds = s.kinds } };
 
-    ghost invariant = { λ s. AreLimits (record { workers = s.workers; k = s.k; kinds = s.kinds }) };
+    ghost invariant = { λ s. AreLimits (record { workers = s.workers; k = s.exponent; kinds = s.kinds }) };
 
-    ghost inverse = { λ l. record { workers = l.workers; k = l.k; kinds = l.kinds } };
+    ghost inverse = { λ l. record { workers = l.workers; exponent = l.k; kinds = l.kinds } };
 }
 
 impl Settings {
@@ -41,7 +41,7 @@ impl Settings {
         }
         Ok(Settings {
             workers,
-            k,
+            exponent: k,
             kinds: Kinds::Squares,
         })
     }
@@ -64,7 +64,7 @@ impl Settings {
     pub fn k(self) -> u8
         ensures { result ≡ self.k }
     {
-        self.k
+        self.exponent
     }
 
     /// The kinds of pattern that are counted.

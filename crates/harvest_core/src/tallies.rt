@@ -1,8 +1,8 @@
 //! The tally of one game.
-ghost use Rattle.std.specs.Prelude.{◌≡◌, IfOk};
-ghost use Rattle.harvest_core.specs.Tally.{IsTally};
+ghost use Rattle.std.specs.Prelude.{IfOk, IfErr};
+ghost use Rattle.harvest_core.specs.Tally.{IsTally, IsTallyFault};
 
-use crate::dictionaries::entries_of;
+use crate::dictionaries::{FirstGames, entries_of};
 use crate::faults::HarvestFault;
 use crate::replays::count_game;
 use go_record::Record;
@@ -49,13 +49,14 @@ impl Tally {
 /// with the mover to move, was there, and that of the move's point was played besides (this project's own). `kinds` says
 /// which kinds of pattern are counted.
 ///
-/// `HarvestFault::Memory` comes where memory for the board or the counts was refused, `HarvestFault::Overflow` where a
-/// count would pass 2^64 - 1.
+/// `HarvestFault::Memory` comes where memory for the board or the counts was refused. `HarvestFault::Overflow`, of a count
+/// that would pass 2^64 - 1, comes only where the game has more actions than any input.
 pub fn tally_plain(alloc: Global, kinds: Kinds, replayed: &Record) -> Result<Tally, HarvestFault>
-    ensures { IfOk result (IsTally kinds replayed.now) }
+    ensures tally { IfOk result (IsTally kinds replayed.now) }
+    ensures fault { IfErr result (IsTallyFault replayed.now) }
 {
     let mut counts = BTreeMap::new(alloc);
     let moves = count_game(alloc, &mut counts, kinds, replayed, 0)?;
-    let entries = entries_of(alloc, &counts)?;
+    let entries = entries_of(alloc, FirstGames::LeftOut, &counts)?;
     Ok(Tally { moves, entries })
 }

@@ -7,5 +7,5 @@ invariant-loop-shape l = record {
   can_next : (goal.iterator-loop-shape).can_next l.shape-iterator;
   is_finite : (goal.iterator-loop-shape).is_finite l.shape-iterator;
   shapes : All IsShape l.entries.items;
-  left : l.entries.items ++ map entry_of_pair l.shape-iterator ≡ map entry_of_pair l.counts.entries;
+  left : l.entries.items ++ map (entry_of_pair l.first_games) l.shape-iterator ≡ map (entry_of_pair l.first_games) l.counts.entries;
 }

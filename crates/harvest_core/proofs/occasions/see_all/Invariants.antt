@@ -1,4 +1,4 @@
-use Rattle.std.proofs.Common.{ℕ, List, ◌-◌, filter}
+use Rattle.std.proofs.Common.{ℕ, List, ◌-◌, ◌*◌, filter}
 use Rattle.std.specs.List.{flat_map}
 use Rattle.std.specs.BTreeMap.{BTreeMap}
 use Rattle.go_board.specs.Board.{position_of}
@@ -6,13 +6,15 @@ use Rattle.shape_core.specs.Word.{count_from}
 use Rattle.harvest_core.specs.declared.counters.Count.{Count}
 use Rattle.harvest_core.specs.Occasions.{is_empty}
 use Rattle.harvest_core.specs.Counts.{kinds_of, patterns_at, row_of}
-use Rattle.harvest_core.specs.Counter.{Sees}
+use Rattle.harvest_core.specs.Counter.{Sees, GrowsBy}
 use Rattle.harvest_core.proofs.occasions.see_all.Given as goal
 
 -- whatever the rows that are left count from here, the whole board counts from the start
 abbrev pub invariant-loop-row : goal.invariant-loop-row
-invariant-loop-row l =
-    let patterns = λ (rows : List ℕ). flat_map (patterns_at (kinds_of l.kinds) l.board.size (position_of l.board) l.mover)
-    (filter (λ point. is_empty (position_of l.board point)) (flat_map (row_of l.board.size) rows)) in
-    (after : BTreeMap ℕ Count) → Sees l.game (patterns (count_from l.row (l.row-end - l.row))) l.counts after
-    → Sees l.game (patterns (count_from 0 l.row-end)) l.fn.counts after
+invariant-loop-row l = record {
+  left : let patterns = λ (rows : List ℕ). flat_map (patterns_at (kinds_of l.kinds) l.board.size (position_of l.board) l.mover)
+      (filter (λ point. is_empty (position_of l.board point)) (flat_map (row_of l.board.size) rows)) in
+      (after : BTreeMap ℕ Count) → Sees l.game (patterns (count_from l.row (l.row-end - l.row))) l.counts after
+      → Sees l.game (patterns (count_from 0 l.row-end)) l.fn.counts after;
+  grows : GrowsBy (104 * l.row) l.fn.counts l.counts;
+}

@@ -1,4 +1,4 @@
-use Rattle.std.proofs.Common.{ℕ, List, subst, ◌∷◌, [], ◌-◌, ◌+◌, ◌∙◌, ap, map, filter, arith}
+use Rattle.std.proofs.Common.{ℕ, List, subst, ◌∷◌, [], ◌-◌, ◌+◌, ◌*◌, ◌∙◌, ap, map, filter, arith}
 use Rattle.std.specs.List.{flat_map}
 use Rattle.go_board.specs.declared.points.Point.{Point}
 use Rattle.go_board.specs.Board.{position_of}
@@ -7,29 +7,33 @@ use Rattle.harvest_core.specs.Occasions.{is_empty}
 use Rattle.harvest_core.specs.Counts.{kinds_of, patterns_at}
 use Rattle.harvest_core.specs.Counter.{Sees}
 use Rattle.harvest_core.proofs.Rows.{count_from-first, count_from-last, kept-cons, sees-more, sees-nothing}
+use Rattle.harvest_core.proofs.Bounds.{grows_then}
 use Rattle.harvest_core.proofs.occasions.see_row.Goals as goal
 
 pub loop-column-preserved : goal.loop-column-preserved
-loop-column-preserved c after h =
-    let f = patterns_at (kinds_of c.args.kinds) c.args.board.now.size (position_of c.args.board.now) c.args.mover in
-    let p = λ (point : Point). is_empty (position_of c.args.board.now point) in
-    let patterns = λ (columns : List ℕ). flat_map f (filter p (map (λ column. record { column = column; row = c.args.row }) columns)) in
-    let e = c.columns-column-end.result in
-    let k = c.loop-column.column in
-    c.loop-column.invariant after
-    (sees-more c.args.game (patterns (count_from k (e - k))) (patterns (k ∷ [])) (patterns (count_from (k + 1) (e - (k + 1))))
-    c.loop-column.counts c.see_empty.new.counts after
-    (ap patterns (count_from-first e k (omega arith))
-    ∙ kept-cons f p (record { column = k; row = c.args.row }) (map (λ column. record { column = column; row = c.args.row }) (count_from (k + 1) (e - (k + 1)))))
-    c.in_ok-see_empty.ensures.ok h)
+loop-column-preserved c = record {
+  left = λ after h.
+      let f = patterns_at (kinds_of c.args.kinds) c.args.board.now.size (position_of c.args.board.now) c.args.mover in
+      let p = λ (point : Point). is_empty (position_of c.args.board.now point) in
+      let patterns = λ (columns : List ℕ). flat_map f (filter p (map (λ column. record { column = column; row = c.args.row }) columns)) in
+      let e = c.columns-column-end.result in
+      let k = c.loop-column.column in
+      c.loop-column.invariant.left after
+      (sees-more c.args.game (patterns (count_from k (e - k))) (patterns (k ∷ [])) (patterns (count_from (k + 1) (e - (k + 1))))
+      c.loop-column.counts c.see_empty.new.counts after
+      (ap patterns (count_from-first e k (omega arith))
+      ∙ kept-cons f p (record { column = k; row = c.args.row }) (map (λ column. record { column = column; row = c.args.row }) (count_from (k + 1) (e - (k + 1)))))
+      c.in_ok-see_empty.ensures.ok h);
+  grows = grows_then (2 * c.loop-column.column) 2 (2 * (c.loop-column.column + 1)) c.args.counts.now c.loop-column.counts c.see_empty.new.counts (omega arith) c.loop-column.invariant.grows c.in_ok-see_empty.ensures.grows;
+}
 
-pub returns : goal.returns
-returns c =
+pub returns-clause-ok : goal.returns-clause-ok
+returns-clause-ok c =
     let f = patterns_at (kinds_of c.args.kinds) c.args.board.now.size (position_of c.args.board.now) c.args.mover in
     let p = λ (point : Point). is_empty (position_of c.args.board.now point) in
     let patterns = λ (columns : List ℕ). flat_map f (filter p (map (λ column. record { column = column; row = c.args.row }) columns)) in
     let e = c.columns-column-end.result in
     let k = c.loop-column.column in
-    let all = c.loop-column.invariant c.loop-column.counts
+    let all = c.loop-column.invariant.left c.loop-column.counts
     (sees-nothing c.args.game (patterns (count_from k (e - k))) c.loop-column.counts (ap patterns (count_from-last e k (omega arith)))) in
-    record { ok = subst (λ n. Sees c.args.game (patterns (count_from 0 n)) c.args.counts.now c.loop-column.counts) (c.columns-column-end.ensures.value ∙ ap (λ size. size.columns) c.size.ensures.value) all }
+    subst (λ n. Sees c.args.game (patterns (count_from 0 n)) c.args.counts.now c.loop-column.counts) (c.columns-column-end.ensures.value ∙ ap (λ size. size.columns) c.size.ensures.value) all

@@ -6,10 +6,10 @@ use Rattle.go_record.specs.Replay.{AreSame, empty_position}
 use Rattle.harvest_core.proofs.Fronts.{game_ends}
 use Rattle.harvest_core.proofs.replays.count_game.Goals as goal
 
-pub returns : goal.returns
-returns c =
+pub returns-clause-counts : goal.returns-clause-counts
+returns-clause-counts c =
     let empty = subst (λ (s : Extent). AreSame s (position_of c.in-Ok.board) empty_position) c.size.ensures c.in-Ok.ensures.empty in
     IfOk-weaker c.count_actions.result _ _
     (λ moves front. game_ends c.args.kinds c.args.replayed.now c.in-Ok.board.size c.actions.result.now (position_of c.in-Ok.board) (position_of c.count_actions.new.board)
     c.args.game moves c.args.counts.now c.count_actions.new.counts (c.in-Ok.ensures.size ∙ c.size.ensures) c.actions.ensures.value empty front)
-    c.count_actions.ensures
+    c.count_actions.ensures.counts
