@@ -4,7 +4,11 @@ ghost use Rattle.shapes.specs.Status.{status_of};
 
 use go_board::BoardFault;
 use go_record::RecordFault;
+use harvest_core::HarvestFault;
 use sgf_core::SgfFault;
+use shape_core::GlyphFault;
+use shape_dict::DictFault;
+use std::fmt;
 use thiserror::Error;
 
 /// Why a run ended without its answer. The text is what stands on standard error behind `shapes: `.
@@ -19,6 +23,15 @@ pub enum RunFault {
     /// There was no memory for the board.
     #[error("{0}")]
     Board(BoardFault),
+    /// The words of the command line spell no pattern.
+    #[error("{0}")]
+    Glyph(GlyphFault),
+    /// The collection was not counted.
+    #[error("{0}")]
+    Harvest(HarvestFault),
+    /// The input's dictionary of this number, from 1, is none that can be read, or it cannot be added to those before it.
+    #[error("{}", DictLine {n: *.n, fault: *.fault})]
+    Dict { n: usize, fault: DictFault },
     /// The words of the command line are none that the program knows.
     #[error("U1 usage")]
     Usage,
@@ -33,6 +46,23 @@ pub enum RunFault {
     Memory,
 }
 
+/// The line of a dictionary's fault. Too large an input and want of memory are of no one dictionary, so they are said
+/// without a number.
+#[derive(Clone, Copy)]
+struct DictLine {
+    n: usize,
+    fault: DictFault,
+}
+
+impl fmt::Display for DictLine {
+    fn fmt<W: fmt::Write>(&self, f: &mut fmt::Formatter<W>) -> fmt::Result {
+        match self.fault {
+            DictFault::TooLarge | DictFault::Memory => write!(f, "{}", self.fault),
+            _ => write!(f, "dictionary {}: {}", self.n, self.fault),
+        }
+    }
+}
+
 /// The exit status of a fault: 2 usage, 3 input refused, 5 no memory, 6 read or write failed.
 pub fn status_of(fault: &RunFault) -> u8
     ensures { result ≡ status_of fault.now }
@@ -41,9 +71,18 @@ pub fn status_of(fault: &RunFault) -> u8
         RunFault::Sgf(SgfFault::Memory)
         | RunFault::Record(RecordFault::Memory)
         | RunFault::Board(BoardFault::Memory)
+        | RunFault::Harvest(HarvestFault::Memory)
+        | RunFault::Harvest(HarvestFault::Sgf(SgfFault::Memory))
+        | RunFault::Dict {
+            fault: DictFault::Memory,
+            ..
+        }
         | RunFault::Memory => 5,
-        RunFault::Sgf(_) | RunFault::Record(_) => 3,
-        RunFault::Usage => 2,
+        RunFault::Sgf(_)
+        | RunFault::Record(_)
+        | RunFault::Harvest(HarvestFault::Sgf(_) | HarvestFault::Overflow)
+        | RunFault::Dict { .. } => 3,
+        RunFault::Glyph(_) | RunFault::Harvest(HarvestFault::BadSettings) | RunFault::Usage => 2,
         RunFault::Read | RunFault::Write { .. } => 6,
     }
 }

@@ -36,7 +36,7 @@ fn read_some<R: Read>(reader: &mut R, room: &mut [u8]) -> Result<usize, RunFault
     }
 }
 
-fn append(input: &mut Vec<u8>, bytes: &[u8]) -> Result<(), RunFault>
+pub(crate) fn append(input: &mut Vec<u8>, bytes: &[u8]) -> Result<(), RunFault>
     ensures ok { OnOk result (input.new.items ≡ input.old.items ++ bytes.now) }
     ensures fault { IfErr result (λ found. found ≡ fault.Memory) }
 {

@@ -1,15 +1,22 @@
-//! Reads collections of Go games and prints what stands in them.
+//! Reads collections of Go games and dictionaries of their patterns, and prints what stands in them.
 #![tactic(auto)]
 
 mod boards;
+mod commands;
 mod faults;
+mod finds;
 mod input;
+mod joins;
+mod lines;
 mod output;
+mod patterns;
 mod text;
 mod words;
 
 use boards::{Outcome, run_board};
 use faults::{RunFault, status_of};
+use finds::run_find;
+use joins::run_join;
 use std::io::ErrorKind;
 use std::process::ExitCode;
 use std::{env, io};
@@ -35,6 +42,9 @@ fn run(rt: &HostRuntime) -> Result<Outcome, RunFault> {
     let words = own_words(rt)?;
     match read_words(rt.alloc(), &words)? {
         Task::Board => run_board(rt.alloc(), &mut rt.stdin(), &mut rt.stdout()),
+        Task::Count(_, _) => Err(RunFault::Usage),
+        Task::Find(shape) => run_find(rt.alloc(), shape, &mut rt.stdin(), &mut rt.stdout()),
+        Task::Join(kind) => run_join(rt.alloc(), kind, &mut rt.stdin(), &mut rt.stdout()),
         Task::Help(text) => {
             output::write_output(&mut rt.stdout(), text.as_bytes())?;
             Ok(Outcome::Done)
@@ -53,3 +63,6 @@ fn main(rt: HostRuntime) -> ExitCode {
         }
     }
 }
+
+#[cfg(test)]
+mod tests;

@@ -1,34 +1,134 @@
-//! The words of the command line.
+//! The words of the command line, and the task that they ask for.
+ghost use Rattle.std.specs.Prelude.{◌≡◌, List, ℕ, Option, Some, codes, map, string_bytes, IfOk, IfErr};
+ghost use Rattle.clap.specs.Words.{Row, found_of, rows_of, subcommand_rows_of};
+ghost use Rattle.shapes.specs.Commands.{IsNumberOf, asked_by};
+ghost use Rattle.shapes.specs.Words.{IsKindOf, IsTaskOf, IsWordsFault, kinds_for, number_of};
+ghost use Rattle.shapes.specs.declared.faults.RunFault.TheVariants as fault;
+
+use crate::commands::program;
 use crate::faults::RunFault;
+use crate::patterns::pattern_of;
 use clap::error::ErrorKind;
-use clap::{Command, Error};
-use std::alloc::{AllocError, Global};
+use clap::{ArgMatches, Error};
+use harvest_core::Settings;
+use shape_core::{Kind, Kinds, Shape};
+use shape_dict::Text;
+use std::alloc::Global;
 
 /// What the program is to do.
 #[derive(Debug, Drop)]
 pub enum Task {
     /// Print the final position of the first game.
     Board,
+    /// Print this text of the dictionary of a collection.
+    Count(Settings, Text),
+    /// Print the line of this pattern.
+    Find(Shape),
+    /// Print this text of the join.
+    Join(Text),
     /// Print this text, which was asked for by help or version.
     Help(String),
 }
 
-fn board_command<'a>(alloc: Global) -> Command<'a> {
-    Command::new(alloc, "board").about(
-        "Prints the final position of the first game of a collection (the default)",
-    )
+/// The number that an option has.
+fn number(matches: &ArgMatches<'_>, option: &str) -> Result<u8, RunFault>
+    ensures number { IfOk result (IsNumberOf option.now (rows_of (found_of matches.now))) }
+    ensures fault { IfErr result (λ found. found ≡ fault.Usage) }
+{
+    match matches.get_one::<u8>(option) {
+        Some(number) => Ok(number),
+        None => Err(RunFault::Usage),
+    }
 }
 
-fn program<'a>(alloc: Global) -> Result<Command<'a>, AllocError> {
-    Command::new(alloc, "shapes")
-        .about("Reads a collection of Go games (SGF) on standard input")
-        .version("1.0.0")
-        .no_binary_name(true)
-        .subcommand(board_command(alloc))
+/// The text of the number that `--text` has.
+fn text_of(matches: &ArgMatches<'_>) -> Result<Text, RunFault>
+    ensures text { IfOk result (λ text. IsNumberOf (codes "text") (rows_of (found_of matches.now)) (number_of text)) }
+    ensures fault { IfErr result (λ found. found ≡ fault.Usage) }
+{
+    match number(matches, "text")? {
+        1 => Ok(Text::One),
+        2 => Ok(Text::Two),
+        3 => Ok(Text::Three),
+        _ => Err(RunFault::Usage),
+    }
+}
+
+/// The kinds of pattern that a text has.
+fn kinds_for(text: Text) -> Kinds
+    ensures { result ≡ kinds_for text }
+{
+    match text {
+        Text::One => Kinds::Squares,
+        Text::Two | Text::Three => Kinds::Both,
+    }
+}
+
+fn count_task(matches: &ArgMatches<'_>) -> Result<Task, RunFault>
+    ensures task { IfOk result (IsTaskOf (Some (codes "count", rows_of (found_of matches.now)))) }
+    ensures fault { IfErr result (λ found. found ≡ fault.Usage) }
+{
+    let text = text_of(matches)?;
+    let workers = number(matches, "workers")?;
+    let k = number(matches, "bits")?;
+    match Settings::new(workers, k) {
+        Ok(settings) => Ok(Task::Count(settings.with(kinds_for(text)), text)),
+        Err(_) => Err(RunFault::Usage),
+    }
+}
+
+/// The kind of pattern that the glyphs are of.
+fn kind_of(matches: &ArgMatches<'_>) -> Kind
+    ensures { IsKindOf (rows_of (found_of matches.now)) result }
+{
+    if matches.get_flag("diamond") {
+        Kind::Diamond
+    } else {
+        Kind::Square
+    }
+}
+
+fn find_task(matches: &ArgMatches<'_>) -> Result<Task, RunFault>
+    ensures task { IfOk result (IsTaskOf (Some (codes "find", rows_of (found_of matches.now)))) }
+    ensures fault { IfErr result (IsWordsFault (Some (codes "find", rows_of (found_of matches.now)))) }
+{
+    let Some(glyphs) = matches.get_str("glyphs") else {
+        return Err(RunFault::Usage);
+    };
+    let Some(mover) = matches.get_str("colour") else {
+        return Err(RunFault::Usage);
+    };
+    match pattern_of(kind_of(matches), glyphs, mover) {
+        Ok(shape) => Ok(Task::Find(shape)),
+        Err(fault) => Err(fault),
+    }
+}
+
+fn join_task(matches: &ArgMatches<'_>) -> Result<Task, RunFault>
+    ensures task { IfOk result (IsTaskOf (Some (codes "join", rows_of (found_of matches.now)))) }
+    ensures fault { IfErr result (λ found. found ≡ fault.Usage) }
+{
+    Ok(Task::Join(text_of(matches)?))
+}
+
+/// The task of the subcommand that was met, or `Board` where there was none.
+fn task_of(matches: &ArgMatches<'_>) -> Result<Task, RunFault>
+    ensures task { IfOk result (IsTaskOf (subcommand_rows_of matches.now)) }
+    ensures fault { IfErr result (IsWordsFault (subcommand_rows_of matches.now)) }
+{
+    match matches.subcommand() {
+        Some(("count", found)) => count_task(found),
+        Some(("find", found)) => find_task(found),
+        Some(("join", found)) => join_task(found),
+        _ => Ok(Task::Board),
+    }
 }
 
 /// What a refused line asks for: a text of help or version, or nothing that the program knows.
-fn refused(alloc: Global, error: &Error) -> Result<Task, RunFault> {
+fn refused(alloc: Global, error: &Error) -> Result<Task, RunFault>
+    ensures task { (asked : Option (List ℕ × List Row)) → IfOk result (IsTaskOf asked) }
+    ensures fault { (asked : Option (List ℕ × List Row)) → IfErr result (IsWordsFault asked) }
+{
     match error.kind() {
         ErrorKind::DisplayHelp | ErrorKind::DisplayVersion => match error.to_string(alloc) {
             Ok(text) => Ok(Task::Help(text)),
@@ -39,15 +139,21 @@ fn refused(alloc: Global, error: &Error) -> Result<Task, RunFault> {
     }
 }
 
-/// The task that the words after the program's name ask for; no word at all asks for `board`.
+/// The task that the words after the program's name ask for; no word at all asks for `board`. It takes memory.
 ///
-/// `Usage` comes where the words are none that the program knows, `Memory` where memory was refused.
-pub fn read_words(alloc: Global, words: &[String]) -> Result<Task, RunFault> {
+/// # Errors
+///
+/// `Usage` where the words are none that the program knows, a mover that is no colour among them; else `Glyph` where the
+/// glyphs of `find` are not those of a pattern; `Memory` where memory was refused.
+pub fn read_words(alloc: Global, words: &[String]) -> Result<Task, RunFault>
+    ensures task { IfOk result (IsTaskOf (asked_by (map string_bytes words.now))) }
+    ensures fault { IfErr result (IsWordsFault (asked_by (map string_bytes words.now))) }
+{
     let Ok(command) = program(alloc) else {
         return Err(RunFault::Memory);
     };
     match command.try_get_matches_from(words) {
-        Ok(_) => Ok(Task::Board),
+        Ok(matches) => task_of(&matches),
         Err(error) => refused(alloc, &error),
     }
 }

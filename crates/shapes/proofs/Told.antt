@@ -1,0 +1,10 @@
+-- What `clap` knows of a command after one subcommand more.
+use Rattle.std.proofs.Common.{◌≡◌, false, ap, ap₂, ◌∙◌}
+use Rattle.clap.specs.Words.{AddsSubcommand, App, app_of, with_subcommand}
+use Rattle.clap.specs.declared.Command.{Command}
+use Rattle.clap.specs.declared.Command.TheViews.{out-Command}
+
+pub one_command : (old sub new : Command) (app sub_app : App) → AddsSubcommand old sub new → app_of old ≡ app → app_of sub ≡ sub_app → (out-Command sub).has_globals ≡ false →
+    app_of new ≡ with_subcommand app sub_app.top
+one_command old sub new app sub_app adds told is local =
+    adds.shape local ∙ ap₂ with_subcommand told (ap (λ (a : App). a.top) is)

@@ -1,0 +1,126 @@
+-- What the words of the command line ask for.
+use Rattle.std.specs.Prelude.{◌≡◌, ◌≢◌, ℕ, ◌^◌, ◌<◌, List, length, Option, Some, None, codes}
+use Rattle.clap.specs.Words.{Row, first_of, one_of}
+use Rattle.go_board.specs.declared.points.Colour.{Colour}
+use Rattle.go_board.specs.declared.points.Colour.TheVariants as colour
+use Rattle.shape_core.specs.declared.words.Kind.{Kind}
+use Rattle.shape_core.specs.declared.words.Kind.TheVariants as kind_of_pattern
+use Rattle.shape_core.specs.declared.words.Kinds.{Kinds}
+use Rattle.shape_core.specs.declared.words.Kinds.TheVariants as kinds
+use Rattle.shape_core.specs.declared.spelling.GlyphFault.{GlyphFault}
+use Rattle.shape_core.specs.declared.spelling.GlyphFault.TheVariants as glyph_fault
+use Rattle.shape_core.specs.Glyph.{glyphs_of, IsFirstBad}
+use Rattle.shape_core.specs.Symmetry.{canonical_of}
+use Rattle.shape_core.specs.Word.{kind_of}
+use Rattle.harvest_core.specs.Limits.{Limits}
+use Rattle.shape_dict.specs.declared.entries.Text.{Text}
+use Rattle.shape_dict.specs.declared.entries.Text.TheVariants as text
+use Rattle.shapes.specs.declared.faults.RunFault.{RunFault}
+use Rattle.shapes.specs.declared.faults.RunFault.TheVariants as fault
+use Rattle.shapes.specs.Commands.{IsNumberOf}
+use Rattle.shapes.specs.declared.words.Task.{Task}
+use Rattle.shapes.specs.declared.words.Task.TheVariants as task
+
+-- how a mover is written
+abbrev pub colour_text : Colour → List ℕ
+colour_text colour.Black = codes "black"
+colour_text colour.White = codes "white"
+
+-- the pattern of these 25 glyphs, read as a square's or a diamond's, with this mover
+pub record IsPatternOf (kind : Kind) (glyphs mover : List ℕ) (shape : ℕ) : Type 0 where
+  pub word : ℕ
+  pub colour : Colour
+  pub small : word < 2 ^ 51
+  pub of_kind : kind_of word ≡ kind
+  pub spelled : glyphs_of word ≡ glyphs
+  pub moves : mover ≡ colour_text colour
+  pub canonical : shape ≡ canonical_of word colour
+
+-- there are not 25 glyphs, or this is the first that is none
+abbrev pub IsGlyphFault : List ℕ → GlyphFault → Type 0
+IsGlyphFault glyphs glyph_fault.BadLength = length glyphs ≢ 25
+IsGlyphFault glyphs (glyph_fault.BadGlyph at) = (length glyphs ≡ 25) × IsFirstBad glyphs at
+
+-- the mover is judged before the glyphs
+abbrev pub IsPatternFault : List ℕ → List ℕ → RunFault → Type 0
+IsPatternFault glyphs mover fault.Usage = (colour : Colour) → mover ≢ colour_text colour
+IsPatternFault glyphs mover (fault.Glyph found) = ((colour : Colour) × (mover ≡ colour_text colour)) × IsGlyphFault glyphs found
+IsPatternFault glyphs mover (fault.Sgf found) = ⊥
+IsPatternFault glyphs mover (fault.Record found) = ⊥
+IsPatternFault glyphs mover (fault.Board found) = ⊥
+IsPatternFault glyphs mover (fault.Harvest found) = ⊥
+IsPatternFault glyphs mover (fault.Dict n found) = ⊥
+IsPatternFault glyphs mover fault.Read = ⊥
+IsPatternFault glyphs mover (fault.Write written) = ⊥
+IsPatternFault glyphs mover fault.Memory = ⊥
+
+-- the kinds that are counted for a text
+abbrev pub kinds_for : Text → Kinds
+kinds_for text.One = kinds.Squares
+kinds_for text.Two = kinds.Both
+kinds_for text.Three = kinds.Both
+
+abbrev pub number_of : Text → ℕ
+number_of text.One = 1
+number_of text.Two = 2
+number_of text.Three = 3
+
+-- whether the flag was given says which kind the glyphs are of
+pub record IsKindOf (rows : List Row) (kind : Kind) : Type 0 where
+  pub given : one_of (codes "diamond") rows ≡ Some (codes "true") → kind ≡ kind_of_pattern.Diamond
+  pub denied : one_of (codes "diamond") rows ≡ Some (codes "false") → kind ≡ kind_of_pattern.Square
+  pub absent : one_of (codes "diamond") rows ≡ None → kind ≡ kind_of_pattern.Square
+
+-- a count by these settings
+pub record IsCount (rows : List Row) (settings : Limits) (kind : Text) : Type 0 where
+  pub workers : IsNumberOf (codes "workers") rows settings.workers
+  pub bits : IsNumberOf (codes "bits") rows settings.k
+  pub text : IsNumberOf (codes "text") rows (number_of kind)
+  pub kinds : settings.kinds ≡ kinds_for kind
+
+-- a search for this pattern
+pub record IsSearch (rows : List Row) (shape : ℕ) : Type 0 where
+  pub kind : Kind
+  pub glyphs : List ℕ
+  pub mover : List ℕ
+  pub is_kind : IsKindOf rows kind
+  pub has_glyphs : first_of (codes "glyphs") rows ≡ Some glyphs
+  pub has_mover : first_of (codes "colour") rows ≡ Some mover
+  pub pattern : IsPatternOf kind glyphs mover shape
+
+-- the subcommand is this one, with values of which this holds
+abbrev pub Asks : Option (List ℕ × List Row) → List ℕ → (List Row → Type 0) → Type 0
+Asks asked name Holds = (rows : List Row) × (asked ≡ Some (name, rows)) × Holds rows
+
+-- the subcommand is another one
+abbrev pub AsksNot : Option (List ℕ × List Row) → List ℕ → Type 0
+AsksNot asked name = (rows : List Row) → asked ≢ Some (name, rows)
+
+-- the task that a subcommand with its values asks for; any other subcommand, or none, asks for `board`
+abbrev pub IsTaskOf : Option (List ℕ × List Row) → Task → Type 0
+IsTaskOf asked task.Board = AsksNot asked (codes "count") × AsksNot asked (codes "find") × AsksNot asked (codes "join")
+IsTaskOf asked (task.Count settings kind) = Asks asked (codes "count") (λ rows. IsCount rows settings kind)
+IsTaskOf asked (task.Find shape) = Asks asked (codes "find") (λ rows. IsSearch rows shape)
+IsTaskOf asked (task.Join kind) = Asks asked (codes "join") (λ rows. IsNumberOf (codes "text") rows (number_of kind))
+IsTaskOf asked (task.Help help) = Unit {0}
+
+-- the glyphs of a search spell no pattern
+pub record IsBadSearch (rows : List Row) (found : GlyphFault) : Type 0 where
+  pub glyphs : List ℕ
+  pub mover : List ℕ
+  pub has_glyphs : first_of (codes "glyphs") rows ≡ Some glyphs
+  pub has_mover : first_of (codes "colour") rows ≡ Some mover
+  pub wrong : IsPatternFault glyphs mover (fault.Glyph found)
+
+-- what can be wrong with the words: none that the program knows, no pattern's glyphs, or want of memory
+abbrev pub IsWordsFault : Option (List ℕ × List Row) → RunFault → Type 0
+IsWordsFault asked fault.Usage = Unit {0}
+IsWordsFault asked fault.Memory = Unit {0}
+IsWordsFault asked (fault.Glyph found) = Asks asked (codes "find") (λ rows. IsBadSearch rows found)
+IsWordsFault asked (fault.Sgf found) = ⊥
+IsWordsFault asked (fault.Record found) = ⊥
+IsWordsFault asked (fault.Board found) = ⊥
+IsWordsFault asked (fault.Harvest found) = ⊥
+IsWordsFault asked (fault.Dict n found) = ⊥
+IsWordsFault asked fault.Read = ⊥
+IsWordsFault asked (fault.Write written) = ⊥
