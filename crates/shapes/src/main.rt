@@ -3,6 +3,7 @@
 
 mod boards;
 mod commands;
+mod counts;
 mod faults;
 mod finds;
 mod input;
@@ -14,6 +15,7 @@ mod text;
 mod words;
 
 use boards::{Outcome, run_board};
+use counts::run_count;
 use faults::{RunFault, status_of};
 use finds::run_find;
 use joins::run_join;
@@ -42,7 +44,21 @@ fn run(rt: &HostRuntime) -> Result<Outcome, RunFault> {
     let words = own_words(rt)?;
     match read_words(rt.alloc(), &words)? {
         Task::Board => run_board(rt.alloc(), &mut rt.stdin(), &mut rt.stdout()),
-        Task::Count(_, _) => Err(RunFault::Usage),
+        Task::Count(settings, kind) => {
+            let report = run_count(
+                rt.alloc(),
+                settings,
+                kind,
+                &mut rt.stdin(),
+                &mut rt.stdout(),
+            )?;
+            // Where standard error takes nothing, the text is out all the same.
+            let _ = eprintln!(rt;
+                "shapes: games {} other {} refused {}",
+                report.games, report.others, report.refused
+            );
+            Ok(Outcome::Done)
+        }
         Task::Find(shape) => run_find(rt.alloc(), shape, &mut rt.stdin(), &mut rt.stdout()),
         Task::Join(kind) => run_join(rt.alloc(), kind, &mut rt.stdin(), &mut rt.stdout()),
         Task::Help(text) => {
