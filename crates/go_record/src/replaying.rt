@@ -8,27 +8,29 @@ ghost use Rattle.go_record.specs.Actions.{IsActionOn};
 ghost use Rattle.go_record.specs.Replay.{filled, Does, Replays};
 
 use crate::actions::Action;
-use go_board::{Board, Point, Stone};
+use go_board::{Point, Replayable, Stone};
 
 /// Sets each point of one row from a column to another.
-fn fill_row(board: &mut Board, row: u8, first: u8, last: u8, stone: Stone)
-    requires on_board { IsOn board.old.size (record { column = last; row = row }) }
+fn fill_row<B: Replayable>(board: &mut B, row: u8, first: u8, last: u8, stone: Stone)
+    requires on_board { IsOn (B.board_of board.old).size (record { column = last; row = row }) }
     requires corners { first ≤ last }
-    ensures size { board.new.size ≡ board.old.size }
-    ensures position { (q : Point) → IsOn board.old.size q → position_of board.new q
-        ≡ filled (position_of board.old) (record { column = first; row = row }) (record { column = last; row = row }) stone q }
+    ensures size { (B.board_of board.new).size ≡ (B.board_of board.old).size }
+    ensures stays { B.Stays board.old board.new }
+    ensures position { (q : Point) → IsOn (B.board_of board.old).size q → position_of (B.board_of board.new) q
+        ≡ filled (position_of (B.board_of board.old)) (record { column = first; row = row }) (record { column = last; row = row }) stone q }
 {
     for column in first..=last {
-        board.set(Point { column, row }, stone);
+        board.put(Point { column, row }, stone);
     }
 }
 
 /// Sets each point of a rectangle.
-fn fill(board: &mut Board, low: Point, high: Point, stone: Stone)
-    requires on_board { IsOn board.old.size high }
+fn fill<B: Replayable>(board: &mut B, low: Point, high: Point, stone: Stone)
+    requires on_board { IsOn (B.board_of board.old).size high }
     requires corners { (low.column ≤ high.column) × (low.row ≤ high.row) }
-    ensures size { board.new.size ≡ board.old.size }
-    ensures position { (q : Point) → IsOn board.old.size q → position_of board.new q ≡ filled (position_of board.old) low high stone q }
+    ensures size { (B.board_of board.new).size ≡ (B.board_of board.old).size }
+    ensures stays { B.Stays board.old board.new }
+    ensures position { (q : Point) → IsOn (B.board_of board.old).size q → position_of (B.board_of board.new) q ≡ filled (position_of (B.board_of board.old)) low high stone q }
 {
     for row in low.row..=high.row {
         fill_row(board, row, low.column, high.column, stone);
@@ -37,25 +39,27 @@ fn fill(board: &mut Board, low: Point, high: Point, stone: Stone)
 
 /// Does one action: a rectangle is set and nothing captured, a move is played by the rule of capture, a pass changes
 /// nothing. The action's points are on the board. It takes no memory.
-pub fn apply(board: &mut Board, action: Action)
-    requires { IsActionOn board.old.size action }
-    ensures size { board.new.size ≡ board.old.size }
-    ensures does { Does board.old.size action (position_of board.old) (position_of board.new) }
+pub fn apply<B: Replayable>(board: &mut B, action: Action)
+    requires { IsActionOn (B.board_of board.old).size action }
+    ensures size { (B.board_of board.new).size ≡ (B.board_of board.old).size }
+    ensures stays { B.Stays board.old board.new }
+    ensures does { Does (B.board_of board.old).size action (position_of (B.board_of board.old)) (position_of (B.board_of board.new)) }
 {
     match action {
         Action::Set { low, high, stone } => fill(board, low, high, stone),
         Action::Move { colour, at } => {
-            let _ = board.play(colour, at);
+            let _ = board.play_move(colour, at);
         }
         Action::Pass { .. } => {}
     }
 }
 
 /// Does the actions in order. Their points are on the board. It takes no memory.
-pub fn replay(board: &mut Board, actions: &[Action])
-    requires { All (IsActionOn board.old.size) actions.now }
-    ensures size { board.new.size ≡ board.old.size }
-    ensures replays { Replays board.old.size actions.now (position_of board.old) (position_of board.new) }
+pub fn replay<B: Replayable>(board: &mut B, actions: &[Action])
+    requires { All (IsActionOn (B.board_of board.old).size) actions.now }
+    ensures size { (B.board_of board.new).size ≡ (B.board_of board.old).size }
+    ensures stays { B.Stays board.old board.new }
+    ensures replays { Replays (B.board_of board.old).size actions.now (position_of (B.board_of board.old)) (position_of (B.board_of board.new)) }
 {
     for action in actions {
         apply(board, *action);

@@ -7,30 +7,28 @@ ghost use Rattle.harvest_core.specs.Counter.{CountsFront, CountsGame, GrowsBy, I
 use crate::counters::Count;
 use crate::faults::HarvestFault;
 use crate::occasions::count_action;
-use go_board::Board;
 use go_record::{Action, Record, apply};
-use shape_core::{Kinds, Shape};
+use shape_core::{Field, Kinds, Shape};
 use std::alloc::Global;
 use std::collections::BTreeMap;
 
 /// Counts the occasions of these actions and does them; the answer is how many occasions there are.
 fn count_actions(
     counts: &mut BTreeMap<Shape, Count>,
-    kinds: Kinds,
-    board: &mut Board,
+    field: &mut Field,
     actions: &[Action],
     game: u64,
 ) -> Result<u64, HarvestFault>
-    requires { All (IsActionOn board.old.size) actions.now }
-    ensures counts { IfOk result (CountsFront kinds board.old.size actions.now [] (position_of board.old) (position_of board.new) game counts.old counts.new) }
+    requires { All (IsActionOn field.old.board.size) actions.now }
+    ensures counts { IfOk result (CountsFront field.old.kinds field.old.board.size actions.now [] (position_of field.old.board) (position_of field.new.board) game counts.old counts.new) }
     ensures few { IfOk result (λ moves. moves ≤ length actions.now) }
     ensures grows { OnOk result (GrowsBy (5410 * length actions.now) counts.old counts.new) }
     ensures fault { IfErr result (IsCountingFault (5410 * length actions.now) counts.old) }
 {
     let mut moves = 0;
     for action in actions {
-        moves += count_action(counts, kinds, board, *action, game)?;
-        apply(board, *action);
+        moves += count_action(counts, field, *action, game)?;
+        apply(field, *action);
     }
     Ok(moves)
 }
@@ -48,8 +46,8 @@ pub(crate) fn count_game(
     ensures grows { OnOk result (GrowsBy (5410 * length replayed.now.actions) counts.old counts.new) }
     ensures fault { IfErr result (IsCountingFault (5410 * length replayed.now.actions) counts.old) }
 {
-    let Ok(mut board) = Board::new(alloc, replayed.size()) else {
+    let Ok(mut field) = Field::with_kinds(alloc, replayed.size(), kinds) else {
         return Err(HarvestFault::Memory);
     };
-    count_actions(counts, kinds, &mut board, replayed.actions(), game)
+    count_actions(counts, &mut field, replayed.actions(), game)
 }

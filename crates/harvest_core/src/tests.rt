@@ -118,7 +118,8 @@ fn first_games_and_diamonds(rt: HostRuntime) -> Result<(), Fail> {
     )?;
     let mut text = Vec::new(alloc);
     counted.dictionary.write(Text::Three, &mut text)?;
-    let wanted = "shapes 3 games 2 moves 3 squares 3 diamonds 3\n3fff3fcffffff 2 1 1\n3fffbfcffffff 1 1 1\n3fffffcffffff 1 1 0\n7ffcffcffffff 2 1 1\n7ffeffcffffff 1 1 1\n7fffffcffffff 1 1 0\n";
+    let wanted =
+        "shapes 3 games 2 moves 3 squares 3 diamonds 3\n3fff3fcffffff 2 1 1\n3fffbfcffffff 1 1 1\n3fffffcffffff 1 1 0\n7ffcffcffffff 2 1 1\n7ffeffcffffff 1 1 1\n7fffffcffffff 1 1 0\n";
     assert_eq!(rt; text.as_slice(), wanted.as_bytes());
     Ok(())
 }

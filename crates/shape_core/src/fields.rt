@@ -3,7 +3,7 @@ use crate::keeping::index;
 use crate::kept::KeptWords;
 use crate::marks::{is_marked, take_first};
 use crate::words::{Kinds, Word};
-use go_board::{Board, BoardFault, Colour, Played, Point, Size, Stone};
+use go_board::{Board, BoardFault, Colour, Played, Point, Replayable, Size, Stone};
 use std::alloc::Global;
 use std::marker::Model;
 
@@ -208,5 +208,26 @@ impl Field {
         self.kept.change(point, colour.stone());
         self.kept.empty(self.board.removed());
         played
+    }
+}
+
+impl Replayable for Field {
+    ghost use Rattle.std.specs.Prelude.{◌≡◌};
+    ghost use Rattle.std.proofs.Common.{refl, ◌∙◌};
+
+    ghost board_of = { λ field. field.board };
+
+    ghost Stays = { λ before after. after.kinds ≡ before.kinds };
+
+    ghost stays = { λ field. refl };
+
+    ghost stays_on = { λ before between after h k. k ∙ h };
+
+    fn put(&mut self, point: Point, stone: Stone) {
+        self.set(point, stone);
+    }
+
+    fn play_move(&mut self, colour: Colour, point: Point) -> Played {
+        self.play(colour, point)
     }
 }

@@ -6,8 +6,9 @@ use Rattle.go_record.proofs.replaying.replay.Given as goal
 
 -- whatever the actions that are left lead to, all of them lead to
 abbrev pub invariant-loop-action : goal.invariant-loop-action
-invariant-loop-action l = record {
-  size : l.board.size ≡ l.fn.board.size;
-  left : (final : Position) → Replays l.fn.board.size (drop l.action-index l.actions) (position_of l.board) final
-      → Replays l.fn.board.size l.actions (position_of l.fn.board) final;
+invariant-loop-action g l = record {
+  size : (g.B.Replayable.board_of l.board).size ≡ (g.B.Replayable.board_of l.fn.board).size;
+  stays : g.B.Replayable.Stays l.fn.board l.board;
+  left : (final : Position) → Replays (g.B.Replayable.board_of l.fn.board).size (drop l.action-index l.actions) (position_of (g.B.Replayable.board_of l.board)) final
+      → Replays (g.B.Replayable.board_of l.fn.board).size l.actions (position_of (g.B.Replayable.board_of l.fn.board)) final;
 }

@@ -13,25 +13,25 @@ use Rattle.harvest_core.proofs.occasions.see_all.Goals as goal
 pub loop-row-preserved : goal.loop-row-preserved
 loop-row-preserved c = record {
   left = λ after h.
-      let f = patterns_at (kinds_of c.args.kinds) c.args.board.now.size (position_of c.args.board.now) c.args.mover in
-      let p = λ (point : Point). is_empty (position_of c.args.board.now point) in
-      let patterns = λ (rows : List ℕ). flat_map f (filter p (flat_map (row_of c.args.board.now.size) rows)) in
+      let f = patterns_at (kinds_of c.args.field.now.kinds) c.args.field.now.board.size (position_of c.args.field.now.board) c.args.mover in
+      let p = λ (point : Point). is_empty (position_of c.args.field.now.board point) in
+      let patterns = λ (rows : List ℕ). flat_map f (filter p (flat_map (row_of c.args.field.now.board.size) rows)) in
       let e = c.rows-row-end.result in
       let k = c.loop-row.row in
       c.loop-row.invariant.left after
-      (sees-more c.args.game (patterns (count_from k (e - k))) (flat_map f (filter p (row_of c.args.board.now.size k))) (patterns (count_from (k + 1) (e - (k + 1))))
+      (sees-more c.args.game (patterns (count_from k (e - k))) (flat_map f (filter p (row_of c.args.field.now.board.size k))) (patterns (count_from (k + 1) (e - (k + 1))))
       c.loop-row.counts c.see_row.new.counts after
       (ap patterns (count_from-first e k (omega arith))
-      ∙ kept-append f p (row_of c.args.board.now.size k) (flat_map (row_of c.args.board.now.size) (count_from (k + 1) (e - (k + 1)))))
+      ∙ kept-append f p (row_of c.args.field.now.board.size k) (flat_map (row_of c.args.field.now.board.size) (count_from (k + 1) (e - (k + 1)))))
       c.in_ok-see_row.ensures.ok h);
   grows = grows_then (104 * c.loop-row.row) 104 (104 * (c.loop-row.row + 1)) c.args.counts.now c.loop-row.counts c.see_row.new.counts (omega arith) c.loop-row.invariant.grows c.in_ok-see_row.ensures.grows;
 }
 
 pub returns-clause-ok : goal.returns-clause-ok
 returns-clause-ok c =
-    let f = patterns_at (kinds_of c.args.kinds) c.args.board.now.size (position_of c.args.board.now) c.args.mover in
-    let p = λ (point : Point). is_empty (position_of c.args.board.now point) in
-    let patterns = λ (rows : List ℕ). flat_map f (filter p (flat_map (row_of c.args.board.now.size) rows)) in
+    let f = patterns_at (kinds_of c.args.field.now.kinds) c.args.field.now.board.size (position_of c.args.field.now.board) c.args.mover in
+    let p = λ (point : Point). is_empty (position_of c.args.field.now.board point) in
+    let patterns = λ (rows : List ℕ). flat_map f (filter p (flat_map (row_of c.args.field.now.board.size) rows)) in
     let e = c.rows-row-end.result in
     let k = c.loop-row.row in
     let all = c.loop-row.invariant.left c.loop-row.counts

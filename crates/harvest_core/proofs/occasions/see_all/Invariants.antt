@@ -12,8 +12,8 @@ use Rattle.harvest_core.proofs.occasions.see_all.Given as goal
 -- whatever the rows that are left count from here, the whole board counts from the start
 abbrev pub invariant-loop-row : goal.invariant-loop-row
 invariant-loop-row l = record {
-  left : let patterns = λ (rows : List ℕ). flat_map (patterns_at (kinds_of l.kinds) l.board.size (position_of l.board) l.mover)
-      (filter (λ point. is_empty (position_of l.board point)) (flat_map (row_of l.board.size) rows)) in
+  left : let patterns = λ (rows : List ℕ). flat_map (patterns_at (kinds_of l.field.kinds) l.field.board.size (position_of l.field.board) l.mover)
+      (filter (λ point. is_empty (position_of l.field.board point)) (flat_map (row_of l.field.board.size) rows)) in
       (after : BTreeMap ℕ Count) → Sees l.game (patterns (count_from l.row (l.row-end - l.row))) l.counts after
       → Sees l.game (patterns (count_from 0 l.row-end)) l.fn.counts after;
   grows : GrowsBy (104 * l.row) l.fn.counts l.counts;

@@ -13,8 +13,8 @@ use Rattle.harvest_core.proofs.occasions.see_row.Goals as goal
 pub loop-column-preserved : goal.loop-column-preserved
 loop-column-preserved c = record {
   left = λ after h.
-      let f = patterns_at (kinds_of c.args.kinds) c.args.board.now.size (position_of c.args.board.now) c.args.mover in
-      let p = λ (point : Point). is_empty (position_of c.args.board.now point) in
+      let f = patterns_at (kinds_of c.args.field.now.kinds) c.args.field.now.board.size (position_of c.args.field.now.board) c.args.mover in
+      let p = λ (point : Point). is_empty (position_of c.args.field.now.board point) in
       let patterns = λ (columns : List ℕ). flat_map f (filter p (map (λ column. record { column = column; row = c.args.row }) columns)) in
       let e = c.columns-column-end.result in
       let k = c.loop-column.column in
@@ -29,8 +29,8 @@ loop-column-preserved c = record {
 
 pub returns-clause-ok : goal.returns-clause-ok
 returns-clause-ok c =
-    let f = patterns_at (kinds_of c.args.kinds) c.args.board.now.size (position_of c.args.board.now) c.args.mover in
-    let p = λ (point : Point). is_empty (position_of c.args.board.now point) in
+    let f = patterns_at (kinds_of c.args.field.now.kinds) c.args.field.now.board.size (position_of c.args.field.now.board) c.args.mover in
+    let p = λ (point : Point). is_empty (position_of c.args.field.now.board point) in
     let patterns = λ (columns : List ℕ). flat_map f (filter p (map (λ column. record { column = column; row = c.args.row }) columns)) in
     let e = c.columns-column-end.result in
     let k = c.loop-column.column in

@@ -12,8 +12,8 @@ use Rattle.harvest_core.proofs.occasions.see_row.Given as goal
 -- whatever the columns that are left count from here, the whole row counts from the start
 abbrev pub invariant-loop-column : goal.invariant-loop-column
 invariant-loop-column l = record {
-  left : let patterns = λ (columns : List ℕ). flat_map (patterns_at (kinds_of l.kinds) l.board.size (position_of l.board) l.mover)
-      (filter (λ point. is_empty (position_of l.board point)) (map (λ column. record { column = column; row = l.row }) columns)) in
+  left : let patterns = λ (columns : List ℕ). flat_map (patterns_at (kinds_of l.field.kinds) l.field.board.size (position_of l.field.board) l.mover)
+      (filter (λ point. is_empty (position_of l.field.board point)) (map (λ column. record { column = column; row = l.row }) columns)) in
       (after : BTreeMap ℕ Count) → Sees l.game (patterns (count_from l.column (l.column-end - l.column))) l.counts after
       → Sees l.game (patterns (count_from 0 l.column-end)) l.fn.counts after;
   grows : GrowsBy (2 * l.column) l.fn.counts l.counts;
