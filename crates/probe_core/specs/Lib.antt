@@ -7,3 +7,9 @@ pub mod Sequential
 pub mod History
 pub mod World
 pub mod Placing
+pub mod Showing
+pub mod Way
+pub mod Solo
+pub mod Hall
+pub mod Placed
+pub mod Lawful

@@ -1,5 +1,5 @@
 -- Where keys stand among the words of a table: never behind a free place of their order.
-use Rattle.std.specs.Prelude.{◌≡◌, ◌≢◌, ℕ, ◌<◌, List, slice_index_or}
+use Rattle.std.specs.Prelude.{◌≡◌, ◌≢◌, ℕ, ◌<◌, List, length, slice_index_or}
 use Rattle.probe_core.specs.Machine.{code_of}
 
 -- the word of another key
@@ -23,3 +23,12 @@ IsNowhere n words key = (p : ℕ) → p < n → slice_index_or words p 0 ≢ cod
 -- none of n places is free
 abbrev pub AreAllTaken : ℕ → List ℕ → Type 0
 AreAllTaken n words = (p : ℕ) → p < n → slice_index_or words p 0 ≢ 0
+
+-- n words, of which no key stands behind a free place of its order
+pub record IsOrderly (n : ℕ) (place : ℕ → ℕ → ℕ) (words : List ℕ) : Type 0 where
+  pub whole : length words ≡ n
+  pub placed : IsPlaced n place words
+
+-- words that only grew: a word that is not free has stayed as it was
+abbrev pub HaveGrown : List ℕ → List ℕ → Type 0
+HaveGrown words later = (p : ℕ) → slice_index_or words p 0 ≢ 0 → slice_index_or later p 0 ≡ slice_index_or words p 0

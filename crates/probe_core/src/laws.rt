@@ -1,12 +1,15 @@
 //! Laws of the definitions, for proofs in the crates above. Each is a function that does nothing, and its contract is
 //! the law. They speak of words as plain lists.
-ghost use Rattle.std.specs.Prelude.{◌≡◌, ◌^◌, ◌<◌, length, slice_index_or, slice_set};
+ghost use Rattle.std.specs.Prelude.{◌≡◌, ℕ, ◌^◌, ◌<◌, None, List, [], ◌∷◌, ◌++◌, length, replicate, slice_index_or, slice_set};
+ghost use Rattle.probe_core.specs.declared.calls.Call.{Call as Asked};
 ghost use Rattle.probe_core.specs.Order.{IsOrder};
-ghost use Rattle.probe_core.specs.Machine.{code_of};
-ghost use Rattle.probe_core.specs.Sequential.{IsNumber};
-ghost use Rattle.probe_core.specs.History.{content, content_from, IsRunFrom};
-ghost use Rattle.probe_core.specs.World.{history_of};
-ghost use Rattle.probe_core.specs.Placing.{HoldOthers, IsPlaced, IsNowhere, AreAllTaken};
+ghost use Rattle.probe_core.specs.Machine.{Machine, code_of, begun, follows, place_in};
+ghost use Rattle.probe_core.specs.Sequential.{Table, Step, IsNumber};
+ghost use Rattle.probe_core.specs.History.{Answered, content, content_from, IsRunFrom, IsLegal, AreWordsOf};
+ghost use Rattle.probe_core.specs.World.{words_after, history_of};
+ghost use Rattle.probe_core.specs.Placing.{HoldOthers, IsPlaced, IsNowhere, AreAllTaken, IsOrderly, HaveGrown};
+ghost use Rattle.probe_core.specs.Showing.{key_in, table_of, words_showing};
+ghost use Rattle.probe_core.specs.Way.{IsOnWay, Tells};
 
 use crate::events::Finished;
 use crate::keys::Key;
@@ -55,4 +58,90 @@ pub fn numbers_stay(
     requires run { IsRunFrom (content _slots (history_of _earlier.now)) (history_of _later.now) }
     requires number { IsNumber (content _slots (history_of _earlier.now)) _key _number }
     ensures { IsNumber (content_from (content _slots (history_of _earlier.now)) (history_of _later.now)) _key _number }
+{}
+
+/// Free words are orderly, and show the content of the history of no calls. It takes no memory.
+pub fn free_words_show_no_calls<O: ProbeOrder>(_order: &O)
+    ensures orderly { IsOrderly (2 ^ O.exponent _order.now) (O.place_of _order.now) (replicate (2 ^ O.exponent _order.now) 0) }
+    ensures content { content (2 ^ O.exponent _order.now) [] ≡ table_of (replicate (2 ^ O.exponent _order.now) 0) }
+{}
+
+/// A call that begins is on its way, whatever the words are. It takes no memory.
+pub fn calls_begin_on_their_way<O: ProbeOrder>(_order: &O)
+    ensures { (words : List ℕ) (asked : Asked) → IsOnWay (2 ^ O.exponent _order.now) (O.place_of _order.now) words (begun asked) }
+{}
+
+/// What a load or an exchange tells a call on its way over orderly words: the call goes on its way and the words stay,
+/// or its answer is a step of the sequential table from what the words showed to what they show then. The words are
+/// orderly again, and every other call on its way stays so. It takes no memory.
+pub fn steps_tell_of_the_key<O: ProbeOrder>(_order: &O)
+    ensures tells { (words : List ℕ) (machine : Machine) →
+        IsOrderly (2 ^ O.exponent _order.now) (O.place_of _order.now) words →
+        IsOnWay (2 ^ O.exponent _order.now) (O.place_of _order.now) words machine →
+        Tells (2 ^ O.exponent _order.now) (O.place_of _order.now) words machine
+        (follows (2 ^ O.exponent _order.now) machine (place_in (O.place_of _order.now) machine)
+        (slice_index_or words (place_in (O.place_of _order.now) machine) 0)) }
+    ensures orderly { (words : List ℕ) (machine : Machine) →
+        IsOrderly (2 ^ O.exponent _order.now) (O.place_of _order.now) words →
+        IsOnWay (2 ^ O.exponent _order.now) (O.place_of _order.now) words machine →
+        IsOrderly (2 ^ O.exponent _order.now) (O.place_of _order.now)
+        (words_after words machine (place_in (O.place_of _order.now) machine)) }
+    ensures others { (words : List ℕ) (machine other : Machine) →
+        IsOnWay (2 ^ O.exponent _order.now) (O.place_of _order.now) words other →
+        IsOnWay (2 ^ O.exponent _order.now) (O.place_of _order.now)
+        (words_after words machine (place_in (O.place_of _order.now) machine)) other }
+{}
+
+/// A call on its way stays so where words only grew. It takes no memory.
+pub fn growth_keeps_calls_on_their_way<O: ProbeOrder>(_order: &O)
+    ensures { (words later : List ℕ) (machine : Machine) →
+        HaveGrown words later →
+        IsOnWay (2 ^ O.exponent _order.now) (O.place_of _order.now) words machine →
+        IsOnWay (2 ^ O.exponent _order.now) (O.place_of _order.now) later machine }
+{}
+
+/// A legal history goes on by a step of the sequential table from its content, which is then what the step made of it.
+/// It takes no memory.
+pub fn legal_histories_go_on()
+    ensures legal { (slots : ℕ) (history : List Answered) (entry : Answered) (new : Table) →
+        IsLegal slots history →
+        Step (content slots history) entry.call entry.answer new →
+        IsLegal slots (history ++ entry ∷ []) }
+    ensures content { (slots : ℕ) (history : List Answered) (entry : Answered) (new : Table) →
+        Step (content slots history) entry.call entry.answer new →
+        content slots (history ++ entry ∷ []) ≡ new }
+{}
+
+/// The front of a legal history is legal, and what follows it is a run from the front's content. Numbers that keys have
+/// after the front they have after the whole, and words that show both have only grown. It takes no memory.
+pub fn longer_histories_keep_numbers()
+    ensures front { (slots : ℕ) (front rest : List Answered) → IsLegal slots (front ++ rest) → IsLegal slots front }
+    ensures rest { (slots : ℕ) (front rest : List Answered) → IsLegal slots (front ++ rest) → IsRunFrom (content slots front) rest }
+    ensures numbers { (slots : ℕ) (front rest : List Answered) (key number : ℕ) →
+        IsLegal slots (front ++ rest) →
+        IsNumber (content slots front) key number →
+        IsNumber (content slots (front ++ rest)) key number }
+    ensures words { (slots : ℕ) (front rest : List Answered) (words later : List ℕ) →
+        IsLegal slots (front ++ rest) →
+        content slots front ≡ table_of words →
+        content slots (front ++ rest) ≡ table_of later →
+        HaveGrown words later }
+{}
+
+/// No key has two numbers after a legal history. It takes no memory.
+pub fn keys_have_one_number()
+    ensures { (slots : ℕ) (history : List Answered) (key p q : ℕ) →
+        IsLegal slots history →
+        IsNumber (content slots history) key p →
+        IsNumber (content slots history) key q →
+        p ≡ q }
+{}
+
+/// Words are those of what they show: a number has the key x exactly where its word is x + 1. Words that are made of a
+/// table show it, and words that are made of what words show are those again. It takes no memory.
+pub fn words_are_of_what_they_show()
+    ensures words { (words : List ℕ) (table : Table) → table ≡ table_of words → AreWordsOf words table }
+    ensures at { (words : List ℕ) (p : ℕ) → slice_index_or (table_of words) p None ≡ key_in (slice_index_or words p 0) }
+    ensures again { (words : List ℕ) → words_showing (table_of words) ≡ words }
+    ensures made { (table : Table) → table_of (words_showing table) ≡ table }
 {}

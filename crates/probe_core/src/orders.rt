@@ -65,7 +65,8 @@ impl ProbeOrder for Linear {
     ghost place_of = { λ order. linear_place order.capacity };
 
     fn capacity(&self) -> Capacity {
-        self.capacity
+        let Linear { capacity } = *self;
+        capacity
     }
 
     fn place(&self, key: Key, i: usize) -> usize {
@@ -100,7 +101,8 @@ impl ProbeOrder for OddStep {
     ghost place_of = { λ order. odd_place order.capacity };
 
     fn capacity(&self) -> Capacity {
-        self.capacity
+        let OddStep { capacity } = *self;
+        capacity
     }
 
     fn place(&self, key: Key, i: usize) -> usize {

@@ -1,6 +1,6 @@
 //! Probes: a call on its way through the places of its key, one step at a time.
 ghost use Rattle.std.specs.Prelude.{◌≡◌, ℕ, ◌+◌, ◌*◌, ◌^◌, ◌<◌, ◌≤◌, false, true};
-ghost use Rattle.probe_core.specs.Machine.{Machine, begun, next_step, follows, followed_by, left_of, steps_of, place_in, key_of, code_of, GoesOn};
+ghost use Rattle.probe_core.specs.Machine.{Machine, begun, next_step, follows, followed_by, left_of, steps_of, place_in, key_of, code_of, place_wanted, GoesOn};
 ghost use Rattle.probe_core.specs.Turn.{turn_of, HasFewer};
 
 use crate::calls::{Answer, Call, Want};
@@ -66,9 +66,11 @@ impl<O: ProbeOrder> Probe<O> {
         }
     }
 
-    /// The next step: a load, or a compare-exchange from 0 to the key and 1 more. It takes no memory.
+    /// The next step: a load, or a compare-exchange from 0 to the key and 1 more. Its place is below the number of
+    /// slots. It takes no memory.
     pub fn wants(&self) -> Want
-        ensures { result ≡ next_step self.now.machine (place_in (O.place_of self.now.order) self.now.machine) }
+        ensures step { result ≡ next_step self.now.machine (place_in (O.place_of self.now.order) self.now.machine) }
+        ensures within { place_wanted result < 2 ^ O.exponent self.now.order }
     {
         let place = self.place();
         if self.swaps {
@@ -79,6 +81,13 @@ impl<O: ProbeOrder> Probe<O> {
         } else {
             Want::Load(place)
         }
+    }
+
+    /// The call. It takes no memory.
+    pub(crate) fn call(&self) -> Call
+        ensures { result ≡ self.now.machine.call }
+    {
+        self.call
     }
 
     /// What follows the next step, where the word of its place held this value before it. It takes no memory.

@@ -1,0 +1,61 @@
+//! Steps on words: a load, or a compare-exchange, and what a probe is told by it.
+ghost use Rattle.std.specs.Prelude.{◌≡◌, ◌<◌, ◌≤◌, ◌^◌, length, slice_index};
+ghost use Rattle.probe_core.specs.Machine.{place_wanted, words_wanted, follows, place_in, left_of};
+ghost use Rattle.probe_core.specs.Turn.{turn_of, HasFewer};
+ghost use Rattle.probe_core.specs.World.{words_after};
+
+use crate::calls::Want;
+use crate::orders::ProbeOrder;
+use crate::probes::{Probe, Turn};
+
+/// Takes a step on the words, and tells what the word of its place held before it.
+fn take_step(words: &mut [u64], want: Want) -> u64
+    requires { place_wanted want < length words.old }
+    ensures held { result ≡ slice_index words.old (place_wanted want) }
+    ensures words { words.new ≡ words_wanted words.old want }
+{
+    match want {
+        Want::Load(place) => words[place],
+        Want::Swap { place, value } => {
+            let held = words[place];
+            if held == 0 {
+                words[place] = value;
+            }
+            held
+        }
+    }
+}
+
+/// Takes the next step of a probe on the words, and tells it what its word held. There is a word for each
+/// slot.
+pub(crate) fn advance<O: ProbeOrder>(words: &mut [u64], probe: Probe<O>) -> Turn<O>
+    requires { 2 ^ O.exponent probe.order ≤ length words.old }
+    ensures words { words.new ≡ words_after words.old probe.machine (place_in (O.place_of probe.order) probe.machine) }
+    ensures turn { let place = place_in (O.place_of probe.order) probe.machine
+        in result ≡ turn_of probe.order (follows (2 ^ O.exponent probe.order) probe.machine place (slice_index words.old place)) }
+    ensures fewer { HasFewer (2 ^ O.exponent probe.order) (left_of (2 ^ O.exponent probe.order) probe.machine) result }
+{
+    let held = take_step(words, probe.wants());
+    probe.told(held)
+}
+
+/// Tells a probe what the word of its next step's place holds, and leaves the words as they are. There is a word
+/// for each slot.
+pub(crate) fn look<O: ProbeOrder>(words: &[u64], probe: Probe<O>) -> Turn<O>
+    requires { 2 ^ O.exponent probe.order ≤ length words.now }
+    ensures turn { let place = place_in (O.place_of probe.order) probe.machine
+        in result ≡ turn_of probe.order (follows (2 ^ O.exponent probe.order) probe.machine place (slice_index words.now place)) }
+    ensures fewer { HasFewer (2 ^ O.exponent probe.order) (left_of (2 ^ O.exponent probe.order) probe.machine) result }
+{
+    let place = wanted_place(probe.wants());
+    probe.told(words[place])
+}
+
+/// The place of a step.
+fn wanted_place(want: Want) -> usize
+    ensures { result ≡ place_wanted want }
+{
+    match want {
+        Want::Load(place) | Want::Swap { place, .. } => place,
+    }
+}
