@@ -142,3 +142,27 @@ fn faults_of_syntax(rt: HostRuntime) -> Result<(), Fail> {
     }
     Ok(())
 }
+
+/// With memory refused at any request it still holds: the tally is the game's, or want of memory is answered.
+#[test]
+fn memory_is_found_or_named(rt: HostRuntime) -> Result<(), Fail> {
+    let alloc = rt.alloc();
+    let Ok(mut trees) = Trees::new(b"(;SZ[2:1];B[aa];W[ba])") else {
+        return Err(Fail::from("too large"));
+    };
+    let Ok(Some(tree)) = trees.next_tree(alloc) else {
+        return Ok(());
+    };
+    let Ok(Kind::Go(game)) = read_record(alloc, &tree) else {
+        return Ok(());
+    };
+    match tally_plain(alloc, Kinds::Both, &game) {
+        Ok(tally) => assert_eq!(rt; (tally.moves(), tally.entries().len()), (2, 4)),
+        Err(fault) => assert!(rt; fault == HarvestFault::Memory),
+    }
+    match count_plain(alloc, Kinds::Both, b"(;SZ[1];B[aa])(;SZ[2:1];B[aa];W[ba])") {
+        Ok(counted) => assert_eq!(rt; counted.dictionary.entries().len(), 6),
+        Err(fault) => assert!(rt; fault == HarvestFault::Memory),
+    }
+    Ok(())
+}

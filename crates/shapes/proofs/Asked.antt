@@ -1,6 +1,5 @@
--- What the values of a subcommand say, and the subcommand that was met.
-use Rattle.std.proofs.Common.{◌≡◌, ◌<◌, ◌^◌, ℕ, List, Option, Some, None, refl, ap, ◌∙◌, codes}
-use Rattle.std.specs.Prelude.{option_map}
+-- What the values of a subcommand say.
+use Rattle.std.proofs.Common.{◌≡◌, ◌<◌, ◌^◌, ℕ, List, Option, Some, None, refl, codes}
 use Rattle.std.specs.Str.Parse.{IsNumeral, digits_value, without_leading_plus}
 use Rattle.clap.specs.Words.{Row, first_of, one_of}
 use Rattle.shapes.specs.Commands.{IsNumberOf}
@@ -16,14 +15,6 @@ number_given id rows number None is none value = absurd (let bad = none refl in 
 number_given id rows number (Some t) is none value =
     let read = value t refl in
     record { text = t; given = is; digits = read.0.0; value = read.1 }
-
--- the subcommand's name and its values, apart and together
-pub met : (asked : Option (List ℕ × List Row)) (name : List ℕ) (rows : List Row) → option_map (λ p. p.0) asked ≡ Some name → option_map (λ p. p.1) asked ≡ Some rows → asked ≡ Some (name, rows)
-met None name rows h k = absurd (let bad = h in cc)
-met (Some p) name rows h k =
-    let same : p.0 ≡ name = cc in
-    let values : p.1 ≡ rows = cc in
-    ap (λ (n : List ℕ). Some (n, p.1)) same ∙ ap (λ (r : List Row). Some (name, r)) values
 
 -- why a search was refused
 pub search_fault : (rows : List Row) (glyphs mover : List ℕ) (found : RunFault) → first_of (codes "glyphs") rows ≡ Some glyphs → first_of (codes "colour") rows ≡ Some mover →
