@@ -1,0 +1,12 @@
+pub mod Histories
+pub mod Placings
+pub mod Winning
+pub mod Deciding
+pub mod Seating
+pub mod Stepping
+pub mod Searching
+pub mod Parting
+pub mod Owning
+pub mod Joining
+pub mod Marking
+pub mod Numbering

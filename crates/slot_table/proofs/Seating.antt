@@ -1,0 +1,92 @@
+-- The views of all seats after a step of one of them.
+use Rattle.std.proofs.Common.{◌≡◌, ℕ, zero, suc, ◌+◌, ◌<◌, ◌≤◌, ◌⊎◌, List, [], ◌∷◌, ◌++◌, length, slice_set, Some, refl, sym, ◌∙◌, ap, subst, inl, inr, arith, length-append}
+use mathlib.Core.Option.{some, some-ne-none}
+use lib.ListN.{get_elem?}
+use Rattle.atomic_table.proofs.Lists.{at_set, set_here}
+use Rattle.slot_table.specs.declared.entries.Entry.{Entry}
+use Rattle.slot_table.specs.declared.views.View.{View}
+use Rattle.slot_table.specs.History.{IsLegal, Begins}
+use Rattle.slot_table.specs.Places.{times, below, IsRising}
+use Rattle.slot_table.specs.Rule.{Kept, IsSpent, times_owned}
+use Rattle.slot_table.specs.Telling.{Grown, places_from}
+use Rattle.slot_table.proofs.Histories.{begins_itself, begins_longer, kept_since}
+use Rattle.slot_table.proofs.Deciding.{Sound}
+use Rattle.slot_table.proofs.Owning.{times-append, times_places, rising_more, owned_set}
+
+pub at_below : {A : Type 0} (l : List A) (i : ℕ) (a : A) → get_elem? l i ≡ some a → i < length l
+at_below [] i a e = absurd (some-ne-none a (sym e))
+at_below (x ∷ xs) zero a e = omega arith
+at_below (x ∷ xs) (suc i) a e = let h : i < length xs = at_below xs i a e in omega (arith, h)
+
+-- the view of a seat whose step found the longest history and added these entries
+abbrev pub grown_view : {O : Type 0} → View O → List Entry → List Entry → View O
+grown_view view log added =
+    record { order = view.order; seen = log ++ added; mine = view.mine ++ places_from (length log) added; met = [] }
+
+module _ {O : Type 0} (n : ℕ) (place : ℕ → ℕ → ℕ) (key : O) (words : List ℕ) (views : List (View O)) (kept : Kept n place key words views)
+    (id : ℕ) (view : View O) (at : get_elem? views id ≡ some view) where
+  pub sound_of : Sound n place words kept.log
+  sound_of = record { legal = kept.legal; whole = kept.whole; slots = kept.slots; small = kept.small; marks = kept.marks; placed = kept.placed }
+
+  -- what the seat owns, with one more place where its step ended a call
+  rises_on : (added : List Entry) → IsRising 0 (view.mine ++ places_from (length kept.log) added) (length (kept.log ++ added))
+  rises_on added =
+      let begun : Begins view.seen kept.log = (kept.longest.begun id view at).0
+      in let short : length view.seen ≤ length kept.log =
+      let l : length kept.log ≡ length view.seen + length begun.0 = ap (λ (t : List Entry). length t) begun.1 ∙ length-append view.seen begun.0 in omega (arith, l)
+      in subst (λ (high : ℕ). IsRising 0 (view.mine ++ places_from (length kept.log) added) high) (sym (length-append kept.log added))
+      (rising_more 0 view.mine (length view.seen) (length kept.log) added short (kept.rises id view at))
+
+  owned_on : (added : List Entry) (k : ℕ) → times_owned k (slice_set views id (grown_view view kept.log added)) ≡ below k (length (kept.log ++ added))
+  owned_on added k =
+      let grown : View O = grown_view view kept.log added
+      in let moved : times_owned k (slice_set views id grown) + times k view.mine ≡ times_owned k views + times k grown.mine = owned_set k views id view grown at
+      in let split : times k grown.mine ≡ times k view.mine + times k (places_from (length kept.log) added) = times-append k view.mine (places_from (length kept.log) added)
+      in let placed : times k (places_from (length kept.log) added) + below k (length kept.log) ≡ below k (length kept.log + length added) = times_places k (length kept.log) added
+      in let whole : below k (length (kept.log ++ added)) ≡ below k (length kept.log + length added) = ap (λ (m : ℕ). below k m) (length-append kept.log added)
+      in let before : times_owned k views ≡ below k (length kept.log) = kept.owned k
+      in omega (arith, moved, split, placed, whole, before)
+
+  pub kept_by_step : view.order ≡ Some key → (words' : List ℕ) (added : List Entry) → Sound n place words' (kept.log ++ added)
+      → Kept n place key words' (slice_set views id (grown_view view kept.log added))
+  kept_by_step of words' added sound =
+      let log : List Entry = kept.log ++ added
+      in let grown : View O = grown_view view kept.log added
+      in record {
+        log = log;
+        longest = record {
+          is_seen = (grown, (id, set_here views id grown (at_below views id view at)), refl);
+          begun = λ seat u there. elim (at_set views id seat grown u there) [
+            | inl t ↦ let P : View O → Type 0 = λ w. Begins w.seen log × Begins w.met log in subst P t.1 (begins_itself log, (log, refl))
+            | inr t ↦ let b : Begins u.seen kept.log × Begins u.met kept.log = kept.longest.begun seat u t.1 in (begins_longer _ _ added b.0, begins_longer _ _ added b.1)
+          ];
+        };
+        legal = sound.legal;
+        whole = sound.whole;
+        slots = sound.slots;
+        small = sound.small;
+        marks = sound.marks;
+        placed = sound.placed;
+        owned = owned_on added;
+        rises = λ seat u there. elim (at_set views id seat grown u there) [
+          | inl t ↦ let P : View O → Type 0 = λ w. IsRising 0 w.mine (length w.seen) in subst P t.1 (rises_on added)
+          | inr t ↦ kept.rises seat u t.1
+        ];
+        orders = λ seat u there. elim (at_set views id seat grown u there) [
+          | inl t ↦ let P : View O → Type 0 = λ w. (w.order ≡ Some key) ⊎ IsSpent w in subst P t.1 (inl of)
+          | inr t ↦ kept.orders seat u t.1
+        ];
+      }
+
+  pub grown_by_step : (added : List Entry) → IsLegal n (kept.log ++ added) → Grown n view kept.log added (grown_view view kept.log added)
+  grown_by_step added legal = record {
+    later = (kept.longest.begun id view at).0;
+    after_met = (kept.longest.begun id view at).1;
+    seen = refl;
+    legal = legal;
+    keeps = kept_since n view.seen (kept.log ++ added) legal (begins_longer view.seen kept.log added (kept.longest.begun id view at).0);
+    mine = refl;
+    met = refl;
+    order = refl;
+    rises = rises_on added;
+  }

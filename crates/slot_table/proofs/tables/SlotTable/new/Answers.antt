@@ -1,0 +1,16 @@
+use Rattle.std.proofs.Common.{◌≡◌, ◌+◌, ◌*◌, ◌<◌, ◌^◌, ◌∙◌, ap, sym, subst, length, slice_index_or}
+use Rattle.slot_table.proofs.Parting.{new_allowed}
+use Rattle.slot_table.proofs.tables.SlotTable.new.Goals as goal
+
+pub of_words-requires : goal.of_words-requires
+of_words-requires g c =
+    let order = c.args.order
+    in let n = 2 ^ g.O.ProbeOrder.exponent order
+    in let words = c.as_slice.result.now
+    in let slots : c.slots-slots.result ≡ n = c.slots-slots.ensures.value ∙ ap (λ k. 2 ^ k) c.capacity.ensures
+    in let same : c.in_ok-free.free.items ≡ words = sym c.as_slice.ensures.value
+    in new_allowed n (g.O.ProbeOrder.place_of order) order (λ k. g.met.O.ProbeOrder.is_order order k) words
+    (ap (λ ws. length ws) (sym same) ∙ c.in_ok-free.ensures.length ∙ ap (λ k. 2 * k) slots)
+    (λ p h. ap (λ ws. slice_index_or ws p 0) (sym same) ∙ c.in_ok-free.ensures.free p (subst (λ k. p < k) (sym slots) h))
+    (λ p h. ap (λ ws. slice_index_or ws (n + p) 0) (sym same) ∙ ap (λ k. slice_index_or c.in_ok-free.free.items (k + p) 0) (sym slots)
+    ∙ c.in_ok-free.ensures.unmarked p (subst (λ k. p < k) (sym slots) h))

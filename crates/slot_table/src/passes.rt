@@ -1,0 +1,23 @@
+//! Passes: what callers of a table hold.
+use crate::views::Place;
+use std::marker::Model;
+
+/// The right of one caller to call a table. It takes no memory.
+///
+/// Contracts see of which table and order it is, a history of the table as far as it has `seen` it, and the places in
+/// it of its own calls, `mine`. Passes come from the table's `new`, `split` and `meet` alone.
+#[derive(Drop)]
+pub struct Pass<O> {
+    pub(crate) seat: Place<O>,
+}
+
+impl<O> Model for Pass<O> {
+    ghost use Rattle.std.specs.Prelude.{◌≡◌, [], IsSome};
+    ghost use Rattle.slot_table.specs.Passes.{Known};
+
+    ghost Value = { Known O };
+
+    ghost view = { λ p. record { table = p.seat.table_id; order = p.seat.me.0.order; seen = p.seat.me.0.seen; mine = p.seat.me.0.mine } };
+
+    ghost invariant = { λ p. (p.seat.me.1 ≡ []) × (p.seat.me.0.met ≡ []) × IsSome p.seat.me.0.order };
+}

@@ -1,0 +1,197 @@
+//! Tables of numbers for keys, as threads call them.
+ghost use Rattle.std.specs.Prelude.{◌≡◌, ℕ, ◌+◌, ◌-◌, ◌*◌, ◌^◌, ◌<◌, [], IfOk, None, length, slice_index_or};
+ghost use Rattle.probe_core.specs.declared.calls.Call.TheVariants as call;
+ghost use Rattle.probe_core.specs.Machine.{key_of};
+ghost use Rattle.slot_table.specs.declared.entries.Entry.TheVariants as entry;
+ghost use Rattle.slot_table.specs.History.{content_of, least_at, Tells, IsAtMost};
+ghost use Rattle.slot_table.specs.Passes.{IsPassOf, Saw, Made, Met};
+
+use crate::faults::SlotFault;
+use crate::passes::Pass;
+use crate::steps;
+use crate::views::Words;
+use atomic_table::Table;
+use probe_core::{Answer, Call, Capacity, Key, ProbeOrder};
+use std::alloc::{AllocError, Global};
+use std::marker::Model;
+
+/// A table of numbers for keys, shared by threads. This is the project's own.
+///
+/// Each key gets a number when it is entered first, and has it for ever after. Contracts see which table it is, and its
+/// order.
+#[derive(Drop)]
+pub struct SlotTable<O: ProbeOrder> {
+    words: Words<O>,
+    order: O,
+}
+
+impl<O: ProbeOrder> Model for SlotTable<O> {
+    ghost use Rattle.std.specs.Prelude.{◌≡◌, ◌*◌, ◌^◌};
+    ghost use Rattle.slot_table.specs.Passes.{Numbers};
+
+    ghost Value = { Numbers O };
+
+    ghost view = { λ t. record { table = t.words.shared.table_id; order = t.order } };
+
+    ghost invariant = { λ t. (t.words.shared.key ≡ t.order) × (t.words.shared.table_id.words ≡ 2 * 2 ^ O.exponent t.order) };
+}
+
+/// The words of a table of which no number is taken and none is marked.
+fn free_words(alloc: Global, slots: usize) -> Result<Vec<u64>, AllocError>
+    requires { slots < 2 ^ 32 }
+    ensures length { IfOk result (λ v. length v.items ≡ 2 * slots) }
+    ensures free { IfOk result (λ v. (p : ℕ) → p < slots → slice_index_or v.items p 0 ≡ 0) }
+    ensures unmarked { IfOk result (λ v. (p : ℕ) → p < slots → slice_index_or v.items (slots + p) 0 ≡ 0xFFFF_FFFF_FFFF_FFFF) }
+{
+    let mut words = Vec::with_capacity(alloc, 2 * slots)?;
+    words.resize(slots, 0)?;
+    words.resize(2 * slots, u64::MAX)?;
+    Ok(words)
+}
+
+impl<O: ProbeOrder> SlotTable<O> {
+    /// A table in this order of which no number is taken, and its first pass.
+    ///
+    /// Refusal: `Memory`, and then nothing is kept. It takes 16 bytes a number, and for a moment twice as much.
+    pub fn new(alloc: Global, order: O) -> Result<(SlotTable<O>, Pass<O>), SlotFault>
+        ensures order { IfOk result (λ r. r.0.order ≡ order) }
+        ensures pass { IfOk result (λ r. IsPassOf r.0 r.1) }
+        ensures seen { IfOk result (λ r. r.1.seen ≡ []) }
+        ensures mine { IfOk result (λ r. r.1.mine ≡ []) }
+    {
+        let slots = order.capacity().slots();
+        let free = free_words(alloc, slots)?;
+        let (words, seat) = Table::of_words(alloc, free.as_slice(), &order)?;
+        Ok((SlotTable { words, order }, Pass { seat }))
+    }
+
+    /// How many numbers there are. It takes no pass and no memory.
+    pub fn capacity(&self) -> Capacity
+        ensures { result ≡ O.exponent self.now.order }
+    {
+        self.order.capacity()
+    }
+
+    /// A pass that has seen what this one has, and has made no call. It takes no memory.
+    ///
+    /// The pass must be of this table.
+    pub fn split(&self, pass: &mut Pass<O>) -> Pass<O>
+        requires { IsPassOf self.now pass.old }
+        ensures same { pass.new ≡ pass.old }
+        ensures pass { IsPassOf self.now result }
+        ensures seen { result.seen ≡ pass.old.seen }
+        ensures mine { result.mine ≡ [] }
+    {
+        Pass {
+            seat: steps::split(&self.words.shared, &mut pass.seat),
+        }
+    }
+
+    /// Takes the steps of a call.
+    fn ask(&self, pass: &mut Pass<O>, call: Call) -> Answer
+        requires pass { IsPassOf self.now pass.old }
+        requires small { key_of call < 2 ^ 51 }
+        ensures pass { IsPassOf self.now pass.new }
+        ensures made { Made (2 ^ O.exponent self.now.order) pass.old (entry.Asked call result) pass.new }
+        ensures told { Tells (2 ^ O.exponent self.now.order) pass.new.seen call result }
+    {
+        steps::asked(&self.words.shared, &mut pass.seat, &self.order, call)
+    }
+
+    /// Answers the key's number, and a free one that is the key's from then on where it has none; `Full` where none is
+    /// free. It takes no memory and waits for no other thread.
+    ///
+    /// The pass must be of this table.
+    pub fn enter(&self, pass: &mut Pass<O>, key: Key) -> Answer
+        requires { IsPassOf self.now pass.old }
+        ensures pass { IsPassOf self.now pass.new }
+        ensures made { Made (2 ^ O.exponent self.now.order) pass.old (entry.Asked (call.Enter key) result) pass.new }
+        ensures told { Tells (2 ^ O.exponent self.now.order) pass.new.seen (call.Enter key) result }
+    {
+        self.ask(pass, Call::Enter(key))
+    }
+
+    /// Answers the key's number; where it has none, `Absent` if some number is free, and else `Full`. It takes no memory
+    /// and waits for no other thread.
+    ///
+    /// The pass must be of this table.
+    pub fn look_up(&self, pass: &mut Pass<O>, key: Key) -> Answer
+        requires { IsPassOf self.now pass.old }
+        ensures pass { IsPassOf self.now pass.new }
+        ensures made { Made (2 ^ O.exponent self.now.order) pass.old (entry.Asked (call.LookUp key) result) pass.new }
+        ensures told { Tells (2 ^ O.exponent self.now.order) pass.new.seen (call.LookUp key) result }
+    {
+        self.ask(pass, Call::LookUp(key))
+    }
+
+    /// The key that has this number, or None where the number is free, by one load. It takes no memory and waits for no
+    /// other thread.
+    ///
+    /// The pass must be of this table, and the number below the number of slots.
+    pub fn word_at(&self, pass: &mut Pass<O>, number: usize) -> Option<Key>
+        requires pass { IsPassOf self.now pass.old }
+        requires number { number < 2 ^ O.exponent self.now.order }
+        ensures pass { IsPassOf self.now pass.new }
+        ensures saw { Saw (2 ^ O.exponent self.now.order) pass.old pass.new }
+        ensures key { result ≡ slice_index_or (content_of (2 ^ O.exponent self.now.order) pass.new.seen) number None }
+    {
+        steps::word_at(&self.words.shared, &mut pass.seat, number)
+    }
+
+    /// One pass from two: it has seen what both have, and its own calls are those of both. It takes no memory and waits
+    /// for no other thread.
+    ///
+    /// The passes must be of this table.
+    pub fn meet(&self, one: Pass<O>, other: Pass<O>) -> Pass<O>
+        requires one { IsPassOf self.now one }
+        requires other { IsPassOf self.now other }
+        ensures pass { IsPassOf self.now result }
+        ensures met { Met (2 ^ O.exponent self.now.order) one other result }
+    {
+        let Pass { mut seat } = one;
+        let Pass { seat: other } = other;
+        steps::meet(&self.words.shared, &mut seat, other);
+        Pass { seat }
+    }
+
+    /// Marks the game at the number, by one step: the number's least game is the lesser of that and this one. It takes no
+    /// memory and waits for no other thread.
+    ///
+    /// The pass must be of this table, the number below the number of slots, and the game not 2^64 - 1. The number need
+    /// not be taken.
+    pub fn mark(&self, pass: &mut Pass<O>, number: usize, game: u64)
+        requires pass { IsPassOf self.now pass.old }
+        requires number { number < 2 ^ O.exponent self.now.order }
+        requires game { game < 2 ^ 64 - 1 }
+        ensures pass { IsPassOf self.now pass.new }
+        ensures made { Made (2 ^ O.exponent self.now.order) pass.old (entry.Marked number game) pass.new }
+        ensures least { IsAtMost (least_at number pass.new.seen) game }
+    {
+        steps::mark(
+            &self.words.shared,
+            &mut pass.seat,
+            self.capacity().slots(),
+            number,
+            game,
+        );
+    }
+
+    /// The least game that was marked at the number, or None where none was, by one load. It takes no memory and waits
+    /// for no other thread.
+    ///
+    /// The pass must be of this table, and the number below the number of slots. The number need not be taken.
+    pub fn first(&self, pass: &mut Pass<O>, number: usize) -> Option<u64>
+        requires pass { IsPassOf self.now pass.old }
+        requires number { number < 2 ^ O.exponent self.now.order }
+        ensures pass { IsPassOf self.now pass.new }
+        ensures made { Made (2 ^ O.exponent self.now.order) pass.old (entry.First number result) pass.new }
+        ensures least { result ≡ least_at number pass.new.seen }
+    {
+        steps::first(
+            &self.words.shared,
+            &mut pass.seat,
+            self.capacity().slots(),
+            number,
+        )
+    }
+}

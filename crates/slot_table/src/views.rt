@@ -1,0 +1,114 @@
+//! What a seat at the table knows, the rule that ties all of it to the words, and what each step tells.
+use crate::entries::Entry;
+use atomic_table::{Join, Play, Seat, Shared, Split, Table, TableRule};
+use probe_core::ProbeOrder;
+use std::alloc::Global;
+use std::collections::LinkedList;
+use std::marker::{Brand, PhantomData};
+
+/// What a seat knows. No value of it is made.
+pub struct View<O> {
+    /// The table's order; None once the view was joined to another.
+    pub order: Option<O>,
+    /// A history of the table, as far as the seat has seen it.
+    pub seen: LinkedList<Entry>,
+    /// The places in it of the seat's own calls.
+    pub mine: LinkedList<usize>,
+    /// A history that a seat had seen that was joined to this one, until the next step.
+    pub met: LinkedList<Entry>,
+}
+
+/// The rule of a table.
+pub(crate) struct OneHistory;
+
+impl<O: ProbeOrder> TableRule<(), View<O>, O> for OneHistory {
+    ghost use Rattle.std.specs.Prelude.{◌^◌, []};
+    ghost use Rattle.slot_table.specs.Rule.{Kept, newcomer};
+
+    ghost holds = { λ order s. Kept (2 ^ O.exponent order) (O.place_of order) order s.words s.views };
+
+    ghost first = { λ order. newcomer order [] };
+}
+
+/// The table with its memory.
+pub(crate) type Words<O> = Table<(), View<O>, O, OneHistory, Global>;
+
+/// The words as threads see them.
+pub(crate) type Shown<O> = Shared<(), View<O>, O, OneHistory>;
+
+/// A seat at a table.
+pub(crate) type Place<O> = Seat<(), View<O>>;
+
+/// The step of a call that is taken, for the proof alone.
+pub(crate) trait Ask {
+    ghost use Rattle.probe_core.specs.Machine.{Machine};
+
+    ghost machine: { Machine };
+}
+
+impl Ask for Brand {
+    ghost use Rattle.probe_core.specs.Machine.{begun};
+    ghost use Rattle.probe_core.specs.declared.calls.Call.TheVariants.{LookUp};
+
+    ghost machine = { begun (LookUp 0) };
+}
+
+/// A step of a call: it tells what the word was, and ends the call or not.
+pub(crate) struct Told<A> {
+    asked: PhantomData<A>,
+}
+
+impl<O: ProbeOrder, A: Ask> Play<(), View<O>> for Told<A> {
+    ghost use Rattle.slot_table.specs.Telling.{told};
+
+    ghost then = { told O.exponent A.machine };
+}
+
+/// A load of a slot word that belongs to no call of a history.
+pub(crate) struct Looked;
+
+impl<O: ProbeOrder> Play<(), View<O>> for Looked {
+    ghost use Rattle.slot_table.specs.Telling.{looked};
+
+    ghost then = { looked O.exponent };
+}
+
+/// A step that lowers a mark word to a game.
+pub(crate) struct Marked;
+
+impl<O: ProbeOrder> Play<(), View<O>> for Marked {
+    ghost use Rattle.slot_table.specs.Telling.{marked};
+
+    ghost then = { marked O.exponent };
+}
+
+/// A load of a mark word.
+pub(crate) struct First;
+
+impl<O: ProbeOrder> Play<(), View<O>> for First {
+    ghost use Rattle.slot_table.specs.Telling.{first_told};
+
+    ghost then = { first_told O.exponent };
+}
+
+/// A view is kept, and a new seat sees as much.
+pub(crate) struct Cut;
+
+impl<O> Split<View<O>> for Cut {
+    ghost use Rattle.slot_table.specs.Rule.{cut_off};
+
+    ghost left = { λ view. view };
+
+    ghost right = { cut_off };
+}
+
+/// The second view is joined to the first and has nothing left.
+pub(crate) struct Glue;
+
+impl<O> Join<View<O>> for Glue {
+    ghost use Rattle.slot_table.specs.Rule.{joined, spent};
+
+    ghost both = { joined };
+
+    ghost spent = { spent };
+}
