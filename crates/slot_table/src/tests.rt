@@ -327,6 +327,19 @@ fn all_passes_read_the_least_mark(rt: HostRuntime) -> Result<(), Fail> {
     Ok(())
 }
 
+/// With memory refused at any request the table is made, or want of memory is answered.
+#[test]
+fn memory_is_found_or_named(rt: HostRuntime) -> Result<(), Fail> {
+    let order = Linear {
+        capacity: capacity_of(&rt, 1),
+    };
+    match SlotTable::new(rt.alloc(), order) {
+        Ok((table, mut pass)) => assert_two_numbers(&rt, &table, &mut pass),
+        Err(fault) => assert!(&rt; fault == SlotFault::Memory),
+    }
+    Ok(())
+}
+
 #[test]
 fn want_of_memory_has_a_text(rt: HostRuntime) -> Result<(), Fail> {
     let text = format!(in rt.alloc(); "{}", SlotFault::Memory)?;
