@@ -6,15 +6,13 @@ use Rattle.std.proofs.lemmas.List.Sums.{sum_by-append, sum_by-cons}
 use Rattle.std.proofs.lemmas.List.Folds.{position_or_len_push}
 use Rattle.std.proofs.lemmas.Bool.{cases_lt}
 use Rattle.std.proofs.Math.Numerals.{one-add}
-use Rattle.harvest_core.proofs.Seen.{seen-some, again-some}
 use Rattle.std.proofs.Math.Dec.{leb-zero, leb-suc-suc}
 use Rattle.std.proofs.lemmas.Bool.Decides.{nat_tests}
 use Rattle.harvest_core.specs.declared.counters.Count.{Count}
-use Rattle.std.specs.BTreeMap.{BTreeMap}
 use Rattle.go_record.specs.Actions.{Actions}
 use Rattle.shape_core.specs.declared.words.Kinds.{Kinds}
 use Rattle.harvest_core.specs.Counts.{Replayed, kinds_of, there_in, played_in}
-use Rattle.harvest_core.specs.Counter.{seen, played_again, CountsGame, CountsGames}
+use Rattle.harvest_core.specs.Counter.{first_used, used_again, CountsGame, CountsGames}
 
 -- what a pattern's count is after these sums, first seen in this game
 pub counted : ℕ → ℕ → ℕ → Option Count
@@ -65,22 +63,19 @@ first-some amount (x ∷ xs) h =
 
 -- one game more
 pub counted-more : (number there played first n m : ℕ) → played ≤ there → m ≤ n → (there ≡ 0 → 0 < n → first ≡ number) →
-    played_again m (seen number n (counted there played first)) ≡ counted (there + n) (played + m) first
+    used_again number n m (counted there played first) ≡ counted (there + n) (played + m) first
 unfolding counted
 counted-more number zero played first zero m among more_among none =
     let no : m ≡ 0 = omega arith in
-    ap (λ k. played_again k None) no ∙ sym (counted-none (zero + zero) (played + m) first (omega arith))
+    ap (λ k. first_used number zero k) no ∙ sym (counted-none (zero + zero) (played + m) first (omega arith))
 counted-more number zero played first (suc n) m among more_among none =
     let no : played ≡ 0 = omega arith in
-    again-some m (record { there = suc n; played = 0; first = number })
-    ∙ ap (λ p. Some (record { there = suc n; played = p + m; first = number })) (sym no)
+    ap (λ p. Some (record { there = suc n; played = p; first = number })) (sym (zero-add m) ∙ ap (λ p. p + m) (sym no))
     ∙ ap (λ f. Some (record { there = suc n; played = played + m; first = f })) (sym (none refl (omega arith)))
     ∙ sym (counted-some (suc n) (played + m) first (omega arith))
     ∙ ap (λ t. counted t (played + m) first) (sym (zero-add (suc n)))
 counted-more number (suc there) played first n m among more_among none =
-    ap (λ c. played_again m (seen number n c)) (counted-some (suc there) played first (omega arith))
-    ∙ ap (played_again m) (seen-some number n (record { there = suc there; played = played; first = first }))
-    ∙ again-some m (record { there = suc there + n; played = played; first = first })
+    ap (used_again number n m) (counted-some (suc there) played first (omega arith))
     ∙ sym (counted-some (suc there + n) (played + m) first (omega arith))
 
 -- a game more behind games of which some had the pattern
@@ -113,7 +108,7 @@ counted-first zero played first other same = refl
 counted-first (suc there) played first other same = ap (λ f. counted (suc there) played f) (same (omega arith))
 
 -- one game more was counted
-pub games_more : (kinds : Kinds) (games : List Replayed) (game : Actions) (number moves more : ℕ) (a b : BTreeMap ℕ Count) →
+pub games_more : (kinds : Kinds) (games : List Replayed) (game : Actions) (number moves more : ℕ) (a b : ℕ → Option Count) →
     number ≡ length games → CountsGames kinds games a moves → (new : CountsGame kinds game number a b more) →
     CountsGames kinds (games ++ record { size = game.size; occasions = new.occasions } ∷ []) b (moves + more)
 unfolding counted first_of
@@ -127,7 +122,7 @@ games_more kinds games game number moves more a b is before new =
           let p = sum_by (played shape) games in
           let f = first_of (there shape) (games ++ next ∷ []) in
           new.counted shape
-          ∙ ap (λ o. played_again (played shape next) (seen number (there shape next) o))
+          ∙ ap (used_again number (there shape next) (played shape next))
           (before.counted shape ∙ counted-first s p (first_of (there shape) games) f (λ some. sym (first-kept (there shape) games next some)))
           ∙ counted-more number s p f (there shape next) (played shape next) (before.among shape) (new.among shape)
           (λ none some. first-new (there shape) games next none some ∙ sym is)

@@ -15,7 +15,7 @@ use Rattle.harvest_core.specs.declared.counters.Count.{Count}
 use Rattle.harvest_core.specs.declared.dictionaries.FirstGames.TheVariants as first_games
 use Rattle.harvest_core.specs.Occasions.{Occasion}
 use Rattle.harvest_core.specs.Counts.{Replayed, kinds_of, there_in, patterns_played}
-use Rattle.harvest_core.specs.Counter.{CountsGames}
+use Rattle.harvest_core.specs.Counter.{count_in, CountsGames}
 use Rattle.harvest_core.specs.Games.{there_sum, played_sum, counts_diamonds, IsDictionaryOf}
 use Rattle.harvest_core.specs.Entries.{entry_of_pair, IsShape}
 use Rattle.harvest_core.proofs.DoubleCounting.{counted_twice}
@@ -43,7 +43,7 @@ entered_numbers shape there played first games inside =
     ] refl
 
 of_map : (kinds : Kinds) (games : List Replayed) (counts : BTreeMap ℕ Count) (moves : ℕ) (entries : List Entry) → entries ≡ map (entry_of_pair first_games.Kept) counts.entries →
-    CountsGames kinds games counts moves → AreCounted kinds games entries
+    CountsGames kinds games (count_in counts) moves → AreCounted kinds games entries
 unfolding first_of
 of_map kinds games counts moves entries same h shape =
     let there = λ (game : Replayed). there_in (kinds_of kinds) game shape in
@@ -81,7 +81,7 @@ are_entries kinds games (e ∷ entries) few shapes counted =
 
 -- ---- the totals
 -- a pattern that was played has an entry, and one only
-played_once : (kinds : Kinds) (games : List Replayed) (counts : BTreeMap ℕ Count) (moves : ℕ) (entries : List Entry) → CountsGames kinds games counts moves →
+played_once : (kinds : Kinds) (games : List Replayed) (counts : BTreeMap ℕ Count) (moves : ℕ) (entries : List Entry) → CountsGames kinds games (count_in counts) moves →
     IsStrictlyIncreasing (shapes_of entries) → AreCounted kinds games entries →
     (shape : ℕ) → 0 < count_by (λ c. c == shape) (all_played kinds games) → count_by (λ s. shape == s) (shapes_of entries) ≡ 1
 played_once kinds games counts moves entries h rises counted shape some =
@@ -90,7 +90,7 @@ played_once kinds games counts moves entries h rises counted shape some =
     stands_once shape (entry_there kinds games shape) entries rises (counted shape ∙ counted_there kinds games shape (omega arith))
 
 -- the plays of the entries that are kept are the moves, where each occasion plays one pattern that is kept
-total : (kinds : Kinds) (games : List Replayed) (counts : BTreeMap ℕ Count) (moves : ℕ) (entries : List Entry) → CountsGames kinds games counts moves →
+total : (kinds : Kinds) (games : List Replayed) (counts : BTreeMap ℕ Count) (moves : ℕ) (entries : List Entry) → CountsGames kinds games (count_in counts) moves →
     IsStrictlyIncreasing (shapes_of entries) → AreCounted kinds games entries →
     (keep : ℕ → Bool) → ((size : Extent) (occasion : Occasion) → count_by keep (patterns_played (kinds_of kinds) size occasion) ≡ 1) →
     played_in (filter (λ e. keep e.shape) entries) ≡ moves
@@ -101,7 +101,7 @@ total kinds games counts moves entries h rises counted keep one =
     ∙ sym h.moves_counted
 
 diamonds_total : CanonicalStays → AroundStays → (kinds : Kinds) (games : List Replayed) (counts : BTreeMap ℕ Count) (moves : ℕ) (entries : List Entry) →
-    CountsGames kinds games counts moves → IsStrictlyIncreasing (shapes_of entries) → AreCounted kinds games entries →
+    CountsGames kinds games (count_in counts) moves → IsStrictlyIncreasing (shapes_of entries) → AreCounted kinds games entries →
     counts_diamonds kinds ≡ true → played_in (diamonds_of entries) ≡ moves
 diamonds_total canonical around which.Squares games counts moves entries h rises counted both = absurd cc
 diamonds_total canonical around which.Both games counts moves entries h rises counted both =
@@ -112,7 +112,7 @@ no_moves [] none = refl
 no_moves (game ∷ games) none = absurd (omega arith)
 
 totals_of : CanonicalStays → AroundStays → (kinds : Kinds) (games : List Replayed) (counts : BTreeMap ℕ Count) (moves : ℕ) (entries : List Entry) →
-    CountsGames kinds games counts moves → IsStrictlyIncreasing (shapes_of entries) → AreCounted kinds games entries →
+    CountsGames kinds games (count_in counts) moves → IsStrictlyIncreasing (shapes_of entries) → AreCounted kinds games entries →
     HasTotals (length games) moves entries (counts_diamonds kinds)
 totals_of canonical around kinds games counts moves entries h rises counted = record {
   squares = total kinds games counts moves entries h rises counted is_low (one_square canonical around kinds);
@@ -137,7 +137,7 @@ uncounted_of canonical around which.Both games entries counted uncounted = absur
 
 -- ---- the dictionary
 exact : CanonicalStays → AroundStays → (kinds : Kinds) (games : List Replayed) (moves : ℕ) (counts : BTreeMap ℕ Count) (entries : List Entry) →
-    entries ≡ map (entry_of_pair first_games.Kept) counts.entries → All IsShape entries → IsStrictlyIncreasing (shapes_of entries) → CountsGames kinds games counts moves →
+    entries ≡ map (entry_of_pair first_games.Kept) counts.entries → All IsShape entries → IsStrictlyIncreasing (shapes_of entries) → CountsGames kinds games (count_in counts) moves →
     IsDictionaryOf kinds games (record { games = length games; moves = moves; entries = entries; counts_diamonds = counts_diamonds kinds })
 exact canonical around kinds games moves counts entries same shapes rises h =
     let counted = of_map kinds games counts moves entries same h in
@@ -158,7 +158,7 @@ exact canonical around kinds games moves counts entries same shapes rises h =
 -- the dictionary of games, from the map in which they were counted
 pub gathered : CanonicalStays → AroundStays → (kinds : Kinds) (replayed : List Replayed) (games moves : ℕ) (counts : BTreeMap ℕ Count) (entries : List Entry) (diamonds : Bool) →
     entries ≡ map (entry_of_pair first_games.Kept) counts.entries → All IsShape entries → IsStrictlyIncreasing (shapes_of entries) → diamonds ≡ counts_diamonds kinds →
-    length replayed ≡ games → CountsGames kinds replayed counts moves →
+    length replayed ≡ games → CountsGames kinds replayed (count_in counts) moves →
     IsDictionaryOf kinds replayed (record { games = games; moves = moves; entries = entries; counts_diamonds = diamonds })
 gathered canonical around kinds replayed games moves counts entries diamonds same shapes rises judged numbered h =
     subst (λ b. IsDictionaryOf kinds replayed (record { games = games; moves = moves; entries = entries; counts_diamonds = b })) (sym judged)

@@ -1,4 +1,5 @@
-pub mod Seen
+pub mod Used
+pub mod Staying
 pub mod Rows
 pub mod Among
 pub mod Fronts

@@ -1,5 +1,5 @@
 -- What a list of entries has of a pattern, and what a map has.
-use Rattle.std.proofs.Common.{◌≡◌, ℕ, zero, suc, ◌≤◌, ◌==◌, nat_lt, true, false, cond, List, [], ◌∷◌, map, Option, Some, None, refl, ap, sym, ◌∙◌, arith, zero-add}
+use Rattle.std.proofs.Common.{◌≡◌, ℕ, zero, suc, ◌≤◌, ◌==◌, nat_lt, true, false, cond, List, [], ◌∷◌, map, Option, Some, None, refl, ap, sym, ◌∙◌, arith}
 use Rattle.std.specs.Ordering.{nat_cmp, is_eq}
 use Rattle.std.specs.Map.{lookup}
 use Rattle.std.specs.BTreeMap.{BTreeMap, is_at}
@@ -15,7 +15,7 @@ use Rattle.shape_dict.specs.Contents.{entry_of}
 use Rattle.harvest_core.specs.declared.counters.Count.{Count}
 use Rattle.harvest_core.specs.declared.dictionaries.FirstGames.{FirstGames}
 use Rattle.harvest_core.specs.declared.dictionaries.FirstGames.TheVariants as first_games
-use Rattle.harvest_core.specs.Counter.{seen, played_again, CountsGame}
+use Rattle.harvest_core.specs.Counter.{used_again, count_in, CountsGame}
 use Rattle.harvest_core.specs.Entries.{entry_of_pair}
 
 -- the entry of a pattern with this count
@@ -30,15 +30,12 @@ test_tells : (a b : ℕ) → (a == b) ≡ true → a ≡ b
 test_tells a b h = Prim.grind (arith, nat_tests)
 
 -- the entry of a pattern that was there and played so often in a game counted alone
-tallied_numbers : (shape there played : ℕ) → played ≤ there → entered first_games.LeftOut shape (played_again played (seen 0 there None))
+tallied_numbers : (shape there played : ℕ) → played ≤ there → entered first_games.LeftOut shape (used_again 0 there played None)
     ≡ cond (nat_lt 0 there) (Some (record { shape = shape; there = there; played = played; first = None })) None
 unfolding entered
 tallied_numbers shape zero zero among = refl
 tallied_numbers shape zero (suc played) among = absurd (omega arith)
-tallied_numbers shape (suc there) zero among = sym (ap (λ b. cond b (Some (record { shape = shape; there = suc there; played = 0; first = None })) None) (leb-suc-suc 0 there ∙ leb-zero there))
-tallied_numbers shape (suc there) (suc played) among =
-    ap (λ n. Some (record { shape = shape; there = suc there; played = n; first = None })) (zero-add (suc played))
-    ∙ sym (ap (λ b. cond b (Some (record { shape = shape; there = suc there; played = suc played; first = None })) None) (leb-suc-suc 0 there ∙ leb-zero there))
+tallied_numbers shape (suc there) played among = sym (ap (λ b. cond b (Some (record { shape = shape; there = suc there; played = played; first = None })) None) (leb-suc-suc 0 there ∙ leb-zero there))
 
 pub entry_of-pairs : (firsts : FirstGames) (shape : ℕ) (pairs : List (ℕ × Count)) → entry_of shape (map (entry_of_pair firsts) pairs) ≡ entered firsts shape (lookup (is_at (nat_cmp shape)) pairs)
 unfolding entered
@@ -55,18 +52,18 @@ entry_of-pairs firsts shape (pair ∷ pairs) =
 
 -- what a pattern counts in a game that is counted alone
 pub tallied : (kinds : List Kind) (game : Replayed) (shape : ℕ) → played_in kinds game shape ≤ there_in kinds game shape →
-    entered first_games.LeftOut shape (played_again (played_in kinds game shape) (seen 0 (there_in kinds game shape) None)) ≡ tallied_entry kinds game shape
+    entered first_games.LeftOut shape (used_again 0 (there_in kinds game shape) (played_in kinds game shape) None) ≡ tallied_entry kinds game shape
 unfolding entered
 tallied kinds game shape among = tallied_numbers shape (there_in kinds game shape) (played_in kinds game shape) among
 
 -- the entries of a map in which one game was counted are those of its tally
 pub tally_entries : (kinds : Kinds) (game : Actions) (none counts : BTreeMap ℕ Count) (moves : ℕ) (entries : List Entry) →
-    none.entries ≡ [] → entries ≡ map (entry_of_pair first_games.LeftOut) counts.entries → (counted : CountsGame kinds game 0 none counts moves) →
+    none.entries ≡ [] → entries ≡ map (entry_of_pair first_games.LeftOut) counts.entries → (counted : CountsGame kinds game 0 (count_in none) (count_in counts) moves) →
     (shape : ℕ) → entry_of shape entries ≡ tallied_entry (kinds_of kinds) (record { size = game.size; occasions = counted.occasions }) shape
 unfolding entered
 tally_entries kinds game none counts moves entries empty same counted shape =
     let replayed : Replayed = record { size = game.size; occasions = counted.occasions } in
     let k = kinds_of kinds in
     ap (entry_of shape) same ∙ entry_of-pairs first_games.LeftOut shape counts.entries
-    ∙ ap (entered first_games.LeftOut shape) (counted.counted shape ∙ ap (λ pairs. played_again (played_in k replayed shape) (seen 0 (there_in k replayed shape) (lookup (is_at (nat_cmp shape)) pairs))) empty)
+    ∙ ap (entered first_games.LeftOut shape) (counted.counted shape ∙ ap (λ pairs. used_again 0 (there_in k replayed shape) (played_in k replayed shape) (lookup (is_at (nat_cmp shape)) pairs)) empty)
     ∙ tallied k replayed shape (counted.among shape)

@@ -1,12 +1,11 @@
 -- Points in order, the first of them apart.
-use Rattle.std.proofs.Common.{◌≡◌, ℕ, suc, ◌+◌, ◌-◌, ◌<◌, Bool, true, false, cond, List, [], ◌∷◌, ◌++◌, filter, refl, ap, ◌∙◌, append_assoc, add-one, sym, subst, arith}
+use Rattle.std.proofs.Common.{◌≡◌, ℕ, Option, suc, ◌+◌, ◌-◌, ◌<◌, Bool, true, false, cond, List, [], ◌∷◌, ◌++◌, filter, refl, ap, ◌∙◌, append_assoc, add-one, sym, subst, arith}
 use Rattle.std.specs.List.{flat_map}
-use Rattle.std.specs.BTreeMap.{BTreeMap}
 use Rattle.std.proofs.lemmas.List.{append-nil}
 use Rattle.shape_core.specs.Word.{count_from}
 use Rattle.harvest_core.specs.declared.counters.Count.{Count}
 use Rattle.harvest_core.specs.Counter.{Sees}
-use Rattle.harvest_core.proofs.Seen.{sees-none, sees-append}
+use Rattle.harvest_core.proofs.Used.{sees-none, sees-append}
 
 pub count_from-first : (n k : ℕ) → k < n → count_from k (n - k) ≡ k ∷ count_from (k + 1) (n - (k + 1))
 count_from-first n k inside =
@@ -36,8 +35,8 @@ kept-append f p (x ∷ xs) ys =
     ∙ ap (λ zs. zs ++ flat_map f (filter p ys)) (sym (kept-cons f p x xs))
 
 -- the first part was counted, and whatever counts the rest counts the whole
-pub sees-more : (game : ℕ) (whole first rest : List ℕ) (a b c : BTreeMap ℕ Count) → whole ≡ first ++ rest → Sees game first a b → Sees game rest b c → Sees game whole a c
+pub sees-more : (game : ℕ) (whole first rest : List ℕ) (a b c : ℕ → Option Count) → whole ≡ first ++ rest → Sees game first a b → Sees game rest b c → Sees game whole a c
 sees-more game whole first rest a b c split h k = subst (λ shapes. Sees game shapes a c) (sym split) (sees-append game first rest a b c h k)
 
-pub sees-nothing : (game : ℕ) (whole : List ℕ) (a : BTreeMap ℕ Count) → whole ≡ [] → Sees game whole a a
+pub sees-nothing : (game : ℕ) (whole : List ℕ) (a : ℕ → Option Count) → whole ≡ [] → Sees game whole a a
 sees-nothing game whole a none = subst (λ shapes. Sees game shapes a a) (sym none) (sees-none game a)

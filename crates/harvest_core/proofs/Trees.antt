@@ -20,7 +20,7 @@ use Rattle.harvest_core.specs.declared.faults.HarvestFault.TheVariants as fault
 use Rattle.harvest_core.specs.Counts.{Replayed}
 use Rattle.harvest_core.specs.Occasions.{AreOccasions}
 use Rattle.harvest_core.specs.Collection.{record_of_tree, games_among, others_among, refused_among, AreReplayed, AreTrees}
-use Rattle.harvest_core.specs.Counter.{CountsGame, CountsGames}
+use Rattle.harvest_core.specs.Counter.{count_in, CountsGame, CountsGames}
 use Rattle.harvest_core.specs.Counted.{IsReport, IsCountFault}
 use Rattle.harvest_core.specs.Counting.{CountsTrees, IsWithin, IsNextFault}
 use Rattle.harvest_core.proofs.Games.{games_more}
@@ -98,7 +98,7 @@ report-push trees tree recorded before after is reported games others refused =
 
 -- one game more
 pub counts_game : (kinds : Kinds) (trees : List GameTree) (tree : GameTree) (game : Actions) (before after : Counter) (moves : ℕ) →
-    record_of_tree tree ≡ Ok (kind.Go game) → CountsTrees kinds trees before → CountsGame kinds game before.report.games before.counts after.counts moves →
+    record_of_tree tree ≡ Ok (kind.Go game) → CountsTrees kinds trees before → CountsGame kinds game before.report.games (count_in before.counts) (count_in after.counts) moves →
     after.moves ≡ before.moves + moves → after.report ≡ record before.report { games = before.report.games + 1 } → CountsTrees kinds (trees ++ tree ∷ []) after
 unfolding one_game one_other one_refused
 counts_game kinds trees tree game before after moves is counted new all_moves report =
@@ -110,8 +110,8 @@ counts_game kinds trees tree game before after moves is counted new all_moves re
       replayed = subst (λ games. AreReplayed games (counted.games ++ one ∷ []))
           (sym (ap games_among (records-push trees tree (Ok (kind.Go game)) is) ∙ games-push rs (Ok (kind.Go game))))
           (replayed-push (games_among rs) counted.games game one counted.replayed refl new.replayed);
-      counted = subst (CountsGames kinds (counted.games ++ one ∷ []) after.counts) (sym all_moves)
-          (games_more kinds counted.games game before.report.games before.moves moves before.counts after.counts number counted.counted new);
+      counted = subst (CountsGames kinds (counted.games ++ one ∷ []) (count_in after.counts)) (sym all_moves)
+          (games_more kinds counted.games game before.report.games before.moves moves (count_in before.counts) (count_in after.counts) number counted.counted new);
       reported = report-push trees tree (Ok (kind.Go game)) before.report after.report is counted.reported
           (ap (λ r. r.games) report) (ap (λ r. r.others) report ∙ sym (add-zero before.report.others)) (ap (λ r. r.refused) report ∙ sym (add-zero before.report.refused));
     }
@@ -128,7 +128,7 @@ counts_none kinds trees tree recorded before after is none counted same moves ga
       replayed = subst (λ all. AreReplayed all counted.games)
           (sym (ap games_among (records-push trees tree recorded is) ∙ games-push rs recorded ∙ ap (λ more. games_among rs ++ more) none ∙ append-nil (games_among rs)))
           counted.replayed;
-      counted = subst (λ counts. CountsGames kinds counted.games counts after.moves) (sym same) (subst (CountsGames kinds counted.games before.counts) (sym moves) counted.counted);
+      counted = subst (λ counts. CountsGames kinds counted.games (count_in counts) after.moves) (sym same) (subst (CountsGames kinds counted.games (count_in before.counts)) (sym moves) counted.counted);
       reported = report-push trees tree recorded before.report after.report is counted.reported
           (games ∙ sym (ap (λ more. before.report.games + length more) none ∙ add-zero before.report.games)) others refused;
     }

@@ -1,5 +1,5 @@
 -- Counts of patterns, as an ordered map keeps them.
-use Rattle.std.specs.Prelude.{◌≡◌, ℕ, zero, suc, ◌+◌, ◌^◌, ◌≤◌, ◌==◌, nat_lt, List, ◌++◌, length, count_by, sum_by, Option, Some, None, if◌then◌else◌}
+use Rattle.std.specs.Prelude.{◌≡◌, ℕ, zero, suc, ◌+◌, ◌^◌, ◌≤◌, ◌==◌, nat_lt, List, [], ◌++◌, length, count_by, sum_by, Option, Some, None, if◌then◌else◌}
 use Rattle.std.specs.Ordering.{nat_cmp}
 use Rattle.std.specs.BTreeMap.{get, BTreeMap}
 use Rattle.std.specs.List.{flat_map, position_or_len}
@@ -19,67 +19,66 @@ use Rattle.harvest_core.specs.declared.faults.HarvestFault.TheVariants as fault
 abbrev pub count_in : BTreeMap ℕ Count → ℕ → Option Count
 count_in counts shape = get nat_cmp counts shape
 
-abbrev pub there_at : Option Count → ℕ
-there_at None = 0
-there_at (Some count) = count.there
-
-abbrev pub played_at : Option Count → ℕ
-played_at None = 0
-played_at (Some count) = count.played
-
-abbrev pub first_at : Option Count → Option ℕ
-first_at None = None
-first_at (Some count) = Some count.first
-
 -- how often a pattern was counted, both counts together
 abbrev pub uses_at : Option Count → ℕ
 uses_at None = 0
 uses_at (Some count) = count.there + count.played
 
 -- no pattern was counted more often since than this
-abbrev pub GrowsBy : ℕ → BTreeMap ℕ Count → BTreeMap ℕ Count → Type 0
-GrowsBy most before after = (shape : ℕ) → uses_at (count_in after shape) ≤ uses_at (count_in before shape) + most
+abbrev pub GrowsBy : ℕ → (ℕ → Option Count) → (ℕ → Option Count) → Type 0
+GrowsBy most before after = (shape : ℕ) → uses_at (after shape) ≤ uses_at (before shape) + most
 
 -- memory was wanting, or some pattern was counted so often that so many more would pass 2 ^ 64 - 1
-abbrev pub IsCountingFault : ℕ → BTreeMap ℕ Count → HarvestFault → Type 0
+abbrev pub IsCountingFault : ℕ → (ℕ → Option Count) → HarvestFault → Type 0
 IsCountingFault most before fault.Memory = Unit {0}
-IsCountingFault most before fault.Overflow = (shape : ℕ) × (2 ^ 64 ≤ uses_at (count_in before shape) + most)
+IsCountingFault most before fault.Overflow = (shape : ℕ) × (2 ^ 64 ≤ uses_at (before shape) + most)
 IsCountingFault most before found = ⊥
 
--- a pattern's count once it was there so many times more, in a game
-abbrev pub seen : ℕ → ℕ → Option Count → Option Count
-seen game zero old = old
-seen game (suc times) None = Some (record { there = suc times; played = 0; first = game })
-seen game (suc times) (Some count) = Some (record count { there = count.there + suc times })
+-- the count of a pattern that had none, once it was there and was played so many times in a game
+abbrev pub first_used : ℕ → ℕ → ℕ → Option Count
+first_used game zero zero = None
+first_used game zero (suc played) = Some (record { there = 0; played = suc played; first = game })
+first_used game (suc there) played = Some (record { there = suc there; played = played; first = game })
 
--- a pattern's count once it was played so many times more
-abbrev pub played_again : ℕ → Option Count → Option Count
-played_again zero old = old
-played_again (suc times) None = None
-played_again (suc times) (Some count) = Some (record count { played = count.played + suc times })
+-- a pattern's count once it was there and was played so many times more, in a game
+abbrev pub used_again : ℕ → ℕ → ℕ → Option Count → Option Count
+used_again game there played None = first_used game there played
+used_again game there played (Some count) = Some (record count { there = count.there + there; played = count.played + played })
 
--- what each pattern's count is once these patterns were there in a game
-abbrev pub Sees : ℕ → List ℕ → BTreeMap ℕ Count → BTreeMap ℕ Count → Type 0
-Sees game shapes before after =
-    (shape : ℕ) → count_in after shape ≡ seen game (count_by (λ c. c == shape) shapes) (count_in before shape)
+-- what each pattern's count is once each was there and was played so many times more
+abbrev pub used : ℕ → (ℕ → ℕ) → (ℕ → ℕ) → (ℕ → Option Count) → ℕ → Option Count
+used game there played before shape = used_again game (there shape) (played shape) (before shape)
 
--- what each pattern's count is once these patterns were played, where each was there before
-abbrev pub Plays : List ℕ → BTreeMap ℕ Count → BTreeMap ℕ Count → Type 0
-Plays shapes before after =
-    (shape : ℕ) → count_in after shape ≡ played_again (count_by (λ c. c == shape) shapes) (count_in before shape)
+-- one pattern so many times, and no other
+abbrev pub one_pattern : ℕ → ℕ → ℕ → ℕ
+one_pattern only times shape = if only == shape then times else 0
+
+-- how often each pattern is in a list
+abbrev pub times_in : List ℕ → ℕ → ℕ
+times_in shapes shape = count_by (λ c. c == shape) shapes
+
+-- each pattern's count is this
+abbrev pub AreCounts : (ℕ → Option Count) → (ℕ → Option Count) → Type 0
+AreCounts counts after = (shape : ℕ) → after shape ≡ counts shape
 
 -- what each pattern's count is once the first were there and the second were played, in a game
-abbrev pub Counts : ℕ → List ℕ → List ℕ → BTreeMap ℕ Count → BTreeMap ℕ Count → Type 0
-Counts game there played before after =
-    (shape : ℕ) → count_in after shape
-    ≡ played_again (count_by (λ c. c == shape) played) (seen game (count_by (λ c. c == shape) there) (count_in before shape))
+abbrev pub Counts : ℕ → List ℕ → List ℕ → (ℕ → Option Count) → (ℕ → Option Count) → Type 0
+Counts game there played before after = AreCounts (used game (times_in there) (times_in played) before) after
+
+-- what each pattern's count is once these patterns were there in a game
+abbrev pub Sees : ℕ → List ℕ → (ℕ → Option Count) → (ℕ → Option Count) → Type 0
+Sees game shapes before after = Counts game shapes [] before after
+
+-- what each pattern's count is once these patterns were played in a game
+abbrev pub Plays : ℕ → List ℕ → (ℕ → Option Count) → (ℕ → Option Count) → Type 0
+Plays game shapes before after = Counts game [] shapes before after
 
 -- each of the first is among the second, as often
 abbrev pub AreAmong : List ℕ → List ℕ → Type 0
 AreAmong played there = (shape : ℕ) → count_by (λ c. c == shape) played ≤ count_by (λ c. c == shape) there
 
 -- a game of so many occasions was counted
-pub record CountsGame (kinds : Kinds) (game : Actions) (number : ℕ) (before after : BTreeMap ℕ Count) (moves : ℕ) : Type 0 where
+pub record CountsGame (kinds : Kinds) (game : Actions) (number : ℕ) (before after : ℕ → Option Count) (moves : ℕ) : Type 0 where
   pub occasions : List Occasion
   pub replayed : AreOccasions game occasions
   pub moves_counted : moves ≡ length occasions
@@ -87,7 +86,7 @@ pub record CountsGame (kinds : Kinds) (game : Actions) (number : ℕ) (before af
   pub among : AreAmong (flat_map (patterns_played (kinds_of kinds) game.size) occasions) (flat_map (patterns_there (kinds_of kinds) game.size) occasions)
 
 -- the first actions of a game were counted: whatever occasions the others have, all have these and those
-pub record CountsFront (kinds : Kinds) (size : Extent) (all left : List Action) (start now : Position) (number : ℕ) (before after : BTreeMap ℕ Count) (moves : ℕ) : Type 0 where
+pub record CountsFront (kinds : Kinds) (size : Extent) (all left : List Action) (start now : Position) (number : ℕ) (before after : ℕ → Option Count) (moves : ℕ) : Type 0 where
   pub done : List Occasion
   pub others : (others : List Occasion) → HasOccasions size left now others → HasOccasions size all start (done ++ others)
   pub moves_counted : moves ≡ length done
@@ -106,7 +105,7 @@ games_count kinds games shape =
     else None
 
 -- these games were counted
-pub record CountsGames (kinds : Kinds) (games : List Replayed) (counts : BTreeMap ℕ Count) (moves : ℕ) : Type 0 where
-  pub counted : (shape : ℕ) → count_in counts shape ≡ games_count kinds games shape
+pub record CountsGames (kinds : Kinds) (games : List Replayed) (counts : ℕ → Option Count) (moves : ℕ) : Type 0 where
+  pub counted : (shape : ℕ) → counts shape ≡ games_count kinds games shape
   pub among : (shape : ℕ) → played_sum kinds games shape ≤ there_sum kinds games shape
   pub moves_counted : moves ≡ sum_by (λ game. length game.occasions) games

@@ -19,7 +19,7 @@ use Rattle.harvest_core.specs.declared.faults.HarvestFault.TheVariants as fault
 pub record CountsTrees (kinds : Kinds) (trees : List GameTree) (counter : Counter) : Type 0 where
   pub games : List Replayed
   pub replayed : AreReplayed (games_among (map record_of_tree trees)) games
-  pub counted : CountsGames kinds games counter.counts counter.moves
+  pub counted : CountsGames kinds games (count_in counter.counts) counter.moves
   pub reported : IsReport trees counter.report
 
 -- the numbers of a counter are as small as the place up to which the input was counted

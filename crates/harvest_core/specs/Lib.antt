@@ -3,6 +3,7 @@ pub mod Counts
 pub mod Games
 pub mod Collection
 pub mod Counter
+pub mod Stays
 pub mod Entries
 pub mod Tally
 pub mod Limits

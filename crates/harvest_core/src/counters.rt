@@ -1,6 +1,6 @@
 //! Counts of patterns in an ordered map.
-ghost use Rattle.std.specs.Prelude.{◌∷◌, [], OnOk, IfErr};
-ghost use Rattle.harvest_core.specs.Counter.{Sees, Plays, IsCountingFault};
+ghost use Rattle.std.specs.Prelude.{OnOk, IfErr};
+ghost use Rattle.harvest_core.specs.Counter.{count_in, one_pattern, used, AreCounts, IsCountingFault};
 
 use crate::faults::HarvestFault;
 use shape_core::Shape;
@@ -15,43 +15,50 @@ pub struct Count {
     pub first: u64,
 }
 
-/// Counts a pattern as being there once more, in a game.
-pub(crate) fn see(
+impl Count {
+    ghost use Rattle.std.specs.Prelude.{◌≡◌, ◌+◌, ◌^◌, ◌≤◌, IfSome, IfNone};
+
+    /// The count once the pattern was there and was played so many times more; None where that passes 2^64 - 1.
+    fn raised(self, there: u64, played: u64) -> Option<Count>
+        ensures some { IfSome result (λ count. count ≡ record self { there = self.there + there; played = self.played + played }) }
+        ensures none { IfNone result (2 ^ 64 ≤ self.there + self.played + there + played) }
+    {
+        Some(Count {
+            there: self.there.checked_add(there)?,
+            played: self.played.checked_add(played)?,
+            ..self
+        })
+    }
+}
+
+/// Counts a pattern as being there and being played so many times more, in a game.
+pub(crate) fn add(
     counts: &mut BTreeMap<Shape, Count>,
     shape: Shape,
+    there: u64,
+    played: u64,
     game: u64,
 ) -> Result<(), HarvestFault>
-    ensures ok { OnOk result (Sees game (shape ∷ []) counts.old counts.new) }
-    ensures fault { IfErr result (IsCountingFault 1 counts.old) }
+    ensures ok { OnOk result (AreCounts (used game (one_pattern shape there) (one_pattern shape played) (count_in counts.old)) (count_in counts.new)) }
+    ensures fault { IfErr result (IsCountingFault 0 (used game (one_pattern shape there) (one_pattern shape played) (count_in counts.old))) }
 {
+    if there == 0 && played == 0 {
+        return Ok(());
+    }
     if let Some(count) = counts.get_mut(&shape) {
-        let Some(there) = count.there.checked_add(1) else {
+        let Some(raised) = count.raised(there, played) else {
             return Err(HarvestFault::Overflow);
         };
-        count.there = there;
+        *count = raised;
         return Ok(());
     }
     let count = Count {
-        there: 1,
-        played: 0,
+        there,
+        played,
         first: game,
     };
     match counts.insert(shape, count) {
         Ok(_) => Ok(()),
         Err(_) => Err(HarvestFault::Memory),
     }
-}
-
-/// Counts a pattern that was there as played once more. It takes no memory.
-pub(crate) fn play(counts: &mut BTreeMap<Shape, Count>, shape: Shape) -> Result<(), HarvestFault>
-    ensures ok { OnOk result (Plays (shape ∷ []) counts.old counts.new) }
-    ensures fault { IfErr result (IsCountingFault 1 counts.old) }
-{
-    if let Some(count) = counts.get_mut(&shape) {
-        let Some(played) = count.played.checked_add(1) else {
-            return Err(HarvestFault::Overflow);
-        };
-        count.played = played;
-    }
-    Ok(())
 }

@@ -1,7 +1,7 @@
 //! The dictionary of the games that were counted.
 ghost use Rattle.std.specs.Prelude.{◌≡◌, List, length, IfOk, IfErr};
 ghost use Rattle.harvest_core.specs.Counts.{Replayed};
-ghost use Rattle.harvest_core.specs.Counter.{CountsGames};
+ghost use Rattle.harvest_core.specs.Counter.{count_in, CountsGames};
 ghost use Rattle.harvest_core.specs.Games.{counts_diamonds, IsDictionaryOf};
 ghost use Rattle.harvest_core.specs.declared.faults.HarvestFault.TheVariants as fault;
 
@@ -32,8 +32,8 @@ pub(crate) fn dictionary_of(
     moves: u64,
     counts: &BTreeMap<Shape, Count>,
 ) -> Result<Dictionary, HarvestFault>
-    requires counted { (replayed : List Replayed) × (length replayed ≡ games) × CountsGames kinds replayed counts.now moves }
-    ensures ok { IfOk result (λ d. (replayed : List Replayed) → length replayed ≡ games → CountsGames kinds replayed counts.now moves → IsDictionaryOf kinds replayed d) }
+    requires counted { (replayed : List Replayed) × (length replayed ≡ games) × CountsGames kinds replayed (count_in counts.now) moves }
+    ensures ok { IfOk result (λ d. (replayed : List Replayed) → length replayed ≡ games → CountsGames kinds replayed (count_in counts.now) moves → IsDictionaryOf kinds replayed d) }
     ensures fault { IfErr result (λ found. found ≡ fault.Memory) }
 {
     kinds_stay();

@@ -11,6 +11,7 @@ mod laws;
 mod occasions;
 mod replays;
 mod settings;
+mod stays;
 mod tallies;
 
 pub use collections::{Counted, Report, count_plain};
