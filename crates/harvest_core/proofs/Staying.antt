@@ -29,11 +29,6 @@ all-of only times =
     let same : (only == only) ≡ true = Prim.grind (arith, nat_tests) in
     ap (λ t. cond t times 0) same
 
--- a pattern once more
-pub one-more : (only times shape : ℕ) → one_pattern only (times + 1) shape ≡ one_pattern only times shape + times_in (only ∷ []) shape
-one-more only times shape =
-    elim (only == shape) as (λ t. cond t (times + 1) 0 ≡ cond t times 0 + (0 + cond t 1 0)) [ true ↦ omega arith | false ↦ omega arith ]
-
 -- a stay was there at one occasion more
 pub stays_longer : (game only : ℕ) (old turned longer : Stay) (a b : BTreeMap ℕ Count) →
     AreCounts (with_stay game old a) (with_stay game turned b) → ((shape : ℕ) → stayed longer shape ≡ stayed turned shape + times_in (only ∷ []) shape) →
