@@ -4,9 +4,9 @@ use Rattle.shape_core.specs.declared.words.Kinds.{Kinds}
 use Rattle.shape_dict.specs.declared.entries.Text.{Text}
 use Rattle.shape_dict.specs.Text.{text_of}
 use Rattle.shape_dict.specs.declared.faults.DictFault.TheVariants as dict_fault
-use Rattle.harvest_core.specs.Counted.{IsCounted, IsCountFault}
-use Rattle.harvest_core.specs.declared.collections.Counted.{Counted}
-use Rattle.harvest_core.specs.declared.collections.Report.{Report}
+use Rattle.tally_core.specs.Counted.{IsCounted, IsCountFault}
+use Rattle.tally_core.specs.declared.collections.Counted.{Counted}
+use Rattle.tally_core.specs.declared.collections.Report.{Report}
 use Rattle.shapes.specs.declared.faults.RunFault.{RunFault}
 use Rattle.shapes.specs.declared.faults.RunFault.TheVariants as fault
 

@@ -2,7 +2,7 @@
 use Rattle.std.specs.Prelude.{ℕ}
 use Rattle.sgf_core.specs.declared.faults.SgfFault.TheVariants as sgf
 use Rattle.go_record.specs.declared.faults.RecordFault.TheVariants as record_fault
-use Rattle.harvest_core.specs.declared.faults.HarvestFault.TheVariants as harvest_fault
+use Rattle.tally_core.specs.declared.faults.HarvestFault.TheVariants as harvest_fault
 use Rattle.shape_dict.specs.declared.faults.DictFault.TheVariants as dict_fault
 use Rattle.shapes.specs.declared.faults.RunFault.{RunFault}
 use Rattle.shapes.specs.declared.faults.RunFault.TheVariants as fault

@@ -12,7 +12,7 @@ use Rattle.shape_core.specs.declared.spelling.GlyphFault.TheVariants as glyph_fa
 use Rattle.shape_core.specs.Glyph.{glyphs_of, IsFirstBad}
 use Rattle.shape_core.specs.Symmetry.{canonical_of}
 use Rattle.shape_core.specs.Word.{kind_of}
-use Rattle.harvest_core.specs.Limits.{Limits}
+use Rattle.tally_core.specs.Limits.{Limits}
 use Rattle.shape_dict.specs.declared.entries.Text.{Text}
 use Rattle.shape_dict.specs.declared.entries.Text.TheVariants as text
 use Rattle.shapes.specs.declared.faults.RunFault.{RunFault}

@@ -6,7 +6,7 @@ ghost use Rattle.shapes.specs.Runs.{Wrote, IsRunFault};
 use crate::faults::RunFault;
 use crate::input::read_input;
 use crate::output::write_output;
-use harvest_core::{Report, Settings, count_plain};
+use tally_core::{Report, Settings, count_plain};
 use shape_core::Kinds;
 use shape_dict::Text;
 use std::alloc::Global;

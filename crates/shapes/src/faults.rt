@@ -4,7 +4,7 @@ ghost use Rattle.shapes.specs.Status.{status_of};
 
 use go_board::BoardFault;
 use go_record::RecordFault;
-use harvest_core::HarvestFault;
+use tally_core::HarvestFault;
 use sgf_core::SgfFault;
 use shape_core::GlyphFault;
 use shape_dict::DictFault;

@@ -1,7 +1,7 @@
 //! The words of the command line, and the lines and statuses of faults, from outside.
 use super::*;
 use go_board::BoardFault;
-use harvest_core::HarvestFault;
+use tally_core::HarvestFault;
 use sgf_core::SgfFault;
 use shape_core::{GlyphFault, Kinds};
 use shape_dict::{DictFault, Text};

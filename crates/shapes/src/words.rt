@@ -10,7 +10,7 @@ use crate::faults::RunFault;
 use crate::patterns::pattern_of;
 use clap::error::ErrorKind;
 use clap::{ArgMatches, Error};
-use harvest_core::Settings;
+use tally_core::Settings;
 use shape_core::{Kind, Kinds, Shape};
 use shape_dict::Text;
 use std::alloc::Global;

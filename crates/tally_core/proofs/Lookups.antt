@@ -1,0 +1,69 @@
+-- What a list of entries has of a pattern, and what a map has.
+use Rattle.std.proofs.Common.{◌≡◌, ℕ, zero, suc, ◌≤◌, ◌==◌, nat_lt, true, false, cond, List, [], ◌∷◌, map, Option, Some, None, refl, ap, sym, ◌∙◌, arith}
+use Rattle.std.specs.Ordering.{nat_cmp, is_eq}
+use Rattle.std.specs.Map.{lookup}
+use Rattle.std.specs.BTreeMap.{BTreeMap, is_at}
+use Rattle.std.proofs.Math.Dec.{leb-zero, leb-suc-suc}
+use Rattle.std.proofs.lemmas.Bool.Decides.{nat_tests}
+use Rattle.shape_core.specs.declared.words.Kind.{Kind}
+use Rattle.tally_core.specs.Counts.{Replayed, kinds_of, there_in, played_in}
+use Rattle.shape_core.specs.declared.words.Kinds.{Kinds}
+use Rattle.go_record.specs.Actions.{Actions}
+use Rattle.tally_core.specs.Tally.{tallied_entry}
+use Rattle.shape_dict.specs.declared.entries.Entry.{Entry}
+use Rattle.shape_dict.specs.Contents.{entry_of}
+use Rattle.tally_core.specs.declared.counters.Count.{Count}
+use Rattle.tally_core.specs.declared.dictionaries.FirstGames.{FirstGames}
+use Rattle.tally_core.specs.declared.dictionaries.FirstGames.TheVariants as first_games
+use Rattle.tally_core.specs.Counter.{used_again, count_in, CountsGame}
+use Rattle.tally_core.specs.Entries.{entry_of_pair}
+
+-- the entry of a pattern with this count
+unfoldable pub entered : FirstGames → ℕ → Option Count → Option Entry
+entered firsts shape None = None
+entered firsts shape (Some count) = Some (entry_of_pair firsts (shape, count))
+
+test_same : (a b : ℕ) → is_eq (nat_cmp a b) ≡ (b == a)
+test_same a b = Prim.grind (arith, nat_tests)
+
+test_tells : (a b : ℕ) → (a == b) ≡ true → a ≡ b
+test_tells a b h = Prim.grind (arith, nat_tests)
+
+-- the entry of a pattern that was there and played so often in a game counted alone
+tallied_numbers : (shape there played : ℕ) → played ≤ there → entered first_games.LeftOut shape (used_again 0 there played None)
+    ≡ cond (nat_lt 0 there) (Some (record { shape = shape; there = there; played = played; first = None })) None
+unfolding entered
+tallied_numbers shape zero zero among = refl
+tallied_numbers shape zero (suc played) among = absurd (omega arith)
+tallied_numbers shape (suc there) played among = sym (ap (λ b. cond b (Some (record { shape = shape; there = suc there; played = played; first = None })) None) (leb-suc-suc 0 there ∙ leb-zero there))
+
+pub entry_of-pairs : (firsts : FirstGames) (shape : ℕ) (pairs : List (ℕ × Count)) → entry_of shape (map (entry_of_pair firsts) pairs) ≡ entered firsts shape (lookup (is_at (nat_cmp shape)) pairs)
+unfolding entered
+entry_of-pairs firsts shape [] = refl
+entry_of-pairs firsts shape (pair ∷ pairs) =
+    elim (pair.0 == shape) as (λ b. (pair.0 == shape) ≡ b →
+    cond b (Some (entry_of_pair firsts pair)) (entry_of shape (map (entry_of_pair firsts) pairs))
+    ≡ entered firsts shape (cond (is_at (nat_cmp shape) pair.0) (Some pair.1) (lookup (is_at (nat_cmp shape)) pairs))) [
+      | true ↦ λ same. ap (λ key. Some (entry_of_pair firsts (key, pair.1))) (test_tells pair.0 shape same)
+          ∙ sym (ap (λ b. entered firsts shape (cond b (Some pair.1) (lookup (is_at (nat_cmp shape)) pairs))) (test_same shape pair.0 ∙ same))
+      | false ↦ λ other. entry_of-pairs firsts shape pairs
+          ∙ sym (ap (λ b. entered firsts shape (cond b (Some pair.1) (lookup (is_at (nat_cmp shape)) pairs))) (test_same shape pair.0 ∙ other))
+    ] refl
+
+-- what a pattern counts in a game that is counted alone
+pub tallied : (kinds : List Kind) (game : Replayed) (shape : ℕ) → played_in kinds game shape ≤ there_in kinds game shape →
+    entered first_games.LeftOut shape (used_again 0 (there_in kinds game shape) (played_in kinds game shape) None) ≡ tallied_entry kinds game shape
+unfolding entered
+tallied kinds game shape among = tallied_numbers shape (there_in kinds game shape) (played_in kinds game shape) among
+
+-- the entries of a map in which one game was counted are those of its tally
+pub tally_entries : (kinds : Kinds) (game : Actions) (none counts : BTreeMap ℕ Count) (moves : ℕ) (entries : List Entry) →
+    none.entries ≡ [] → entries ≡ map (entry_of_pair first_games.LeftOut) counts.entries → (counted : CountsGame kinds game 0 (count_in none) (count_in counts) moves) →
+    (shape : ℕ) → entry_of shape entries ≡ tallied_entry (kinds_of kinds) (record { size = game.size; occasions = counted.occasions }) shape
+unfolding entered
+tally_entries kinds game none counts moves entries empty same counted shape =
+    let replayed : Replayed = record { size = game.size; occasions = counted.occasions } in
+    let k = kinds_of kinds in
+    ap (entry_of shape) same ∙ entry_of-pairs first_games.LeftOut shape counts.entries
+    ∙ ap (entered first_games.LeftOut shape) (counted.counted shape ∙ ap (λ pairs. used_again 0 (there_in k replayed shape) (played_in k replayed shape) (lookup (is_at (nat_cmp shape)) pairs)) empty)
+    ∙ tallied k replayed shape (counted.among shape)

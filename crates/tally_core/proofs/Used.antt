@@ -1,0 +1,97 @@
+-- Patterns that are counted one after another.
+use Rattle.std.proofs.Common.{◌≡◌, ℕ, zero, suc, ◌+◌, ◌<◌, ◌≤◌, ◌==◌, true, false, List, [], ◌++◌, length, Option, Some, None, refl, ap, ap₂, sym, ◌∙◌, cond, arith, subst, zero-add, add-zero, add_assoc}
+use Rattle.std.specs.Prelude.{Result, Ok, Err, IsErrAnd, IfErr}
+use Rattle.std.specs.Ordering.{nat_cmp}
+use Rattle.std.specs.BTreeMap.{is_at}
+use Rattle.std.proofs.lemmas.Bool.Decides.{nat_tests}
+use Rattle.std.proofs.lemmas.List.Sums.{sum_by-append, count_by-le-length}
+use Rattle.tally_core.specs.declared.counters.Count.{Count}
+use Rattle.tally_core.specs.declared.faults.HarvestFault.{HarvestFault}
+use Rattle.tally_core.specs.declared.faults.HarvestFault.TheVariants as fault
+use Rattle.tally_core.specs.Counter.{first_used, used_again, used, uses_at, times_in, one_pattern, Sees, Counts, AreAmong, AreCounts, GrowsBy, IsCountingFault}
+
+first_used-some : (game there played : ℕ) → 0 < there + played → first_used game there played ≡ Some (record { there = there; played = played; first = game })
+first_used-some game zero zero some = absurd (omega arith)
+first_used-some game zero (suc played) some = refl
+first_used-some game (suc there) played some = refl
+
+-- used at no occasion more
+pub again-none : (game : ℕ) (old : Option Count) → used_again game 0 0 old ≡ old
+again-none game None = refl
+again-none game (Some count) = ap₂ (λ t p. Some (record count { there = t; played = p })) (add-zero count.there) (add-zero count.played)
+
+-- so many times, and then so many more
+pub again-again : (game there played more_there more_played : ℕ) (old : Option Count) →
+    used_again game more_there more_played (used_again game there played old) ≡ used_again game (there + more_there) (played + more_played) old
+again-again game there played more_there more_played (Some count) =
+    ap₂ (λ t p. Some (record count { there = t; played = p })) (add_assoc count.there there more_there) (add_assoc count.played played more_played)
+again-again game zero zero more_there more_played None =
+    ap₂ (λ t p. first_used game t p) (sym (zero-add more_there)) (sym (zero-add more_played))
+again-again game zero (suc played) more_there more_played None = sym (first_used-some game (zero + more_there) (suc played + more_played) (omega arith))
+again-again game (suc there) played more_there more_played None = sym (first_used-some game (suc there + more_there) (played + more_played) (omega arith))
+
+-- a pattern's uses grow by as much as it was used
+pub again-uses : (game there played : ℕ) (old : Option Count) → uses_at (used_again game there played old) ≡ uses_at old + there + played
+again-uses game zero zero None = refl
+again-uses game zero (suc played) None = omega arith
+again-uses game (suc there) played None = omega arith
+again-uses game there played (Some count) = omega arith
+
+times-append : (shape : ℕ) (xs ys : List ℕ) → times_in (xs ++ ys) shape ≡ times_in xs shape + times_in ys shape
+times-append shape xs ys = sum_by-append (λ c. cond (c == shape) 1 0) xs ys
+
+-- one part was counted, and then another
+pub counts-append : (game : ℕ) (there more_there played more_played : List ℕ) (a b c : ℕ → Option Count) →
+    Counts game there played a b → Counts game more_there more_played b c → Counts game (there ++ more_there) (played ++ more_played) a c
+counts-append game there more_there played more_played a b c h k shape =
+    k shape ∙ ap (used_again game (times_in more_there shape) (times_in more_played shape)) (h shape)
+    ∙ again-again game (times_in there shape) (times_in played shape) (times_in more_there shape) (times_in more_played shape) (a shape)
+    ∙ ap₂ (λ t p. used_again game t p (a shape)) (sym (times-append shape there more_there)) (sym (times-append shape played more_played))
+
+-- nothing is seen
+pub sees-none : (game : ℕ) (counts : ℕ → Option Count) → Sees game [] counts counts
+sees-none game counts shape = sym (again-none game (counts shape))
+
+-- these were there, and then those were
+pub sees-append : (game : ℕ) (xs ys : List ℕ) (a b c : ℕ → Option Count) → Sees game xs a b → Sees game ys b c → Sees game (xs ++ ys) a c
+sees-append game xs ys a b c h k = counts-append game xs ys [] [] a b c h k
+
+pub among-append : (played there more_played more_there : List ℕ) → AreAmong played there → AreAmong more_played more_there → AreAmong (played ++ more_played) (there ++ more_there)
+among-append played there more_played more_there h k shape =
+    rw (times-append shape played more_played, times-append shape there more_there) (omega (arith, h shape, k shape))
+
+-- counts grow by no more than what is counted
+pub counts-grow : (game most : ℕ) (there played : List ℕ) (a b : ℕ → Option Count) → length there + length played ≤ most → Counts game there played a b → GrowsBy most a b
+counts-grow game most there played a b few h shape =
+    rw (h shape, again-uses game (times_in there shape) (times_in played shape) (a shape))
+    (omega (arith, count_by-le-length (λ c. c == shape) there, count_by-le-length (λ c. c == shape) played))
+
+-- a fault that is handed on is one of the same
+pub passed_up : {T E : Type 0} (r : Result T E) (e : E) (P : E → Type 0) → IsErrAnd r (λ y. y ≡ e) → P e → IfErr r P
+passed_up (Ok x) e P is p = tt
+passed_up (Err y) e P is p = subst P (sym is) p
+
+-- a fault of some counts is one of greater counts
+pub fault-later : (found : HarvestFault) (few most : ℕ) (a b : ℕ → Option Count) → ((shape : ℕ) → uses_at (a shape) + few ≤ uses_at (b shape) + most) →
+    IsCountingFault few a found → IsCountingFault most b found
+fault-later fault.Memory few most a b h k = k
+fault-later fault.Overflow few most a b h k = (k.0, omega (arith, h k.0, k.1))
+fault-later (fault.BadSettings) few most a b h k = k
+fault-later (fault.Sgf found) few most a b h k = k
+
+at_test : (a b : ℕ) → is_at (nat_cmp a) b ≡ (a == b)
+at_test a b = Prim.grind (arith, nat_tests)
+
+-- a pattern that had no count was there and was played so many times
+pub used_first : (game only there played : ℕ) (a b : ℕ → Option Count) → 0 < there + played → a only ≡ None →
+    ((q : ℕ) → b q ≡ cond (is_at (nat_cmp only) q) (Some (record { there = there; played = played; first = game })) (a q)) →
+    AreCounts (used game (one_pattern only there) (one_pattern only played) a) b
+used_first game only there played a b some none updated q =
+    let new : Option Count = Some (record { there = there; played = played; first = game }) in
+    elim (only == q) as (λ t. (only == q) ≡ t → b q ≡ used_again game (cond t there 0) (cond t played 0) (a q)) [
+      | true ↦ λ same.
+          updated q ∙ ap (λ t. cond t new (a q)) (at_test only q ∙ same)
+          ∙ sym (first_used-some game there played some)
+          ∙ ap (used_again game there played) (sym none ∙ ap a (Prim.grind (arith, nat_tests)))
+      | false ↦ λ other. updated q ∙ ap (λ t. cond t new (a q)) (at_test only q ∙ other) ∙ sym (again-none game (a q))
+    ] refl

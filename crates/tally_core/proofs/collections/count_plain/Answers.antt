@@ -1,0 +1,26 @@
+use Rattle.std.proofs.Common.{ℕ, List, ap, subst, refl}
+use Rattle.sgf_core.specs.Reading.{Reading}
+use Rattle.tally_core.specs.Counting.{CountsAll}
+use Rattle.tally_core.proofs.Trees.{games_reported}
+use Rattle.tally_core.proofs.collections.count_plain.Goals as goal
+
+pub dictionary_of-requires : goal.dictionary_of-requires
+dictionary_of-requires c =
+    let all = c.in_ok-count_trees.ensures.counted in
+    record { counted = (all.counted.games, games_reported c.args.kinds all.trees c.count_trees.new.counter all.counted, all.counted.counted) }
+
+pub returns-clause-counted : goal.returns-clause-counted
+returns-clause-counted c =
+    let bytes = ap (λ (t : Reading). t.bytes) c.in-Ok.ensures.begins in
+    let all = subst (λ (bytes : List ℕ). CountsAll c.args.kinds bytes c.count_trees.new.counter) bytes c.in_ok-count_trees.ensures.counted in
+    record {
+      trees = all.trees;
+      end = all.end;
+      games = all.counted.games;
+      small = c.in-Ok.ensures.small.0 refl;
+      written = all.written;
+      no_more = all.no_more;
+      replayed = all.counted.replayed;
+      dictionary = c.in_ok-dictionary.ensures.ok all.counted.games (games_reported c.args.kinds all.trees c.count_trees.new.counter all.counted) all.counted.counted;
+      reported = all.counted.reported;
+    }

@@ -1,0 +1,38 @@
+use Rattle.std.proofs.Common.{◌≡◌, ◌∙◌, ◌<◌, ◌≤◌, [], ◌∷◌, ◌++◌, IfSome, ap, sym, subst, arith, length}
+use Rattle.sgf_core.specs.Reading.{Reading}
+use Rattle.tally_core.specs.Counting.{IsWithin}
+use Rattle.tally_core.proofs.Trees.{CountsUpTo, IsRead, trees_push}
+use Rattle.tally_core.proofs.counting.count_trees.Goals as goal
+
+pub count_tree-requires-clause-small : goal.count_tree-requires-clause-small
+count_tree-requires-clause-small c =
+    let read = subst (λ o. IfSome o (IsRead c.loop-tree.trees.bytes c.loop-tree.trees.from)) c.in-Some.is c.in_ok-tree.ensures.tree in
+    let forward = subst (λ o. IfSome o (λ read. (c.loop-tree.trees.from < read.end) × (read.end ≤ length c.loop-tree.trees.bytes))) c.in-Some.is c.in_ok-tree.ensures.forward in (
+      read.0,
+      record {
+        marks = read.2;
+        values = c.few_values.ensures _ _ _ _ read.0 read.1;
+        in_input = omega (arith, forward.1, c.requires.small, ap length c.loop-tree.invariant.bytes);
+      },
+    )
+
+pub loop-tree-preserved : goal.loop-tree-preserved
+loop-tree-preserved c =
+    let read = subst (λ o. IfSome o (IsRead c.loop-tree.trees.bytes c.loop-tree.trees.from)) c.in-Some.is c.in_ok-tree.ensures.tree in
+    let forward = subst (λ o. IfSome o (λ read. (c.loop-tree.trees.from < read.end) × (read.end ≤ length c.loop-tree.trees.bytes))) c.in-Some.is c.in_ok-tree.ensures.forward in
+    let after = subst (λ o. IfSome o (λ read. c.next.new.trees ≡ record c.loop-tree.trees { from = read.end })) c.in-Some.is c.in_ok-tree.ensures.after in
+    let before = c.loop-tree.invariant.counted in
+    let bytes = ap (λ (t : Reading). t.bytes) after in
+    let from = ap (λ (t : Reading). t.from) after in
+    let now : CountsUpTo c.args.kinds c.loop-tree.trees.bytes c.in-Some.tree.end c.count_tree.new.counter = record {
+      trees = before.trees ++ read.0 ∷ [];
+      written = trees_push c.loop-tree.trees.bytes 0 c.loop-tree.trees.from before.trees _ c.in-Some.tree.end read.0 before.written read.1;
+      counted = c.in_ok-count_tree.ensures.counted before.trees read.0 read.2 before.counted;
+    } in
+    record {
+      bytes = bytes ∙ c.loop-tree.invariant.bytes;
+      in_input = omega (arith, forward.1, from, ap length bytes);
+      counted = subst (λ bytes. CountsUpTo c.args.kinds bytes c.next.new.trees.from c.count_tree.new.counter) (sym bytes)
+          (subst (λ from. CountsUpTo c.args.kinds c.loop-tree.trees.bytes from c.count_tree.new.counter) (sym from) now);
+      within = subst (λ place. IsWithin place c.count_tree.new.counter) (sym from) c.in_ok-count_tree.ensures.within;
+    }

@@ -1,0 +1,15 @@
+use Rattle.std.proofs.Common.{◌≡◌, ◌≤◌, ◌-◌, length}
+use Rattle.tally_core.specs.Counting.{IsWithin}
+use Rattle.tally_core.proofs.Trees.{CountsUpTo}
+use Rattle.tally_core.proofs.counting.count_trees.Given as goal
+
+abbrev pub invariant-loop-tree : goal.invariant-loop-tree
+invariant-loop-tree l = record {
+  bytes : l.trees.bytes ≡ l.fn.trees.bytes;
+  in_input : l.trees.from ≤ length l.trees.bytes;
+  counted : CountsUpTo l.kinds l.trees.bytes l.trees.from l.counter;
+  within : IsWithin l.trees.from l.counter;
+}
+
+abbrev pub decreases-loop-tree : goal.decreases-loop-tree
+decreases-loop-tree l = length l.trees.bytes - l.trees.from

@@ -1,0 +1,50 @@
+-- What a collection is counted as: the dictionary of its games, and how many of its trees are games, are of other games,
+-- and have a fault.
+use Rattle.std.specs.Prelude.{◌≡◌, ℕ, ◌^◌, ◌<◌, ◌≤◌, List, length, map}
+use Rattle.sgf_core.specs.Tree.{GameTree}
+use Rattle.sgf_core.specs.Next.{HasNoTree}
+use Rattle.sgf_core.specs.Reading.{IsFaultAt}
+use Rattle.sgf_core.specs.declared.faults.SgfFault.{SgfFault}
+use Rattle.sgf_core.specs.declared.faults.SgfFault.TheVariants as sgf
+use Rattle.shape_core.specs.declared.words.Kinds.{Kinds}
+use Rattle.tally_core.specs.Counts.{Replayed}
+use Rattle.tally_core.specs.Games.{IsDictionaryOf}
+use Rattle.tally_core.specs.Collection.{AreTrees, record_of_tree, games_among, others_among, refused_among, AreReplayed}
+use Rattle.tally_core.specs.declared.collections.Counted.{Counted}
+use Rattle.tally_core.specs.declared.collections.Report.{Report}
+use Rattle.tally_core.specs.declared.faults.HarvestFault.{HarvestFault}
+use Rattle.tally_core.specs.declared.faults.HarvestFault.TheVariants as fault
+
+-- how many of these trees are of each sort
+pub record IsReport (trees : List GameTree) (report : Report) : Type 0 where
+  pub games : report.games ≡ length (games_among (map record_of_tree trees))
+  pub others : report.others ≡ others_among (map record_of_tree trees)
+  pub refused : report.refused ≡ refused_among (map record_of_tree trees)
+
+-- the input's trees, all of them, were counted
+pub record IsCounted (kinds : Kinds) (bytes : List ℕ) (counted : Counted) : Type 0 where
+  pub trees : List GameTree
+  pub end : ℕ
+  pub games : List Replayed
+  pub small : length bytes ≤ 2 ^ 28
+  pub written : AreTrees bytes 0 trees end
+  pub no_more : HasNoTree bytes end
+  pub replayed : AreReplayed (games_among (map record_of_tree trees)) games
+  pub dictionary : IsDictionaryOf kinds games counted.dictionary
+  pub reported : IsReport trees counted.report
+
+-- behind trees that can be read, the next one has this fault of syntax
+pub record HasFault (bytes : List ℕ) (found : SgfFault) : Type 0 where
+  pub trees : List GameTree
+  pub end : ℕ
+  pub written : AreTrees bytes 0 trees end
+  pub fault : IsFaultAt bytes end found
+
+-- why a collection was not counted: its size or its syntax, or memory was wanting. No count of an input that is not too
+-- large passes 2 ^ 64 - 1.
+abbrev pub IsCountFault : List ℕ → HarvestFault → Type 0
+IsCountFault bytes fault.BadSettings = ⊥
+IsCountFault bytes fault.Memory = Unit {0}
+IsCountFault bytes (fault.Sgf sgf.TooLarge) = 2 ^ 28 < length bytes
+IsCountFault bytes (fault.Sgf found) = HasFault bytes found
+IsCountFault bytes fault.Overflow = ⊥

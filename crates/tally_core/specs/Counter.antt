@@ -1,0 +1,111 @@
+-- Counts of patterns, as an ordered map keeps them.
+use Rattle.std.specs.Prelude.{◌≡◌, ℕ, zero, suc, ◌+◌, ◌^◌, ◌≤◌, ◌==◌, nat_lt, List, [], ◌++◌, length, count_by, sum_by, Option, Some, None, if◌then◌else◌}
+use Rattle.std.specs.Ordering.{nat_cmp}
+use Rattle.std.specs.BTreeMap.{get, BTreeMap}
+use Rattle.std.specs.List.{flat_map, position_or_len}
+use Rattle.go_board.specs.Extent.{Extent}
+use Rattle.go_board.specs.Position.{Position}
+use Rattle.go_record.specs.Actions.{Actions}
+use Rattle.go_record.specs.declared.actions.Action.{Action}
+use Rattle.shape_core.specs.declared.words.Kinds.{Kinds}
+use Rattle.tally_core.specs.Occasions.{Occasion, HasOccasions, AreOccasions}
+use Rattle.tally_core.specs.Counts.{Replayed, kinds_of, patterns_there, patterns_played, there_in}
+use Rattle.tally_core.specs.Games.{there_sum, played_sum}
+use Rattle.tally_core.specs.declared.counters.Count.{Count}
+use Rattle.tally_core.specs.declared.faults.HarvestFault.{HarvestFault}
+use Rattle.tally_core.specs.declared.faults.HarvestFault.TheVariants as fault
+
+-- the count of a pattern that a map has, if it has one
+abbrev pub count_in : BTreeMap ℕ Count → ℕ → Option Count
+count_in counts shape = get nat_cmp counts shape
+
+-- how often a pattern was counted, both counts together
+abbrev pub uses_at : Option Count → ℕ
+uses_at None = 0
+uses_at (Some count) = count.there + count.played
+
+-- no pattern was counted more often since than this
+abbrev pub GrowsBy : ℕ → (ℕ → Option Count) → (ℕ → Option Count) → Type 0
+GrowsBy most before after = (shape : ℕ) → uses_at (after shape) ≤ uses_at (before shape) + most
+
+-- memory was wanting, or some pattern was counted so often that so many more would pass 2 ^ 64 - 1
+abbrev pub IsCountingFault : ℕ → (ℕ → Option Count) → HarvestFault → Type 0
+IsCountingFault most before fault.Memory = Unit {0}
+IsCountingFault most before fault.Overflow = (shape : ℕ) × (2 ^ 64 ≤ uses_at (before shape) + most)
+IsCountingFault most before found = ⊥
+
+-- the count of a pattern that had none, once it was there and was played so many times in a game
+abbrev pub first_used : ℕ → ℕ → ℕ → Option Count
+first_used game zero zero = None
+first_used game zero (suc played) = Some (record { there = 0; played = suc played; first = game })
+first_used game (suc there) played = Some (record { there = suc there; played = played; first = game })
+
+-- a pattern's count once it was there and was played so many times more, in a game
+abbrev pub used_again : ℕ → ℕ → ℕ → Option Count → Option Count
+used_again game there played None = first_used game there played
+used_again game there played (Some count) = Some (record count { there = count.there + there; played = count.played + played })
+
+-- what each pattern's count is once each was there and was played so many times more
+abbrev pub used : ℕ → (ℕ → ℕ) → (ℕ → ℕ) → (ℕ → Option Count) → ℕ → Option Count
+used game there played before shape = used_again game (there shape) (played shape) (before shape)
+
+-- one pattern so many times, and no other
+abbrev pub one_pattern : ℕ → ℕ → ℕ → ℕ
+one_pattern only times shape = if only == shape then times else 0
+
+-- how often each pattern is in a list
+abbrev pub times_in : List ℕ → ℕ → ℕ
+times_in shapes shape = count_by (λ c. c == shape) shapes
+
+-- each pattern's count is this
+abbrev pub AreCounts : (ℕ → Option Count) → (ℕ → Option Count) → Type 0
+AreCounts counts after = (shape : ℕ) → after shape ≡ counts shape
+
+-- what each pattern's count is once the first were there and the second were played, in a game
+abbrev pub Counts : ℕ → List ℕ → List ℕ → (ℕ → Option Count) → (ℕ → Option Count) → Type 0
+Counts game there played before after = AreCounts (used game (times_in there) (times_in played) before) after
+
+-- what each pattern's count is once these patterns were there in a game
+abbrev pub Sees : ℕ → List ℕ → (ℕ → Option Count) → (ℕ → Option Count) → Type 0
+Sees game shapes before after = Counts game shapes [] before after
+
+-- what each pattern's count is once these patterns were played in a game
+abbrev pub Plays : ℕ → List ℕ → (ℕ → Option Count) → (ℕ → Option Count) → Type 0
+Plays game shapes before after = Counts game [] shapes before after
+
+-- each of the first is among the second, as often
+abbrev pub AreAmong : List ℕ → List ℕ → Type 0
+AreAmong played there = (shape : ℕ) → count_by (λ c. c == shape) played ≤ count_by (λ c. c == shape) there
+
+-- a game of so many occasions was counted
+pub record CountsGame (kinds : Kinds) (game : Actions) (number : ℕ) (before after : ℕ → Option Count) (moves : ℕ) : Type 0 where
+  pub occasions : List Occasion
+  pub replayed : AreOccasions game occasions
+  pub moves_counted : moves ≡ length occasions
+  pub counted : Counts number (flat_map (patterns_there (kinds_of kinds) game.size) occasions) (flat_map (patterns_played (kinds_of kinds) game.size) occasions) before after
+  pub among : AreAmong (flat_map (patterns_played (kinds_of kinds) game.size) occasions) (flat_map (patterns_there (kinds_of kinds) game.size) occasions)
+
+-- the first actions of a game were counted: whatever occasions the others have, all have these and those
+pub record CountsFront (kinds : Kinds) (size : Extent) (all left : List Action) (start now : Position) (number : ℕ) (before after : ℕ → Option Count) (moves : ℕ) : Type 0 where
+  pub done : List Occasion
+  pub others : (others : List Occasion) → HasOccasions size left now others → HasOccasions size all start (done ++ others)
+  pub moves_counted : moves ≡ length done
+  pub counted : Counts number (flat_map (patterns_there (kinds_of kinds) size) done) (flat_map (patterns_played (kinds_of kinds) size) done) before after
+  pub among : AreAmong (flat_map (patterns_played (kinds_of kinds) size) done) (flat_map (patterns_there (kinds_of kinds) size) done)
+
+-- what a map has of a pattern once these games were counted
+abbrev pub games_count : Kinds → List Replayed → ℕ → Option Count
+games_count kinds games shape =
+    if nat_lt 0 (there_sum kinds games shape)
+    then Some (record {
+      there = there_sum kinds games shape;
+      played = played_sum kinds games shape;
+      first = position_or_len (λ game. nat_lt 0 (there_in (kinds_of kinds) game shape)) games;
+    })
+    else None
+
+-- these games were counted
+pub record CountsGames (kinds : Kinds) (games : List Replayed) (counts : ℕ → Option Count) (moves : ℕ) : Type 0 where
+  pub counted : (shape : ℕ) → counts shape ≡ games_count kinds games shape
+  pub among : (shape : ℕ) → played_sum kinds games shape ≤ there_sum kinds games shape
+  pub moves_counted : moves ≡ sum_by (λ game. length game.occasions) games

@@ -1,0 +1,51 @@
+-- What a counter holds once some trees of a collection were counted.
+use Rattle.std.specs.Prelude.{◌≡◌, ℕ, ◌+◌, ◌*◌, ◌^◌, ◌<◌, ◌≤◌, List, map}
+use Rattle.sgf_core.specs.Tree.{GameTree, main_line_of}
+use Rattle.sgf_core.specs.Counts.{value_count}
+use Rattle.sgf_core.specs.Marks.{marks_of}
+use Rattle.sgf_core.specs.Written.{WrittenTree}
+use Rattle.sgf_core.specs.Next.{HasNoTree}
+use Rattle.sgf_core.specs.Reading.{IsFaultAt}
+use Rattle.shape_core.specs.declared.words.Kinds.{Kinds}
+use Rattle.tally_core.specs.Counts.{Replayed}
+use Rattle.tally_core.specs.Collection.{AreTrees, record_of_tree, games_among, AreReplayed}
+use Rattle.tally_core.specs.Counter.{CountsGames, count_in, uses_at}
+use Rattle.tally_core.specs.Counted.{IsReport}
+use Rattle.tally_core.specs.declared.counting.Counter.{Counter}
+use Rattle.tally_core.specs.declared.faults.HarvestFault.{HarvestFault}
+use Rattle.tally_core.specs.declared.faults.HarvestFault.TheVariants as fault
+
+-- these trees were counted
+pub record CountsTrees (kinds : Kinds) (trees : List GameTree) (counter : Counter) : Type 0 where
+  pub games : List Replayed
+  pub replayed : AreReplayed (games_among (map record_of_tree trees)) games
+  pub counted : CountsGames kinds games (count_in counter.counts) counter.moves
+  pub reported : IsReport trees counter.report
+
+-- the numbers of a counter are as small as the place up to which the input was counted
+pub record IsWithin (place : ℕ) (counter : Counter) : Type 0 where
+  pub moves : counter.moves ≤ place
+  pub games : counter.report.games ≤ place
+  pub others : counter.report.others ≤ place
+  pub refused : counter.report.refused ≤ place
+  pub uses : (shape : ℕ) → uses_at (count_in counter.counts shape) ≤ 5410 * place
+
+-- a tree that was read, no larger than its place in the input lets it be
+pub record IsSmallTree (tree : WrittenTree) (game : GameTree) : Type 0 where
+  pub marks : tree.marks ≡ marks_of game
+  pub values : tree.at + value_count (main_line_of game) < tree.end
+  pub in_input : tree.end ≤ 2 ^ 28
+
+-- all trees of an input were counted
+pub record CountsAll (kinds : Kinds) (bytes : List ℕ) (counter : Counter) : Type 0 where
+  pub trees : List GameTree
+  pub end : ℕ
+  pub written : AreTrees bytes 0 trees end
+  pub no_more : HasNoTree bytes end
+  pub counted : CountsTrees kinds trees counter
+
+-- why there is no next tree from a place on: a fault of syntax, or memory was wanting
+abbrev pub IsNextFault : List ℕ → ℕ → HarvestFault → Type 0
+IsNextFault bytes from fault.Memory = Unit {0}
+IsNextFault bytes from (fault.Sgf found) = IsFaultAt bytes from found
+IsNextFault bytes from found = ⊥

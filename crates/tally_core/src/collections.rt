@@ -1,0 +1,56 @@
+//! A whole collection, counted on one thread.
+ghost use Rattle.std.specs.Prelude.{◌≡◌, ◌^◌, ◌<◌, length, IfOk, IfErr};
+ghost use Rattle.sgf_core.specs.declared.faults.SgfFault.TheVariants as sgf;
+ghost use Rattle.tally_core.specs.Counted.{IsCounted, IsCountFault};
+ghost use Rattle.tally_core.specs.declared.faults.HarvestFault.TheVariants as fault;
+
+use crate::counting::{Counter, count_trees};
+use crate::faults::HarvestFault;
+use crate::gathering::dictionary_of;
+use sgf_core::Trees;
+use shape_core::Kinds;
+use shape_dict::Dictionary;
+use std::alloc::Global;
+
+/// How many trees a collection has of each sort.
+#[derive(Clone, Copy, Debug, PartialEq, Eq)]
+pub struct Report {
+    /// Games: trees of Go whose records have no fault.
+    pub games: u64,
+    /// Trees of other games. They are passed over.
+    pub others: u64,
+    /// Trees whose records have a fault. They are passed over.
+    pub refused: u64,
+}
+
+/// A collection that was counted.
+#[derive(Drop)]
+pub struct Counted {
+    /// The dictionary of its games.
+    pub dictionary: Dictionary,
+    /// What its trees are.
+    pub report: Report,
+}
+
+/// Counts a whole collection on one thread, in an ordered map: the dictionary of its games, which are numbered from 0 in
+/// their order, and how many of its trees are games, are of other games, and are refused. `kinds` says which kinds of
+/// pattern are counted. It takes memory for the largest tree and its record, for the board, and for each pattern.
+///
+/// `HarvestFault::Sgf` comes with S4 where there are more than 2^28 bytes, else with the fault of syntax that stands
+/// first; `HarvestFault::Memory` where memory was refused. `HarvestFault::Overflow` does not come: no count of an input
+/// that is not too large passes 2^64 - 1.
+pub fn count_plain(alloc: Global, kinds: Kinds, bytes: &[u8]) -> Result<Counted, HarvestFault>
+    ensures counted { IfOk result (IsCounted kinds bytes.now) }
+    ensures fault { IfErr result (IsCountFault bytes.now) }
+    ensures large { 2 ^ 28 < length bytes.now → IfErr result (λ found. found ≡ fault.Sgf sgf.TooLarge) }
+{
+    let mut trees = match Trees::new(bytes) {
+        Ok(trees) => trees,
+        Err(fault) => return Err(HarvestFault::Sgf(fault)),
+    };
+    let mut counter = Counter::new(alloc);
+    count_trees(alloc, kinds, &mut counter, &mut trees)?;
+    let report = counter.report;
+    let dictionary = dictionary_of(alloc, kinds, report.games, counter.moves, &counter.counts)?;
+    Ok(Counted { dictionary, report })
+}

@@ -1,0 +1,147 @@
+//! The trees of a collection, counted one after another.
+ghost use Rattle.std.specs.Prelude.{◌≡◌, ◌≢◌, ℕ, ◌+◌, ◌^◌, ◌<◌, ◌≤◌, ◌∷◌, [], ◌++◌, List, length, Ok, None, IfErr, IfOk, IfSome, IfNone, OnOk};
+ghost use Rattle.sgf_core.specs.Tree.{GameTree};
+ghost use Rattle.sgf_core.specs.Marks.{marks_of};
+ghost use Rattle.sgf_core.specs.Next.{IsNextTree, HasNoTree};
+ghost use Rattle.go_record.specs.declared.records.Kind.TheVariants as kind;
+ghost use Rattle.go_record.specs.declared.faults.RecordFault.TheVariants as record_fault;
+ghost use Rattle.tally_core.specs.Collection.{record_of_tree};
+ghost use Rattle.tally_core.specs.Counting.{CountsTrees, IsWithin, IsSmallTree, CountsAll, IsNextFault};
+ghost use Rattle.tally_core.specs.Counted.{IsCountFault};
+ghost use Rattle.tally_core.specs.declared.faults.HarvestFault.TheVariants as harvest_fault;
+
+use crate::collections::Report;
+use crate::counters::Count;
+use crate::faults::HarvestFault;
+use crate::replays::count_game;
+use go_record::{Kind, Record, RecordFault, few_actions, read_record};
+use sgf_core::{SgfFault, Tree, Trees, few_values};
+use shape_core::{Kinds, Shape};
+use std::alloc::Global;
+use std::collections::BTreeMap;
+
+/// What was counted of a collection so far.
+#[derive(Drop)]
+pub struct Counter {
+    pub counts: BTreeMap<Shape, Count>,
+    pub moves: u64,
+    pub report: Report,
+}
+
+impl Counter {
+    ghost use Rattle.std.specs.Prelude.{[]};
+    ghost use Rattle.shape_core.specs.declared.words.Kinds.{Kinds};
+    ghost use Rattle.tally_core.specs.Counting.{CountsTrees, IsWithin};
+
+    /// Nothing was counted yet. It takes no memory.
+    pub fn new(alloc: Global) -> Counter
+        ensures counted { (kinds : Kinds) → CountsTrees kinds [] result }
+        ensures within { IsWithin 0 result }
+    {
+        let report = Report {
+            games: 0,
+            others: 0,
+            refused: 0,
+        };
+        Counter {
+            counts: BTreeMap::new(alloc),
+            moves: 0,
+            report,
+        }
+    }
+}
+
+/// Counts the patterns of a game.
+fn count_record(
+    alloc: Global,
+    kinds: Kinds,
+    counter: &mut Counter,
+    replayed: &Record,
+) -> Result<(), HarvestFault>
+    requires { (place : ℕ) × IsWithin place counter.old × (place + length replayed.now.actions < 2 ^ 28) }
+    ensures counted { (before : List GameTree) (game : GameTree) → record_of_tree game ≡ Ok (kind.Go replayed.now) → CountsTrees kinds before counter.old
+        → OnOk result (CountsTrees kinds (before ++ game ∷ []) counter.new) }
+    ensures within { (place : ℕ) → IsWithin place counter.old → OnOk result (IsWithin (place + length replayed.now.actions + 1) counter.new) }
+    ensures fault { IfErr result (λ found. found ≡ harvest_fault.Memory) }
+{
+    let game = counter.report.games;
+    let moves = count_game(alloc, &mut counter.counts, kinds, replayed, game)?;
+    counter.moves += moves;
+    counter.report.games += 1;
+    Ok(())
+}
+
+/// Passes over a fault of the record; want of memory is handed on.
+fn unless_memory(fault: RecordFault) -> Result<(), HarvestFault>
+    ensures other { OnOk result (fault ≢ record_fault.Memory) }
+    ensures memory { IfErr result (λ found. found ≡ harvest_fault.Memory) }
+{
+    match fault {
+        RecordFault::Memory => Err(HarvestFault::Memory),
+        RecordFault::BadSize(_) | RecordFault::BadPoint(_) | RecordFault::OffBoard(_) => Ok(()),
+    }
+}
+
+/// Counts a tree: a game's patterns, or that it is of another game or is refused.
+fn count_tree(
+    alloc: Global,
+    kinds: Kinds,
+    counter: &mut Counter,
+    tree: &Tree<'_>,
+) -> Result<(), HarvestFault>
+    requires small { (game : GameTree) × IsSmallTree tree.now game }
+    requires within { IsWithin tree.now.at counter.old }
+    ensures counted { (before : List GameTree) (game : GameTree) → tree.now.marks ≡ marks_of game → CountsTrees kinds before counter.old
+        → OnOk result (CountsTrees kinds (before ++ game ∷ []) counter.new) }
+    ensures within { OnOk result (IsWithin tree.now.end counter.new) }
+    ensures fault { IfErr result (λ found. found ≡ harvest_fault.Memory) }
+{
+    few_actions();
+    match read_record(alloc, tree) {
+        Ok(Kind::Go(replayed)) => return count_record(alloc, kinds, counter, &replayed),
+        Ok(Kind::Other) => counter.report.others += 1,
+        Err(fault) => {
+            unless_memory(fault)?;
+            counter.report.refused += 1;
+        }
+    }
+    Ok(())
+}
+
+/// The next tree, or None where none is left.
+fn next<'a>(alloc: Global, trees: &mut Trees<'a>) -> Result<Option<Tree<'a>>, HarvestFault>
+    ensures tree { IfOk result (λ found. IfSome found (λ read. (tree : GameTree)
+        × IsNextTree trees.old.bytes trees.old.from read.at read.end tree × (read.marks ≡ marks_of tree))) }
+    ensures after { IfOk result (λ found. IfSome found (λ read. trees.new ≡ record trees.old { from = read.end })) }
+    ensures forward { IfOk result (λ found. IfSome found (λ read. (trees.old.from < read.end) × (read.end ≤ length trees.old.bytes))) }
+    ensures none { IfOk result (λ found. IfNone found (HasNoTree trees.old.bytes trees.old.from)) }
+    ensures fault { IfErr result (IsNextFault trees.old.bytes trees.old.from) }
+{
+    match trees.next_tree(alloc) {
+        Ok(found) => Ok(found),
+        Err(SgfFault::Memory) => Err(HarvestFault::Memory),
+        Err(fault) => Err(HarvestFault::Sgf(fault)),
+    }
+}
+
+/// Counts all trees of an input.
+pub(crate) fn count_trees(
+    alloc: Global,
+    kinds: Kinds,
+    counter: &mut Counter,
+    trees: &mut Trees<'_>,
+) -> Result<(), HarvestFault>
+    requires small { length trees.old.bytes ≤ 2 ^ 28 }
+    requires begins { trees.old.from ≡ 0 }
+    requires none { CountsTrees kinds [] counter.old }
+    requires within { IsWithin 0 counter.old }
+    ensures counted { OnOk result (CountsAll kinds trees.old.bytes counter.new) }
+    ensures within { OnOk result (IsWithin (2 ^ 28) counter.new) }
+    ensures fault { IfErr result (IsCountFault trees.old.bytes) }
+{
+    few_values();
+    while let Some(tree) = next(alloc, trees)? {
+        count_tree(alloc, kinds, counter, &tree)?;
+    }
+    Ok(())
+}

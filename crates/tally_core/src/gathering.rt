@@ -1,0 +1,42 @@
+//! The dictionary of the games that were counted.
+ghost use Rattle.std.specs.Prelude.{◌≡◌, List, length, IfOk, IfErr};
+ghost use Rattle.tally_core.specs.Counts.{Replayed};
+ghost use Rattle.tally_core.specs.Counter.{count_in, CountsGames};
+ghost use Rattle.tally_core.specs.Games.{counts_diamonds, IsDictionaryOf};
+ghost use Rattle.tally_core.specs.declared.faults.HarvestFault.TheVariants as fault;
+
+use crate::counters::Count;
+use crate::dictionaries::{FirstGames, entries_of};
+use crate::faults::HarvestFault;
+use shape_core::{Kinds, Shape, kinds_stay};
+use shape_dict::Dictionary;
+use std::alloc::Global;
+use std::collections::BTreeMap;
+
+/// Whether diamonds are among these kinds.
+fn has_diamonds(kinds: Kinds) -> bool
+    ensures { result ≡ counts_diamonds kinds }
+{
+    match kinds {
+        Kinds::Squares => false,
+        Kinds::Both => true,
+    }
+}
+
+/// The dictionary of the games whose counts a map has: `games` of them, with so many moves. It takes memory for an entry
+/// of each pattern; `HarvestFault::Memory` comes where that was refused.
+pub(crate) fn dictionary_of(
+    alloc: Global,
+    kinds: Kinds,
+    games: u64,
+    moves: u64,
+    counts: &BTreeMap<Shape, Count>,
+) -> Result<Dictionary, HarvestFault>
+    requires counted { (replayed : List Replayed) × (length replayed ≡ games) × CountsGames kinds replayed (count_in counts.now) moves }
+    ensures ok { IfOk result (λ d. (replayed : List Replayed) → length replayed ≡ games → CountsGames kinds replayed (count_in counts.now) moves → IsDictionaryOf kinds replayed d) }
+    ensures fault { IfErr result (λ found. found ≡ fault.Memory) }
+{
+    kinds_stay();
+    let entries = entries_of(alloc, FirstGames::Kept, counts)?;
+    Ok(Dictionary::new(games, moves, entries, has_diamonds(kinds)))
+}

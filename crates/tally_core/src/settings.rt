@@ -1,0 +1,76 @@
+//! How a collection is counted: by how many workers, in how large a table, and which kinds of pattern.
+use crate::faults::HarvestFault;
+use shape_core::Kinds;
+use std::marker::Model;
+
+/// Workers from 1 to 64, a table of 2^k slots with k from 0 to 22, and the kinds of pattern that are counted.
+#[derive(Clone, Copy, Debug, PartialEq, Eq)]
+pub struct Settings {
+    workers: u8,
+    exponent: u8,
+    kinds: Kinds,
+}
+
+impl Model for Settings {
+    ghost use Rattle.tally_core.specs.Limits.{Limits, AreLimits};
+
+    ghost Value = { Limits };
+
+    ghost view = { λ s. record { workers = s.workers; k = s.exponent; kinds = s.kinds } };
+
+    ghost invariant = { λ s. AreLimits (record { workers = s.workers; k = s.exponent; kinds = s.kinds }) };
+
+    ghost inverse = { λ l. record { workers = l.workers; exponent = l.k; kinds = l.kinds } };
+}
+
+impl Settings {
+    ghost use Rattle.std.specs.Prelude.{◌≡◌, ◌↔◌, IsOk, IfOk, IfErr};
+    ghost use Rattle.shape_core.specs.declared.words.Kinds.TheVariants as kinds;
+    ghost use Rattle.tally_core.specs.Limits.{AreLimits};
+    ghost use Rattle.tally_core.specs.declared.faults.HarvestFault.TheVariants as fault;
+
+    /// Settings that count squares. `HarvestFault::BadSettings` comes where the workers are outside 1 to 64, or k is
+    /// over 22.
+    pub fn new(workers: u8, k: u8) -> Result<Settings, HarvestFault>
+        ensures ok { IsOk result ↔ AreLimits (record { workers = workers; k = k; kinds = kinds.Squares }) }
+        ensures value { IfOk result (λ settings. settings ≡ record { workers = workers; k = k; kinds = kinds.Squares }) }
+        ensures fault { IfErr result (λ found. found ≡ fault.BadSettings) }
+    {
+        if workers < 1 || workers > 64 || k > 22 {
+            return Err(HarvestFault::BadSettings);
+        }
+        Ok(Settings {
+            workers,
+            exponent: k,
+            kinds: Kinds::Squares,
+        })
+    }
+
+    /// The same settings that count these kinds.
+    pub fn with(self, kinds: Kinds) -> Settings
+        ensures { result ≡ record self { kinds = kinds } }
+    {
+        Settings { kinds, ..self }
+    }
+
+    /// How many workers count, from 1 to 64.
+    pub fn workers(self) -> u8
+        ensures { result ≡ self.workers }
+    {
+        self.workers
+    }
+
+    /// The table has 2 to this power slots, from 0 to 22.
+    pub fn k(self) -> u8
+        ensures { result ≡ self.k }
+    {
+        self.exponent
+    }
+
+    /// The kinds of pattern that are counted.
+    pub fn kinds(self) -> Kinds
+        ensures { result ≡ self.kinds }
+    {
+        self.kinds
+    }
+}

@@ -1,0 +1,62 @@
+//! The tally of one game.
+ghost use Rattle.std.specs.Prelude.{IfOk, IfErr};
+ghost use Rattle.tally_core.specs.Tally.{IsTally, IsTallyFault};
+
+use crate::dictionaries::{FirstGames, entries_of};
+use crate::faults::HarvestFault;
+use crate::replays::count_game;
+use go_record::Record;
+use shape_core::Kinds;
+use shape_dict::Entry;
+use std::alloc::Global;
+use std::collections::BTreeMap;
+use std::marker::Model;
+
+/// How often each pattern of one game was there and was played.
+#[derive(Drop)]
+pub struct Tally {
+    moves: u64,
+    entries: Vec<Entry>,
+}
+
+impl Model for Tally {
+    ghost use Rattle.tally_core.specs.Tally.{Tallied};
+
+    ghost Value = { Tallied };
+
+    ghost view = { λ t. record { moves = t.moves; entries = t.entries.items } };
+}
+
+impl Tally {
+    ghost use Rattle.std.specs.Prelude.{◌≡◌};
+
+    /// How many occasions the game has: its moves onto empty points.
+    pub fn moves(&self) -> u64
+        ensures { result ≡ self.now.moves }
+    {
+        self.moves
+    }
+
+    /// The patterns, rising; none of them says a first game.
+    pub fn entries(&self) -> &[Entry]
+        ensures { result.now ≡ self.now.entries }
+    {
+        self.entries.as_slice()
+    }
+}
+
+/// The tally of a game: in the position before each move onto an empty point, the canonical pattern of each empty point,
+/// with the mover to move, was there, and that of the move's point was played besides (this project's own). `kinds` says
+/// which kinds of pattern are counted.
+///
+/// `HarvestFault::Memory` comes where memory for the board or the counts was refused. `HarvestFault::Overflow`, of a count
+/// that would pass 2^64 - 1, comes only where the game has more actions than any input.
+pub fn tally_plain(alloc: Global, kinds: Kinds, replayed: &Record) -> Result<Tally, HarvestFault>
+    ensures tally { IfOk result (IsTally kinds replayed.now) }
+    ensures fault { IfErr result (IsTallyFault replayed.now) }
+{
+    let mut counts = BTreeMap::new(alloc);
+    let moves = count_game(alloc, &mut counts, kinds, replayed, 0)?;
+    let entries = entries_of(alloc, FirstGames::LeftOut, &counts)?;
+    Ok(Tally { moves, entries })
+}
