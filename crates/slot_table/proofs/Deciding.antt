@@ -12,8 +12,8 @@ use Rattle.probe_core.specs.Machine.{Machine, code_of, follows, key_of, place_in
 use Rattle.probe_core.specs.Placing.{HoldOthers, IsPlaced, IsNowhere, AreAllTaken}
 use Rattle.probe_core.specs.Sequential.{Table, Step, IsNumber, IsFree, IsAbsent, IsFull}
 use Rattle.probe_core.specs.History.{changed, word_of}
-use Rattle.slot_table.specs.declared.entries.Entry.{Entry}
-use Rattle.slot_table.specs.declared.entries.Entry.TheVariants as entry
+use Rattle.slot_table.specs.declared.entries.Happened.{Happened}
+use Rattle.slot_table.specs.declared.entries.Happened.TheVariants as entry
 use Rattle.slot_table.specs.History.{content_of, least_at, IsLegal, Begins}
 use Rattle.slot_table.specs.Rule.{AreSlotWords, AreKeyWords, IsMarkWord, AreMarkWords}
 use Rattle.slot_table.specs.Telling.{entries_of, PassedOthers, MaySwap}
@@ -22,7 +22,7 @@ use Rattle.slot_table.proofs.Placings.{nowhere_at_free, nowhere_at_end, taken_at
 use Rattle.slot_table.proofs.Winning.{placed_by_win}
 
 -- what the rule says of the words and the longest history
-pub record Sound (n : ℕ) (place : ℕ → ℕ → ℕ) (words : List ℕ) (log : List Entry) : Type 0 where
+pub record Sound (n : ℕ) (place : ℕ → ℕ → ℕ) (words : List ℕ) (log : List Happened) : Type 0 where
   pub legal : IsLegal n log
   pub whole : length words ≡ 2 * n
   pub slots : AreSlotWords n words (content_of n log)
@@ -44,7 +44,7 @@ pub other_of_word : (o : Option ℕ) (key : ℕ) → word_of o ≢ 0 → word_of
 other_of_word None key taken other = absurd (taken refl)
 other_of_word (Some x) key taken other = (x, refl, λ e. other (ap (λ (y : ℕ). y + 1) e))
 
-module _ (n : ℕ) (words : List ℕ) (log : List Entry) (slots : AreSlotWords n words (content_of n log)) where
+module _ (n : ℕ) (words : List ℕ) (log : List Happened) (slots : AreSlotWords n words (content_of n log)) where
   pub is_number : (key p : ℕ) → p < n → slice_index_or words p 0 ≡ code_of key → IsNumber (content_of n log) key p
   is_number key p h e = record {
     within = let l : length (content_of n log) ≡ n = length-content n log in omega (arith, l, h);
@@ -81,14 +81,14 @@ module _ (n : ℕ) (words : List ℕ) (log : List Entry) (slots : AreSlotWords n
       }
 
 -- places that other keys hold are held after all that followed
-pub passed_stays : (n : ℕ) (place : ℕ → ℕ) (seen log : List Entry) (key i : ℕ) → IsLegal n log → Begins seen log
+pub passed_stays : (n : ℕ) (place : ℕ → ℕ) (seen log : List Happened) (key i : ℕ) → IsLegal n log → Begins seen log
     → PassedOthers place (content_of n seen) key i → PassedOthers place (content_of n log) key i
 passed_stays n place seen log key i legal begins passed j h =
     let q : (x : ℕ) × IsNumber (content_of n seen) x (place j) × (x ≢ key) = passed j h
     in (q.0, number_stays n seen log q.0 (place j) legal begins q.1, q.2)
 
 -- a place more that another key holds
-pub passes_one : (n : ℕ) (place : ℕ → ℕ) (log : List Entry) (key i : ℕ) → place i < n
+pub passes_one : (n : ℕ) (place : ℕ → ℕ) (log : List Happened) (key i : ℕ) → place i < n
     → word_of (slice_index_or (content_of n log) (place i) None) ≢ 0 → word_of (slice_index_or (content_of n log) (place i) None) ≢ code_of key
     → PassedOthers place (content_of n log) key i → PassedOthers place (content_of n log) key (i + 1)
 passes_one n place log key i inside taken other passed j h =
@@ -105,15 +105,15 @@ passes_one n place log key i inside taken other passed j h =
       | inr apart ↦ passed j (omega (arith, apart, h))
     ]
 
-module _ (n : ℕ) (place : ℕ → ℕ → ℕ) (words : List ℕ) (log : List Entry) (sound : Sound n place words log) where
+module _ (n : ℕ) (place : ℕ → ℕ → ℕ) (words : List ℕ) (log : List Happened) (sound : Sound n place words log) where
   idle : Sound n place words (log ++ [])
-  idle = subst (λ (t : List Entry). Sound n place words t) (sym (append-nil log)) sound
+  idle = subst (λ (t : List Happened). Sound n place words t) (sym (append-nil log)) sound
 
   -- a call whose answer leaves the table as it is
-  stays : (c : Call) (a : Answer) → Step (content_of n log) c a (changed (content_of n log) c a) → changed (content_of n log) c a ≡ content_of n log
+  stays : (c : Call) (a : Answer) → key_of c < 2 ^ 51 → Step (content_of n log) c a (changed (content_of n log) c a) → changed (content_of n log) c a ≡ content_of n log
       → Sound n place words (log ++ entry.Asked c a ∷ [])
-  stays c a step same = record {
-    legal = legal_snoc n log c a sound.legal step;
+  stays c a small step same = record {
+    legal = legal_snoc n log c a small sound.legal step;
     whole = sound.whole;
     slots = subst (λ (t : Table). AreSlotWords n words t) (sym (content_snoc n log c a ∙ same)) sound.slots;
     small = sound.small;
@@ -121,33 +121,33 @@ module _ (n : ℕ) (place : ℕ → ℕ → ℕ) (words : List ℕ) (log : List 
     placed = sound.placed;
   }
 
-  found : (c : Call) (p : ℕ) → p < n → slice_index_or words p 0 ≡ code_of (key_of c) → Sound n place words (log ++ entry.Asked c (answer.Number p) ∷ [])
-  found (call.Enter key) p h e =
+  found : (c : Call) (p : ℕ) → key_of c < 2 ^ 51 → p < n → slice_index_or words p 0 ≡ code_of (key_of c) → Sound n place words (log ++ entry.Asked c (answer.Number p) ∷ [])
+  found (call.Enter key) p small h e =
       let number : IsNumber (content_of n log) key p = is_number n words log sound.slots key p h e
       in let same : slice_set (content_of n log) p (Some key) ≡ content_of n log =
       ap (λ (o : Option ℕ). slice_set (content_of n log) p o) (sym number.stands) ∙ set-get_or (content_of n log) p None
-      in stays (call.Enter key) (answer.Number p) (inl (number, same)) same
-  found (call.LookUp key) p h e =
+      in stays (call.Enter key) (answer.Number p) small (inl (number, same)) same
+  found (call.LookUp key) p small h e =
       let number : IsNumber (content_of n log) key p = is_number n words log sound.slots key p h e
-      in stays (call.LookUp key) (answer.Number p) (number, refl) refl
+      in stays (call.LookUp key) (answer.Number p) small (number, refl) refl
 
-  absent : (key i : ℕ) → IsOrder n (place key) → i < n → PassedOthers (place key) (content_of n log) key i
+  absent : (key i : ℕ) → key < 2 ^ 51 → IsOrder n (place key) → i < n → PassedOthers (place key) (content_of n log) key i
       → slice_index_or words (place key i) 0 ≡ 0 → Sound n place words (log ++ entry.Asked (call.LookUp key) answer.Absent ∷ [])
-  absent key i order h passed e =
+  absent key i small order h passed e =
       let held : HoldOthers (place key) words key i = held_words n words log sound.slots (place key) key i passed
       in let nowhere : IsNowhere n words key = nowhere_at_free n place words key i order sound.placed held e
-      in stays (call.LookUp key) answer.Absent
+      in stays (call.LookUp key) answer.Absent small
       (is_absent n words log sound.slots key nowhere, (place key i, is_free n words log sound.slots (place key i) (order.within i h) e), refl) refl
 
-  full : (c : Call) → IsOrder n (place (key_of c)) → PassedOthers (place (key_of c)) (content_of n log) (key_of c) n
+  full : (c : Call) → key_of c < 2 ^ 51 → IsOrder n (place (key_of c)) → PassedOthers (place (key_of c)) (content_of n log) (key_of c) n
       → Sound n place words (log ++ entry.Asked c answer.Full ∷ [])
-  full (call.Enter key) order passed =
+  full (call.Enter key) small order passed =
       let held : HoldOthers (place key) words key n = held_words n words log sound.slots (place key) key n passed
-      in stays (call.Enter key) answer.Full
+      in stays (call.Enter key) answer.Full small
       (is_absent n words log sound.slots key (nowhere_at_end n place words key order held), is_full n words log sound.slots (taken_at_end n place words key order held), refl) refl
-  full (call.LookUp key) order passed =
+  full (call.LookUp key) small order passed =
       let held : HoldOthers (place key) words key n = held_words n words log sound.slots (place key) key n passed
-      in stays (call.LookUp key) answer.Full
+      in stays (call.LookUp key) answer.Full small
       (is_absent n words log sound.slots key (nowhere_at_end n place words key order held), is_full n words log sound.slots (taken_at_end n place words key order held), refl) refl
 
   -- a swap that wins
@@ -165,7 +165,7 @@ module _ (n : ℕ) (place : ℕ → ℕ → ℕ) (words : List ℕ) (log : List 
       in let there : p < length words = omega (arith, inside, whole)
       in let there' : p < length table = omega (arith, inside, l)
       in record {
-        legal = legal_snoc n log (call.Enter key) (answer.Number p) sound.legal (inr (absent_is, is_free n words log sound.slots p inside e, refl));
+        legal = legal_snoc n log (call.Enter key) (answer.Number p) small sound.legal (inr (absent_is, is_free n words log sound.slots p inside e, refl));
         whole = length-set words p (code_of key) ∙ whole;
         slots = subst (λ (t : Table). AreSlotWords n (slice_set words p (code_of key)) t) (sym (content_snoc n log (call.Enter key) (answer.Number p)))
             (λ q k. elim (cases_eq q p) [
@@ -204,40 +204,40 @@ module _ (n : ℕ) (place : ℕ → ℕ → ℕ) (words : List ℕ) (log : List 
       → PassedOthers (place (key_of c)) (content_of n log) (key_of c) n
   at_end c i last passed = subst (λ (k : ℕ). PassedOthers (place (key_of c)) (content_of n log) (key_of c) k) (eqb-true (i + 1) n last) passed
 
-  enter_loads : (key i : ℕ) → IsOrder n (place key) → i < n → PassedOthers (place key) (content_of n log) key i
+  enter_loads : (key i : ℕ) → key < 2 ^ 51 → IsOrder n (place key) → i < n → PassedOthers (place key) (content_of n log) key i
       → (b c d : Bool) → (slice_index_or words (place key i) 0 == 0) ≡ b → (slice_index_or words (place key i) 0 == code_of key) ≡ c → (i + 1 == n) ≡ d
       → Sound n place words (log ++ entries_of (call.Enter key) (follows n (record { call = call.Enter key; index = i; swaps = false }) (place key i) (slice_index_or words (place key i) 0)))
-  enter_loads key i order h passed true c d e0 e1 e2 = rw e0 idle
-  enter_loads key i order h passed false true d e0 e1 e2 =
-      rw (e0, e1) (found (call.Enter key) (place key i) (order.within i h) (eqb-true _ _ e1))
-  enter_loads key i order h passed false false true e0 e1 e2 =
-      rw (e0, e1, e2) (full (call.Enter key) order (at_end (call.Enter key) i e2 (on (call.Enter key) i order h passed e0 e1)))
-  enter_loads key i order h passed false false false e0 e1 e2 = rw (e0, e1, e2) idle
+  enter_loads key i small order h passed true c d e0 e1 e2 = rw e0 idle
+  enter_loads key i small order h passed false true d e0 e1 e2 =
+      rw (e0, e1) (found (call.Enter key) (place key i) small (order.within i h) (eqb-true _ _ e1))
+  enter_loads key i small order h passed false false true e0 e1 e2 =
+      rw (e0, e1, e2) (full (call.Enter key) small order (at_end (call.Enter key) i e2 (on (call.Enter key) i order h passed e0 e1)))
+  enter_loads key i small order h passed false false false e0 e1 e2 = rw (e0, e1, e2) idle
 
-  look_up_loads : (key i : ℕ) → IsOrder n (place key) → i < n → PassedOthers (place key) (content_of n log) key i
+  look_up_loads : (key i : ℕ) → key < 2 ^ 51 → IsOrder n (place key) → i < n → PassedOthers (place key) (content_of n log) key i
       → (b c d : Bool) → (slice_index_or words (place key i) 0 == 0) ≡ b → (slice_index_or words (place key i) 0 == code_of key) ≡ c → (i + 1 == n) ≡ d
       → Sound n place words (log ++ entries_of (call.LookUp key) (follows n (record { call = call.LookUp key; index = i; swaps = false }) (place key i) (slice_index_or words (place key i) 0)))
-  look_up_loads key i order h passed true c d e0 e1 e2 = rw e0 (absent key i order h passed (eqb-true _ _ e0))
-  look_up_loads key i order h passed false true d e0 e1 e2 =
-      rw (e0, e1) (found (call.LookUp key) (place key i) (order.within i h) (eqb-true _ _ e1))
-  look_up_loads key i order h passed false false true e0 e1 e2 =
-      rw (e0, e1, e2) (full (call.LookUp key) order (at_end (call.LookUp key) i e2 (on (call.LookUp key) i order h passed e0 e1)))
-  look_up_loads key i order h passed false false false e0 e1 e2 = rw (e0, e1, e2) idle
+  look_up_loads key i small order h passed true c d e0 e1 e2 = rw e0 (absent key i small order h passed (eqb-true _ _ e0))
+  look_up_loads key i small order h passed false true d e0 e1 e2 =
+      rw (e0, e1) (found (call.LookUp key) (place key i) small (order.within i h) (eqb-true _ _ e1))
+  look_up_loads key i small order h passed false false true e0 e1 e2 =
+      rw (e0, e1, e2) (full (call.LookUp key) small order (at_end (call.LookUp key) i e2 (on (call.LookUp key) i order h passed e0 e1)))
+  look_up_loads key i small order h passed false false false e0 e1 e2 = rw (e0, e1, e2) idle
 
-  call_loads : (c : Call) (i : ℕ) → IsOrder n (place (key_of c)) → i < n → PassedOthers (place (key_of c)) (content_of n log) (key_of c) i
+  call_loads : (c : Call) (i : ℕ) → key_of c < 2 ^ 51 → IsOrder n (place (key_of c)) → i < n → PassedOthers (place (key_of c)) (content_of n log) (key_of c) i
       → Sound n place words (log ++ entries_of c (follows n (record { call = c; index = i; swaps = false }) (place (key_of c) i) (slice_index_or words (place (key_of c) i) 0)))
-  call_loads (call.Enter key) i order h passed = enter_loads key i order h passed _ _ _ refl refl refl
-  call_loads (call.LookUp key) i order h passed = look_up_loads key i order h passed _ _ _ refl refl refl
+  call_loads (call.Enter key) i small order h passed = enter_loads key i small order h passed _ _ _ refl refl refl
+  call_loads (call.LookUp key) i small order h passed = look_up_loads key i small order h passed _ _ _ refl refl refl
 
   -- after a load
-  pub loaded : (machine : Machine) → machine.swaps ≡ false → IsOrder n (place (key_of machine.call)) → machine.index < n
+  pub loaded : (machine : Machine) → machine.swaps ≡ false → IsOrder n (place (key_of machine.call)) → machine.index < n → key_of machine.call < 2 ^ 51
       → PassedOthers (place (key_of machine.call)) (content_of n log) (key_of machine.call) machine.index
       → Sound n place words (log ++ entries_of machine.call (follows n machine (place_in place machine) (slice_index_or words (place_in place machine) 0)))
-  loaded machine loads order h passed =
+  loaded machine loads order h small passed =
       let P : Bool → Type 0 = λ b. Sound n place words (log ++ entries_of machine.call (follows n (record { call = machine.call; index = machine.index; swaps = b }) (place_in place machine) (slice_index_or words (place_in place machine) 0)))
-      in subst P (sym loads) (call_loads machine.call machine.index order h passed)
+      in subst P (sym loads) (call_loads machine.call machine.index small order h passed)
 
-  unwritten : (p : ℕ) (h : List Entry) → Sound n place words h → Sound n place (slice_set words p (slice_index_or words p 0)) h
+  unwritten : (p : ℕ) (h : List Happened) → Sound n place words h → Sound n place (slice_set words p (slice_index_or words p 0)) h
   unwritten p h same = subst (λ (ws : List ℕ). Sound n place ws h) (sym (set-get_or words p 0)) same
 
   enter_swaps : (key i : ℕ) → IsOrder n (place key) → i < n → key < 2 ^ 51 → PassedOthers (place key) (content_of n log) key i
@@ -246,9 +246,9 @@ module _ (n : ℕ) (place : ℕ → ℕ → ℕ) (words : List ℕ) (log : List 
       (log ++ entries_of (call.Enter key) (follows n (record { call = call.Enter key; index = i; swaps = true }) (place key i) (slice_index_or words (place key i) 0)))
   enter_swaps key i order h small passed true c d e0 e1 e2 = rw e0 (won key i order h small passed (eqb-true _ _ e0))
   enter_swaps key i order h small passed false true d e0 e1 e2 =
-      rw (e0, e1) (unwritten (place key i) _ (found (call.Enter key) (place key i) (order.within i h) (eqb-true _ _ e1)))
+      rw (e0, e1) (unwritten (place key i) _ (found (call.Enter key) (place key i) small (order.within i h) (eqb-true _ _ e1)))
   enter_swaps key i order h small passed false false true e0 e1 e2 =
-      rw (e0, e1, e2) (unwritten (place key i) _ (full (call.Enter key) order (at_end (call.Enter key) i e2 (on (call.Enter key) i order h passed e0 e1))))
+      rw (e0, e1, e2) (unwritten (place key i) _ (full (call.Enter key) small order (at_end (call.Enter key) i e2 (on (call.Enter key) i order h passed e0 e1))))
   enter_swaps key i order h small passed false false false e0 e1 e2 = rw (e0, e1, e2) (unwritten (place key i) _ idle)
 
   call_swaps : (c : Call) (i : ℕ) → MaySwap c → IsOrder n (place (key_of c)) → i < n → key_of c < 2 ^ 51 → PassedOthers (place (key_of c)) (content_of n log) (key_of c) i

@@ -6,7 +6,7 @@ use mathlib.Core.Option.{some, some-injective}
 use lib.ListN.{get_elem?}
 use Rattle.atomic_table.proofs.Lists.{at_set, set_here, set_else}
 use Rattle.atomic_table.specs.Table.{State, Joins}
-use Rattle.slot_table.specs.declared.entries.Entry.{Entry}
+use Rattle.slot_table.specs.declared.entries.Happened.{Happened}
 use Rattle.slot_table.specs.declared.views.View.{View}
 use Rattle.slot_table.specs.History.{Begins}
 use Rattle.slot_table.specs.Places.{times, below, IsRising, merged}
@@ -18,56 +18,56 @@ use Rattle.slot_table.proofs.Owning.{times-merged, rising_higher, rising_once, r
 
 -- the longer and the shorter of two histories
 
-either_by : (P : List Entry → Type 0) (a b : List Entry) (test : Bool) → P a → P b → P (if test then b else a)
+either_by : (P : List Happened → Type 0) (a b : List Happened) (test : Bool) → P a → P b → P (if test then b else a)
 either_by P a b true first second = second
 either_by P a b false first second = first
 
-pub longer_either : (P : List Entry → Type 0) (a b : List Entry) → P a → P b → P (longer a b)
+pub longer_either : (P : List Happened → Type 0) (a b : List Happened) → P a → P b → P (longer a b)
 longer_either P a b first second = either_by P a b (nat_lt (length a) (length b)) first second
 
-pub shorter_either : (P : List Entry → Type 0) (a b : List Entry) → P a → P b → P (shorter a b)
+pub shorter_either : (P : List Happened → Type 0) (a b : List Happened) → P a → P b → P (shorter a b)
 shorter_either P a b first second = either_by P b a (nat_lt (length a) (length b)) second first
 
-whole_is : (a log : List Entry) → Begins a log → length log ≤ length a → a ≡ log
+whole_is : (a log : List Happened) → Begins a log → length log ≤ length a → a ≡ log
 whole_is a log b short =
-    let l : length log ≡ length a + length b.0 = ap (λ (t : List Entry). length t) b.1 ∙ length-append a b.0
+    let l : length log ≡ length a + length b.0 = ap (λ (t : List Happened). length t) b.1 ∙ length-append a b.0
     in let none_more : b.0 ≡ [] = nil_from_length b.0 (omega (arith, l, short))
-    in sym (b.1 ∙ ap (λ (t : List Entry). a ++ t) none_more ∙ append-nil a)
+    in sym (b.1 ∙ ap (λ (t : List Happened). a ++ t) none_more ∙ append-nil a)
 
-pub begins_shorter : (a log : List Entry) → Begins a log → length a ≤ length log
+pub begins_shorter : (a log : List Happened) → Begins a log → length a ≤ length log
 begins_shorter a log b =
-    let l : length log ≡ length a + length b.0 = ap (λ (t : List Entry). length t) b.1 ∙ length-append a b.0 in omega (arith, l)
+    let l : length log ≡ length a + length b.0 = ap (λ (t : List Happened). length t) b.1 ∙ length-append a b.0 in omega (arith, l)
 
-longest_by : (a b log : List Entry) → Begins a log → Begins b log → (a ≡ log) ⊎ (b ≡ log) → (test : Bool) → nat_lt (length a) (length b) ≡ test
+longest_by : (a b log : List Happened) → Begins a log → Begins b log → (a ≡ log) ⊎ (b ≡ log) → (test : Bool) → nat_lt (length a) (length b) ≡ test
     → (if test then b else a) ≡ log
 longest_by a b log first second (inl e) true is =
     let short : length a < length b = ltb-true (length a) (length b) is
     in let le : length b ≤ length log = begins_shorter b log second
-    in let same : length a ≡ length log = ap (λ (t : List Entry). length t) e
+    in let same : length a ≡ length log = ap (λ (t : List Happened). length t) e
     in absurd (omega (arith, short, le, same))
 longest_by a b log first second (inr e) true is = e
 longest_by a b log first second (inl e) false is = e
 longest_by a b log first second (inr e) false is =
     let le : length b ≤ length a = ltb-false (length a) (length b) is
-    in let same : length b ≡ length log = ap (λ (t : List Entry). length t) e
+    in let same : length b ≡ length log = ap (λ (t : List Happened). length t) e
     in whole_is a log first (omega (arith, le, same))
 
-pub longest_of_both : (a b log : List Entry) → Begins a log → Begins b log → (a ≡ log) ⊎ (b ≡ log) → longer a b ≡ log
+pub longest_of_both : (a b log : List Happened) → Begins a log → Begins b log → (a ≡ log) ⊎ (b ≡ log) → longer a b ≡ log
 longest_of_both a b log first second one = longest_by a b log first second one (nat_lt (length a) (length b)) refl
 
-begin_by : (a b log : List Entry) (test : Bool) → Begins (if test then b else a) log → Begins (if test then a else b) log → Begins a log × Begins b log
+begin_by : (a b log : List Happened) (test : Bool) → Begins (if test then b else a) log → Begins (if test then a else b) log → Begins a log × Begins b log
 begin_by a b log true long short = (short, long)
 begin_by a b log false long short = (long, short)
 
-pub both_begin : (a b log : List Entry) → Begins (longer a b) log → Begins (shorter a b) log → Begins a log × Begins b log
+pub both_begin : (a b log : List Happened) → Begins (longer a b) log → Begins (shorter a b) log → Begins a log × Begins b log
 both_begin a b log long short = begin_by a b log (nat_lt (length a) (length b)) long short
 
-longer_by : (a b : List Entry) (test : Bool) → nat_lt (length a) (length b) ≡ test
+longer_by : (a b : List Happened) (test : Bool) → nat_lt (length a) (length b) ≡ test
     → (length a ≤ length (if test then b else a)) × (length b ≤ length (if test then b else a))
 longer_by a b true is = let short : length a < length b = ltb-true (length a) (length b) is in (omega (arith, short), omega arith)
 longer_by a b false is = let le : length b ≤ length a = ltb-false (length a) (length b) is in (omega arith, omega (arith, le))
 
-pub longer_than : (a b : List Entry) → (length a ≤ length (longer a b)) × (length b ≤ length (longer a b))
+pub longer_than : (a b : List Happened) → (length a ≤ length (longer a b)) × (length b ≤ length (longer a b))
 longer_than a b = longer_by a b (nat_lt (length a) (length b)) refl
 
 module _ {O : Type 0} (n : ℕ) (place : ℕ → ℕ → ℕ) (key : O) (words : List ℕ) (views : List (View O)) (kept : Kept n place key words views)
@@ -176,11 +176,11 @@ joined_shows n p found v w new loaded =
     in let sum : (k : ℕ) → times k new.mine ≡ times k v.mine + times k w.mine =
     λ k. ap (λ (t : List ℕ). times k t) (loaded.grown.mine ∙ append-nil (merged v.mine w.mine)) ∙ times-merged k v.mine w.mine
     in record {
-      after_old = subst (λ (t : List Entry). Begins v.seen t) (sym seen_is) begun.0;
-      after_other = subst (λ (t : List Entry). Begins w.seen t) (sym seen_is) begun.1;
+      after_old = subst (λ (t : List Happened). Begins v.seen t) (sym seen_is) begun.0;
+      after_other = subst (λ (t : List Happened). Begins w.seen t) (sym seen_is) begun.1;
       legal = loaded.grown.legal;
-      keeps_old = kept_since n v.seen new.seen loaded.grown.legal (subst (λ (t : List Entry). Begins v.seen t) (sym seen_is) begun.0);
-      keeps_other = kept_since n w.seen new.seen loaded.grown.legal (subst (λ (t : List Entry). Begins w.seen t) (sym seen_is) begun.1);
+      keeps_old = kept_since n v.seen new.seen loaded.grown.legal (subst (λ (t : List Happened). Begins v.seen t) (sym seen_is) begun.0);
+      keeps_other = kept_since n w.seen new.seen loaded.grown.legal (subst (λ (t : List Happened). Begins w.seen t) (sym seen_is) begun.1);
       mine = sum;
       apart = λ k. let once : times k new.mine ≤ 1 = rising_once k 0 new.mine (length new.seen) loaded.grown.rises in omega (arith, sum k, once);
       rises = loaded.grown.rises;

@@ -9,4 +9,5 @@ pub mod Parting
 pub mod Owning
 pub mod Joining
 pub mod Marking
-pub mod Numbering
+pub mod Contents
+pub mod Later

@@ -7,8 +7,8 @@ use Rattle.atomic_table.specs.Table.{State, Me, keeps, Allows, step}
 use Rattle.probe_core.specs.Order.{IsOrder}
 use Rattle.probe_core.specs.Placing.{IsOther, IsPlaced}
 use Rattle.probe_core.specs.Sequential.{Table}
-use Rattle.slot_table.specs.declared.entries.Entry.{Entry}
-use Rattle.slot_table.specs.declared.entries.Entry.TheVariants as entry
+use Rattle.slot_table.specs.declared.entries.Happened.{Happened}
+use Rattle.slot_table.specs.declared.entries.Happened.TheVariants as entry
 use Rattle.slot_table.specs.declared.views.View.{View}
 use Rattle.slot_table.specs.History.{lowered, least_at, IsLegal, IsAtMost}
 use Rattle.slot_table.specs.Rule.{Kept, AreSlotWords, IsMarkWord}
@@ -34,13 +34,13 @@ mark_is : (o : Option ℕ) (x : ℕ) → IsMarkWord o x → mark_of x ≡ o
 mark_is None x is = mark_none x is
 mark_is (Some g) x is = mark_some x (λ e. let same : x ≡ g = is.0 in let l : g < 0xFFFF_FFFF_FFFF_FFFF = is.1 in omega (arith, e, same, l)) ∙ ap Some is.0
 
-least_marked : (q p game : ℕ) (log : List Entry) → q ≡ p → least_at q (log ++ entry.Marked p game ∷ []) ≡ lowered (least_at q log) game
+least_marked : (q p game : ℕ) (log : List Happened) → q ≡ p → least_at q (log ++ entry.Marked p game ∷ []) ≡ lowered (least_at q log) game
 least_marked q p game log same = least_from-append None q log (entry.Marked p game ∷ []) ∙ (rw (eq-eqb p q (sym same)) refl)
 
-least_other : (q p game : ℕ) (log : List Entry) → q ≢ p → least_at q (log ++ entry.Marked p game ∷ []) ≡ least_at q log
+least_other : (q p game : ℕ) (log : List Happened) → q ≢ p → least_at q (log ++ entry.Marked p game ∷ []) ≡ least_at q log
 least_other q p game log apart = least_from-append None q log (entry.Marked p game ∷ []) ∙ (rw (ne_eqb p q (λ e. apart (sym e))) refl)
 
-least_first : (q p : ℕ) (found : Option ℕ) (log : List Entry) → least_at q (log ++ entry.First p found ∷ []) ≡ least_at q log
+least_first : (q p : ℕ) (found : Option ℕ) (log : List Happened) → least_at q (log ++ entry.First p found ∷ []) ≡ least_at q log
 least_first q p found log = least_from-append None q log (entry.First p found ∷ [])
 
 -- after a mark the least game is not above it
@@ -50,16 +50,16 @@ lowered_at_most (Some h) game = let le : min h game ≤ game = omega arith in le
 
 pub marked_at_most : {O : Type 0} (n : ℕ) (old new : View O) (p game : ℕ) → Called n old (entry.Marked p game) new → IsAtMost (least_at p new.seen) game
 marked_at_most n old new p game called =
-    subst (λ (o : Option ℕ). IsAtMost o game) (sym (ap (λ (t : List Entry). least_at p t) called.1.seen ∙ least_marked p p game called.0 refl))
+    subst (λ (o : Option ℕ). IsAtMost o game) (sym (ap (λ (t : List Happened). least_at p t) called.1.seen ∙ least_marked p p game called.0 refl))
     (lowered_at_most (least_at p called.0) game)
 
 -- what a load of a mark word answers is the least game
 pub first_is_least : {O : Type 0} (n : ℕ) (old new : View O) (p : ℕ) (found : Option ℕ) → Called n old (entry.First p found) new → found ≡ least_at p new.seen
 first_is_least n old new p found called =
-    let legal : IsLegal n (called.0 ++ entry.First p found ∷ []) = subst (λ (t : List Entry). IsLegal n t) called.1.seen called.1.legal
-    in last_first [] called.0 (entry.First p found) legal.firsts ∙ sym (least_first p p found called.0) ∙ ap (λ (t : List Entry). least_at p t) (sym called.1.seen)
+    let legal : IsLegal n (called.0 ++ entry.First p found ∷ []) = subst (λ (t : List Happened). IsLegal n t) called.1.seen called.1.legal
+    in last_first [] called.0 (entry.First p found) legal.firsts ∙ sym (least_first p p found called.0) ∙ ap (λ (t : List Happened). least_at p t) (sym called.1.seen)
 
-module _ (n : ℕ) (place : ℕ → ℕ → ℕ) (words : List ℕ) (log : List Entry) (sound : Sound n place words log) (order : (k : ℕ) → IsOrder n (place k))
+module _ (n : ℕ) (place : ℕ → ℕ → ℕ) (words : List ℕ) (log : List Happened) (sound : Sound n place words log) (order : (k : ℕ) → IsOrder n (place k))
     (p : ℕ) (inside : p < n) where
   -- a slot word stays
   slot_stays : (x q : ℕ) → q < n → slice_index_or (slice_set words (n + p) x) q 0 ≡ slice_index_or words q 0
@@ -78,7 +78,7 @@ module _ (n : ℕ) (place : ℕ → ℕ → ℕ) (words : List ℕ) (log : List 
       let x : ℕ = min (slice_index_or words (n + p) 0) game
       in let long : length words ≡ 2 * n = sound.whole
       in record {
-        legal = legal_more n log (entry.Marked p game) refl tt sound.legal;
+        legal = legal_more n log (entry.Marked p game) refl tt (inside, omega (arith, low)) sound.legal;
         whole = length-set words (n + p) x ∙ sound.whole;
         slots = subst (λ (t : Table). AreSlotWords n (slice_set words (n + p) x) t) (sym (content_same n log (entry.Marked p game) refl))
             (λ q h. slot_stays x q h ∙ sound.slots q h);
@@ -104,7 +104,7 @@ module _ (n : ℕ) (place : ℕ → ℕ → ℕ) (words : List ℕ) (log : List 
   shows_first =
       let found : Option ℕ = mark_of (slice_index_or words (n + p) 0)
       in record {
-        legal = legal_more n log (entry.First p found) refl (mark_is (least_at p log) (slice_index_or words (n + p) 0) (sound.marks p inside)) sound.legal;
+        legal = legal_more n log (entry.First p found) refl (mark_is (least_at p log) (slice_index_or words (n + p) 0) (sound.marks p inside)) inside sound.legal;
         whole = sound.whole;
         slots = subst (λ (t : Table). AreSlotWords n words t) (sym (content_same n log (entry.First p found) refl)) sound.slots;
         small = sound.small;
@@ -119,7 +119,7 @@ module _ {O : Type 0} (exponent : O → ℕ) (place : ℕ → ℕ → ℕ) (key 
       (marked exponent (step slots q game 0 none) me)
   mark_allowed game low s kept homes at range =
       let n : ℕ = 2 ^ exponent key
-      in let e : Entry = entry.Marked p game
+      in let e : Happened = entry.Marked p game
       in let before : Sound n place s.words kept.log = sound_of n place key s.words s.views kept id me.0 at
       in let after : Sound n place (slice_set s.words q (min (slice_index s.words q) game)) (kept.log ++ e ∷ []) =
       subst (λ (k : ℕ). Sound n place (slice_set s.words k (min (slice_index s.words k) game)) (kept.log ++ e ∷ [])) (sym at_mark)
@@ -141,7 +141,7 @@ module _ {O : Type 0} (exponent : O → ℕ) (place : ℕ → ℕ → ℕ) (key 
   first_allowed s kept homes at range =
       let n : ℕ = 2 ^ exponent key
       in let x : ℕ = slice_index s.words q
-      in let e : Entry = entry.First p (mark_of x)
+      in let e : Happened = entry.First p (mark_of x)
       in let before : Sound n place s.words kept.log = sound_of n place key s.words s.views kept id me.0 at
       in let after : Sound n place s.words (kept.log ++ e ∷ []) =
       subst (λ (k : ℕ). Sound n place s.words (kept.log ++ entry.First p (mark_of (slice_index s.words k)) ∷ [])) (sym at_mark)

@@ -4,7 +4,7 @@ use Rattle.std.proofs.lemmas.Bool.{eqb-true, eq-eqb, ltb-true, ltb-false}
 use Rattle.std.proofs.lemmas.Bool.Decides.{nat_tests}
 use mathlib.Core.Option.{some, some-injective, some-ne-none}
 use lib.ListN.{get_elem?}
-use Rattle.slot_table.specs.declared.entries.Entry.{Entry}
+use Rattle.slot_table.specs.declared.entries.Happened.{Happened}
 use Rattle.slot_table.specs.declared.views.View.{View}
 use Rattle.slot_table.specs.Places.{times, below, IsRising, inserted, merged}
 use Rattle.slot_table.specs.Rule.{times_owned}
@@ -19,7 +19,7 @@ times-append k (x ∷ xs) ys = let e : times k (xs ++ ys) ≡ times k xs + times
 below_more : (k n : ℕ) → (if n == k then 1 else 0) + below k n ≡ below k (n + 1)
 below_more k n = grind (arith, nat_tests)
 
-pub times_places : (k n : ℕ) (added : List Entry) → times k (places_from n added) + below k n ≡ below k (n + length added)
+pub times_places : (k n : ℕ) (added : List Happened) → times k (places_from n added) + below k n ≡ below k (n + length added)
 times_places k n [] = let e : n ≡ n + 0 = omega arith in zero-add (below k n) ∙ ap (λ (m : ℕ). below k m) e
 times_places k n (e ∷ added) =
     let rest : times k (places_from (n + 1) added) + below k (n + 1) ≡ below k (n + 1 + length added) = times_places k (n + 1) added
@@ -53,13 +53,13 @@ pub rising_higher : (low : ℕ) (xs : List ℕ) (high higher : ℕ) → high ≤
 rising_higher low [] high higher h r = let le : low ≤ high = r in omega (arith, h, le)
 rising_higher low (x ∷ xs) high higher h r = (r.0, rising_higher (x + 1) xs high higher h r.1)
 
-rising_places : (low n : ℕ) (added : List Entry) → low ≤ n → IsRising low (places_from n added) (n + length added)
+rising_places : (low n : ℕ) (added : List Happened) → low ≤ n → IsRising low (places_from n added) (n + length added)
 rising_places low n [] h = let le : low ≤ n + 0 = omega (arith, h) in le
 rising_places low n (e ∷ added) h =
     let rest : IsRising (n + 1) (places_from (n + 1) added) (n + 1 + length added) = rising_places (n + 1) (n + 1) added (omega arith)
     in (h, subst (λ (high : ℕ). IsRising (n + 1) (places_from (n + 1) added) high) (omega arith) rest)
 
-pub rising_more : (low : ℕ) (xs : List ℕ) (high n : ℕ) (added : List Entry) → high ≤ n → IsRising low xs high → IsRising low (xs ++ places_from n added) (n + length added)
+pub rising_more : (low : ℕ) (xs : List ℕ) (high n : ℕ) (added : List Happened) → high ≤ n → IsRising low xs high → IsRising low (xs ++ places_from n added) (n + length added)
 rising_more low [] high n added h r = let le : low ≤ high = r in rising_places low n added (omega (arith, h, le))
 rising_more low (x ∷ xs) high n added h r = (r.0, rising_more (x + 1) xs high n added h r.1)
 

@@ -74,7 +74,7 @@ module _ {O : Type 0} (n : ℕ) (place : ℕ → ℕ → ℕ) (key : O) where
               let P : View O → Type 0 = λ w. Begins w.seen [] × Begins w.met []
               in subst P (only_one first u seat there) (([], refl), ([], refl));
         };
-        legal = record { run = tt; firsts = tt };
+        legal = record { run = tt; firsts = tt; within = tt };
         whole = long;
         slots = λ p h. is_free p h ∙ ap word_of (sym (get_or-replicate n p None None h));
         small = λ p h. let e : slice_index_or words p 0 ≡ 0 = is_free p h in omega (arith, e);

@@ -10,8 +10,8 @@ use Rattle.probe_core.specs.Probing.{Probing}
 use Rattle.probe_core.specs.Turn.{turn_of}
 use Rattle.probe_core.specs.Order.{IsOrder}
 use Rattle.probe_core.specs.Machine.{Machine, Followed, Runs, Answers, code_of, follows, key_of, place_in, begun}
-use Rattle.slot_table.specs.declared.entries.Entry.{Entry}
-use Rattle.slot_table.specs.declared.entries.Entry.TheVariants as entry
+use Rattle.slot_table.specs.declared.entries.Happened.{Happened}
+use Rattle.slot_table.specs.declared.entries.Happened.TheVariants as entry
 use Rattle.slot_table.specs.declared.views.View.{View}
 use Rattle.slot_table.specs.History.{content_of, IsLegal, Begins, Tells}
 use Rattle.slot_table.specs.Telling.{entries_of, places_from, PassedOthers, IsSearch, MaySwap, Grown, Called, Stepped}
@@ -76,7 +76,7 @@ pub went_through : {O : Type 0} (a b c : View O) → Went a b → Went b c → W
 went_through a b c first then = record { later = begins_through a.seen b.seen c.seen first.later then.later; mine = then.mine ∙ first.mine }
 
 -- a call before its first step
-pub search_begins : (n : ℕ) (place : ℕ → ℕ → ℕ) (c : Call) (seen : List Entry) → 0 < n → key_of c < 2 ^ 51 → IsSearch n place (begun c) seen
+pub search_begins : (n : ℕ) (place : ℕ → ℕ → ℕ) (c : Call) (seen : List Happened) → 0 < n → key_of c < 2 ^ 51 → IsSearch n place (begun c) seen
 search_begins n place c seen some small = record {
   within = some;
   small = small;
@@ -93,14 +93,14 @@ module _ {O : Type 0} (n : ℕ) (place : ℕ → ℕ → ℕ) (machine : Machine
 
     pub went_on : Went old new
     went_on = record {
-      later = subst (λ (t : List Entry). Begins old.seen t) (sym seen_is) stepped.grown.later;
+      later = subst (λ (t : List Happened). Begins old.seen t) (sym seen_is) stepped.grown.later;
       mine = stepped.grown.mine ∙ ap (λ (t : Followed). old.mine ++ places_from (length stepped.longest) (entries_of machine.call t)) f ∙ append-nil old.mine;
     }
 
     pub search_goes_on : IsOrder n (place (key_of machine.call)) → IsSearch n place machine old.seen → IsSearch n place next new.seen × (next.call ≡ machine.call)
     search_goes_on order search =
         let key : ℕ = key_of machine.call
-        in let legal : IsLegal n stepped.longest = subst (λ (t : List Entry). IsLegal n t) seen_is stepped.grown.legal
+        in let legal : IsLegal n stepped.longest = subst (λ (t : List Happened). IsLegal n t) seen_is stepped.grown.legal
         in let passed : PassedOthers (place key) (content_of n stepped.longest) key machine.index =
         passed_stays n (place key) old.seen stepped.longest key machine.index legal stepped.grown.later search.passed
         in let P : Machine → Type 0 = λ m. IsSearch n place m new.seen × (m.call ≡ machine.call)
@@ -110,7 +110,7 @@ module _ {O : Type 0} (n : ℕ) (place : ℕ → ℕ → ℕ) (machine : Machine
               within = search.within;
               small = search.small;
               enters = λ e. q.1;
-              passed = subst (λ (t : List Entry). PassedOthers (place key) (content_of n t) key machine.index) (sym seen_is) passed;
+              passed = subst (λ (t : List Happened). PassedOthers (place key) (content_of n t) key machine.index) (sym seen_is) passed;
             },
             refl,
           )
@@ -123,7 +123,7 @@ module _ {O : Type 0} (n : ℕ) (place : ℕ → ℕ → ℕ) (machine : Machine
                   within = let h : machine.index < n = search.within in let apart : machine.index + 1 ≢ n = q.3 in omega (arith, h, apart);
                   small = search.small;
                   enters = λ e. cc;
-                  passed = subst (λ (t : List Entry). PassedOthers (place key) (content_of n t) key (machine.index + 1)) (sym seen_is) on;
+                  passed = subst (λ (t : List Happened). PassedOthers (place key) (content_of n t) key (machine.index + 1)) (sym seen_is) on;
                 },
                 refl,
               )
@@ -134,15 +134,15 @@ module _ {O : Type 0} (n : ℕ) (place : ℕ → ℕ → ℕ) (machine : Machine
   ended a f = subst (λ (t : Followed). Grown n old stepped.longest (entries_of machine.call t) new) f stepped.grown
 
 -- from the first step to the last
-pub grown_through : {O : Type 0} (n : ℕ) (first old new : View O) (longest added : List Entry) → first.met ≡ [] → first.order ≡ old.order → Went first old
+pub grown_through : {O : Type 0} (n : ℕ) (first old new : View O) (longest added : List Happened) → first.met ≡ [] → first.order ≡ old.order → Went first old
     → Grown n old longest added new → Grown n first longest added new
 grown_through n first old new longest added met order went grown = record {
   later = begins_through first.seen old.seen longest went.later grown.later;
-  after_met = (longest, ap (λ (t : List Entry). t ++ longest) (sym met));
+  after_met = (longest, ap (λ (t : List Happened). t ++ longest) (sym met));
   seen = grown.seen;
   legal = grown.legal;
   keeps = kept_since n first.seen new.seen grown.legal
-      (subst (λ (t : List Entry). Begins first.seen t) (sym grown.seen) (begins_longer first.seen longest added (begins_through first.seen old.seen longest went.later grown.later)));
+      (subst (λ (t : List Happened). Begins first.seen t) (sym grown.seen) (begins_longer first.seen longest added (begins_through first.seen old.seen longest went.later grown.later)));
   mine = grown.mine ∙ ap (λ (t : List ℕ). t ++ places_from (length longest) added) went.mine;
   met = grown.met;
   order = grown.order ∙ sym order;
@@ -152,5 +152,5 @@ grown_through n first old new longest added met order went grown = record {
 -- what the answer of a call tells
 pub called_tells : {O : Type 0} (n : ℕ) (old new : View O) (c : Call) (a : Answer) → Called n old (entry.Asked c a) new → Tells n new.seen c a
 called_tells n old new c a called =
-    subst (λ (t : List Entry). Tells n t c a) (sym called.1.seen)
-    (last_answer_tells n called.0 c a (subst (λ (t : List Entry). IsLegal n t) called.1.seen called.1.legal))
+    subst (λ (t : List Happened). Tells n t c a) (sym called.1.seen)
+    (last_answer_tells n called.0 c a (subst (λ (t : List Happened). IsLegal n t) called.1.seen called.1.legal))

@@ -3,7 +3,7 @@ use Rattle.std.proofs.Common.{◌≡◌, ℕ, zero, suc, ◌+◌, ◌<◌, ◌�
 use mathlib.Core.Option.{some, some-ne-none}
 use lib.ListN.{get_elem?}
 use Rattle.atomic_table.proofs.Lists.{at_set, set_here}
-use Rattle.slot_table.specs.declared.entries.Entry.{Entry}
+use Rattle.slot_table.specs.declared.entries.Happened.{Happened}
 use Rattle.slot_table.specs.declared.views.View.{View}
 use Rattle.slot_table.specs.History.{IsLegal, Begins}
 use Rattle.slot_table.specs.Places.{times, below, IsRising}
@@ -19,7 +19,7 @@ at_below (x ∷ xs) zero a e = omega arith
 at_below (x ∷ xs) (suc i) a e = let h : i < length xs = at_below xs i a e in omega (arith, h)
 
 -- the view of a seat whose step found the longest history and added these entries
-abbrev pub grown_view : {O : Type 0} → View O → List Entry → List Entry → View O
+abbrev pub grown_view : {O : Type 0} → View O → List Happened → List Happened → View O
 grown_view view log added =
     record { order = view.order; seen = log ++ added; mine = view.mine ++ places_from (length log) added; met = [] }
 
@@ -29,15 +29,15 @@ module _ {O : Type 0} (n : ℕ) (place : ℕ → ℕ → ℕ) (key : O) (words :
   sound_of = record { legal = kept.legal; whole = kept.whole; slots = kept.slots; small = kept.small; marks = kept.marks; placed = kept.placed }
 
   -- what the seat owns, with one more place where its step ended a call
-  rises_on : (added : List Entry) → IsRising 0 (view.mine ++ places_from (length kept.log) added) (length (kept.log ++ added))
+  rises_on : (added : List Happened) → IsRising 0 (view.mine ++ places_from (length kept.log) added) (length (kept.log ++ added))
   rises_on added =
       let begun : Begins view.seen kept.log = (kept.longest.begun id view at).0
       in let short : length view.seen ≤ length kept.log =
-      let l : length kept.log ≡ length view.seen + length begun.0 = ap (λ (t : List Entry). length t) begun.1 ∙ length-append view.seen begun.0 in omega (arith, l)
+      let l : length kept.log ≡ length view.seen + length begun.0 = ap (λ (t : List Happened). length t) begun.1 ∙ length-append view.seen begun.0 in omega (arith, l)
       in subst (λ (high : ℕ). IsRising 0 (view.mine ++ places_from (length kept.log) added) high) (sym (length-append kept.log added))
       (rising_more 0 view.mine (length view.seen) (length kept.log) added short (kept.rises id view at))
 
-  owned_on : (added : List Entry) (k : ℕ) → times_owned k (slice_set views id (grown_view view kept.log added)) ≡ below k (length (kept.log ++ added))
+  owned_on : (added : List Happened) (k : ℕ) → times_owned k (slice_set views id (grown_view view kept.log added)) ≡ below k (length (kept.log ++ added))
   owned_on added k =
       let grown : View O = grown_view view kept.log added
       in let moved : times_owned k (slice_set views id grown) + times k view.mine ≡ times_owned k views + times k grown.mine = owned_set k views id view grown at
@@ -47,10 +47,10 @@ module _ {O : Type 0} (n : ℕ) (place : ℕ → ℕ → ℕ) (key : O) (words :
       in let before : times_owned k views ≡ below k (length kept.log) = kept.owned k
       in omega (arith, moved, split, placed, whole, before)
 
-  pub kept_by_step : view.order ≡ Some key → (words' : List ℕ) (added : List Entry) → Sound n place words' (kept.log ++ added)
+  pub kept_by_step : view.order ≡ Some key → (words' : List ℕ) (added : List Happened) → Sound n place words' (kept.log ++ added)
       → Kept n place key words' (slice_set views id (grown_view view kept.log added))
   kept_by_step of words' added sound =
-      let log : List Entry = kept.log ++ added
+      let log : List Happened = kept.log ++ added
       in let grown : View O = grown_view view kept.log added
       in record {
         log = log;
@@ -78,7 +78,7 @@ module _ {O : Type 0} (n : ℕ) (place : ℕ → ℕ → ℕ) (key : O) (words :
         ];
       }
 
-  pub grown_by_step : (added : List Entry) → IsLegal n (kept.log ++ added) → Grown n view kept.log added (grown_view view kept.log added)
+  pub grown_by_step : (added : List Happened) → IsLegal n (kept.log ++ added) → Grown n view kept.log added (grown_view view kept.log added)
   grown_by_step added legal = record {
     later = (kept.longest.begun id view at).0;
     after_met = (kept.longest.begun id view at).1;

@@ -8,7 +8,7 @@ use Rattle.probe_core.specs.Order.{IsOrder}
 use Rattle.probe_core.specs.declared.calls.Want.{Want}
 use Rattle.probe_core.specs.declared.calls.Want.TheVariants as want
 use Rattle.probe_core.specs.Machine.{Machine, code_of, follows, key_of, place_in, next_step}
-use Rattle.slot_table.specs.declared.entries.Entry.{Entry}
+use Rattle.slot_table.specs.declared.entries.Happened.{Happened}
 use Rattle.slot_table.specs.declared.views.View.{View}
 use Rattle.slot_table.specs.History.{content_of}
 use Rattle.slot_table.specs.Rule.{Kept}
@@ -46,11 +46,11 @@ module _ {O : Type 0} (exponent : O → ℕ) (place : ℕ → ℕ → ℕ) (key 
       let n : ℕ = 2 ^ exponent key
       in let p : ℕ = place_in place machine
       in let x : ℕ = slice_index s.words p
-      in let added : List Entry = entries_of machine.call (follows n machine p x)
+      in let added : List Happened = entries_of machine.call (follows n machine p x)
       in let before : Sound n place s.words kept.log = sound_of n place key s.words s.views kept id me.0 at
       in let passed : PassedOthers (place (key_of machine.call)) (content_of n kept.log) (key_of machine.call) machine.index =
       passed_stays n (place (key_of machine.call)) me.0.seen kept.log (key_of machine.call) machine.index kept.legal (kept.longest.begun id me.0 at).0 search.passed
-      in let after : Sound n place s.words (kept.log ++ added) = loaded n place s.words kept.log before machine loads order search.within passed
+      in let after : Sound n place s.words (kept.log ++ added) = loaded n place s.words kept.log before machine loads order search.within search.small passed
       in let w : View O = grown_view me.0 kept.log added
       in let unwritten : slice_set s.words p x ≡ s.words = set-get_or s.words p 0
       in let stepped : Stepped n machine p x me.0 w = record {
@@ -75,7 +75,7 @@ module _ {O : Type 0} (exponent : O → ℕ) (place : ℕ → ℕ → ℕ) (key 
       let n : ℕ = 2 ^ exponent key
       in let p : ℕ = place_in place machine
       in let x : ℕ = slice_index s.words p
-      in let added : List Entry = entries_of machine.call (follows n machine p x)
+      in let added : List Happened = entries_of machine.call (follows n machine p x)
       in let before : Sound n place s.words kept.log = sound_of n place key s.words s.views kept id me.0 at
       in let passed : PassedOthers (place (key_of machine.call)) (content_of n kept.log) (key_of machine.call) machine.index =
       passed_stays n (place (key_of machine.call)) me.0.seen kept.log (key_of machine.call) machine.index kept.legal (kept.longest.begun id me.0 at).0 search.passed
@@ -104,7 +104,7 @@ module _ {O : Type 0} (exponent : O → ℕ) (place : ℕ → ℕ → ℕ) (key 
       let n : ℕ = 2 ^ exponent key
       in let x : ℕ = slice_index s.words p
       in let before : Sound n place s.words kept.log = sound_of n place key s.words s.views kept id me.0 at
-      in let after : Sound n place s.words (kept.log ++ []) = subst (λ (t : List Entry). Sound n place s.words t) (sym (append-nil kept.log)) before
+      in let after : Sound n place s.words (kept.log ++ []) = subst (λ (t : List Happened). Sound n place s.words t) (sym (append-nil kept.log)) before
       in let w : View O = grown_view me.0 kept.log []
       in let unwritten : slice_set s.words p x ≡ s.words = set-get_or s.words p 0
       in let loaded_is : Loaded n p x me.0 w = record {

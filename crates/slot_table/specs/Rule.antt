@@ -5,13 +5,13 @@ use lib.ListN.{get_elem?}
 use Rattle.probe_core.specs.Sequential.{Table}
 use Rattle.probe_core.specs.History.{word_of}
 use Rattle.probe_core.specs.Placing.{IsPlaced}
-use Rattle.slot_table.specs.declared.entries.Entry.{Entry}
+use Rattle.slot_table.specs.declared.entries.Happened.{Happened}
 use Rattle.slot_table.specs.declared.views.View.{View}
 use Rattle.slot_table.specs.History.{IsLegal, content_of, least_at, Begins}
 use Rattle.slot_table.specs.Places.{times, below, IsRising, merged}
 
 -- what a seat knows that has made no call
-abbrev pub newcomer : {O : Type 0} → O → List Entry → View O
+abbrev pub newcomer : {O : Type 0} → O → List Happened → View O
 newcomer order seen = record { order = Some order; seen = seen; mine = []; met = [] }
 
 -- what a seat knows that was split off from one with this view
@@ -19,10 +19,10 @@ abbrev pub cut_off : {O : Type 0} → View O → View O
 cut_off view = record { order = view.order; seen = view.seen; mine = []; met = [] }
 
 -- the longer and the shorter of two histories
-abbrev pub longer : List Entry → List Entry → List Entry
+abbrev pub longer : List Happened → List Happened → List Happened
 longer a b = if nat_lt (length a) (length b) then b else a
 
-abbrev pub shorter : List Entry → List Entry → List Entry
+abbrev pub shorter : List Happened → List Happened → List Happened
 shorter a b = if nat_lt (length a) (length b) then a else b
 
 -- what a seat knows to which another one was joined: the longer history, and that the shorter one was seen too
@@ -44,7 +44,7 @@ abbrev pub IsView : {O : Type 0} → List (View O) → View O → Type 0
 IsView views view = (seat : ℕ) × (get_elem? views seat ≡ some view)
 
 -- the longest of all histories that were seen: some seat has seen it, and each other one begins it
-pub record IsLongest {O : Type 0} (views : List (View O)) (log : List Entry) : Type 0 where
+pub record IsLongest {O : Type 0} (views : List (View O)) (log : List Happened) : Type 0 where
   pub is_seen : (view : View O) × IsView views view × (view.seen ≡ log)
   pub begun : (seat : ℕ) (view : View O) → get_elem? views seat ≡ some view → Begins view.seen log × Begins view.met log
 
@@ -62,7 +62,7 @@ IsMarkWord None word = word ≡ 0xFFFF_FFFF_FFFF_FFFF
 IsMarkWord (Some game) word = (word ≡ game) × (game < 0xFFFF_FFFF_FFFF_FFFF)
 
 -- the n words behind the first n are those of the least games that the history marks
-abbrev pub AreMarkWords : ℕ → List ℕ → List Entry → Type 0
+abbrev pub AreMarkWords : ℕ → List ℕ → List Happened → Type 0
 AreMarkWords n words log = (p : ℕ) → p < n → IsMarkWord (least_at p log) (slice_index_or words (n + p) 0)
 
 -- how often a place stands in what seats call their own, all seats together
@@ -80,7 +80,7 @@ times_owned k (view ∷ views) = times k view.mine + times_owned k views
 --   a seat calls its own are places of what it has seen, rising;
 -- * `orders`: each view is of the table's order, but for those that were joined to another, which have nothing left
 pub record Kept {O : Type 0} (n : ℕ) (place : ℕ → ℕ → ℕ) (order : O) (words : List ℕ) (views : List (View O)) : Type 0 where
-  pub log : List Entry
+  pub log : List Happened
   pub longest : IsLongest views log
   pub legal : IsLegal n log
   pub whole : length words ≡ 2 * n

@@ -9,24 +9,24 @@ use Rattle.probe_core.specs.Turn.{turn_of}
 use Rattle.probe_core.specs.Machine.{Machine, Followed, Runs, Answers, follows, key_of, place_in}
 use Rattle.probe_core.specs.Sequential.{Table, IsNumber}
 use Rattle.probe_core.specs.History.{word_of}
-use Rattle.slot_table.specs.declared.entries.Entry.{Entry}
-use Rattle.slot_table.specs.declared.entries.Entry.TheVariants as entry
+use Rattle.slot_table.specs.declared.entries.Happened.{Happened}
+use Rattle.slot_table.specs.declared.entries.Happened.TheVariants as entry
 use Rattle.slot_table.specs.declared.views.View.{View}
 use Rattle.slot_table.specs.History.{IsLegal, content_of, Begins, Keeps}
 use Rattle.slot_table.specs.Places.{times, IsRising}
 
 -- what a step adds to the history: the call with its answer, where it ends the call
-abbrev pub entries_of : Call → Followed → List Entry
+abbrev pub entries_of : Call → Followed → List Happened
 entries_of asked (Runs machine) = []
 entries_of asked (Answers found) = entry.Asked asked found ∷ []
 
 -- the places of these entries, behind a history of this length
-abbrev pub places_from : ℕ → List Entry → List ℕ
+abbrev pub places_from : ℕ → List Happened → List ℕ
 places_from k [] = []
 places_from k (e ∷ entries) = k ∷ places_from (k + 1) entries
 
 -- a seat saw the longest history, and its step added these entries to it
-pub record Grown {O : Type 0} (n : ℕ) (old : View O) (longest added : List Entry) (new : View O) : Type 0 where
+pub record Grown {O : Type 0} (n : ℕ) (old : View O) (longest added : List Happened) (new : View O) : Type 0 where
   pub later : Begins old.seen longest
   pub after_met : Begins old.met longest
   pub seen : new.seen ≡ longest ++ added
@@ -38,12 +38,12 @@ pub record Grown {O : Type 0} (n : ℕ) (old : View O) (longest added : List Ent
   pub rises : IsRising 0 new.mine (length new.seen)
 
 -- the word found at p is that of the history's content
-abbrev pub ShowsSlot : ℕ → List Entry → ℕ → ℕ → Type 0
+abbrev pub ShowsSlot : ℕ → List Happened → ℕ → ℕ → Type 0
 ShowsSlot n longest p found = found ≡ word_of (slice_index_or (content_of n longest) p None)
 
 -- a step of this machine at place p found this word, and ended the call or not
 pub record Stepped {O : Type 0} (n : ℕ) (machine : Machine) (p found : ℕ) (old new : View O) : Type 0 where
-  pub longest : List Entry
+  pub longest : List Happened
   pub grown : Grown n old longest (entries_of machine.call (follows n machine p found)) new
   pub shows : ShowsSlot n longest p found
 
@@ -55,14 +55,14 @@ pub record Turned {O : Type 0} (n : ℕ) (place : ℕ → ℕ → ℕ) (order : 
 
 -- a load at place p that belongs to no call found this word
 pub record Loaded {O : Type 0} (n p found : ℕ) (old new : View O) : Type 0 where
-  pub longest : List Entry
+  pub longest : List Happened
   pub grown : Grown n old longest [] new
   pub shows : ShowsSlot n longest p found
   pub small : found ≤ 2 ^ 51
 
 -- a seat saw the longest history, and its step made this call
-abbrev pub Called : {O : Type 0} → ℕ → View O → Entry → View O → Type 0
-Called n old made new = (longest : List Entry) × Grown n old longest (made ∷ []) new
+abbrev pub Called : {O : Type 0} → ℕ → View O → Happened → View O → Type 0
+Called n old made new = (longest : List Happened) × Grown n old longest (made ∷ []) new
 
 -- the least game of a mark word
 abbrev pub mark_of : ℕ → Option ℕ
@@ -89,14 +89,16 @@ abbrev pub looked : {O S : Type 0} → (O → ℕ) → Step S → Me S (View O) 
 looked {O = O} exponent st me found me' = (me'.1 ≡ me.1) ×
     ((order : O) → me.0.order ≡ Some order → Loaded (2 ^ exponent order) st.word found me.0 me'.0)
 
--- a seat, of the table `seated` and with this view, is one of the table `of`, which has n numbers and this order; it holds
--- nothing, and it has met no other history since its last step
+-- a seat, of the table `seated` and with this view, is one of the table `of`, which has n numbers and this order: it holds
+-- nothing, and has met no other history since its last step; it has seen a legal history, in which its own places rise
 pub record IsSeatOf {O : Type 0} (n : ℕ) (of : TableId) (key : O) (seated : TableId) (me : Me (Unit {0}) (View O)) : Type 0 where
   pub words : of.words ≡ 2 * n
   pub table : seated ≡ of
   pub held : me.1 ≡ []
   pub order : me.0.order ≡ Some key
   pub met : me.0.met ≡ []
+  pub legal : IsLegal n me.0.seen
+  pub rises : IsRising 0 me.0.mine (length me.0.seen)
 
 -- in the table the first so many places hold other keys
 abbrev pub PassedOthers : (ℕ → ℕ) → Table → ℕ → ℕ → Type 0
@@ -108,7 +110,7 @@ MaySwap (call.Enter key) = Unit {0}
 MaySwap (call.LookUp key) = ⊥
 
 -- a machine on its way, where this much was seen: behind places that other keys hold
-pub record IsSearch (n : ℕ) (place : ℕ → ℕ → ℕ) (machine : Machine) (seen : List Entry) : Type 0 where
+pub record IsSearch (n : ℕ) (place : ℕ → ℕ → ℕ) (machine : Machine) (seen : List Happened) : Type 0 where
   pub within : machine.index < n
   pub small : key_of machine.call < 2 ^ 51
   pub enters : machine.swaps ≡ true → MaySwap machine.call

@@ -1,23 +1,49 @@
-//! Laws of legal histories, for proofs in the crates above. Each is a function that does nothing, and its contract is
-//! the law.
-ghost use Rattle.std.specs.Prelude.{◌≡◌, ◌^◌};
-ghost use Rattle.probe_core.specs.Sequential.{IsNumber};
-ghost use Rattle.slot_table.specs.History.{IsLegal, content_of};
+//! Laws of tables and their histories, for proofs in the crates above. Each is a function that does nothing, and its
+//! contract is the law, for any number of numbers n and any history.
+ghost use Rattle.std.specs.Prelude.{◌≡◌, ◌≢◌, ℕ, ◌<◌, ◌↔◌, List, None, Some, AllPairs, Contains, length, slice_index_or};
+ghost use Rattle.probe_core.specs.Sequential.{IsNumber, IsFree, IsFull};
+ghost use Rattle.slot_table.specs.declared.entries.Happened.{Happened};
+ghost use Rattle.slot_table.specs.History.{IsLegal, content_of, keys_of};
 
-use crate::passes::Pass;
-use crate::tables::SlotTable;
-use probe_core::{Key, ProbeOrder};
+/// The content of a table of n numbers has n places. It takes no memory.
+pub fn contents_have_n_places()
+    ensures { (n : ℕ) (history : List Happened) → length (content_of n history) ≡ n }
+{}
 
-/// A key has one number in what a pass has seen. It takes no memory.
-pub fn a_key_has_one_number<O: ProbeOrder>(
-    _table: &SlotTable<O>,
-    _pass: &Pass<O>,
-    _key: Key,
-    _one: usize,
-    _other: usize,
-)
-    requires legal { IsLegal (2 ^ O.exponent _table.now.order) _pass.now.seen }
-    requires one { IsNumber (content_of (2 ^ O.exponent _table.now.order) _pass.now.seen) _key _one }
-    requires other { IsNumber (content_of (2 ^ O.exponent _table.now.order) _pass.now.seen) _key _other }
-    ensures { _one ≡ _other }
+/// A key's number is exactly where the content shows the key, and a free number where it shows none. It takes no memory.
+pub fn numbers_are_where_the_content_shows_them()
+    ensures number { (n : ℕ) (history : List Happened) (key p : ℕ) → p < n →
+        IsNumber (content_of n history) key p ↔
+        (slice_index_or (content_of n history) p None ≡ Some key) }
+    ensures free { (n : ℕ) (history : List Happened) (p : ℕ) → p < n →
+        IsFree (content_of n history) p ↔
+        (slice_index_or (content_of n history) p None ≡ None) }
+{}
+
+/// A key has one number after a legal history. It takes no memory.
+pub fn a_key_has_one_number()
+    ensures { (n : ℕ) (history : List Happened) (key p q : ℕ) → IsLegal n history →
+        IsNumber (content_of n history) key p →
+        IsNumber (content_of n history) key q →
+        p ≡ q }
+{}
+
+/// A number is that of one key. It takes no memory.
+pub fn a_number_has_one_key()
+    ensures { (n : ℕ) (history : List Happened) (key other p : ℕ) →
+        IsNumber (content_of n history) key p →
+        IsNumber (content_of n history) other p →
+        key ≡ other }
+{}
+
+/// The keys that have a number are exactly the keys of the content. After a legal history they are all different, and
+/// where no number is free there are n of them. It takes no memory.
+pub fn a_full_table_has_n_different_keys()
+    ensures numbered { (n : ℕ) (history : List Happened) (key : ℕ) →
+        Contains (keys_of (content_of n history)) key ↔
+        ((p : ℕ) × IsNumber (content_of n history) key p) }
+    ensures different { (n : ℕ) (history : List Happened) → IsLegal n history →
+        AllPairs (λ key other. key ≢ other) (keys_of (content_of n history)) }
+    ensures full { (n : ℕ) (history : List Happened) → IsFull (content_of n history) →
+        length (keys_of (content_of n history)) ≡ n }
 {}

@@ -3,15 +3,14 @@
 
 mod entries;
 mod faults;
-mod laws;
+pub mod laws;
 mod passes;
 mod steps;
 mod tables;
 mod views;
 
-pub use entries::Entry;
+pub use entries::Happened;
 pub use faults::SlotFault;
-pub use laws::a_key_has_one_number;
 pub use passes::Pass;
 pub use tables::SlotTable;
 

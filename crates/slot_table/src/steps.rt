@@ -2,7 +2,7 @@
 ghost use Rattle.std.specs.Prelude.{◌≡◌, ◌-◌, ◌^◌, ◌<◌, [], None, slice_index_or};
 ghost use Rattle.probe_core.specs.Machine.{key_of, left_of};
 ghost use Rattle.probe_core.specs.Turn.{HasFewer};
-ghost use Rattle.slot_table.specs.declared.entries.Entry.TheVariants as entry;
+ghost use Rattle.slot_table.specs.declared.entries.Happened.TheVariants as entry;
 ghost use Rattle.slot_table.specs.History.{content_of, least_at, Tells, IsAtMost};
 ghost use Rattle.slot_table.specs.Telling.{IsSeatOf, IsSearch, Turned, Grown, Called, Joined};
 

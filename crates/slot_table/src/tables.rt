@@ -1,10 +1,10 @@
 //! Tables of numbers for keys, as threads call them.
-ghost use Rattle.std.specs.Prelude.{◌≡◌, ℕ, ◌+◌, ◌-◌, ◌*◌, ◌^◌, ◌<◌, [], IfOk, None, length, slice_index_or};
+ghost use Rattle.std.specs.Prelude.{◌≡◌, ℕ, ◌+◌, ◌-◌, ◌*◌, ◌^◌, ◌<◌, [], ◌∷◌, IfOk, None, length, slice_index_or};
 ghost use Rattle.probe_core.specs.declared.calls.Call.TheVariants as call;
 ghost use Rattle.probe_core.specs.Machine.{key_of};
-ghost use Rattle.slot_table.specs.declared.entries.Entry.TheVariants as entry;
-ghost use Rattle.slot_table.specs.History.{content_of, least_at, Tells, IsAtMost};
-ghost use Rattle.slot_table.specs.Passes.{IsPassOf, Saw, Made, Met};
+ghost use Rattle.slot_table.specs.declared.entries.Happened.TheVariants as entry;
+ghost use Rattle.slot_table.specs.History.{content_of, least_at, Tells, TellsAt, IsAtMost};
+ghost use Rattle.slot_table.specs.Passes.{IsPassOf, IsLater, calls_of, Saw, Made, Met};
 
 use crate::faults::SlotFault;
 use crate::passes::Pass;
@@ -33,7 +33,8 @@ impl<O: ProbeOrder> Model for SlotTable<O> {
 
     ghost view = { λ t. record { table = t.words.shared.table_id; order = t.order } };
 
-    ghost invariant = { λ t. (t.words.shared.key ≡ t.order) × (t.words.shared.table_id.words ≡ 2 * 2 ^ O.exponent t.order) };
+    ghost invariant = { λ t. (t.words.shared.key ≡ t.order)
+        × (t.words.shared.table_id.words ≡ 2 * 2 ^ O.exponent t.order) };
 }
 
 /// The words of a table of which no number is taken and none is marked.
@@ -41,7 +42,8 @@ fn free_words(alloc: Global, slots: usize) -> Result<Vec<u64>, AllocError>
     requires { slots < 2 ^ 32 }
     ensures length { IfOk result (λ v. length v.items ≡ 2 * slots) }
     ensures free { IfOk result (λ v. (p : ℕ) → p < slots → slice_index_or v.items p 0 ≡ 0) }
-    ensures unmarked { IfOk result (λ v. (p : ℕ) → p < slots → slice_index_or v.items (slots + p) 0 ≡ 0xFFFF_FFFF_FFFF_FFFF) }
+    ensures unmarked { IfOk result (λ v.
+        (p : ℕ) → p < slots → slice_index_or v.items (slots + p) 0 ≡ 0xFFFF_FFFF_FFFF_FFFF) }
 {
     let mut words = Vec::with_capacity(alloc, 2 * slots)?;
     words.resize(slots, 0)?;
@@ -55,9 +57,10 @@ impl<O: ProbeOrder> SlotTable<O> {
     /// Refusal: `Memory`, and then nothing is kept. It takes 16 bytes a number, and for a moment twice as much.
     pub fn new(alloc: Global, order: O) -> Result<(SlotTable<O>, Pass<O>), SlotFault>
         ensures order { IfOk result (λ r. r.0.order ≡ order) }
-        ensures pass { IfOk result (λ r. IsPassOf r.0 r.1) }
+        ensures pass { IfOk result (λ r. IsPassOf (2 ^ O.exponent order) r.0 r.1) }
         ensures seen { IfOk result (λ r. r.1.seen ≡ []) }
         ensures mine { IfOk result (λ r. r.1.mine ≡ []) }
+        ensures calls { IfOk result (λ r. calls_of r.1 ≡ []) }
     {
         let slots = order.capacity().slots();
         let free = free_words(alloc, slots)?;
@@ -76,11 +79,12 @@ impl<O: ProbeOrder> SlotTable<O> {
     ///
     /// The pass must be of this table.
     pub fn split(&self, pass: &mut Pass<O>) -> Pass<O>
-        requires { IsPassOf self.now pass.old }
+        requires { IsPassOf (2 ^ O.exponent self.now.order) self.now pass.old }
         ensures same { pass.new ≡ pass.old }
-        ensures pass { IsPassOf self.now result }
+        ensures pass { IsPassOf (2 ^ O.exponent self.now.order) self.now result }
         ensures seen { result.seen ≡ pass.old.seen }
         ensures mine { result.mine ≡ [] }
+        ensures calls { calls_of result ≡ [] }
     {
         Pass {
             seat: steps::split(&self.words.shared, &mut pass.seat),
@@ -89,10 +93,13 @@ impl<O: ProbeOrder> SlotTable<O> {
 
     /// Takes the steps of a call.
     fn ask(&self, pass: &mut Pass<O>, call: Call) -> Answer
-        requires pass { IsPassOf self.now pass.old }
+        requires pass { IsPassOf (2 ^ O.exponent self.now.order) self.now pass.old }
         requires small { key_of call < 2 ^ 51 }
-        ensures pass { IsPassOf self.now pass.new }
-        ensures made { Made (2 ^ O.exponent self.now.order) pass.old (entry.Asked call result) pass.new }
+        ensures pass { IsPassOf (2 ^ O.exponent self.now.order) self.now pass.new }
+        ensures made { Made (2 ^ O.exponent self.now.order)
+            pass.old (entry.Asked call result) pass.new }
+        ensures later { IsLater (2 ^ O.exponent self.now.order)
+            pass.old (entry.Asked call result ∷ []) pass.new }
         ensures told { Tells (2 ^ O.exponent self.now.order) pass.new.seen call result }
     {
         steps::asked(&self.words.shared, &mut pass.seat, &self.order, call)
@@ -103,9 +110,12 @@ impl<O: ProbeOrder> SlotTable<O> {
     ///
     /// The pass must be of this table.
     pub fn enter(&self, pass: &mut Pass<O>, key: Key) -> Answer
-        requires { IsPassOf self.now pass.old }
-        ensures pass { IsPassOf self.now pass.new }
-        ensures made { Made (2 ^ O.exponent self.now.order) pass.old (entry.Asked (call.Enter key) result) pass.new }
+        requires { IsPassOf (2 ^ O.exponent self.now.order) self.now pass.old }
+        ensures pass { IsPassOf (2 ^ O.exponent self.now.order) self.now pass.new }
+        ensures made { Made (2 ^ O.exponent self.now.order)
+            pass.old (entry.Asked (call.Enter key) result) pass.new }
+        ensures later { IsLater (2 ^ O.exponent self.now.order)
+            pass.old (entry.Asked (call.Enter key) result ∷ []) pass.new }
         ensures told { Tells (2 ^ O.exponent self.now.order) pass.new.seen (call.Enter key) result }
     {
         self.ask(pass, Call::Enter(key))
@@ -116,10 +126,14 @@ impl<O: ProbeOrder> SlotTable<O> {
     ///
     /// The pass must be of this table.
     pub fn look_up(&self, pass: &mut Pass<O>, key: Key) -> Answer
-        requires { IsPassOf self.now pass.old }
-        ensures pass { IsPassOf self.now pass.new }
-        ensures made { Made (2 ^ O.exponent self.now.order) pass.old (entry.Asked (call.LookUp key) result) pass.new }
-        ensures told { Tells (2 ^ O.exponent self.now.order) pass.new.seen (call.LookUp key) result }
+        requires { IsPassOf (2 ^ O.exponent self.now.order) self.now pass.old }
+        ensures pass { IsPassOf (2 ^ O.exponent self.now.order) self.now pass.new }
+        ensures made { Made (2 ^ O.exponent self.now.order)
+            pass.old (entry.Asked (call.LookUp key) result) pass.new }
+        ensures later { IsLater (2 ^ O.exponent self.now.order)
+            pass.old (entry.Asked (call.LookUp key) result ∷ []) pass.new }
+        ensures told { Tells (2 ^ O.exponent self.now.order)
+            pass.new.seen (call.LookUp key) result }
     {
         self.ask(pass, Call::LookUp(key))
     }
@@ -129,11 +143,14 @@ impl<O: ProbeOrder> SlotTable<O> {
     ///
     /// The pass must be of this table, and the number below the number of slots.
     pub fn word_at(&self, pass: &mut Pass<O>, number: usize) -> Option<Key>
-        requires pass { IsPassOf self.now pass.old }
+        requires pass { IsPassOf (2 ^ O.exponent self.now.order) self.now pass.old }
         requires number { number < 2 ^ O.exponent self.now.order }
-        ensures pass { IsPassOf self.now pass.new }
+        ensures pass { IsPassOf (2 ^ O.exponent self.now.order) self.now pass.new }
         ensures saw { Saw (2 ^ O.exponent self.now.order) pass.old pass.new }
-        ensures key { result ≡ slice_index_or (content_of (2 ^ O.exponent self.now.order) pass.new.seen) number None }
+        ensures later { IsLater (2 ^ O.exponent self.now.order) pass.old [] pass.new }
+        ensures key { result ≡
+            slice_index_or (content_of (2 ^ O.exponent self.now.order) pass.new.seen) number None }
+        ensures told { TellsAt (2 ^ O.exponent self.now.order) pass.new.seen number result }
     {
         steps::word_at(&self.words.shared, &mut pass.seat, number)
     }
@@ -143,9 +160,9 @@ impl<O: ProbeOrder> SlotTable<O> {
     ///
     /// The passes must be of this table.
     pub fn meet(&self, one: Pass<O>, other: Pass<O>) -> Pass<O>
-        requires one { IsPassOf self.now one }
-        requires other { IsPassOf self.now other }
-        ensures pass { IsPassOf self.now result }
+        requires one { IsPassOf (2 ^ O.exponent self.now.order) self.now one }
+        requires other { IsPassOf (2 ^ O.exponent self.now.order) self.now other }
+        ensures pass { IsPassOf (2 ^ O.exponent self.now.order) self.now result }
         ensures met { Met (2 ^ O.exponent self.now.order) one other result }
     {
         let Pass { mut seat } = one;
@@ -160,11 +177,14 @@ impl<O: ProbeOrder> SlotTable<O> {
     /// The pass must be of this table, the number below the number of slots, and the game not 2^64 - 1. The number need
     /// not be taken.
     pub fn mark(&self, pass: &mut Pass<O>, number: usize, game: u64)
-        requires pass { IsPassOf self.now pass.old }
+        requires pass { IsPassOf (2 ^ O.exponent self.now.order) self.now pass.old }
         requires number { number < 2 ^ O.exponent self.now.order }
         requires game { game < 2 ^ 64 - 1 }
-        ensures pass { IsPassOf self.now pass.new }
-        ensures made { Made (2 ^ O.exponent self.now.order) pass.old (entry.Marked number game) pass.new }
+        ensures pass { IsPassOf (2 ^ O.exponent self.now.order) self.now pass.new }
+        ensures made { Made (2 ^ O.exponent self.now.order)
+            pass.old (entry.Marked number game) pass.new }
+        ensures later { IsLater (2 ^ O.exponent self.now.order)
+            pass.old (entry.Marked number game ∷ []) pass.new }
         ensures least { IsAtMost (least_at number pass.new.seen) game }
     {
         steps::mark(
@@ -181,10 +201,13 @@ impl<O: ProbeOrder> SlotTable<O> {
     ///
     /// The pass must be of this table, and the number below the number of slots. The number need not be taken.
     pub fn first(&self, pass: &mut Pass<O>, number: usize) -> Option<u64>
-        requires pass { IsPassOf self.now pass.old }
+        requires pass { IsPassOf (2 ^ O.exponent self.now.order) self.now pass.old }
         requires number { number < 2 ^ O.exponent self.now.order }
-        ensures pass { IsPassOf self.now pass.new }
-        ensures made { Made (2 ^ O.exponent self.now.order) pass.old (entry.First number result) pass.new }
+        ensures pass { IsPassOf (2 ^ O.exponent self.now.order) self.now pass.new }
+        ensures made { Made (2 ^ O.exponent self.now.order)
+            pass.old (entry.First number result) pass.new }
+        ensures later { IsLater (2 ^ O.exponent self.now.order)
+            pass.old (entry.First number result ∷ []) pass.new }
         ensures least { result ≡ least_at number pass.new.seen }
     {
         steps::first(

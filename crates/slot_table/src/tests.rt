@@ -1,5 +1,5 @@
 //! The table seen from outside: rows worked by hand, and threads that number the same keys.
-ghost use Rattle.std.specs.Prelude.{All, IfOk};
+ghost use Rattle.std.specs.Prelude.{◌^◌, All, IfOk};
 ghost use Rattle.slot_table.specs.Passes.{IsPassOf};
 
 use super::*;
@@ -10,8 +10,8 @@ use std::test::Fail;
 use std::thread;
 use std::thread::Threads;
 
-/// How many keys each thread enters.
-const KEYS: usize = 200;
+/// How many keys each thread enters: a prime, so that any stride below it comes to every key.
+const KEYS: usize = 199;
 
 fn capacity_of(rt: &impl Abort, k: u32) -> Capacity {
     Capacity::new(k).expect(rt, "an exponent up to 22")
@@ -30,7 +30,7 @@ fn number_of(rt: &impl Abort, answer: Answer) -> usize {
 
 /// Two numbers, of which the keys 5 and 6 get the first and the second.
 fn assert_two_numbers<O: ProbeOrder>(rt: &impl Abort, table: &SlotTable<O>, pass: &mut Pass<O>)
-    requires { IsPassOf table.now pass.old }
+    requires { IsPassOf (2 ^ O.exponent table.now.order) table.now pass.old }
 {
     let (five, six, seven) = (key_of(rt, 5), key_of(rt, 6), key_of(rt, 7));
     assert!(rt; table.capacity().slots() == 2);
@@ -81,11 +81,62 @@ fn the_least_game_is_first(rt: HostRuntime) -> Result<(), Fail> {
     Ok(())
 }
 
+#[test]
+fn a_mark_is_at_its_number_alone(rt: HostRuntime) -> Result<(), Fail> {
+    let capacity = capacity_of(&rt, 1);
+    let (table, mut pass) = SlotTable::new(rt.alloc(), Linear { capacity })?;
+    assert!(&rt; table.capacity().slots() == 2);
+    assert!(&rt; table.first(&mut pass, 0) == None);
+    table.mark(&mut pass, 1, 4);
+    assert!(&rt; table.first(&mut pass, 0) == None);
+    assert!(&rt; table.first(&mut pass, 1) == Some(4));
+    table.mark(&mut pass, 0, 9);
+    table.mark(&mut pass, 1, 2);
+    assert!(&rt; table.first(&mut pass, 0) == Some(9));
+    assert!(&rt; table.first(&mut pass, 1) == Some(2));
+    Ok(())
+}
+
+#[test]
+fn marks_and_keys_leave_each_other(rt: HostRuntime) -> Result<(), Fail> {
+    let capacity = capacity_of(&rt, 1);
+    let (table, mut pass) = SlotTable::new(rt.alloc(), OddStep { capacity })?;
+    let (five, six) = (key_of(&rt, 5), key_of(&rt, 6));
+    assert!(&rt; table.capacity().slots() == 2);
+    assert!(&rt; table.enter(&mut pass, five) == Answer::Number(0));
+    table.mark(&mut pass, 0, 3);
+    table.mark(&mut pass, 1, 8);
+    assert!(&rt; table.word_at(&mut pass, 0) == Some(five));
+    assert!(&rt; table.word_at(&mut pass, 1) == None);
+    assert!(&rt; table.look_up(&mut pass, six) == Answer::Absent);
+    assert!(&rt; table.first(&mut pass, 1) == Some(8));
+    assert!(&rt; table.look_up(&mut pass, six) == Answer::Absent);
+    assert!(&rt; table.enter(&mut pass, six) == Answer::Number(1));
+    assert!(&rt; table.first(&mut pass, 0) == Some(3));
+    assert!(&rt; table.enter(&mut pass, five) == Answer::Number(0));
+    Ok(())
+}
+
+#[test]
+fn the_largest_table_is_made(rt: HostRuntime) -> Result<(), Fail> {
+    let capacity = capacity_of(&rt, 22);
+    let (table, mut pass) = SlotTable::new(rt.alloc(), Linear { capacity })?;
+    let last = 4_194_303;
+    assert!(&rt; table.capacity().slots() == 4_194_304);
+    assert!(&rt; table.word_at(&mut pass, last) == None);
+    table.mark(&mut pass, last, 6);
+    assert!(&rt; table.first(&mut pass, last) == Some(6));
+    assert!(&rt; table.first(&mut pass, 0) == None);
+    assert!(&rt; table.enter(&mut pass, key_of(&rt, 0)) == Answer::Number(0));
+    assert!(&rt; table.word_at(&mut pass, 0) == Some(key_of(&rt, 0)));
+    Ok(())
+}
+
 /// What one thread does: its pass, and where it begins among the keys.
 #[derive(Drop)]
 struct Job<O> {
     pass: Pass<O>,
-    first: usize,
+    first: u8,
 }
 
 /// The pass of a thread that ended, and the number of each key.
@@ -95,16 +146,16 @@ struct Done<O> {
     numbers: [usize; KEYS],
 }
 
-/// So many jobs, each with a pass of its own.
+/// `count` jobs, each with a pass of its own.
 fn jobs_of<O: ProbeOrder>(
     alloc: Global,
     table: &SlotTable<O>,
     pass: &mut Pass<O>,
-    count: usize,
+    count: u8,
 ) -> Result<Vec<Job<O>>, AllocError>
-    requires { IsPassOf table.now pass.old }
-    ensures pass { IsPassOf table.now pass.new }
-    ensures jobs { IfOk result (λ v. All (λ job. IsPassOf table.now job.pass) v.items) }
+    requires { IsPassOf (2 ^ O.exponent table.now.order) table.now pass.old }
+    ensures pass { IsPassOf (2 ^ O.exponent table.now.order) table.now pass.new }
+    ensures jobs { IfOk result (λ v. All (λ job. IsPassOf (2 ^ O.exponent table.now.order) table.now job.pass) v.items) }
 {
     let mut jobs = Vec::new(alloc);
     for first in 0..count {
@@ -114,15 +165,15 @@ fn jobs_of<O: ProbeOrder>(
     Ok(jobs)
 }
 
-/// Enters all keys, one by one, in an order of the job's own.
+/// Enters all keys, from the job's first one on in strides of its own: every key, every second one, and so on.
 fn enter_all<O: ProbeOrder>(rt: &impl Abort, table: &SlotTable<O>, job: Job<O>) -> Done<O>
-    requires { IsPassOf table.now job.pass }
-    ensures { IsPassOf table.now result.pass }
+    requires { IsPassOf (2 ^ O.exponent table.now.order) table.now job.pass }
+    ensures { IsPassOf (2 ^ O.exponent table.now.order) table.now result.pass }
 {
     let Job { mut pass, first } = job;
     let mut numbers = [0; KEYS];
     for step in 0..KEYS {
-        let key = (first % KEYS + 7 * step) % KEYS;
+        let key = (usize::from(first) + (usize::from(first) + 1) * step) % KEYS;
         numbers[key] = number_of(rt, table.enter(&mut pass, key_of(rt, key as u64)));
     }
     Done { pass, numbers }
@@ -134,15 +185,15 @@ fn run_all<O: ProbeOrder + Send + Sync, R: Threads + Abort + Sync>(
     table: &SlotTable<O>,
     jobs: Vec<Job<O>>,
 ) -> Result<Vec<Done<O>>, AllocError>
-    requires { All (λ job. IsPassOf table.now job.pass) jobs.items }
-    ensures { IfOk result (λ v. All (λ done. IsPassOf table.now done.pass) v.items) }
+    requires { All (λ job. IsPassOf (2 ^ O.exponent table.now.order) table.now job.pass) jobs.items }
+    ensures { IfOk result (λ v. All (λ done. IsPassOf (2 ^ O.exponent table.now.order) table.now done.pass) v.items) }
 {
     thread::map_vec(
         rt,
         jobs,
         &|job: Job<O>| -> Done<O>
-            requires { IsPassOf table.now job.pass }
-            ensures { IsPassOf table.entry.now result.pass }
+            requires { IsPassOf (2 ^ O.exponent table.now.order) table.now job.pass }
+            ensures { IsPassOf (2 ^ O.exponent table.entry.now.order) table.entry.now result.pass }
         { enter_all(rt, table, job) },
     )
 }
@@ -154,8 +205,8 @@ fn assert_found<O: ProbeOrder>(
     pass: &mut Pass<O>,
     numbers: &[usize; KEYS],
 )
-    requires { IsPassOf table.now pass.old }
-    ensures { IsPassOf table.now pass.new }
+    requires { IsPassOf (2 ^ O.exponent table.now.order) table.now pass.old }
+    ensures { IsPassOf (2 ^ O.exponent table.now.order) table.now pass.new }
 {
     for key in 0..KEYS {
         let bits = key_of(rt, key as u64);
@@ -168,7 +219,7 @@ fn assert_found<O: ProbeOrder>(
 
 /// How many numbers are free.
 fn free_of<O: ProbeOrder>(table: &SlotTable<O>, pass: &mut Pass<O>) -> usize
-    requires { IsPassOf table.now pass.old }
+    requires { IsPassOf (2 ^ O.exponent table.now.order) table.now pass.old }
 {
     let mut free = 0usize;
     for number in 0..table.capacity().slots() {
@@ -187,8 +238,8 @@ fn assert_read_back<O: ProbeOrder>(
     agreed: &[usize; KEYS],
     mut done: Vec<Done<O>>,
 )
-    requires pass { IsPassOf table.now pass }
-    requires done { All (λ done. IsPassOf table.now done.pass) done.items }
+    requires pass { IsPassOf (2 ^ O.exponent table.now.order) table.now pass }
+    requires done { All (λ done. IsPassOf (2 ^ O.exponent table.now.order) table.now done.pass) done.items }
 {
     let mut all = pass;
     while let Some(other) = done.pop() {
@@ -198,7 +249,7 @@ fn assert_read_back<O: ProbeOrder>(
         all = table.meet(all, pass);
     }
     assert_found(rt, table, &mut all, agreed);
-    assert!(rt; free_of(table, &mut all) == 56);
+    assert!(rt; free_of(table, &mut all) == 57);
 }
 
 /// Eight threads enter the same keys, each in an order of its own.
@@ -235,16 +286,16 @@ fn enter_each<O: ProbeOrder + Send + Sync, R: Threads + Abort + Sync>(
     table: &SlotTable<O>,
     jobs: Vec<Job<O>>,
 ) -> Result<Vec<Answer>, AllocError>
-    requires { All (λ job. IsPassOf table.now job.pass) jobs.items }
+    requires { All (λ job. IsPassOf (2 ^ O.exponent table.now.order) table.now job.pass) jobs.items }
 {
     thread::map_vec(
         rt,
         jobs,
         &|job: Job<O>| -> Answer
-            requires { IsPassOf table.now job.pass }
+            requires { IsPassOf (2 ^ O.exponent table.now.order) table.now job.pass }
         {
             let Job { mut pass, first } = job;
-            table.enter(&mut pass, key_of(rt, first as u64))
+            table.enter(&mut pass, key_of(rt, u64::from(first)))
         },
     )
 }
@@ -273,27 +324,27 @@ fn mark_each<O: ProbeOrder + Send + Sync, R: Threads + Sync>(
     table: &SlotTable<O>,
     jobs: Vec<Job<O>>,
 ) -> Result<Vec<Done<O>>, AllocError>
-    requires { All (λ job. IsPassOf table.now job.pass) jobs.items }
-    ensures { IfOk result (λ v. All (λ done. IsPassOf table.now done.pass) v.items) }
+    requires { All (λ job. IsPassOf (2 ^ O.exponent table.now.order) table.now job.pass) jobs.items }
+    ensures { IfOk result (λ v. All (λ done. IsPassOf (2 ^ O.exponent table.now.order) table.now done.pass) v.items) }
 {
     thread::map_vec(
         rt,
         jobs,
         &|job: Job<O>| -> Done<O>
-            requires { IsPassOf table.now job.pass }
-            ensures { IsPassOf table.entry.now result.pass }
+            requires { IsPassOf (2 ^ O.exponent table.now.order) table.now job.pass }
+            ensures { IsPassOf (2 ^ O.exponent table.entry.now.order) table.entry.now result.pass }
         { mark_one(table, job) },
     )
 }
 
-/// Marks number 0 with a game above 40.
+/// Marks number 0 with a game from 41 on.
 fn mark_one<O: ProbeOrder>(table: &SlotTable<O>, job: Job<O>) -> Done<O>
-    requires { IsPassOf table.now job.pass }
-    ensures { IsPassOf table.now result.pass }
+    requires { IsPassOf (2 ^ O.exponent table.now.order) table.now job.pass }
+    ensures { IsPassOf (2 ^ O.exponent table.now.order) table.now result.pass }
 {
     let Job { mut pass, first } = job;
     if table.capacity().slots() > 0 {
-        table.mark(&mut pass, 0, 41 + (first % 100) as u64);
+        table.mark(&mut pass, 0, 41 + u64::from(first));
     }
     Done {
         pass,
@@ -303,7 +354,7 @@ fn mark_one<O: ProbeOrder>(table: &SlotTable<O>, job: Job<O>) -> Done<O>
 
 /// Each pass reads that 41 is the least game at number 0.
 fn assert_least<O: ProbeOrder>(rt: &impl Abort, table: &SlotTable<O>, mut done: Vec<Done<O>>)
-    requires { All (λ done. IsPassOf table.now done.pass) done.items }
+    requires { All (λ done. IsPassOf (2 ^ O.exponent table.now.order) table.now done.pass) done.items }
 {
     assert!(rt; table.capacity().slots() > 0);
     while let Some(other) = done.pop() {

@@ -1,5 +1,5 @@
 //! What a seat at the table knows, the rule that ties all of it to the words, and what each step tells.
-use crate::entries::Entry;
+use crate::entries::Happened;
 use atomic_table::{Join, Play, Seat, Shared, Split, Table, TableRule};
 use probe_core::ProbeOrder;
 use std::alloc::Global;
@@ -11,11 +11,11 @@ pub struct View<O> {
     /// The table's order; None once the view was joined to another.
     pub order: Option<O>,
     /// A history of the table, as far as the seat has seen it.
-    pub seen: LinkedList<Entry>,
+    pub seen: LinkedList<Happened>,
     /// The places in it of the seat's own calls.
     pub mine: LinkedList<usize>,
     /// A history that a seat had seen that was joined to this one, until the next step.
-    pub met: LinkedList<Entry>,
+    pub met: LinkedList<Happened>,
 }
 
 /// The rule of a table.
