@@ -3,9 +3,10 @@ use Rattle.std.proofs.Common.{◌≡◌, ◌<◌, ◌^◌, ℕ, List, Option, So
 use Rattle.std.specs.Str.Parse.{IsNumeral, digits_value, without_leading_plus}
 use Rattle.clap.specs.Words.{Row, first_of, one_of}
 use Rattle.shapes.specs.Commands.{IsNumberOf}
-use Rattle.shapes.specs.Words.{IsPatternFault, IsWordsFault}
-use Rattle.shapes.specs.declared.faults.RunFault.{RunFault}
-use Rattle.shapes.specs.declared.faults.RunFault.TheVariants as fault
+use Rattle.engine_core.specs.Patterns.{IsPatternFault}
+use Rattle.shapes.specs.Words.{IsWordsFault}
+use Rattle.engine_core.specs.declared.faults.RunFault.{RunFault}
+use Rattle.engine_core.specs.declared.faults.RunFault.TheVariants as fault
 
 -- an option whose value was read has a text, and the number is the text's
 pub number_given : (id : List ℕ) (rows : List Row) (number : ℕ) (text : Option (List ℕ)) → one_of id rows ≡ text → (text ≡ None → ◌≡◌ {A = Option ℕ} (Some number) None) →

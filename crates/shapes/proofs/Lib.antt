@@ -1,8 +1,2 @@
-pub mod Known
-pub mod Rows
-pub mod Finals
-pub mod Runs
-pub mod Found
-pub mod Joined
 pub mod Asked
 pub mod Told

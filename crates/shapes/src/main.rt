@@ -1,24 +1,12 @@
 //! Reads collections of Go games and dictionaries of their patterns, and prints what stands in them.
 #![tactic(auto)]
 
-mod boards;
 mod commands;
-mod counts;
-mod faults;
-mod finds;
-mod input;
-mod joins;
-mod lines;
-mod output;
-mod patterns;
-mod text;
 mod words;
 
-use boards::{Outcome, run_board};
-use counts::run_count;
-use faults::{RunFault, status_of};
-use finds::run_find;
-use joins::run_join;
+use engine_core::{
+    Outcome, RunFault, run_board, run_count, run_find, run_join, status_of, write_output,
+};
 use std::io::ErrorKind;
 use std::process::ExitCode;
 use std::{env, io};
@@ -62,7 +50,7 @@ fn run(rt: &HostRuntime) -> Result<Outcome, RunFault> {
         Task::Find(shape) => run_find(rt.alloc(), shape, &mut rt.stdin(), &mut rt.stdout()),
         Task::Join(kind) => run_join(rt.alloc(), kind, &mut rt.stdin(), &mut rt.stdout()),
         Task::Help(text) => {
-            output::write_output(&mut rt.stdout(), text.as_bytes())?;
+            write_output(&mut rt.stdout(), text.as_bytes())?;
             Ok(Outcome::Done)
         }
     }

@@ -3,17 +3,16 @@ ghost use Rattle.std.specs.Prelude.{◌≡◌, List, ℕ, Option, Some, codes, m
 ghost use Rattle.clap.specs.Words.{Row, found_of, rows_of, subcommand_rows_of};
 ghost use Rattle.shapes.specs.Commands.{IsNumberOf, asked_by};
 ghost use Rattle.shapes.specs.Words.{IsKindOf, IsTaskOf, IsWordsFault, kinds_for, number_of};
-ghost use Rattle.shapes.specs.declared.faults.RunFault.TheVariants as fault;
+ghost use Rattle.engine_core.specs.declared.faults.RunFault.TheVariants as fault;
 
 use crate::commands::program;
-use crate::faults::RunFault;
-use crate::patterns::pattern_of;
 use clap::error::ErrorKind;
 use clap::{ArgMatches, Error};
-use tally_core::Settings;
+use engine_core::{RunFault, pattern_of};
 use shape_core::{Kind, Kinds, Shape};
 use shape_dict::Text;
 use std::alloc::Global;
+use tally_core::Settings;
 
 /// What the program is to do.
 #[derive(Debug, Drop)]

@@ -1,0 +1,8 @@
+pub mod Output
+pub mod Boards
+pub mod Runs
+pub mod Status
+pub mod Counts
+pub mod Finds
+pub mod Joins
+pub mod Patterns

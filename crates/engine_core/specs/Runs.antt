@@ -1,0 +1,23 @@
+-- What a run does with a reader and a writer: it reads the input, at most 2 ^ 28 + 1 bytes of it, and writes one text.
+use Rattle.std.specs.Prelude.{ℕ, ◌+◌, ◌^◌, List, take, Option, IfSome}
+use Rattle.std.specs.Io.KnownBytes.{Appends, Keeps}
+use Rattle.engine_core.specs.declared.faults.RunFault.{RunFault}
+use Rattle.engine_core.specs.declared.faults.RunFault.TheVariants as fault
+use Rattle.engine_core.specs.Output.{WroteFront}
+
+-- the bytes of the reader's rest that a run reads
+abbrev pub input_of : List ℕ → List ℕ
+input_of rest = take (2 ^ 28 + 1) rest
+
+-- the input has such a text, and all of it was written and nothing else
+abbrev pub Wrote : (List ℕ → List ℕ → Type 0) → Option (List ℕ) → Option (List ℕ) → Option (List ℕ) → Type 0
+Wrote IsText rest before after =
+    IfSome rest (λ all. (text : List ℕ) × IsText (input_of all) text × Appends before after text)
+
+-- after a failed write a front of the text is out; after any other fault nothing is, and its cause stands in the input
+-- unless the reader failed
+abbrev pub IsRunFault : (List ℕ → List ℕ → Type 0) → (List ℕ → RunFault → Type 0) → Option (List ℕ) → Option (List ℕ) → Option (List ℕ) → RunFault → Type 0
+IsRunFault IsText IsCause rest before after (fault.Write written) =
+    IfSome rest (λ all. (text : List ℕ) × IsText (input_of all) text × WroteFront before after text (fault.Write written))
+IsRunFault IsText IsCause rest before after fault.Read = Keeps before after
+IsRunFault IsText IsCause rest before after found = Keeps before after × IfSome rest (λ all. IsCause (input_of all) found)

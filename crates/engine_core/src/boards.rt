@@ -1,0 +1,89 @@
+//! `board`: from the bytes of a collection to the final position of its first game.
+ghost use Rattle.std.specs.Prelude.{◌≡◌, ◌⊎◌, Ok, IfOk, IfErr, IfSome, IfNone};
+ghost use Rattle.std.specs.Io.KnownBytes.{Keeps};
+ghost use Rattle.engine_core.specs.Boards.{position_text, IsFinal, IsBoardText, HasNoBoard, IsBoardFault};
+ghost use Rattle.engine_core.specs.Runs.{Wrote, IsRunFault, input_of};
+ghost use Rattle.go_board.specs.Position.{Position};
+ghost use Rattle.go_board.specs.declared.faults.BoardFault.TheVariants as board_fault;
+ghost use Rattle.engine_core.specs.declared.faults.RunFault.TheVariants as fault;
+ghost use Rattle.engine_core.specs.declared.boards.Outcome.TheVariants as outcome;
+
+use crate::faults::RunFault;
+use crate::input::read_input;
+use crate::output::write_output;
+use crate::text::board_text;
+use go_board::{Board, BoardFault};
+use go_record::{Kind, Record, read_record, replay};
+use sgf_core::Trees;
+use std::alloc::Global;
+use std::io::{Read, Write};
+
+/// Whether a run found what it was asked for.
+#[derive(Clone, Copy, Debug, PartialEq, Eq)]
+pub enum Outcome {
+    Done,
+    NotFound,
+}
+
+/// The text of a game's final position.
+fn final_text(alloc: Global, replayed: &Record) -> Result<Vec<u8>, RunFault>
+    ensures text { IfOk result (λ text. (final : Position) × IsFinal replayed.now final
+        × (text.items ≡ position_text replayed.now.size final)) }
+    ensures fault { IfErr result (λ found. (found ≡ fault.Memory) ⊎ (found ≡ fault.Board board_fault.Memory)) }
+{
+    let mut board = match Board::new(alloc, replayed.size()) {
+        Ok(board) => board,
+        Err(fault) => return Err(RunFault::Board(fault)),
+    };
+    replay(&mut board, replayed.actions());
+    board_text(alloc, &board)
+}
+
+/// The text of the first tree's final position, or None where there is no tree or it is of another game.
+fn first_text(alloc: Global, input: &[u8]) -> Result<Option<Vec<u8>>, RunFault>
+    ensures text { IfOk result (λ found. IfSome found (λ text. IsBoardText input.now text.items)) }
+    ensures none { IfOk result (λ found. IfNone found (HasNoBoard input.now)) }
+    ensures fault { IfErr result (IsBoardFault input.now) }
+{
+    let mut trees = match Trees::new(input) {
+        Ok(trees) => trees,
+        Err(fault) => return Err(RunFault::Sgf(fault)),
+    };
+    let tree = match trees.next_tree(alloc) {
+        Ok(Some(tree)) => tree,
+        Ok(None) => return Ok(None),
+        Err(fault) => return Err(RunFault::Sgf(fault)),
+    };
+    match read_record(alloc, &tree) {
+        Ok(Kind::Go(replayed)) => Ok(Some(final_text(alloc, &replayed)?)),
+        Ok(Kind::Other) => Ok(None),
+        Err(fault) => Err(RunFault::Record(fault)),
+    }
+}
+
+/// Reads a collection and writes the final position of its first game: its rows from the top, `.` for an empty point,
+/// `X` for Black, `O` for White, each row ended by a line feed. Bytes after the first tree are not judged. Where there is
+/// no tree, or the first is of another game, it writes nothing and answers `NotFound`.
+///
+/// # Errors
+///
+/// The fault of the collection (S1 to S5), of the record (G1 to G4) or of the board (B1), `Read` where the reader failed,
+/// `Memory` where memory for the input or the text was refused: nothing is written then. `Write` where the writer failed:
+/// exactly so many bytes of the text are out.
+pub fn run_board<R: Read, W: Write>(
+    alloc: Global,
+    reader: &mut R,
+    writer: &mut W,
+) -> Result<Outcome, RunFault>
+    ensures done { IfOk result (λ found. found ≡ outcome.Done → Wrote IsBoardText (R.remaining reader.old) (W.contents writer.old) (W.contents writer.new)) }
+    ensures not_found { IfOk result (λ found. found ≡ outcome.NotFound → IfSome (R.remaining reader.old) (λ all. HasNoBoard (input_of all))) }
+    ensures nothing { IfOk result (λ found. found ≡ outcome.NotFound → Keeps (W.contents writer.old) (W.contents writer.new)) }
+    ensures fault { IfErr result (IsRunFault IsBoardText IsBoardFault (R.remaining reader.old) (W.contents writer.old) (W.contents writer.new)) }
+{
+    let input = read_input(alloc, reader)?;
+    let Some(text) = first_text(alloc, &input)? else {
+        return Ok(Outcome::NotFound);
+    };
+    write_output(writer, &text)?;
+    Ok(Outcome::Done)
+}

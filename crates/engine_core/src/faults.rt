@@ -1,0 +1,88 @@
+//! What can go wrong in a run, the line that says so, and the exit status.
+ghost use Rattle.std.specs.Prelude.{◌≡◌};
+ghost use Rattle.engine_core.specs.Status.{status_of};
+
+use go_board::BoardFault;
+use go_record::RecordFault;
+use sgf_core::SgfFault;
+use shape_core::GlyphFault;
+use shape_dict::DictFault;
+use std::fmt;
+use tally_core::HarvestFault;
+use thiserror::Error;
+
+/// Why a run ended without its answer. The text is what stands on standard error behind `shapes: `.
+#[derive(Clone, Copy, Debug, PartialEq, Eq, Error)]
+pub enum RunFault {
+    /// The collection is not one that can be read.
+    #[error("{0}")]
+    Sgf(SgfFault),
+    /// The tree gives no record.
+    #[error("{0}")]
+    Record(RecordFault),
+    /// There was no memory for the board.
+    #[error("{0}")]
+    Board(BoardFault),
+    /// The words of the command line spell no pattern.
+    #[error("{0}")]
+    Glyph(GlyphFault),
+    /// The collection was not counted.
+    #[error("{0}")]
+    Harvest(HarvestFault),
+    /// The input's dictionary of this number, from 1, is none that can be read, or it cannot be added to those before it.
+    #[error("{}", DictLine {n: *.n, fault: *.fault})]
+    Dict { n: usize, fault: DictFault },
+    /// The words of the command line are none that the program knows.
+    #[error("U1 usage")]
+    Usage,
+    /// A read of the input failed.
+    #[error("I1 read failed")]
+    Read,
+    /// A write failed; exactly so many bytes of the text are out.
+    #[error("I2 write failed after {written} bytes")]
+    Write { written: usize },
+    /// There was no memory for the input, the text or the words of the command line.
+    #[error("M1 no memory")]
+    Memory,
+}
+
+/// The line of a dictionary's fault. Too large an input and want of memory are of no one dictionary, so they are said
+/// without a number.
+#[derive(Clone, Copy)]
+struct DictLine {
+    n: usize,
+    fault: DictFault,
+}
+
+impl fmt::Display for DictLine {
+    fn fmt<W: fmt::Write>(&self, f: &mut fmt::Formatter<W>) -> fmt::Result {
+        match self.fault {
+            DictFault::TooLarge | DictFault::Memory => write!(f, "{}", self.fault),
+            _ => write!(f, "dictionary {}: {}", self.n, self.fault),
+        }
+    }
+}
+
+/// The exit status of a fault: 2 usage, 3 input refused, 5 no memory, 6 read or write failed.
+pub fn status_of(fault: &RunFault) -> u8
+    ensures { result ≡ status_of fault.now }
+{
+    match fault {
+        RunFault::Sgf(SgfFault::Memory)
+        | RunFault::Record(RecordFault::Memory)
+        | RunFault::Board(BoardFault::Memory)
+        | RunFault::Harvest(HarvestFault::Memory)
+        | RunFault::Harvest(HarvestFault::Sgf(SgfFault::Memory))
+        | RunFault::Dict {
+            fault: DictFault::Memory,
+            ..
+        }
+        | RunFault::Memory => 5,
+        RunFault::Sgf(_)
+        | RunFault::Record(_)
+        | RunFault::Harvest(HarvestFault::Sgf(_) | HarvestFault::Overflow)
+        | RunFault::Dict { .. } => 3,
+        RunFault::Glyph(_) | RunFault::Harvest(HarvestFault::BadSettings) | RunFault::Usage => 2,
+        RunFault::Read | RunFault::Write { .. } => 6,
+    }
+}

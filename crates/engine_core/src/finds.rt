@@ -1,0 +1,72 @@
+//! `find`: the uses of one pattern in a dictionary.
+ghost use Rattle.std.specs.Prelude.{◌≡◌, IfOk, IfErr};
+ghost use Rattle.engine_core.specs.Finds.{IsEntryOf, IsFoundText, IsAbsentText, IsFindText, IsFindFault};
+ghost use Rattle.engine_core.specs.Runs.{Wrote, IsRunFault};
+ghost use Rattle.engine_core.specs.declared.boards.Outcome.TheVariants as outcome;
+
+use crate::boards::Outcome;
+use crate::faults::RunFault;
+use crate::input::read_input;
+use crate::lines::found_line;
+use crate::output::write_output;
+use shape_core::Shape;
+use shape_dict::{Dictionary, Entry};
+use std::alloc::Global;
+use std::io::{Read, Write};
+
+/// The pattern's entry in the dictionary whose text the input is, or None.
+fn entry_in(alloc: Global, input: &[u8], shape: Shape) -> Result<Option<Entry>, RunFault>
+    ensures found { IfOk result (IsEntryOf shape input.now) }
+    ensures fault { IfErr result (IsFindFault input.now) }
+{
+    match Dictionary::read(alloc, input) {
+        Ok(dictionary) => Ok(dictionary.find(shape)),
+        Err(fault) => Err(RunFault::Dict { n: 1, fault }),
+    }
+}
+
+/// The pattern's line in the dictionary whose text the input is, and whether it has the pattern.
+fn answer(alloc: Global, input: &[u8], shape: Shape) -> Result<(Vec<u8>, Outcome), RunFault>
+    ensures done { IfOk result (λ p. p.1 ≡ outcome.Done → IsFoundText shape input.now p.0.items) }
+    ensures not_found { IfOk result (λ p. p.1 ≡ outcome.NotFound → IsAbsentText shape input.now p.0.items) }
+    ensures text { IfOk result (λ p. IsFindText shape input.now p.0.items) }
+    ensures fault { IfErr result (IsFindFault input.now) }
+{
+    match entry_in(alloc, input, shape)? {
+        Some(entry) => Ok((found_line(alloc, &entry)?, Outcome::Done)),
+        None => {
+            let absent = Entry {
+                shape,
+                there: 0,
+                played: 0,
+                first: None,
+            };
+            Ok((found_line(alloc, &absent)?, Outcome::NotFound))
+        }
+    }
+}
+
+/// Reads one dictionary, in any of the three texts, and writes the pattern's line: its word in 13 hexadecimal digits, how
+/// often it was there, and how often it was played. Where the dictionary has no such pattern the line says 0 twice, and
+/// the answer is `NotFound`. It takes memory for the input, the dictionary and the line.
+///
+/// # Errors
+///
+/// `Dict` with 1 and the first fault of the text (X1 to X6, X8), `Read` where the reader failed, `Memory` where memory for
+/// the input or the line was refused: nothing is written then. `Write` where the writer failed: exactly so many bytes of
+/// the line are out.
+pub fn run_find<R: Read, W: Write>(
+    alloc: Global,
+    shape: Shape,
+    reader: &mut R,
+    writer: &mut W,
+) -> Result<Outcome, RunFault>
+    ensures done { IfOk result (λ found. found ≡ outcome.Done → Wrote (IsFoundText shape) (R.remaining reader.old) (W.contents writer.old) (W.contents writer.new)) }
+    ensures not_found { IfOk result (λ found. found ≡ outcome.NotFound → Wrote (IsAbsentText shape) (R.remaining reader.old) (W.contents writer.old) (W.contents writer.new)) }
+    ensures fault { IfErr result (IsRunFault (IsFindText shape) IsFindFault (R.remaining reader.old) (W.contents writer.old) (W.contents writer.new)) }
+{
+    let input = read_input(alloc, reader)?;
+    let (line, outcome) = answer(alloc, &input, shape)?;
+    write_output(writer, &line)?;
+    Ok(outcome)
+}

@@ -1,0 +1,98 @@
+//! `join`: dictionaries read one after another, and their join.
+ghost use Rattle.std.specs.Prelude.{◌≡◌, ◌≤◌, ◌^◌, length, IfOk, IfErr};
+ghost use Rattle.engine_core.specs.Joins.{IsAdded, IsAddFault, IsJoinedText, IsJoinText, IsJoinRunFault};
+ghost use Rattle.engine_core.specs.Runs.{Wrote, IsRunFault};
+ghost use Rattle.engine_core.specs.declared.boards.Outcome.TheVariants as outcome;
+
+use crate::boards::Outcome;
+use crate::faults::RunFault;
+use crate::input::read_input;
+use crate::output::write_output;
+use shape_dict::{DictFault, Dictionary, Text};
+use std::alloc::Global;
+use std::io::{Read, Write};
+
+/// The most bytes that the input may have, 2^28.
+const MOST: usize = 1 << 28;
+
+/// The join of `sum` and the dictionary of the text that the bytes begin with, and how many bytes that text has.
+fn add_next(alloc: Global, sum: &Dictionary, bytes: &[u8]) -> Result<(Dictionary, usize), DictFault>
+    ensures added { IfOk result (λ p. IsAdded sum.now bytes.now p.1 p.0) }
+    ensures fault { IfErr result (IsAddFault sum.now bytes.now) }
+{
+    match Dictionary::read_front(alloc, bytes) {
+        Ok((next, length)) => match Dictionary::join(alloc, sum, &next) {
+            Ok(both) => Ok((both, length)),
+            Err(fault) => Err(fault),
+        },
+        Err(fault) => Err(fault),
+    }
+}
+
+/// The join of all dictionaries whose texts the input is, and how many they are.
+fn join_all(alloc: Global, input: &[u8]) -> Result<(Dictionary, usize), RunFault>
+    requires { length input.now ≤ 2 ^ 28 }
+    ensures joined { IfOk result (λ p. IsJoinedText input.now p.1 p.0) }
+    ensures fault { IfErr result (IsJoinRunFault input.now) }
+{
+    let (mut sum, mut at) = match Dictionary::read_front(alloc, input) {
+        Ok(first) => first,
+        Err(fault) => return Err(RunFault::Dict { n: 1, fault }),
+    };
+    let mut number = 1;
+    while at < input.len() {
+        number += 1;
+        let (both, length) = match add_next(alloc, &sum, &input[at..]) {
+            Ok(added) => added,
+            Err(fault) => return Err(RunFault::Dict { n: number, fault }),
+        };
+        sum = both;
+        at += length;
+    }
+    Ok((sum, number))
+}
+
+/// The text of the join of all dictionaries whose texts the input is.
+fn joined_text(alloc: Global, kind: Text, input: &[u8]) -> Result<Vec<u8>, RunFault>
+    ensures text { IfOk result (λ text. IsJoinText kind input.now text.items) }
+    ensures fault { IfErr result (IsJoinRunFault input.now) }
+{
+    if input.len() > MOST {
+        return Err(RunFault::Dict {
+            n: 1,
+            fault: DictFault::TooLarge,
+        });
+    }
+    let (sum, number) = join_all(alloc, input)?;
+    let mut text = Vec::new(alloc);
+    match sum.write(kind, &mut text) {
+        Ok(()) => Ok(text),
+        Err(fault) => Err(RunFault::Dict { n: number, fault }),
+    }
+}
+
+/// Reads one dictionary or more, one after another, each in any of the three texts, and writes a text of their join:
+/// those before are the left of each join, and the next one is its right. It takes memory for the input, the join so far,
+/// the dictionary that was read, the join that is made of both, and the text.
+///
+/// # Errors
+///
+/// `Dict` with the number of the first dictionary, from 1, that cannot be read (X1 to X5) or added to those before it (X7,
+/// X9), and its fault; an input without a byte is X1 of dictionary 1. `Dict` with X8 where the whole input has more than
+/// 2^28 bytes, and with X6 where memory for a dictionary, a join or the text was refused. `Read` where the reader failed,
+/// `Memory` where memory for the input was refused. Nothing is written then. `Write` where the writer failed: exactly so
+/// many bytes of the text are out.
+pub fn run_join<R: Read, W: Write>(
+    alloc: Global,
+    kind: Text,
+    reader: &mut R,
+    writer: &mut W,
+) -> Result<Outcome, RunFault>
+    ensures done { IfOk result (λ found. (found ≡ outcome.Done) × Wrote (IsJoinText kind) (R.remaining reader.old) (W.contents writer.old) (W.contents writer.new)) }
+    ensures fault { IfErr result (IsRunFault (IsJoinText kind) IsJoinRunFault (R.remaining reader.old) (W.contents writer.old) (W.contents writer.new)) }
+{
+    let input = read_input(alloc, reader)?;
+    let text = joined_text(alloc, kind, &input)?;
+    write_output(writer, &text)?;
+    Ok(Outcome::Done)
+}

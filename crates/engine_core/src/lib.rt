@@ -1,0 +1,30 @@
+//! The four engines of `shapes`: each reads its input whole, makes one text of it, and writes that text.
+#![tactic(auto)]
+
+// the engines, and the pattern that `find` is asked for
+mod boards;
+mod counts;
+mod finds;
+mod joins;
+mod patterns;
+
+// the lines that they write
+mod lines;
+mod text;
+
+// what they read and write through, and what goes wrong
+mod faults;
+mod input;
+mod output;
+
+pub use boards::{Outcome, run_board};
+pub use counts::run_count;
+pub use faults::{RunFault, status_of};
+pub use finds::run_find;
+pub use input::read_input;
+pub use joins::run_join;
+pub use output::write_output;
+pub use patterns::pattern_of;
+
+#[cfg(test)]
+mod tests;

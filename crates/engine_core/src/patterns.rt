@@ -1,0 +1,53 @@
+//! The pattern that `find` is asked for: 25 glyphs and the colour to move.
+ghost use Rattle.std.specs.Prelude.{◌≡◌, ◌≢◌, ◌<◌, ◌^◌, IfOk, IfErr, IfSome, IfNone};
+ghost use Rattle.go_board.specs.declared.points.Colour.{Colour as Mover};
+ghost use Rattle.shape_core.specs.Glyph.{glyphs_of};
+ghost use Rattle.shape_core.specs.Word.{kind_of};
+ghost use Rattle.engine_core.specs.Patterns.{colour_text, IsPatternOf, IsGlyphFault, IsPatternFault};
+
+use crate::faults::RunFault;
+use go_board::Colour;
+use shape_core::{GlyphFault, Kind, Shape, Word, canonical, from_diamond_glyphs, from_glyphs};
+
+/// The colour that a word names.
+fn colour_of(text: &str) -> Option<Colour>
+    ensures some { IfSome result (λ colour. text.now ≡ colour_text colour) }
+    ensures none { IfNone result ((colour : Mover) → text.now ≢ colour_text colour) }
+{
+    if text == "black" {
+        return Some(Colour::Black);
+    }
+    if text == "white" {
+        return Some(Colour::White);
+    }
+    None
+}
+
+/// The word of these glyphs, read as those of a square or a diamond.
+fn word_of(kind: Kind, glyphs: &str) -> Result<Word, GlyphFault>
+    ensures spelled { IfOk result (λ word. glyphs_of word ≡ glyphs.now) }
+    ensures small { IfOk result (λ word. word < 2 ^ 51) }
+    ensures kind { IfOk result (λ word. kind_of word ≡ kind) }
+    ensures fault { IfErr result (IsGlyphFault glyphs.now) }
+{
+    match kind {
+        Kind::Square => from_glyphs(glyphs.as_bytes()),
+        Kind::Diamond => from_diamond_glyphs(glyphs.as_bytes()),
+    }
+}
+
+/// The pattern of these glyphs with this mover, `black` or `white`: its canonical form.
+///
+/// `Usage` comes exactly where the mover is neither, and else `Glyph` where the glyphs are not 25 (H2) or one is none (H1).
+pub fn pattern_of(kind: Kind, glyphs: &str, mover: &str) -> Result<Shape, RunFault>
+    ensures shape { IfOk result (IsPatternOf kind glyphs.now mover.now) }
+    ensures fault { IfErr result (IsPatternFault glyphs.now mover.now) }
+{
+    let Some(colour) = colour_of(mover) else {
+        return Err(RunFault::Usage);
+    };
+    match word_of(kind, glyphs) {
+        Ok(word) => Ok(canonical(word, colour)),
+        Err(fault) => Err(RunFault::Glyph(fault)),
+    }
+}

@@ -1,5 +1,0 @@
-use Rattle.shapes.proofs.Found.{find_cause}
-use Rattle.shapes.proofs.finds.entry_in.Goals as goal
-
-pub returns-in-Err-clause-fault : goal.returns-in-Err-clause-fault
-returns-in-Err-clause-fault c = find_cause c.args.input.now c.in-Err.fault c.in-Err.ensures.fault c.in-Err.ensures.only
