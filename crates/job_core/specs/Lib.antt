@@ -1,0 +1,4 @@
+pub mod Games
+pub mod Reading
+pub mod Rising
+pub mod Rule

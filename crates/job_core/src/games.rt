@@ -1,0 +1,237 @@
+//! The games of an input, one after another.
+ghost use Rattle.std.specs.Prelude.{◌≡◌, ◌≢◌, ◌^◌, ◌+◌, ◌<◌, ◌≤◌, ◌↔◌, ℕ, length, Ok, Some, None, IfOk, IfErr, IfSome, IfNone, IsOk};
+ghost use Rattle.sgf_core.specs.Tree.{GameTree};
+ghost use Rattle.sgf_core.specs.Marks.{marks_of};
+ghost use Rattle.sgf_core.specs.Next.{IsNextTree, HasNoTree};
+ghost use Rattle.sgf_core.specs.declared.faults.SgfFault.TheVariants as sgf;
+ghost use Rattle.tally_core.specs.Collection.{record_of_tree};
+ghost use Rattle.tally_core.specs.Counted.{IsCountFault};
+ghost use Rattle.tally_core.specs.Counting.{IsNextFault};
+ghost use Rattle.tally_core.specs.declared.faults.HarvestFault.TheVariants as fault;
+ghost use Rattle.job_core.specs.Games.{HasRead};
+ghost use Rattle.job_core.specs.Reading.{IsNextGame, HasNoGame, IsStep, IsNextRecord, Counts};
+
+use crate::jobs::Job;
+use go_record::{Kind, Record, RecordFault, read_record};
+use sgf_core::{SgfFault, Tree, Trees};
+use std::alloc::Global;
+use std::marker::Model;
+use tally_core::{HarvestFault, Report};
+
+/// Whether a tree may come, or why none does.
+#[derive(Clone, Copy)]
+enum Stage {
+    /// The next tree is looked for.
+    Trees,
+    /// No tree is left.
+    End,
+    /// This fault was met.
+    Fault(HarvestFault),
+}
+
+/// What one tree gave.
+#[derive(Drop)]
+enum Step<'a> {
+    /// The job of its game.
+    Job(Job<'a>),
+    /// It is passed over.
+    Passed,
+    /// No tree was left.
+    End,
+}
+
+/// A tree that was read: its bounds, and its record or the fault of that.
+#[derive(Drop)]
+struct Recorded {
+    at: usize,
+    end: usize,
+    recorded: Result<Kind, RecordFault>,
+}
+
+/// Reads the games of an input, which are numbered from 0 in their order, and counts what its trees are.
+///
+/// Contracts see the input, the place `from` up to which its trees were read, and the report on these.
+#[derive(Drop)]
+pub struct Games<'a> {
+    bytes: &'a [u8],
+    trees: Trees<'a>,
+    from: usize,
+    report: Report,
+    stage: Stage,
+}
+
+impl<'a> Model for Games<'a> {
+    ghost use Rattle.std.specs.Prelude.{◌≡◌};
+    ghost use Rattle.job_core.specs.Games.{HasRead};
+    ghost use Rattle.job_core.specs.Reading.{Reading, IsStage};
+
+    ghost Value = { Reading };
+
+    ghost view = { λ games. record
+        { bytes = games.bytes.now; from = games.from; report = games.report } };
+
+    ghost invariant = { λ games. HasRead games.bytes.now games.from games.report
+        × IsStage games.bytes.now games.from games.trees.from games.stage
+        × (games.trees.bytes ≡ games.bytes.now) };
+}
+
+/// The next tree, or None where none is left.
+fn next_tree<'a>(alloc: Global, trees: &mut Trees<'a>) -> Result<Option<Tree<'a>>, HarvestFault>
+    ensures tree { IfOk result (λ found. IfSome found (λ read. (tree : GameTree)
+        × IsNextTree trees.old.bytes trees.old.from read.at read.end tree
+        × (read.marks ≡ marks_of tree))) }
+    ensures after { IfOk result (λ found. IfSome found (λ read.
+        trees.new ≡ record trees.old { from = read.end })) }
+    ensures forward { IfOk result (λ found. IfSome found (λ read. trees.old.from < read.end)) }
+    ensures none { IfOk result (λ found. IfNone found (HasNoTree trees.old.bytes trees.old.from)) }
+    ensures bytes { trees.new.bytes ≡ trees.old.bytes }
+    ensures fault { IfErr result (IsNextFault trees.old.bytes trees.old.from) }
+{
+    match trees.next_tree(alloc) {
+        Ok(found) => Ok(found),
+        Err(SgfFault::Memory) => Err(HarvestFault::Memory),
+        Err(fault) => Err(HarvestFault::Sgf(fault)),
+    }
+}
+
+/// The record of a tree, or its fault; want of memory is handed on.
+fn record_of(alloc: Global, tree: &Tree<'_>) -> Result<Result<Kind, RecordFault>, HarvestFault>
+    ensures record { (game : GameTree) → tree.now.marks ≡ marks_of game
+        → IfOk result (λ found. found ≡ record_of_tree game) }
+    ensures fault { IfErr result (λ found. found ≡ fault.Memory) }
+{
+    match read_record(alloc, tree) {
+        Ok(kind) => Ok(Ok(kind)),
+        Err(RecordFault::Memory) => Err(HarvestFault::Memory),
+        Err(fault) => Ok(Err(fault)),
+    }
+}
+
+/// The next tree's bounds and record, or None where no tree is left.
+fn next_record(alloc: Global, trees: &mut Trees<'_>) -> Result<Option<Recorded>, HarvestFault>
+    ensures record { IfOk result (λ found.
+        IfSome found (IsNextRecord trees.old.bytes trees.old.from)) }
+    ensures after { IfOk result (λ found. IfSome found (λ read. trees.new.from ≡ read.end)) }
+    ensures none { IfOk result (λ found. IfNone found (HasNoTree trees.old.bytes trees.old.from)) }
+    ensures bytes { trees.new.bytes ≡ trees.old.bytes }
+    ensures fault { IfErr result (IsNextFault trees.old.bytes trees.old.from) }
+{
+    let Some(tree) = next_tree(alloc, trees)? else {
+        return Ok(None);
+    };
+    let recorded = record_of(alloc, &tree)?;
+    Ok(Some(Recorded {
+        at: tree.at(),
+        end: tree.end(),
+        recorded,
+    }))
+}
+
+/// Counts a tree by its record, which comes back where the tree is a game.
+fn count(report: &mut Report, recorded: Result<Kind, RecordFault>) -> Option<Record>
+    requires { (report.old.games < 2 ^ 28) × (report.old.others < 2 ^ 28)
+        × (report.old.refused < 2 ^ 28) }
+    ensures { Counts report.old recorded report.new result }
+{
+    match recorded {
+        Ok(Kind::Go(game)) => {
+            report.games += 1;
+            return Some(game);
+        }
+        Ok(Kind::Other) => report.others += 1,
+        Err(_) => report.refused += 1,
+    }
+    None
+}
+
+impl<'a> Games<'a> {
+    /// A reader at the beginning of this input. It takes no memory.
+    ///
+    /// `HarvestFault::Sgf` with `SgfFault::TooLarge` comes exactly where the input has more than 2^28 bytes.
+    pub fn new(bytes: &'a [u8]) -> Result<Games<'a>, HarvestFault>
+        ensures small { IsOk result ↔ (length bytes.now ≤ 2 ^ 28) }
+        ensures begins { IfOk result (λ games. games ≡ record
+            { bytes = bytes.now; from = 0; report = record { games = 0; others = 0; refused = 0 } }) }
+        ensures large { IfErr result (λ found. found ≡ fault.Sgf sgf.TooLarge) }
+        ensures fault { IfErr result (IsCountFault bytes.now) }
+    {
+        let trees = match Trees::new(bytes) {
+            Ok(trees) => trees,
+            Err(fault) => return Err(HarvestFault::Sgf(fault)),
+        };
+        let report = Report {
+            games: 0,
+            others: 0,
+            refused: 0,
+        };
+        Ok(Games {
+            bytes,
+            trees,
+            from: 0,
+            report,
+            stage: Stage::Trees,
+        })
+    }
+
+    /// Reads one tree.
+    fn step(&mut self, alloc: Global) -> Result<Step<'a>, HarvestFault>
+        ensures bytes { self.new.bytes ≡ self.old.bytes }
+        ensures step { IfOk result (IsStep self.old self.new) }
+        ensures fault { IfErr result (IsCountFault self.old.bytes) }
+    {
+        match self.stage {
+            Stage::Trees => (),
+            Stage::End => return Ok(Step::End),
+            Stage::Fault(fault) => return Err(fault),
+        }
+        match next_record(alloc, &mut self.trees) {
+            Ok(Some(read)) => {
+                self.from = read.end;
+                let game = self.report.games;
+                match count(&mut self.report, read.recorded) {
+                    Some(record) => Ok(Step::Job(Job::new(
+                        self.bytes, game, read.at, read.end, record,
+                    ))),
+                    None => Ok(Step::Passed),
+                }
+            }
+            Ok(None) => {
+                self.stage = Stage::End;
+                Ok(Step::End)
+            }
+            Err(fault) => {
+                self.stage = Stage::Fault(fault);
+                Err(fault)
+            }
+        }
+    }
+
+    /// The job of the next game, or None where no game is left. Trees of other games, and those whose records have a
+    /// fault, are counted and passed over.
+    ///
+    /// It takes memory for a tree and its record. `HarvestFault::Sgf` comes where the next tree has a fault of syntax, and
+    /// `HarvestFault::Memory` where memory was refused. After a fault each later call answers it again, and after None
+    /// each answers None.
+    pub fn next_job(&mut self, alloc: Global) -> Result<Option<Job<'a>>, HarvestFault>
+        ensures bytes { self.new.bytes ≡ self.old.bytes }
+        ensures job { IfOk result (λ found. IfSome found (IsNextGame self.old self.new)) }
+        ensures none { IfOk result (λ found. IfNone found (HasNoGame self.old self.new)) }
+        ensures fault { IfErr result (IsCountFault self.old.bytes) }
+    {
+        loop {
+            match self.step(alloc)? {
+                Step::Job(job) => return Ok(Some(job)),
+                Step::Passed => (),
+                Step::End => return Ok(None),
+            }
+        }
+    }
+
+    /// What the trees are that were read so far. It takes no memory.
+    pub fn report(&self) -> Report
+        ensures report { result ≡ self.now.report }
+        ensures read { HasRead self.now.bytes self.now.from self.now.report }
+    {
+        self.report
+    }
+}

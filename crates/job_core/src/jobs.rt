@@ -1,0 +1,103 @@
+//! Jobs: one game of an input each, for one worker.
+ghost use Rattle.std.specs.Prelude.{◌≡◌, ◌^◌, ◌<◌, ℕ};
+ghost use Rattle.job_core.specs.Games.{IsGameOf};
+
+use go_record::Record;
+use std::marker::Model;
+
+/// A game of an input that is to be counted: its number, its place and its record. It borrows the input.
+///
+/// Contracts see the input's bytes and these, and that the record is that of the game of this number among the trees of
+/// the input. Jobs come from `Games::next_job` alone.
+#[derive(Drop)]
+pub struct Job<'a> {
+    bytes: &'a [u8],
+    game: u64,
+    at: usize,
+    end: usize,
+    record: Record,
+}
+
+impl<'a> Model for Job<'a> {
+    ghost use Rattle.std.specs.Prelude.{◌^◌, ◌<◌};
+    ghost use Rattle.job_core.specs.Games.{WrittenGame, IsGameOf};
+
+    ghost Value = { WrittenGame };
+
+    ghost view = { λ job. record {
+      bytes = job.bytes.now;
+      game = job.game;
+      at = job.at;
+      end = job.end;
+      actions = job.record;
+    } };
+
+    ghost invariant = { λ job. IsGameOf job.bytes.now job.game job.at job.end job.record
+        × (job.game < 2 ^ 28) };
+}
+
+impl<'a> Job<'a> {
+    /// The job of a game of this input.
+    pub(crate) fn new(bytes: &'a [u8], game: u64, at: usize, end: usize, actions: Record) -> Job<'a>
+        requires game { IsGameOf bytes.now game at end actions }
+        requires few { game < 2 ^ 28 }
+        ensures { result ≡ record
+            { bytes = bytes.now; game = game; at = at; end = end; actions = actions } }
+    {
+        Job {
+            bytes,
+            game,
+            at,
+            end,
+            record: actions,
+        }
+    }
+
+    /// The number of the game: how many games stand before it in the input.
+    pub fn game(&self) -> u64
+        ensures number { result ≡ self.now.game }
+        ensures few { result < 2 ^ 28 }
+    {
+        self.game
+    }
+
+    /// The place of the first parenthesis of its tree, a byte offset in the whole input, from 0.
+    pub fn at(&self) -> usize
+        ensures { result ≡ self.now.at }
+    {
+        self.at
+    }
+
+    /// The place after the last parenthesis of its tree, a byte offset in the whole input, from 0.
+    pub fn end(&self) -> usize
+        ensures { result ≡ self.now.end }
+    {
+        self.end
+    }
+
+    /// The whole input.
+    pub fn bytes(&self) -> &'a [u8]
+        ensures { result.now ≡ self.now.bytes }
+    {
+        self.bytes
+    }
+
+    /// The record of the game.
+    pub fn record(&self) -> &Record
+        ensures value { result.now ≡ self.now.actions }
+        ensures game { IsGameOf
+            self.now.bytes self.now.game self.now.at self.now.end self.now.actions }
+        ensures few { self.now.game < 2 ^ 28 }
+    {
+        &self.record
+    }
+}
+
+/// What the queue holds: a job, or the end for one worker.
+#[derive(Drop)]
+pub enum Item<'a> {
+    /// A game that is to be counted.
+    Job(Job<'a>),
+    /// No job comes after it for the worker that draws it.
+    End,
+}
