@@ -10,7 +10,7 @@ mod Spelled
 mod Reach
 mod Marking
 mod Mixing
-mod Agreeing
+pub mod Agreeing
 mod Playing
 mod Removing
 mod Staying

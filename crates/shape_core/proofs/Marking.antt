@@ -3,10 +3,10 @@ use Rattle.std.proofs.Common.{◌≡◌, ◌≢◌, ℕ, ◌*◌, ◌^◌, ◌<�
 use Rattle.std.proofs.Common.{Option, Some, None, MatchOption, subst, w64, bit_and, ◌%◌}
 use Rattle.std.specs.Int.{bit_at, bit_not, trailing_zeros}
 use Rattle.std.proofs.lemmas.Bool.{cases_eq, cases_lt}
-use Rattle.std.proofs.lemmas.Nat.{or_lt, and_le_l, pow_below, same_from_place}
+use Rattle.std.proofs.lemmas.Nat.{or_lt, and_le_l, pow_below, pow_pos, same_from_place}
 use Rattle.std.proofs.lemmas.List.{get_or_past}
 use Rattle.std.proofs.lemmas.Nat.Bits.{bit_at_or, bit_at-lt, bit_at-pow_same, bit_at-trailing_zeros, bit_at_clear_same, bit_at_clear_other, bit_at_above, bit_at-zero}
-use Rattle.std.proofs.lemmas.List.Elements.{All-set, All-get_or}
+use Rattle.std.proofs.lemmas.List.Elements.{All-set, All-get_or, All-from_get_or}
 use Rattle.go_board.specs.Extent.{Extent}
 use Rattle.go_board.specs.Point.{IsOn, index_of}
 use Rattle.go_board.specs.declared.points.Point.{Point}
@@ -134,3 +134,10 @@ pub first_on_board : (size board_size : Extent) (changed : List ℕ) (first : Op
 first_on_board size board_size changed None same are none = none
 first_on_board size board_size changed (Some p) same are found =
     record { on_board = subst (λ s. IsOn s p) same (marked_on_board size changed p are found.0); marked = found.0; first = found.2 }
+
+-- no marks at all
+pub AreMarks-none : (size : Extent) (changed : List ℕ) → length changed ≡ size.rows → ((k : ℕ) → k < length changed → slice_index changed k ≡ 0) → AreMarks size changed
+AreMarks-none size changed rows none = record {
+  rows = rows;
+  within = All-from_get_or (λ row. row < 2 ^ size.columns) changed 0 (λ i inside. omega (arith, none i inside, pow_pos size.columns));
+}

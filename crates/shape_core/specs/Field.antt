@@ -1,5 +1,5 @@
 -- What a field stands for, and what its words and marks are.
-use Rattle.std.specs.Prelude.{◌≡◌, ℕ, ◌<◌, ◌⊎◌, List, slice_index}
+use Rattle.std.specs.Prelude.{◌≡◌, ℕ, ◌<◌, ◌⊎◌, List, length, slice_index, bit_or}
 use Rattle.std.specs.Int.{bit_at}
 use Rattle.go_board.specs.Extent.{Extent}
 use Rattle.go_board.specs.Point.{IsOn}
@@ -49,3 +49,8 @@ pub record IsFirstMarked (size : Extent) (changed : List ℕ) (p : Point) : Type
 pub record Unmarks (before : List ℕ) (p : Point) (after : List ℕ) : Type 0 where
   pub gone : IsMarked after p → ⊥
   pub others : (q : Point) → (q ≡ p → ⊥) → bit_at (slice_index after q.row) q.column ≡ bit_at (slice_index before q.row) q.column
+
+-- a set of points as bits of rows, once these marks have joined it
+pub record AreJoined (marks before after : List ℕ) : Type 0 where
+  pub rows : length after ≡ length before
+  pub joined : (row : ℕ) → slice_index after row ≡ bit_or (slice_index before row) (slice_index marks row)

@@ -5,5 +5,6 @@ pub mod Around
 pub mod Table
 pub mod Glyph
 pub mod Field
+pub mod Tracks
 pub mod KeptLists
 pub mod Keeping

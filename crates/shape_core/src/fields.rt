@@ -1,7 +1,7 @@
 //! Fields: boards that keep the words of all their points.
 use crate::keeping::index;
 use crate::kept::KeptWords;
-use crate::marks::{is_marked, take_first};
+use crate::marks::{is_marked, move_marks, take_first};
 use crate::words::{Kinds, Word};
 use go_board::{Board, BoardFault, Colour, Played, Point, Replayable, Size, Stone};
 use std::alloc::Global;
@@ -37,7 +37,8 @@ impl Field {
     ghost use Rattle.go_board.specs.Board.{position_of, IsBoard};
     ghost use Rattle.shape_core.specs.declared.words.Kind.TheVariants as kind;
     ghost use Rattle.shape_core.specs.Around.{word_around};
-    ghost use Rattle.shape_core.specs.Field.{IsMarked, MarksChanges, IsFirstMarked, Unmarks};
+    ghost use Rattle.shape_core.specs.Field.{IsMarked, MarksChanges, IsFirstMarked, Unmarks, AreJoined};
+    ghost use Rattle.shape_core.specs.KeptLists.{AreMarks};
 
     /// An empty board of this size, with the words of both kinds kept and no point marked.
     ///
@@ -146,6 +147,21 @@ impl Field {
         take_first(&mut self.kept.changed)
     }
 
+    /// Unmarks all points, and joins those that were marked to two sets, each of which has a number with a bit for each
+    /// column for each row, as the marks have.
+    pub fn move_changed(&mut self, first: &mut [u64], second: &mut [u64])
+        requires first { length first.old ≡ self.old.board.size.rows }
+        requires second { length second.old ≡ self.old.board.size.rows }
+        ensures board { self.new.board ≡ self.old.board }
+        ensures kinds { self.new.kinds ≡ self.old.kinds }
+        ensures marks { AreMarks self.old.board.size self.old.changed }
+        ensures first { AreJoined self.old.changed first.old first.new }
+        ensures second { AreJoined self.old.changed second.old second.new }
+        ensures taken { (q : Point) → ¬ IsMarked self.new.changed q }
+    {
+        move_marks(&mut self.kept.changed, first, second);
+    }
+
     /// Puts a stone on a point, or empties it, whatever stood there; nothing is captured. The point is on the board.
     /// Each point of which a kept word changes is marked. Takes no memory.
     pub fn set(&mut self, point: Point, stone: Stone)
@@ -212,16 +228,15 @@ impl Field {
 }
 
 impl Replayable for Field {
-    ghost use Rattle.std.specs.Prelude.{◌≡◌};
-    ghost use Rattle.std.proofs.Common.{refl, ◌∙◌};
+    ghost use Rattle.shape_core.specs.Tracks.{Tracks, tracks_itself, tracks_on};
 
     ghost board_of = { λ field. field.board };
 
-    ghost Stays = { λ before after. after.kinds ≡ before.kinds };
+    ghost Stays = { Tracks };
 
-    ghost stays = { λ field. refl };
+    ghost stays = { tracks_itself };
 
-    ghost stays_on = { λ before between after h k. k ∙ h };
+    ghost stays_on = { tracks_on };
 
     fn put(&mut self, point: Point, stone: Stone) {
         self.set(point, stone);

@@ -2,7 +2,7 @@
 ghost use Rattle.std.specs.Prelude.{◌≡◌, ◌≢◌, ◌<◌, ◌≤◌, ◌^◌, ◌↔◌, ℕ, length, slice_index, slice_set, bit_or, IsTrue, MatchOption, EachIndex, All};
 ghost use Rattle.go_board.specs.declared.points.Point.{Point};
 ghost use Rattle.go_board.specs.Extent.{Extent};
-ghost use Rattle.shape_core.specs.Field.{IsMarked, ComesBefore, Unmarks};
+ghost use Rattle.shape_core.specs.Field.{IsMarked, ComesBefore, Unmarks, AreJoined};
 ghost use Rattle.shape_core.specs.KeptLists.{AreMarks};
 
 use go_board::Point;
@@ -57,4 +57,20 @@ fn first_row(changed: &[u64]) -> Option<usize>
         × ((k : ℕ) → k < row → slice_index changed.now k ≡ 0)) }
 {
     changed.iter().position(|bits| *bits != 0)
+}
+
+/// Takes out all marks, and joins them to each of two sets.
+pub fn move_marks(changed: &mut [u64], first: &mut [u64], second: &mut [u64])
+    requires first { length first.old ≡ length changed.old }
+    requires second { length second.old ≡ length changed.old }
+    ensures first { AreJoined changed.old first.old first.new }
+    ensures second { AreJoined changed.old second.old second.new }
+    ensures taken { EachIndex changed.new (λ k. slice_index changed.new k ≡ 0) }
+{
+    for row in 0..changed.len() {
+        let marks = changed[row];
+        first[row] |= marks;
+        second[row] |= marks;
+        changed[row] = 0;
+    }
 }

@@ -1,5 +1,5 @@
 -- The point of a move is among the empty points, so what is played was there.
-use Rattle.std.proofs.Common.{◌≡◌, ℕ, zero, suc, ◌+◌, ◌≤◌, ◌<◌, ◌==◌, ◌⊎◌, inl, inr, Bool, true, false, cond, List, [], ◌∷◌, ◌++◌, map, filter, refl, ap, sym, subst, ◌∙◌, arith}
+use Rattle.std.proofs.Common.{◌≡◌, ℕ, zero, suc, ◌+◌, ◌≤◌, ◌<◌, ◌==◌, ◌⊎◌, inl, inr, Bool, true, false, cond, List, [], ◌∷◌, ◌++◌, Contains, map, filter, refl, ap, sym, subst, ◌∙◌, arith}
 use Rattle.std.specs.Prelude.{count_by}
 use Rattle.std.specs.List.{flat_map}
 use Rattle.std.proofs.Math.Nat.{eq-or-lt_of_le}
@@ -18,7 +18,7 @@ use Rattle.tally_core.specs.Occasions.{Occasion, is_empty, occasion_of}
 use Rattle.tally_core.specs.Counts.{row_of, points_of, patterns_at, patterns_there, patterns_played}
 use Rattle.tally_core.specs.Counter.{AreAmong}
 
-IsIn : {X : Type 0} → X → List X → Type 0
+pub IsIn : {X : Type 0} → X → List X → Type 0
 IsIn x [] = ⊥
 IsIn x (y ∷ ys) = (x ≡ y) ⊎ IsIn x ys
 
@@ -51,7 +51,7 @@ in-flat_map f x y [] h k = absurd h
 in-flat_map f x y (z ∷ xs) (inl same) k = in-left y (f z) (flat_map f xs) (subst (λ w. IsIn y (f w)) same k)
 in-flat_map f x y (z ∷ xs) (inr later) k = in-right y (f z) (flat_map f xs) (in-flat_map f x y xs later k)
 
-in-filter : {X : Type 0} (p : X → Bool) (x : X) (xs : List X) → p x ≡ true → IsIn x xs → IsIn x (filter p xs)
+pub in-filter : {X : Type 0} (p : X → Bool) (x : X) (xs : List X) → p x ≡ true → IsIn x xs → IsIn x (filter p xs)
 unfolding IsIn
 in-filter p x [] pass h = h
 in-filter p x (y ∷ ys) pass (inl same) =
@@ -60,7 +60,7 @@ in-filter p x (y ∷ ys) pass (inr later) =
     elim (p y) as (λ b. IsIn x (cond b (y ∷ filter p ys) (filter p ys)))
     [ true ↦ inr (in-filter p x ys pass later) | false ↦ in-filter p x ys pass later ]
 
-in-points : (size : Extent) (point : Point) → IsOn size point → IsIn point (points_of size)
+pub in-points : (size : Extent) (point : Point) → IsOn size point → IsIn point (points_of size)
 unfolding IsIn
 in-points size point on =
     in-flat_map (row_of size) point.row point (count_from 0 size.rows) (in-count_from 0 size.rows point.row (omega arith) (omega (arith, on.1)))
@@ -96,3 +96,9 @@ action_among kinds size before (deed.Move mover at) on shape =
       | true ↦ λ empty. rw (append-nil, append-nil) (occasion_among kinds size (record { position = before; mover = mover; at = at }) on empty shape)
       | false ↦ λ full. omega arith
     ] refl
+
+pub contains-in : {X : Type 0} (x : X) (xs : List X) → IsIn x xs → Contains xs x
+unfolding IsIn
+contains-in x [] h = absurd h
+contains-in x (y ∷ ys) (inl same) = (0, omega arith, sym same)
+contains-in x (y ∷ ys) (inr later) = let found = contains-in x ys later in (suc found.0, omega (arith, found.1), found.2)

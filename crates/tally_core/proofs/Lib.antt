@@ -1,8 +1,19 @@
 pub mod Used
-pub mod Staying
+pub mod Taken
+pub mod Once
+pub mod Lasting
+pub mod Seeing
+pub mod Skipped
+pub mod Summed
+pub mod OneOccasion
+pub mod Moved
+pub mod Beginning
+pub mod Adding
+pub mod Bounded
+pub mod Walking
+pub mod Walked
 pub mod Rows
 pub mod Among
-pub mod Fronts
 pub mod Entered
 pub mod Lookups
 pub mod Games
@@ -13,5 +24,4 @@ pub mod CountedEntries
 pub mod Gathered
 pub mod PlayedThere
 pub mod PutTogether
-pub mod Bounds
 pub mod Trees

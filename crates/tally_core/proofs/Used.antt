@@ -1,14 +1,14 @@
 -- Patterns that are counted one after another.
-use Rattle.std.proofs.Common.{◌≡◌, ℕ, zero, suc, ◌+◌, ◌<◌, ◌≤◌, ◌==◌, true, false, List, [], ◌++◌, length, Option, Some, None, refl, ap, ap₂, sym, ◌∙◌, cond, arith, subst, zero-add, add-zero, add_assoc}
+use Rattle.std.proofs.Common.{◌≡◌, ℕ, zero, suc, ◌+◌, ◌<◌, ◌≤◌, ◌==◌, true, false, List, ◌++◌, Option, Some, None, refl, ap, ap₂, sym, ◌∙◌, cond, arith, subst, zero-add, add-zero, add_assoc}
 use Rattle.std.specs.Prelude.{Result, Ok, Err, IsErrAnd, IfErr}
 use Rattle.std.specs.Ordering.{nat_cmp}
 use Rattle.std.specs.BTreeMap.{is_at}
 use Rattle.std.proofs.lemmas.Bool.Decides.{nat_tests}
-use Rattle.std.proofs.lemmas.List.Sums.{sum_by-append, count_by-le-length}
+use Rattle.std.proofs.lemmas.List.Sums.{sum_by-append}
 use Rattle.tally_core.specs.declared.counters.Count.{Count}
 use Rattle.tally_core.specs.declared.faults.HarvestFault.{HarvestFault}
 use Rattle.tally_core.specs.declared.faults.HarvestFault.TheVariants as fault
-use Rattle.tally_core.specs.Counter.{first_used, used_again, used, uses_at, times_in, one_pattern, Sees, Counts, AreAmong, AreCounts, GrowsBy, IsCountingFault}
+use Rattle.tally_core.specs.Counter.{first_used, used_again, used, uses_at, times_in, one_pattern, AreAmong, AreCounts, IsCountingFault}
 
 first_used-some : (game there played : ℕ) → 0 < there + played → first_used game there played ≡ Some (record { there = there; played = played; first = game })
 first_used-some game zero zero some = absurd (omega arith)
@@ -40,31 +40,9 @@ again-uses game there played (Some count) = omega arith
 times-append : (shape : ℕ) (xs ys : List ℕ) → times_in (xs ++ ys) shape ≡ times_in xs shape + times_in ys shape
 times-append shape xs ys = sum_by-append (λ c. cond (c == shape) 1 0) xs ys
 
--- one part was counted, and then another
-pub counts-append : (game : ℕ) (there more_there played more_played : List ℕ) (a b c : ℕ → Option Count) →
-    Counts game there played a b → Counts game more_there more_played b c → Counts game (there ++ more_there) (played ++ more_played) a c
-counts-append game there more_there played more_played a b c h k shape =
-    k shape ∙ ap (used_again game (times_in more_there shape) (times_in more_played shape)) (h shape)
-    ∙ again-again game (times_in there shape) (times_in played shape) (times_in more_there shape) (times_in more_played shape) (a shape)
-    ∙ ap₂ (λ t p. used_again game t p (a shape)) (sym (times-append shape there more_there)) (sym (times-append shape played more_played))
-
--- nothing is seen
-pub sees-none : (game : ℕ) (counts : ℕ → Option Count) → Sees game [] counts counts
-sees-none game counts shape = sym (again-none game (counts shape))
-
--- these were there, and then those were
-pub sees-append : (game : ℕ) (xs ys : List ℕ) (a b c : ℕ → Option Count) → Sees game xs a b → Sees game ys b c → Sees game (xs ++ ys) a c
-sees-append game xs ys a b c h k = counts-append game xs ys [] [] a b c h k
-
 pub among-append : (played there more_played more_there : List ℕ) → AreAmong played there → AreAmong more_played more_there → AreAmong (played ++ more_played) (there ++ more_there)
 among-append played there more_played more_there h k shape =
     rw (times-append shape played more_played, times-append shape there more_there) (omega (arith, h shape, k shape))
-
--- counts grow by no more than what is counted
-pub counts-grow : (game most : ℕ) (there played : List ℕ) (a b : ℕ → Option Count) → length there + length played ≤ most → Counts game there played a b → GrowsBy most a b
-counts-grow game most there played a b few h shape =
-    rw (h shape, again-uses game (times_in there shape) (times_in played shape) (a shape))
-    (omega (arith, count_by-le-length (λ c. c == shape) there, count_by-le-length (λ c. c == shape) played))
 
 -- a fault that is handed on is one of the same
 pub passed_up : {T E : Type 0} (r : Result T E) (e : E) (P : E → Type 0) → IsErrAnd r (λ y. y ≡ e) → P e → IfErr r P

@@ -1,15 +1,14 @@
 -- Counts of patterns, as an ordered map keeps them.
-use Rattle.std.specs.Prelude.{◌≡◌, ℕ, zero, suc, ◌+◌, ◌^◌, ◌≤◌, ◌==◌, nat_lt, List, [], ◌++◌, length, count_by, sum_by, Option, Some, None, if◌then◌else◌}
+use Rattle.std.specs.Prelude.{◌≡◌, ℕ, zero, suc, ◌+◌, ◌^◌, ◌≤◌, ◌==◌, nat_lt, List, length, count_by, sum_by, Option, Some, None, if◌then◌else◌}
 use Rattle.std.specs.Ordering.{nat_cmp}
 use Rattle.std.specs.BTreeMap.{get, BTreeMap}
 use Rattle.std.specs.List.{flat_map, position_or_len}
-use Rattle.go_board.specs.Extent.{Extent}
-use Rattle.go_board.specs.Position.{Position}
 use Rattle.go_record.specs.Actions.{Actions}
-use Rattle.go_record.specs.declared.actions.Action.{Action}
 use Rattle.shape_core.specs.declared.words.Kinds.{Kinds}
-use Rattle.tally_core.specs.Occasions.{Occasion, HasOccasions, AreOccasions}
+use Rattle.tally_core.specs.Occasions.{Occasion, AreOccasions}
 use Rattle.tally_core.specs.Counts.{Replayed, kinds_of, patterns_there, patterns_played, there_in}
+use Rattle.tally_core.specs.Walk.{there_among, played_among}
+use Rattle.tally_core.specs.declared.meetings.Meeting.{Meeting}
 use Rattle.tally_core.specs.Games.{there_sum, played_sum}
 use Rattle.tally_core.specs.declared.counters.Count.{Count}
 use Rattle.tally_core.specs.declared.faults.HarvestFault.{HarvestFault}
@@ -65,13 +64,14 @@ AreCounts counts after = (shape : ℕ) → after shape ≡ counts shape
 abbrev pub Counts : ℕ → List ℕ → List ℕ → (ℕ → Option Count) → (ℕ → Option Count) → Type 0
 Counts game there played before after = AreCounts (used game (times_in there) (times_in played) before) after
 
--- what each pattern's count is once these patterns were there in a game
-abbrev pub Sees : ℕ → List ℕ → (ℕ → Option Count) → (ℕ → Option Count) → Type 0
-Sees game shapes before after = Counts game shapes [] before after
+-- what each pattern's count is once the meetings of a game were counted
+abbrev pub CountsMeetings : ℕ → List Meeting → (ℕ → Option Count) → (ℕ → Option Count) → Type 0
+CountsMeetings game meetings before after = AreCounts (used game (there_among meetings) (played_among meetings) before) after
 
--- what each pattern's count is once these patterns were played in a game
-abbrev pub Plays : ℕ → List ℕ → (ℕ → Option Count) → (ℕ → Option Count) → Type 0
-Plays game shapes before after = Counts game [] shapes before after
+-- memory was wanting, or some pattern's count passes 2 ^ 64 - 1 with these meetings
+abbrev pub IsMeetingsFault : ℕ → List Meeting → (ℕ → Option Count) → HarvestFault → Type 0
+IsMeetingsFault game meetings before found =
+    IsCountingFault 0 (used game (there_among meetings) (played_among meetings) before) found
 
 -- each of the first is among the second, as often
 abbrev pub AreAmong : List ℕ → List ℕ → Type 0
@@ -84,14 +84,6 @@ pub record CountsGame (kinds : Kinds) (game : Actions) (number : ℕ) (before af
   pub moves_counted : moves ≡ length occasions
   pub counted : Counts number (flat_map (patterns_there (kinds_of kinds) game.size) occasions) (flat_map (patterns_played (kinds_of kinds) game.size) occasions) before after
   pub among : AreAmong (flat_map (patterns_played (kinds_of kinds) game.size) occasions) (flat_map (patterns_there (kinds_of kinds) game.size) occasions)
-
--- the first actions of a game were counted: whatever occasions the others have, all have these and those
-pub record CountsFront (kinds : Kinds) (size : Extent) (all left : List Action) (start now : Position) (number : ℕ) (before after : ℕ → Option Count) (moves : ℕ) : Type 0 where
-  pub done : List Occasion
-  pub others : (others : List Occasion) → HasOccasions size left now others → HasOccasions size all start (done ++ others)
-  pub moves_counted : moves ≡ length done
-  pub counted : Counts number (flat_map (patterns_there (kinds_of kinds) size) done) (flat_map (patterns_played (kinds_of kinds) size) done) before after
-  pub among : AreAmong (flat_map (patterns_played (kinds_of kinds) size) done) (flat_map (patterns_there (kinds_of kinds) size) done)
 
 -- what a map has of a pattern once these games were counted
 abbrev pub games_count : Kinds → List Replayed → ℕ → Option Count

@@ -3,7 +3,11 @@ pub mod Counts
 pub mod Games
 pub mod Collection
 pub mod Counter
-pub mod Stays
+pub mod Walk
+pub mod Meeting
+pub mod Place
+pub mod Standing
+pub mod Sight
 pub mod Entries
 pub mod Tally
 pub mod Limits

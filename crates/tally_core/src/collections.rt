@@ -7,6 +7,7 @@ ghost use Rattle.tally_core.specs.declared.faults.HarvestFault.TheVariants as fa
 use crate::counting::{Counter, count_trees};
 use crate::faults::HarvestFault;
 use crate::gathering::dictionary_of;
+use crate::walks::Walk;
 use sgf_core::Trees;
 use shape_core::Kinds;
 use shape_dict::Dictionary;
@@ -49,7 +50,8 @@ pub fn count_plain(alloc: Global, kinds: Kinds, bytes: &[u8]) -> Result<Counted,
         Err(fault) => return Err(HarvestFault::Sgf(fault)),
     };
     let mut counter = Counter::new(alloc);
-    count_trees(alloc, kinds, &mut counter, &mut trees)?;
+    let mut walk = Walk::begin(alloc, kinds);
+    count_trees(alloc, &mut walk, &mut counter, &mut trees)?;
     let report = counter.report;
     let dictionary = dictionary_of(alloc, kinds, report.games, counter.moves, &counter.counts)?;
     Ok(Counted { dictionary, report })

@@ -14,9 +14,10 @@ use crate::collections::Report;
 use crate::counters::Count;
 use crate::faults::HarvestFault;
 use crate::replays::count_game;
+use crate::walks::Walk;
 use go_record::{Kind, Record, RecordFault, few_actions, read_record};
 use sgf_core::{SgfFault, Tree, Trees, few_values};
-use shape_core::{Kinds, Shape};
+use shape_core::Shape;
 use std::alloc::Global;
 use std::collections::BTreeMap;
 
@@ -53,19 +54,19 @@ impl Counter {
 
 /// Counts the patterns of a game.
 fn count_record(
-    alloc: Global,
-    kinds: Kinds,
+    walk: &mut Walk,
     counter: &mut Counter,
     replayed: &Record,
 ) -> Result<(), HarvestFault>
     requires { (place : ℕ) × IsWithin place counter.old × (place + length replayed.now.actions < 2 ^ 28) }
-    ensures counted { (before : List GameTree) (game : GameTree) → record_of_tree game ≡ Ok (kind.Go replayed.now) → CountsTrees kinds before counter.old
-        → OnOk result (CountsTrees kinds (before ++ game ∷ []) counter.new) }
+    ensures counted { (before : List GameTree) (game : GameTree) → record_of_tree game ≡ Ok (kind.Go replayed.now) → CountsTrees walk.old.kinds before counter.old
+        → OnOk result (CountsTrees walk.old.kinds (before ++ game ∷ []) counter.new) }
     ensures within { (place : ℕ) → IsWithin place counter.old → OnOk result (IsWithin (place + length replayed.now.actions + 1) counter.new) }
     ensures fault { IfErr result (λ found. found ≡ harvest_fault.Memory) }
+    ensures kinds { walk.new.kinds ≡ walk.old.kinds }
 {
     let game = counter.report.games;
-    let moves = count_game(alloc, &mut counter.counts, kinds, replayed, game)?;
+    let moves = count_game(&mut counter.counts, walk, replayed, game)?;
     counter.moves += moves;
     counter.report.games += 1;
     Ok(())
@@ -85,20 +86,21 @@ fn unless_memory(fault: RecordFault) -> Result<(), HarvestFault>
 /// Counts a tree: a game's patterns, or that it is of another game or is refused.
 fn count_tree(
     alloc: Global,
-    kinds: Kinds,
+    walk: &mut Walk,
     counter: &mut Counter,
     tree: &Tree<'_>,
 ) -> Result<(), HarvestFault>
     requires small { (game : GameTree) × IsSmallTree tree.now game }
     requires within { IsWithin tree.now.at counter.old }
-    ensures counted { (before : List GameTree) (game : GameTree) → tree.now.marks ≡ marks_of game → CountsTrees kinds before counter.old
-        → OnOk result (CountsTrees kinds (before ++ game ∷ []) counter.new) }
+    ensures counted { (before : List GameTree) (game : GameTree) → tree.now.marks ≡ marks_of game → CountsTrees walk.old.kinds before counter.old
+        → OnOk result (CountsTrees walk.old.kinds (before ++ game ∷ []) counter.new) }
     ensures within { OnOk result (IsWithin tree.now.end counter.new) }
     ensures fault { IfErr result (λ found. found ≡ harvest_fault.Memory) }
+    ensures kinds { walk.new.kinds ≡ walk.old.kinds }
 {
     few_actions();
     match read_record(alloc, tree) {
-        Ok(Kind::Go(replayed)) => return count_record(alloc, kinds, counter, &replayed),
+        Ok(Kind::Go(replayed)) => return count_record(walk, counter, &replayed),
         Ok(Kind::Other) => counter.report.others += 1,
         Err(fault) => {
             unless_memory(fault)?;
@@ -127,21 +129,21 @@ fn next<'a>(alloc: Global, trees: &mut Trees<'a>) -> Result<Option<Tree<'a>>, Ha
 /// Counts all trees of an input.
 pub(crate) fn count_trees(
     alloc: Global,
-    kinds: Kinds,
+    walk: &mut Walk,
     counter: &mut Counter,
     trees: &mut Trees<'_>,
 ) -> Result<(), HarvestFault>
     requires small { length trees.old.bytes ≤ 2 ^ 28 }
     requires begins { trees.old.from ≡ 0 }
-    requires none { CountsTrees kinds [] counter.old }
+    requires none { CountsTrees walk.old.kinds [] counter.old }
     requires within { IsWithin 0 counter.old }
-    ensures counted { OnOk result (CountsAll kinds trees.old.bytes counter.new) }
+    ensures counted { OnOk result (CountsAll walk.old.kinds trees.old.bytes counter.new) }
     ensures within { OnOk result (IsWithin (2 ^ 28) counter.new) }
     ensures fault { IfErr result (IsCountFault trees.old.bytes) }
 {
     few_values();
     while let Some(tree) = next(alloc, trees)? {
-        count_tree(alloc, kinds, counter, &tree)?;
+        count_tree(alloc, walk, counter, &tree)?;
     }
     Ok(())
 }

@@ -8,17 +8,25 @@ mod dictionaries;
 mod faults;
 mod gathering;
 mod laws;
+mod meetings;
 mod occasions;
 mod replays;
+mod sets;
 mod settings;
+mod sights;
 mod stays;
 mod tallies;
+mod walks;
 
 pub use collections::{Counted, Report, count_plain};
 pub use faults::HarvestFault;
 pub use laws::dictionaries_join;
+pub use meetings::Meeting;
 pub use settings::Settings;
 pub use tallies::{Tally, tally_plain};
+pub use walks::Walk;
 
 #[cfg(test)]
 mod tests;
+#[cfg(test)]
+mod walk_tests;

@@ -1,33 +1,44 @@
-//! Words that stay at the points of a board from occasion to occasion: most words do, and only what changes is looked up.
-ghost use Rattle.std.specs.Prelude.{◌≡◌, ◌<◌, ◌*◌, length, [], ◌∷◌, IfOk, IfErr, OnOk};
+//! What stays at the points of a board while a game is walked: most patterns do, and only what changes is looked up.
+ghost use Rattle.std.specs.Prelude.{◌≡◌, ◌+◌, ◌<◌, ◌*◌, ◌^◌, ◌∷◌, ℕ, [], length, IfOk, IfErr, OnOk};
+ghost use Rattle.std.specs.Prelude.{All};
 ghost use Rattle.go_board.specs.Point.{IsOn, index_of};
-ghost use Rattle.shape_core.specs.Symmetry.{canonical_of};
-ghost use Rattle.tally_core.specs.Counter.{count_in, AreCounts, Sees, IsCountingFault};
-ghost use Rattle.tally_core.specs.Stays.{with_stay, with_point, with_stays, HaveNothing};
+ghost use Rattle.tally_core.specs.Counter.{times_in};
+ghost use Rattle.tally_core.specs.Walk.{shapes_of, there_among, played_among};
+ghost use Rattle.tally_core.specs.Meeting.{Meets, CountsStay};
+ghost use Rattle.tally_core.specs.Standing.{IsStay, patterns_of, waits, waiting, AreStays};
+ghost use Rattle.tally_core.specs.Standing.{no_stays};
 ghost use Rattle.tally_core.specs.declared.faults.HarvestFault.TheVariants as fault;
 
-use crate::counters::{Count, add};
 use crate::faults::HarvestFault;
-use go_board::{Colour, Point, Size};
-use shape_core::{Shape, Word, canonical};
+use crate::meetings::Meetings;
+use go_board::{Point, Size};
+use shape_core::Shape;
 use std::alloc::Global;
-use std::collections::BTreeMap;
 
-/// A word that stays at a point, and at how many occasions it was there that are not counted yet.
+/// A pattern that stays at a point: the index of its meeting, and how many occasions of its mover there had been when it
+/// was first there.
 #[derive(Clone, Copy)]
 pub struct Stay {
-    pub word: Word,
-    /// With Black to move.
-    pub black: u64,
-    /// With White to move.
-    pub white: u64,
+    pub meeting: usize,
+    pub since: u64,
 }
 
-/// What stays at a point: its square, and its diamond where diamonds are counted.
+/// What stays at a point: nothing where it is not empty, and no diamond where squares alone are counted.
 #[derive(Clone, Copy)]
 pub struct Stays {
-    pub square: Stay,
-    pub diamond: Stay,
+    pub square: Option<Stay>,
+    pub diamond: Option<Stay>,
+}
+
+/// What a walk knows for one colour to move.
+#[derive(Drop)]
+pub struct Side {
+    /// How many occasions of this colour there were.
+    pub occasions: u64,
+    /// The points whose words may have changed since the last of them: for each row a bit for each column.
+    pub changed: Vec<u64>,
+    /// What stays at each point, row by row from the top, each row from the left.
+    pub points: Vec<Stays>,
 }
 
 /// The place of a point in a list of the points row by row from the top, each row from the left.
@@ -39,130 +50,52 @@ pub(crate) fn index(size: Size, point: Point) -> usize
     usize::from(point.row) * usize::from(size.columns()) + usize::from(point.column)
 }
 
-impl Stay {
-    ghost use Rattle.std.specs.Prelude.{◌≡◌, ℕ, ◌+◌, ◌^◌, ◌≤◌, ◌∷◌, [], IfSome, IfNone};
-    ghost use Rattle.shape_core.specs.Symmetry.{canonical_of};
-    ghost use Rattle.tally_core.specs.Counter.{times_in};
-    ghost use Rattle.tally_core.specs.Stays.{stayed};
-
-    /// The stay with one occasion more; None where that passes 2^64 - 1.
-    fn longer(self, mover: Colour) -> Option<Stay>
-        ensures some { IfSome result (λ stay. (shape : ℕ) → stayed stay shape ≡ stayed self shape + times_in (canonical_of self.word mover ∷ []) shape) }
-        ensures none { IfNone result ((shape : ℕ) × (2 ^ 64 ≤ stayed self shape + 1)) }
-    {
-        match mover {
-            Colour::Black => {
-                let Some(black) = self.black.checked_add(1) else {
-                    return None;
-                };
-                Some(Stay { black, ..self })
-            }
-            Colour::White => {
-                let Some(white) = self.white.checked_add(1) else {
-                    return None;
-                };
-                Some(Stay { white, ..self })
-            }
-        }
-    }
-}
-
 /// Counts the occasions of a stay.
-fn settle(counts: &mut BTreeMap<Shape, Count>, stay: Stay, game: u64) -> Result<(), HarvestFault>
-    ensures ok { OnOk result (AreCounts (with_stay game stay counts.old) (count_in counts.new)) }
-    ensures fault { IfErr result (IsCountingFault 0 (with_stay game stay counts.old)) }
+pub(crate) fn settle(meetings: &mut Meetings, stay: Option<Stay>, occasions: u64)
+    requires stay { IsStay (length (shapes_of meetings.old)) occasions stay }
+    requires few { (shape : ℕ) →
+        there_among meetings.old shape + waits (shapes_of meetings.old) occasions stay shape < 2 ^ 64 }
+    ensures shapes { shapes_of meetings.new ≡ shapes_of meetings.old }
+    ensures there { (shape : ℕ) → there_among meetings.new shape
+        ≡ there_among meetings.old shape + waits (shapes_of meetings.old) occasions stay shape }
+    ensures played { (shape : ℕ) → played_among meetings.new shape ≡ played_among meetings.old shape }
 {
-    let black = canonical(stay.word, Colour::Black);
-    let white = canonical(stay.word, Colour::White);
-    add(counts, black, stay.black, 0, game)?;
-    add(counts, white, stay.white, 0, game)
-}
-
-/// The stay of a word: this one, or where that is another word's, a new one, and this one's occasions are counted.
-fn turned(
-    counts: &mut BTreeMap<Shape, Count>,
-    stay: Stay,
-    word: Word,
-    game: u64,
-) -> Result<Stay, HarvestFault>
-    ensures word { IfOk result (λ turned. turned.word ≡ word) }
-    ensures counts { IfOk result (λ turned. AreCounts (with_stay game stay counts.old) (with_stay game turned counts.new)) }
-    ensures fault { IfErr result (IsCountingFault 0 (with_stay game stay counts.old)) }
-{
-    if stay.word == word {
-        return Ok(stay);
+    if let Some(stay) = stay {
+        meetings.add_there(stay.meeting, occasions - stay.since);
     }
-    settle(counts, stay, game)?;
-    Ok(Stay {
-        word,
-        black: 0,
-        white: 0,
-    })
 }
 
-/// Counts a word as being there at one occasion more.
-pub(crate) fn see(
-    counts: &mut BTreeMap<Shape, Count>,
-    stay: &mut Stay,
-    word: Word,
-    mover: Colour,
-    game: u64,
-) -> Result<(), HarvestFault>
-    ensures ok { OnOk result (Sees game (canonical_of word mover ∷ []) (with_stay game stay.old counts.old) (with_stay game stay.new counts.new)) }
-    ensures fault { IfErr result (IsCountingFault 1 (with_stay game stay.old counts.old)) }
+/// Counts a stay's pattern as played once more.
+pub(crate) fn play(meetings: &mut Meetings, stay: Option<Stay>)
+    requires stay { (occasions : ℕ) × IsStay (length (shapes_of meetings.old)) occasions stay }
+    requires few { (shape : ℕ) → played_among meetings.old shape + 1 < 2 ^ 64 }
+    ensures shapes { shapes_of meetings.new ≡ shapes_of meetings.old }
+    ensures there { (shape : ℕ) → there_among meetings.new shape ≡ there_among meetings.old shape }
+    ensures played { (shape : ℕ) → played_among meetings.new shape
+        ≡ played_among meetings.old shape + times_in (patterns_of (shapes_of meetings.old) stay) shape }
 {
-    let turned = turned(counts, *stay, word, game)?;
-    let Some(longer) = turned.longer(mover) else {
-        return Err(HarvestFault::Overflow);
-    };
-    *stay = longer;
-    Ok(())
+    if let Some(stay) = stay {
+        meetings.add_played(stay.meeting);
+    }
 }
 
-/// Stays at each point of a board, of no occasion yet. Any word will do for that.
-pub(crate) fn stays_of(alloc: Global, size: Size, word: Word) -> Result<Vec<Stays>, HarvestFault>
-    ensures room { IfOk result (λ points. length points.items ≡ size.columns * size.rows) }
-    ensures nothing { IfOk result (λ points. HaveNothing points.items) }
+/// A stay of a pattern that begins now.
+pub(crate) fn begin(
+    meetings: &mut Meetings,
+    shape: Shape,
+    occasions: u64,
+) -> Result<Option<Stay>, HarvestFault>
+    ensures stay { IfOk result (IsStay (length (shapes_of meetings.new)) occasions) }
+    ensures pattern { IfOk result (λ stay. patterns_of (shapes_of meetings.new) stay ≡ shape ∷ []) }
+    ensures waits { IfOk result (λ stay. (other : ℕ) →
+        waits (shapes_of meetings.new) occasions stay other ≡ 0) }
+    ensures meets { OnOk result (Meets (shapes_of meetings.old) (shape ∷ []) (shapes_of meetings.new)) }
+    ensures counts { OnOk result (CountsStay meetings.old meetings.new) }
     ensures fault { IfErr result (λ found. found ≡ fault.Memory) }
 {
-    let square = Stay {
-        word,
-        black: 0,
-        white: 0,
-    };
-    let diamond = square;
-    let stays = Stays { square, diamond };
-    let count = usize::from(size.columns()) * usize::from(size.rows());
-    match vec![in alloc; stays; count] {
-        Ok(points) => Ok(points),
-        Err(_) => Err(HarvestFault::Memory),
-    }
-}
-
-/// Counts the occasions of what stays at a point.
-fn settle_point(
-    counts: &mut BTreeMap<Shape, Count>,
-    stays: &Stays,
-    game: u64,
-) -> Result<(), HarvestFault>
-    ensures ok { OnOk result (AreCounts (with_point game stays.now counts.old) (count_in counts.new)) }
-    ensures fault { IfErr result (IsCountingFault 0 (with_point game stays.now counts.old)) }
-{
-    settle(counts, stays.square, game)?;
-    settle(counts, stays.diamond, game)
-}
-
-/// Counts the occasions of what stays at all points.
-pub(crate) fn settle_all(
-    counts: &mut BTreeMap<Shape, Count>,
-    points: &[Stays],
-    game: u64,
-) -> Result<(), HarvestFault>
-    ensures ok { OnOk result (AreCounts (with_stays game points.now counts.old) (count_in counts.new)) }
-    ensures fault { IfErr result (IsCountingFault 0 (with_stays game points.now counts.old)) }
-{
-    for stays in points {
-        settle_point(counts, stays, game)?;
-    }
-    Ok(())
+    let meeting = meetings.meet(shape)?;
+    Ok(Some(Stay {
+        meeting,
+        since: occasions,
+    }))
 }

@@ -5,6 +5,7 @@ ghost use Rattle.tally_core.specs.Tally.{IsTally, IsTallyFault};
 use crate::dictionaries::{FirstGames, entries_of};
 use crate::faults::HarvestFault;
 use crate::replays::count_game;
+use crate::walks::Walk;
 use go_record::Record;
 use shape_core::Kinds;
 use shape_dict::Entry;
@@ -56,7 +57,8 @@ pub fn tally_plain(alloc: Global, kinds: Kinds, replayed: &Record) -> Result<Tal
     ensures fault { IfErr result (IsTallyFault replayed.now) }
 {
     let mut counts = BTreeMap::new(alloc);
-    let moves = count_game(alloc, &mut counts, kinds, replayed, 0)?;
+    let mut walk = Walk::begin(alloc, kinds);
+    let moves = count_game(&mut counts, &mut walk, replayed, 0)?;
     let entries = entries_of(alloc, FirstGames::LeftOut, &counts)?;
     Ok(Tally { moves, entries })
 }

@@ -1,18 +1,23 @@
-use Rattle.std.proofs.Common.{ℕ, List, ap, subst, refl}
+use Rattle.std.proofs.Common.{◌≡◌, ℕ, List, ap, subst, refl}
 use Rattle.sgf_core.specs.Reading.{Reading}
+use Rattle.shape_core.specs.declared.words.Kinds.{Kinds}
+use Rattle.tally_core.specs.Walk.{Walked}
 use Rattle.tally_core.specs.Counting.{CountsAll}
 use Rattle.tally_core.proofs.Trees.{games_reported}
 use Rattle.tally_core.proofs.collections.count_plain.Goals as goal
 
 pub dictionary_of-requires : goal.dictionary_of-requires
 dictionary_of-requires c =
-    let all = c.in_ok-count_trees.ensures.counted in
+    let kinds : c.begin-walk.result.kinds ≡ c.args.kinds = ap (λ (w : Walked). w.kinds) c.begin-walk.ensures in
+    let all = subst (λ (k : Kinds). CountsAll k c.in-Ok.trees.bytes c.count_trees.new.counter) kinds c.in_ok-count_trees.ensures.counted in
     record { counted = (all.counted.games, games_reported c.args.kinds all.trees c.count_trees.new.counter all.counted, all.counted.counted) }
 
 pub returns-clause-counted : goal.returns-clause-counted
 returns-clause-counted c =
     let bytes = ap (λ (t : Reading). t.bytes) c.in-Ok.ensures.begins in
-    let all = subst (λ (bytes : List ℕ). CountsAll c.args.kinds bytes c.count_trees.new.counter) bytes c.in_ok-count_trees.ensures.counted in
+    let kinds : c.begin-walk.result.kinds ≡ c.args.kinds = ap (λ (w : Walked). w.kinds) c.begin-walk.ensures in
+    let all = subst (λ (bytes : List ℕ). CountsAll c.args.kinds bytes c.count_trees.new.counter) bytes
+    (subst (λ (k : Kinds). CountsAll k c.in-Ok.trees.bytes c.count_trees.new.counter) kinds c.in_ok-count_trees.ensures.counted) in
     record {
       trees = all.trees;
       end = all.end;

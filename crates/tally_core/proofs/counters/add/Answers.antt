@@ -5,7 +5,7 @@ use Rattle.std.specs.BTreeMap.{is_at}
 use Rattle.tally_core.specs.declared.counters.Count.{Count}
 use Rattle.tally_core.specs.Counter.{count_in, uses_at, one_pattern}
 use Rattle.tally_core.proofs.Used.{again-uses, used_first}
-use Rattle.tally_core.proofs.Staying.{all-of}
+use Rattle.tally_core.proofs.Lasting.{all-of}
 use Rattle.tally_core.proofs.counters.add.Goals as goal
 use Rattle.tally_core.proofs.counters.add.Goals.{else-there-eq0-via-then-there-eq0+else-played-eq0, else-there-eq0-via-else-there-eq0}
 

@@ -15,12 +15,12 @@ returns-in-Ok-Go-clause-within c =
 
 pub returns-in-Ok-Other-clause-counted : goal.returns-in-Ok-Other-clause-counted
 returns-in-Ok-Other-clause-counted c before game marks counted =
-    counts_other c.args.kinds before game c.args.counter.now
+    counts_other c.args.walk.now.kinds before game c.args.counter.now
     (record c.args.counter.now { report = record c.args.counter.now.report { others = c.args.counter.now.report.others + 1 } })
     (sym (c.in-Ok-Other.ensures game marks) ∙ ap Ok c.in-Ok-Other.field-0-is) counted refl
 
 pub returns-in_ok-unless_memory-in-Err-clause-counted : goal.returns-in_ok-unless_memory-in-Err-clause-counted
 returns-in_ok-unless_memory-in-Err-clause-counted c before game marks counted =
-    counts_refused c.args.kinds before game c.in-Err.fault c.args.counter.now
+    counts_refused c.args.walk.now.kinds before game c.in-Err.fault c.args.counter.now
     (record c.args.counter.now { report = record c.args.counter.now.report { refused = c.args.counter.now.report.refused + 1 } })
     (not_memory c.in-Err.fault _ c.in_ok-unless_memory-in-Err.ensures.other (c.in-Err.ensures game marks)) counted refl

@@ -1,6 +1,7 @@
 use Rattle.std.proofs.Common.{◌≡◌, ◌∙◌, ◌<◌, ◌≤◌, [], ◌∷◌, ◌++◌, IfSome, ap, sym, subst, arith, length}
 use Rattle.sgf_core.specs.Reading.{Reading}
-use Rattle.tally_core.specs.Counting.{IsWithin}
+use Rattle.shape_core.specs.declared.words.Kinds.{Kinds}
+use Rattle.tally_core.specs.Counting.{IsWithin, CountsTrees}
 use Rattle.tally_core.proofs.Trees.{CountsUpTo, IsRead, trees_push}
 use Rattle.tally_core.proofs.counting.count_trees.Goals as goal
 
@@ -23,16 +24,21 @@ loop-tree-preserved c =
     let after = subst (λ o. IfSome o (λ read. c.next.new.trees ≡ record c.loop-tree.trees { from = read.end })) c.in-Some.is c.in_ok-tree.ensures.after in
     let before = c.loop-tree.invariant.counted in
     let bytes = ap (λ (t : Reading). t.bytes) after in
+    let kinds = c.loop-tree.invariant.kinds in
     let from = ap (λ (t : Reading). t.from) after in
-    let now : CountsUpTo c.args.kinds c.loop-tree.trees.bytes c.in-Some.tree.end c.count_tree.new.counter = record {
+    let now : CountsUpTo c.args.walk.now.kinds c.loop-tree.trees.bytes c.in-Some.tree.end c.count_tree.new.counter = record {
       trees = before.trees ++ read.0 ∷ [];
       written = trees_push c.loop-tree.trees.bytes 0 c.loop-tree.trees.from before.trees _ c.in-Some.tree.end read.0 before.written read.1;
-      counted = c.in_ok-count_tree.ensures.counted before.trees read.0 read.2 before.counted;
+      counted =
+          subst (λ (kinds : Kinds). CountsTrees kinds (before.trees ++ read.0 ∷ []) c.count_tree.new.counter) kinds
+          (c.in_ok-count_tree.ensures.counted before.trees read.0 read.2
+          (subst (λ (kinds : Kinds). CountsTrees kinds before.trees c.loop-tree.counter) (sym kinds) before.counted));
     } in
     record {
       bytes = bytes ∙ c.loop-tree.invariant.bytes;
       in_input = omega (arith, forward.1, from, ap length bytes);
-      counted = subst (λ bytes. CountsUpTo c.args.kinds bytes c.next.new.trees.from c.count_tree.new.counter) (sym bytes)
-          (subst (λ from. CountsUpTo c.args.kinds c.loop-tree.trees.bytes from c.count_tree.new.counter) (sym from) now);
+      kinds = c.count_tree.ensures.kinds ∙ kinds;
+      counted = subst (λ bytes. CountsUpTo c.args.walk.now.kinds bytes c.next.new.trees.from c.count_tree.new.counter) (sym bytes)
+          (subst (λ from. CountsUpTo c.args.walk.now.kinds c.loop-tree.trees.bytes from c.count_tree.new.counter) (sym from) now);
       within = subst (λ place. IsWithin place c.count_tree.new.counter) (sym from) c.in_ok-count_tree.ensures.within;
     }

@@ -7,7 +7,8 @@ abbrev pub invariant-loop-tree : goal.invariant-loop-tree
 invariant-loop-tree l = record {
   bytes : l.trees.bytes ≡ l.fn.trees.bytes;
   in_input : l.trees.from ≤ length l.trees.bytes;
-  counted : CountsUpTo l.kinds l.trees.bytes l.trees.from l.counter;
+  kinds : l.walk.kinds ≡ l.fn.walk.kinds;
+  counted : CountsUpTo l.fn.walk.kinds l.trees.bytes l.trees.from l.counter;
   within : IsWithin l.trees.from l.counter;
 }
 

@@ -1,48 +1,32 @@
-use Rattle.std.proofs.Common.{◌∙◌, ◌*◌, [], length, ap, sym, subst, arith}
-use Rattle.std.proofs.lemmas.Result.{IfOk-weaker, IfErr-weaker, on_ok_weaker}
-use Rattle.go_board.specs.Extent.{Extent}
-use Rattle.go_board.specs.Board.{position_of}
-use Rattle.go_record.specs.Replay.{AreSame, empty_position}
-use Rattle.shape_core.specs.declared.words.Kinds.{Kinds}
-use Rattle.tally_core.specs.Counter.{count_in, uses_at, AreCounts, CountsFront}
-use Rattle.tally_core.specs.Stays.{with_stays}
-use Rattle.tally_core.proofs.Fronts.{game_ends, counted_from}
-use Rattle.tally_core.proofs.Used.{fault-later}
-use Rattle.tally_core.proofs.Staying.{nothing_stayed}
+use Rattle.std.proofs.Common.{◌*◌, length, ap, arith}
+use Rattle.tally_core.specs.Counter.{count_in, uses_at, used, IsCountingFault, CountsMeetings}
+use Rattle.tally_core.specs.Walk.{there_among, played_among}
+use Rattle.tally_core.proofs.Used.{fault-later, passed_up}
+use Rattle.tally_core.proofs.Walked.{counts-walked, meetings-grow}
 use Rattle.tally_core.proofs.replays.count_game.Goals as goal
 
-pub returns-clause-fault : goal.returns-clause-fault
-returns-clause-fault c =
+pub returns-in_err-count_meetings-clause-fault : goal.returns-in_err-count_meetings-clause-fault
+returns-in_err-count_meetings-clause-fault c =
     let game = c.args.game in
-    let now = c.args.counts.now in
-    let starts = nothing_stayed game c.in_ok-points.points.items now c.in_ok-points.ensures.nothing in
-    IfErr-weaker c.count_actions.result _ _
-    (λ found. fault-later found (5410 * length c.actions.result.now) (5410 * length c.args.replayed.now.actions) (with_stays game c.deref_mut.result.now now) (count_in now)
-    (λ shape. omega (arith, ap length c.actions.ensures.value, ap uses_at (starts shape), ap (λ points. uses_at (with_stays game points now shape)) c.deref_mut.ensures.value)))
-    c.count_actions.ensures.fault
+    let most = 5410 * length c.args.replayed.now.actions in
+    let before = count_in c.args.counts.now in
+    let meetings = c.walk.new.self.meetings in
+    let found = c.in_err-count_meetings.field-0.0 in
+    passed_up c.from_residual-in_err-count_meetings.result found (IsCountingFault most before) c.from_residual-in_err-count_meetings.ensures.1
+    (fault-later found 0 most (used game (there_among meetings) (played_among meetings) before) before
+    (λ shape. omega (arith, meetings-grow game most meetings before shape c.in_ok-moves.ensures.small))
+    (rw c.meetings.ensures at c.in_err-count_meetings.ensures.fault))
 
 pub returns-clause-counts : goal.returns-clause-counts
 returns-clause-counts c =
-    let game = c.args.game in
-    let now = c.args.counts.now in
-    let start = with_stays game c.deref_mut.result.now now in
-    let new = count_in c.count_actions.new.counts in
-    let starts : AreCounts (count_in now) start = subst (λ points. AreCounts (count_in now) (with_stays game points now)) (sym c.deref_mut.ensures.value)
-    (nothing_stayed game c.in_ok-points.points.items now c.in_ok-points.ensures.nothing) in
-    let empty = subst (λ (s : Extent). AreSame s (position_of c.in-Ok.field.board) empty_position) c.size.ensures c.in-Ok.ensures.empty in
-    IfOk-weaker c.count_actions.result _ _
-    (λ moves front. counted_from c.args.kinds c.args.replayed.now game moves (count_in now) start new starts
-    (game_ends c.args.kinds c.args.replayed.now c.in-Ok.field.board.size c.actions.result.now (position_of c.in-Ok.field.board) (position_of c.count_actions.new.field.board)
-    game moves start new (c.in-Ok.ensures.size ∙ c.size.ensures) c.actions.ensures.value empty
-    (subst (λ (kinds : Kinds). CountsFront kinds c.in-Ok.field.board.size c.actions.result.now [] (position_of c.in-Ok.field.board) (position_of c.count_actions.new.field.board) game start new moves)
-    c.in-Ok.ensures.kinds front)))
-    c.count_actions.ensures.counts
+    counts-walked c.args.walk.now.kinds c.args.replayed.now c.args.game (count_in c.args.counts.now) (count_in c.count_meetings.new.counts) c.walk.new.self.meetings c.in_ok-moves.moves
+    c.in_ok-moves.ensures.walked c.in_ok-moves.ensures.among (rw c.meetings.ensures at c.in_ok-count_meetings.ensures.ok)
 
 pub returns-clause-grows : goal.returns-clause-grows
-returns-clause-grows c =
-    let game = c.args.game in
-    let now = c.args.counts.now in
-    let starts = nothing_stayed game c.in_ok-points.points.items now c.in_ok-points.ensures.nothing in
-    on_ok_weaker c.count_actions.result
-    (λ grows shape. omega (arith, grows shape, ap length c.actions.ensures.value, ap uses_at (starts shape), ap (λ points. uses_at (with_stays game points now shape)) c.deref_mut.ensures.value))
-    c.count_actions.ensures.grows
+returns-clause-grows c shape =
+    let counted : CountsMeetings c.args.game c.walk.new.self.meetings (count_in c.args.counts.now) (count_in c.count_meetings.new.counts) = rw c.meetings.ensures at c.in_ok-count_meetings.ensures.ok in
+    omega (
+      arith,
+      ap uses_at (counted shape),
+      meetings-grow c.args.game (5410 * length c.args.replayed.now.actions) c.walk.new.self.meetings (count_in c.args.counts.now) shape c.in_ok-moves.ensures.small,
+    )

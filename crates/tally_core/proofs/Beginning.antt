@@ -1,0 +1,44 @@
+-- A side before the first action.
+use Rattle.std.proofs.Common.{◌≡◌, ℕ, ◌-◌, ◌*◌, ◌%◌, ◌^◌, ◌<◌, ◌≤◌, length, replicate, slice_index, All, ap, sym, subst, ◌∙◌, arith, mul-zero}
+use Rattle.std.specs.Prelude.{sum_by}
+use Rattle.std.specs.Int.{bit_at}
+use Rattle.std.proofs.lemmas.List.{get_or-replicate, length-replicate}
+use Rattle.std.proofs.lemmas.List.Elements.{All-replicate}
+use Rattle.std.proofs.lemmas.List.Folds.{sum_by-replicate}
+use Rattle.std.proofs.lemmas.Nat.{pow_pos, pow_below}
+use Rattle.std.proofs.lemmas.Nat.Bits.{bit_at_ones}
+use Rattle.go_board.specs.Extent.{Extent}
+use Rattle.shape_core.specs.KeptLists.{AreMarks}
+use Rattle.tally_core.specs.Standing.{AreStays, waits_at, no_stays, IsNewSide}
+use Rattle.tally_core.specs.declared.stays.Stays.{Stays}
+use Rattle.tally_core.specs.declared.stays.Side.{Side}
+
+-- a bit for each column
+pub row-full : (columns : ℕ) → columns ≤ 52 → 1 * 2 ^ columns % 2 ^ 64 - 1 ≡ 2 ^ columns - 1
+row-full columns few = omega (arith, pow_below columns 64 (omega arith))
+
+pub new-side : (size : Extent) (side : Side) → side.occasions ≡ 0 → side.changed.items ≡ replicate size.rows (2 ^ size.columns - 1) →
+    side.points.items ≡ replicate (size.columns * size.rows) no_stays → IsNewSide size side
+new-side size side occasions changed points =
+    let full = 2 ^ size.columns - 1 in
+    let area = size.columns * size.rows in
+    let marks : AreMarks size (replicate size.rows full) = record {
+      rows = length-replicate size.rows full;
+      within = All-replicate (λ row. row < 2 ^ size.columns) size.rows full (omega (arith, pow_pos size.columns));
+    } in
+    record {
+      occasions = occasions;
+      standing = record {
+        room = ap length points ∙ length-replicate area no_stays;
+        marks = subst (AreMarks size) (sym changed) marks;
+        stays = subst (λ n. All (AreStays 0 n) side.points.items) (sym occasions)
+            (subst (All (AreStays 0 0)) (sym points) (All-replicate (AreStays 0 0) area no_stays (record { square = tt; diamond = tt })));
+      };
+      nothing = λ shapes shape.
+          let f = λ (stays : Stays). waits_at shapes 0 stays shape in
+          ap (sum_by f) points ∙ sum_by-replicate f area no_stays ∙ mul-zero area;
+      all = λ q on.
+          ap (λ set. bit_at (slice_index set q.row) q.column) changed
+          ∙ ap (λ n. bit_at n q.column) (get_or-replicate size.rows q.row full 0 on.1)
+          ∙ bit_at_ones size.columns q.column on.0;
+    }

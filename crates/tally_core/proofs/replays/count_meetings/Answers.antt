@@ -1,0 +1,25 @@
+use Rattle.std.proofs.Common.{List, subst}
+use Rattle.std.proofs.lemmas.List.{take_all}
+use Rattle.tally_core.specs.Counter.{count_in, one_pattern, used, IsMeetingsFault, CountsMeetings}
+use Rattle.tally_core.specs.Walk.{there_among, played_among}
+use Rattle.tally_core.proofs.Used.{fault-later, passed_up}
+use Rattle.tally_core.proofs.Adding.{next-within}
+use Rattle.tally_core.proofs.replays.count_meetings.Goals as goal
+
+pub returns-in_err-add-clause-fault : goal.returns-in_err-add-clause-fault
+returns-in_err-add-clause-fault c =
+    let game = c.args.game in
+    let meetings = c.args.meetings.now in
+    let before = count_in c.args.counts.now in
+    let meeting = c.meeting-item.result in
+    let found = c.in_err-add.field-0.0 in
+    let added = used game (one_pattern meeting.shape meeting.there) (one_pattern meeting.shape meeting.played) (count_in c.loop-meeting.counts) in
+    passed_up c.from_residual.result found (IsMeetingsFault game meetings before) c.from_residual.ensures.1
+    (fault-later found 0 0 added (used game (there_among meetings) (played_among meetings) before)
+    (λ shape. next-within game meetings c.loop-meeting.meeting-index meeting before (count_in c.loop-meeting.counts) shape c.loop-meeting-test.true c.meeting-item.is c.loop-meeting.invariant)
+    c.in_err-add.ensures.fault)
+
+pub returns-clause-ok : goal.returns-clause-ok
+returns-clause-ok c =
+    let meetings = c.args.meetings.now in
+    subst (λ (list : List _). CountsMeetings c.args.game list (count_in c.args.counts.now) (count_in c.loop-meeting.counts)) (take_all c.loop-meeting.meeting-index meetings c.loop-meeting-test.false) c.loop-meeting.invariant

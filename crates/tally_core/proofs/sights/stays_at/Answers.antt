@@ -1,0 +1,42 @@
+use Rattle.std.proofs.Common.{◌≡◌, [], ◌∷◌, ap, ap₂, sym, subst, ◌∙◌, arith}
+use Rattle.go_board.specs.Board.{position_of}
+use Rattle.shape_core.specs.Symmetry.{canonical_of}
+use Rattle.shape_core.specs.declared.words.Kinds.{Kinds}
+use Rattle.shape_core.specs.declared.words.Kinds.TheVariants as which
+use Rattle.tally_core.specs.Counts.{kinds_of, patterns_at}
+use Rattle.tally_core.specs.Walk.{shapes_of}
+use Rattle.tally_core.specs.Meeting.{Meets}
+use Rattle.tally_core.proofs.Once.{meets_on}
+use Rattle.tally_core.proofs.Lasting.{waits-extended}
+use Rattle.tally_core.proofs.Seeing.{here-empty}
+use Rattle.tally_core.proofs.sights.stays_at.Goals as goal
+
+pub returns-in_ok-diamond-in-Both-clause-waits : goal.returns-in_ok-diamond-in-Both-clause-waits
+returns-in_ok-diamond-in-Both-clause-waits c shape =
+    omega (
+      arith,
+      waits-extended (shapes_of c.begin.new.meetings) (shapes_of c.begin-in-Both.new.meetings) c.args.occasions c.in_ok-square.square shape
+          c.in_ok-diamond-in-Both.ensures.meets.extends c.in_ok-square.ensures.stay,
+      c.in_ok-square.ensures.waits shape,
+      c.in_ok-diamond-in-Both.ensures.waits shape,
+    )
+
+pub returns-in_ok-diamond-in-Both-clause-meets : goal.returns-in_ok-diamond-in-Both-clause-meets
+returns-in_ok-diamond-in-Both-clause-meets c =
+    let field = c.args.field.now in
+    let mover = c.args.mover in
+    let position = position_of field.board in
+    let before = shapes_of c.args.meetings.now in
+    let between = shapes_of c.begin.new.meetings in
+    let after = shapes_of c.begin-in-Both.new.meetings in
+    let square = c.canonical.result in
+    let diamond = c.canonical-in-Both.result in
+    let both : which.Both ≡ field.kinds = sym c.in-Both.is ∙ c.kinds.ensures in
+    let words : square ∷ diamond ∷ [] ≡ patterns_at (kinds_of which.Both) field.board.size position mover c.args.point =
+    ap₂ (λ a b. a ∷ b ∷ [])
+    (c.canonical.ensures ∙ ap (λ w. canonical_of w mover) c.word.ensures)
+    (c.canonical-in-Both.ensures ∙ ap (λ w. canonical_of w mover) c.diamond.ensures) in
+    subst (λ patterns. Meets before patterns after)
+    (words ∙ ap (λ (kinds : Kinds). patterns_at (kinds_of kinds) field.board.size position mover c.args.point) both
+    ∙ sym (here-empty field.kinds field.board.size position mover c.args.point c.requires.empty))
+    (meets_on before (square ∷ []) between (diamond ∷ []) after c.in_ok-square.ensures.meets c.in_ok-diamond-in-Both.ensures.meets)

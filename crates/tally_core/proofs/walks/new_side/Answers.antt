@@ -1,0 +1,13 @@
+use Rattle.std.proofs.Common.{◌≡◌, ◌*◌, ◌-◌, ◌^◌, ◌%◌, replicate, refl, ap, ap₂, ◌∙◌}
+use Rattle.tally_core.specs.Standing.{no_stays}
+use Rattle.tally_core.proofs.Beginning.{row-full, new-side}
+use Rattle.tally_core.proofs.walks.new_side.Goals as goal
+
+pub returns-clause-side : goal.returns-clause-side
+returns-clause-side c =
+    let size = c.args.size in
+    let columns : c.from-columns.result ≡ size.columns = c.from-columns.ensures ∙ c.columns.ensures.value in
+    let rows : c.from-rows.result ≡ size.rows = c.from-rows.ensures ∙ c.rows.ensures.value in
+    new-side size (record { occasions = 0; changed = c.in-Ok.changed; points = c.in-Ok-vec.points }) refl
+    (c.in-Ok.ensures.items_if_clones_equal (λ y e. e) ∙ ap₂ (λ n m. replicate n (1 * 2 ^ m % 2 ^ 64 - 1)) rows columns ∙ ap (replicate size.rows) (row-full size.columns c.columns.ensures.size.few_columns))
+    (c.in-Ok-vec.ensures.items_if_clones_equal (λ y e. e) ∙ ap₂ (λ n m. replicate (n * m) no_stays) columns rows)

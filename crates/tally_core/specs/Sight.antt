@@ -1,0 +1,96 @@
+-- The words of a walk over a field as it stands: what is seen, what stays, and what an action counts.
+use Rattle.std.specs.Prelude.{◌≡◌, ℕ, ◌+◌, ◌^◌, ◌<◌, ◌⊎◌, List, Contains}
+use Rattle.go_board.specs.Board.{position_of}
+use Rattle.go_board.specs.Point.{IsOn}
+use Rattle.go_board.specs.declared.points.Point.{Point}
+use Rattle.go_board.specs.declared.points.Colour.{Colour}
+use Rattle.go_record.specs.declared.actions.Action.{Action}
+use Rattle.shape_core.specs.Field.{Kept}
+use Rattle.tally_core.specs.Occasions.{occasion_of}
+use Rattle.tally_core.specs.Counts.{kinds_of, patterns_at}
+use Rattle.tally_core.specs.Counter.{times_in}
+use Rattle.tally_core.specs.Walk.{there_among, played_among, shapes_of}
+use Rattle.tally_core.specs.Standing.{waits_at, there_with, patterns_here, patterns_seen, StayThere, IsSide, IsSeen, AreSides, IsCountedOn}
+use Rattle.tally_core.specs.declared.meetings.Meeting.{Meeting}
+use Rattle.tally_core.specs.declared.stays.Stays.{Stays}
+use Rattle.tally_core.specs.declared.stays.Side.{Side}
+use Rattle.tally_core.specs.declared.occasions.Sides.{Sides}
+
+-- no pattern was there more often than before
+abbrev pub ThereStays : List Meeting → List Meeting → Type 0
+ThereStays before after = (shape : ℕ) → there_among after shape ≡ there_among before shape
+
+-- no pattern was played more often than before
+abbrev pub PlayedStays : List Meeting → List Meeting → Type 0
+PlayedStays before after = (shape : ℕ) → played_among after shape ≡ played_among before shape
+
+-- how often a shape was there, with the occasions of what stays at a point
+abbrev pub there_at : List Meeting → ℕ → Stays → ℕ → ℕ
+there_at meetings occasions stays shape =
+    there_among meetings shape + waits_at (shapes_of meetings) occasions stays shape
+
+-- with what stays at a point, no pattern was there more often than before
+abbrev pub StaysAt : ℕ → List Meeting → Stays → List Meeting → Stays → Type 0
+StaysAt occasions before stays after new =
+    (shape : ℕ) → there_at after occasions new shape ≡ there_at before occasions stays shape
+
+-- with all that stays, no pattern was there more often than before
+abbrev pub StaysWith : List Meeting → Side → List Meeting → Side → Type 0
+StaysWith before side after new = (shape : ℕ) → there_with after new shape ≡ there_with before side shape
+
+-- the patterns of a point of a field
+abbrev pub here_on : Kept → Colour → Point → List ℕ
+here_on field mover point = patterns_here field.kinds field.board.size (position_of field.board) mover point
+
+-- the patterns of all points of a field
+abbrev pub seen_on : Kept → Colour → List ℕ
+seen_on field mover = patterns_seen field.kinds field.board.size (position_of field.board) mover
+
+-- the patterns of the point of a move
+abbrev pub played_on : Kept → Colour → Point → List ℕ
+played_on field mover at =
+    patterns_at (kinds_of field.kinds) field.board.size (position_of field.board) mover at
+
+-- what stays at a point are its patterns on a field
+abbrev pub StayOn : Kept → Colour → List Meeting → Side → Point → Type 0
+StayOn field mover meetings side q =
+    StayThere field.kinds field.board.size (position_of field.board) mover (shapes_of meetings) side.points.items q
+
+-- what stayed at other points stays there, and at these points their patterns stay now
+abbrev pub LooksAt : Kept → Colour → List Point → List Meeting → Side → List Meeting → Side → Type 0
+LooksAt field mover points before side after new =
+    (q : Point) → IsOn field.board.size q → Contains points q ⊎ StayOn field mover before side q → StayOn field mover after new q
+
+-- a side is that of a field
+abbrev pub IsSideOn : Kept → Colour → List Meeting → Side → Type 0
+IsSideOn field mover meetings side =
+    IsSide field.kinds field.board.size (position_of field.board) mover (shapes_of meetings) side
+
+-- what stays for a colour is what is there on a field
+abbrev pub IsSeenOn : Kept → Colour → List Meeting → Side → Type 0
+IsSeenOn field mover meetings side =
+    IsSeen field.kinds field.board.size (position_of field.board) mover (shapes_of meetings) side
+
+-- both sides are those of a field
+abbrev pub AreSidesOn : Kept → List Meeting → Sides → Type 0
+AreSidesOn field meetings sides =
+    AreSides field.kinds field.board.size (position_of field.board) (shapes_of meetings) sides
+
+-- so many patterns more were there, with all that stays
+abbrev pub AddsThere : List ℕ → List Meeting → Side → List Meeting → Side → Type 0
+AddsThere patterns before side after new =
+    (shape : ℕ) → there_with after new shape ≡ there_with before side shape + times_in patterns shape
+
+-- so many patterns more were played
+abbrev pub AddsPlayed : List ℕ → List Meeting → List Meeting → Type 0
+AddsPlayed patterns before after =
+    (shape : ℕ) → played_among after shape ≡ played_among before shape + times_in patterns shape
+
+-- so many occasions of an action were counted
+abbrev pub CountsAction : Kept → Action → List Meeting → Sides → List Meeting → Sides → ℕ → Type 0
+CountsAction field action before sides after new =
+    IsCountedOn field.kinds field.board.size (occasion_of (position_of field.board) action) before sides after new
+
+-- counts of a pattern that stay below the limit of a word
+abbrev pub Fit : (ℕ → ℕ) → Type 0
+Fit count = (shape : ℕ) → count shape < 2 ^ 64

@@ -1,0 +1,153 @@
+-- What stays at the points of a board while a game is walked: the meetings that are pending there, for one mover.
+use Rattle.std.specs.Prelude.{◌≡◌, ℕ, ◌+◌, ◌-◌, ◌*◌, ◌^◌, ◌<◌, ◌≤◌, ◌==◌, ◌⊎◌, Bool, List, [], ◌∷◌, ◌++◌, length, filter, sum_by, slice_index, slice_index_or, All, Option, Some, None}
+use Rattle.std.specs.List.{flat_map}
+use Rattle.std.specs.Int.{bit_at}
+use Rattle.go_board.specs.Extent.{Extent}
+use Rattle.go_board.specs.Position.{Position}
+use Rattle.go_board.specs.Point.{IsOn, index_of}
+use Rattle.go_board.specs.declared.points.Point.{Point}
+use Rattle.go_board.specs.declared.points.Colour.{Colour}
+use Rattle.shape_core.specs.declared.words.Kinds.{Kinds}
+use Rattle.shape_core.specs.Field.{IsMarked}
+use Rattle.shape_core.specs.KeptLists.{AreMarks}
+use Rattle.tally_core.specs.Occasions.{Occasion, is_empty, HasOccasions}
+use Rattle.tally_core.specs.Meeting.{Meets}
+use Rattle.tally_core.specs.Counts.{kinds_of, points_of, patterns_at, patterns_there, patterns_played}
+use Rattle.tally_core.specs.Counter.{one_pattern, times_in}
+use Rattle.tally_core.specs.declared.stays.Stay.{Stay}
+use Rattle.tally_core.specs.declared.stays.Stays.{Stays}
+use Rattle.tally_core.specs.declared.stays.Side.{Side}
+use Rattle.tally_core.specs.declared.occasions.Sides.{Sides}
+use Rattle.tally_core.specs.declared.meetings.Meeting.{Meeting}
+use Rattle.tally_core.specs.Walk.{there_among, played_among, shapes_of, once_each}
+use Rattle.go_board.specs.declared.points.Colour.TheVariants as colour
+use Rattle.go_record.specs.declared.actions.Action.{Action}
+
+-- a stay is that of a meeting, and began no later than now
+abbrev pub IsStay : ℕ → ℕ → Option Stay → Type 0
+IsStay met occasions None = Unit {0}
+IsStay met occasions (Some stay) = (stay.meeting < met) × (stay.since ≤ occasions)
+
+-- the same of what stays at a point
+pub record AreStays (met occasions : ℕ) (stays : Stays) : Type 0 where
+  pub square : IsStay met occasions stays.square
+  pub diamond : IsStay met occasions stays.diamond
+
+-- the pattern of a stay
+abbrev pub patterns_of : List ℕ → Option Stay → List ℕ
+patterns_of shapes None = []
+patterns_of shapes (Some stay) = slice_index shapes stay.meeting ∷ []
+
+-- the patterns that stay at a point
+abbrev pub patterns_staying : List ℕ → Stays → List ℕ
+patterns_staying shapes stays = patterns_of shapes stays.square ++ patterns_of shapes stays.diamond
+
+-- the occasions since a stay began, which are not counted yet
+abbrev pub waits : List ℕ → ℕ → Option Stay → ℕ → ℕ
+waits shapes occasions None shape = 0
+waits shapes occasions (Some stay) shape = one_pattern (slice_index shapes stay.meeting) (occasions - stay.since) shape
+
+-- the same of what stays at a point
+abbrev pub waits_at : List ℕ → ℕ → Stays → ℕ → ℕ
+waits_at shapes occasions stays shape = waits shapes occasions stays.square shape + waits shapes occasions stays.diamond shape
+
+-- and of what stays at all points
+abbrev pub waiting : List ℕ → ℕ → List Stays → ℕ → ℕ
+waiting shapes occasions points shape = sum_by (λ stays. waits_at shapes occasions stays shape) points
+
+-- the patterns of a point, if it is empty
+abbrev pub patterns_here : Kinds → Extent → Position → Colour → Point → List ℕ
+patterns_here kinds size position mover point =
+    flat_map (patterns_at (kinds_of kinds) size position mover) (filter (λ q. is_empty (position q)) (point ∷ []))
+
+-- the patterns of a board, point by point
+abbrev pub patterns_seen : Kinds → Extent → Position → Colour → List ℕ
+patterns_seen kinds size position mover = flat_map (patterns_here kinds size position mover) (points_of size)
+
+-- how often a shape was there, with the occasions that are not counted yet
+abbrev pub there_with : List Meeting → Side → ℕ → ℕ
+there_with meetings side shape =
+    there_among meetings shape + waiting (shapes_of meetings) side.occasions side.points.items shape
+
+-- the same with those of both colours
+abbrev pub there_both : List Meeting → Sides → ℕ → ℕ
+there_both meetings sides shape =
+    there_among meetings shape
+    + waiting (shapes_of meetings) sides.black.occasions sides.black.points.items shape
+    + waiting (shapes_of meetings) sides.white.occasions sides.white.points.items shape
+
+-- nothing stays
+abbrev pub no_stays : Stays
+no_stays = record { square = None; diamond = None }
+
+-- what stays at a point are its patterns in this position
+abbrev pub StayThere : Kinds → Extent → Position → Colour → List ℕ → List Stays → Point → Type 0
+StayThere kinds size position mover shapes points q =
+    patterns_staying shapes (slice_index_or points (index_of size q) no_stays) ≡ patterns_here kinds size position mover q
+
+-- whether a point is in a set, as bits of rows
+abbrev pub is_in_set : List ℕ → Point → Bool
+is_in_set set q = bit_at (slice_index set q.row) q.column == 1
+
+-- a list of what stays at points, which is good for a board and for so many meetings
+pub record AreStanding (size : Extent) (met : ℕ) (side : Side) : Type 0 where
+  pub room : length side.points.items ≡ size.columns * size.rows
+  pub marks : AreMarks size side.changed.items
+  pub stays : All (AreStays met side.occasions) side.points.items
+
+-- what stays at each point that is not in the set are its patterns
+pub record IsSide (kinds : Kinds) (size : Extent) (position : Position) (mover : Colour) (shapes : List ℕ) (side : Side) : Type 0 where
+  pub standing : AreStanding size (length shapes) side
+  pub pending : (q : Point) → IsOn size q → IsMarked side.changed.items q ⊎ StayThere kinds size position mover shapes side.points.items q
+
+-- what stays at each point are its patterns
+pub record IsSeen (kinds : Kinds) (size : Extent) (position : Position) (mover : Colour) (shapes : List ℕ) (side : Side) : Type 0 where
+  pub standing : AreStanding size (length shapes) side
+  pub pending : (q : Point) → IsOn size q → StayThere kinds size position mover shapes side.points.items q
+
+-- both colours' sides are those of a position
+pub record AreSides (kinds : Kinds) (size : Extent) (position : Position) (shapes : List ℕ) (sides : Sides) : Type 0 where
+  pub black : IsSide kinds size position colour.Black shapes sides.black
+  pub white : IsSide kinds size position colour.White shapes sides.white
+
+-- one occasion more passes no limit
+pub record HaveRoom (meetings : List Meeting) (sides : Sides) : Type 0 where
+  pub there : (shape : ℕ) → there_both meetings sides shape + 5408 < 2 ^ 64
+  pub played : (shape : ℕ) → played_among meetings shape + 2 < 2 ^ 64
+  pub black : sides.black.occasions + 1 < 2 ^ 64
+  pub white : sides.white.occasions + 1 < 2 ^ 64
+
+-- the occasions of an action, of which there are so many, were counted
+pub record IsCountedOn (kinds : Kinds) (size : Extent) (done : List Occasion) (met : List Meeting) (before : Sides) (meetings : List Meeting) (after : Sides) (moves : ℕ) : Type 0 where
+  pub moves_counted : moves ≡ length done
+  pub few : moves ≤ 1
+  pub black : after.black.occasions ≤ before.black.occasions + moves
+  pub white : after.white.occasions ≤ before.white.occasions + moves
+  pub there : (shape : ℕ) → there_both meetings after shape ≡ there_both met before shape + times_in (flat_map (patterns_there (kinds_of kinds) size) done) shape
+  pub played : (shape : ℕ) → played_among meetings shape ≡ played_among met shape + times_in (flat_map (patterns_played (kinds_of kinds) size) done) shape
+  pub meets : Meets (shapes_of met) (flat_map (patterns_there (kinds_of kinds) size) done) (shapes_of meetings)
+
+-- a side before the first action: nothing stays, and every point is in the set
+pub record IsNewSide (size : Extent) (side : Side) : Type 0 where
+  pub occasions : side.occasions ≡ 0
+  pub standing : AreStanding size 0 side
+  pub nothing : (shapes : List ℕ) (shape : ℕ) → waiting shapes 0 side.points.items shape ≡ 0
+  pub all : (q : Point) → IsOn size q → IsMarked side.changed.items q
+
+-- these meetings are those of all occasions of some actions, of which there are so many
+pub record IsWalkOf (kinds : Kinds) (size : Extent) (actions : List Action) (start : Position) (meetings : List Meeting) (moves : ℕ) : Type 0 where
+  pub occasions : List Occasion
+  pub replayed : HasOccasions size actions start occasions
+  pub moves_counted : moves ≡ length occasions
+  pub there : (shape : ℕ) → there_among meetings shape ≡ times_in (flat_map (patterns_there (kinds_of kinds) size) occasions) shape
+  pub played : (shape : ℕ) → played_among meetings shape ≡ times_in (flat_map (patterns_played (kinds_of kinds) size) occasions) shape
+  pub order : once_each (shapes_of meetings) ≡ once_each (flat_map (patterns_there (kinds_of kinds) size) occasions)
+
+-- the first actions of a game were walked: whatever occasions the others have, all have these and those
+pub record IsFront (kinds : Kinds) (size : Extent) (all left : List Action) (start now : Position) (meetings : List Meeting) (sides : Sides) (moves : ℕ) : Type 0 where
+  pub done : List Occasion
+  pub others : (others : List Occasion) → HasOccasions size left now others → HasOccasions size all start (done ++ others)
+  pub moves_counted : moves ≡ length done
+  pub there : (shape : ℕ) → there_both meetings sides shape ≡ times_in (flat_map (patterns_there (kinds_of kinds) size) done) shape
+  pub played : (shape : ℕ) → played_among meetings shape ≡ times_in (flat_map (patterns_played (kinds_of kinds) size) done) shape
+  pub order : once_each (shapes_of meetings) ≡ once_each (flat_map (patterns_there (kinds_of kinds) size) done)

@@ -1,0 +1,218 @@
+//! The patterns that a game was found to have, in the order in which they were first met.
+ghost use Rattle.std.specs.Prelude.{◌≡◌, ◌<◌, ◌+◌, ◌^◌, ℕ, length, [], ◌∷◌, IfOk, IfErr, IfSome};
+ghost use Rattle.std.specs.Prelude.{slice_index, OnOk};
+ghost use Rattle.tally_core.specs.Walk.{shapes_of, there_among, played_among};
+ghost use Rattle.tally_core.specs.Meeting.{Meets, CountsStay, IsMet};
+ghost use Rattle.tally_core.specs.Counter.{one_pattern};
+ghost use Rattle.tally_core.specs.Place.{IsPlaceOf};
+ghost use Rattle.tally_core.specs.declared.faults.HarvestFault.TheVariants as fault;
+
+use crate::faults::HarvestFault;
+use shape_core::Shape;
+use std::alloc::Global;
+use std::marker::Model;
+
+/// A pattern as a walk of a game met it: how often it was there and was played since. A pattern may have several.
+#[derive(Clone, Copy, Debug, PartialEq, Eq)]
+pub struct Meeting {
+    /// The pattern.
+    pub shape: Shape,
+    /// At how many points of occasions it was there.
+    pub there: u64,
+    /// How many moves played it.
+    pub played: u64,
+}
+
+/// Meetings in their order, and an index of their shapes.
+#[derive(Drop)]
+pub struct Meetings {
+    list: Vec<Meeting>,
+    /// For a place made of a shape, and those behind it, one more than the index of a meeting; 0 where it is free. Of a
+    /// place nothing is believed that the meeting itself does not say, so the index needs no invariant: were it wrong,
+    /// a shape would have two meetings.
+    index: Vec<u32>,
+}
+
+impl Model for Meetings {
+    ghost use Rattle.std.specs.Prelude.{List};
+    ghost use Rattle.tally_core.specs.declared.meetings.Meeting.{Meeting};
+
+    ghost Value = { List Meeting };
+
+    ghost view = { λ m. m.list.items };
+}
+
+/// How many places an index has at first.
+const FIRST_PLACES: usize = 4096;
+
+/// Where a shape is looked up.
+#[derive(Clone, Copy)]
+enum Place {
+    /// Its meeting has this index.
+    Met(usize),
+    /// It has none, and this place of the index is free.
+    Free(usize),
+}
+
+/// A number that differs much between shapes that differ little.
+fn mixed(shape: Shape) -> usize {
+    let product = shape.word().bits().wrapping_mul(0x9E37_79B9_7F4A_7C15);
+    (product >> 32) as usize
+}
+
+impl Meetings {
+    /// No meetings. It takes no memory.
+    pub fn new(alloc: Global) -> Meetings
+        ensures { result ≡ [] }
+    {
+        Meetings {
+            list: Vec::new(alloc),
+            index: Vec::new(alloc),
+        }
+    }
+
+    /// Forgets all meetings. The index is half as long where few of its places were taken, so that one long game does not
+    /// burden all that follow. It takes memory for the first index.
+    pub fn clear(&mut self) -> Result<(), HarvestFault>
+        ensures empty { self.new ≡ [] }
+        ensures fault { IfErr result (λ found. found ≡ fault.Memory) }
+    {
+        let places = self.index.len();
+        let wanted = if self.list.len() < places / 8 {
+            places / 2
+        } else {
+            places
+        };
+        self.list.clear();
+        self.index.clear();
+        match self.index.resize(wanted.max(FIRST_PLACES), 0) {
+            Ok(()) => Ok(()),
+            Err(_) => Err(HarvestFault::Memory),
+        }
+    }
+
+    /// The meetings, in their order.
+    pub fn as_slice(&self) -> &[Meeting]
+        ensures { result.now ≡ self.now }
+    {
+        self.list.as_slice()
+    }
+
+    /// What is at a place of the index: the meeting there, if it is of this shape; None where it is of another.
+    fn look(&self, place: usize, shape: Shape) -> Option<Place>
+        ensures { IfSome result (IsPlaceOf (shapes_of self.now) shape) }
+    {
+        let taken = *self.index.get(place)?;
+        let Some(at) = (taken as usize).checked_sub(1) else {
+            return Some(Place::Free(place));
+        };
+        let meeting = self.list.get(at)?;
+        (meeting.shape == shape).then_some(Place::Met(at))
+    }
+
+    /// Looks a shape up: from its own place on, up to its meeting or to the first free place. None where no place is free.
+    fn find(&self, shape: Shape) -> Option<Place>
+        ensures { IfSome result (IsPlaceOf (shapes_of self.now) shape) }
+    {
+        let last = self.index.len().checked_sub(1)?;
+        let mut place = mixed(shape) & last;
+        for _ in 0..self.index.len() {
+            if let Some(found) = self.look(place, shape) {
+                return Some(found);
+            }
+            place = place.wrapping_add(1) & last;
+        }
+        None
+    }
+
+    /// Makes the index twice as long, and enters all meetings again. It takes memory.
+    fn grow(&mut self) -> Result<(), HarvestFault>
+        ensures same { self.new ≡ self.old }
+        ensures fault { IfErr result (λ found. found ≡ fault.Memory) }
+    {
+        let places = self.index.len();
+        self.index.clear();
+        if self.index.resize(places.saturating_mul(2), 0).is_err() {
+            return Err(HarvestFault::Memory);
+        }
+        for at in 0..self.list.len() {
+            self.enter(at);
+        }
+        Ok(())
+    }
+
+    /// Enters a meeting that has no place yet.
+    fn enter(&mut self, at: usize)
+        ensures { self.new ≡ self.old }
+    {
+        let Some(meeting) = self.list.get(at) else {
+            return;
+        };
+        if let Some(Place::Free(place)) = self.find(meeting.shape) {
+            self.take(place, at);
+        }
+    }
+
+    /// Says at a place of the index which meeting is there.
+    fn take(&mut self, place: usize, at: usize)
+        ensures { self.new ≡ self.old }
+    {
+        if let (Some(taken), Ok(number)) = (self.index.get_mut(place), u32::try_from(at)) {
+            *taken = number.saturating_add(1);
+        }
+    }
+
+    /// The index of a meeting of this shape: one that is there, or a new one.
+    pub fn meet(&mut self, shape: Shape) -> Result<usize, HarvestFault>
+        ensures met { IfOk result (IsMet (shapes_of self.new) shape) }
+        ensures meets { OnOk result (Meets (shapes_of self.old) (shape ∷ []) (shapes_of self.new)) }
+        ensures counts { OnOk result (CountsStay self.old self.new) }
+        ensures fault { IfErr result (λ found. found ≡ fault.Memory) }
+    {
+        let place = match self.find(shape) {
+            Some(Place::Met(at)) => return Ok(at),
+            Some(Place::Free(place)) => place,
+            None => 0,
+        };
+        let at = self.list.len();
+        let meeting = Meeting {
+            shape,
+            there: 0,
+            played: 0,
+        };
+        if self.list.push(meeting).is_err() {
+            return Err(HarvestFault::Memory);
+        }
+        self.take(place, at);
+        if at >= self.index.len() / 2 {
+            self.grow()?;
+        }
+        Ok(at)
+    }
+
+    /// Counts a meeting's shape as being there so many times more.
+    pub fn add_there(&mut self, at: usize, times: u64)
+        requires inside { at < length (shapes_of self.old) }
+        requires few { there_among self.old (slice_index (shapes_of self.old) at) + times < 2 ^ 64 }
+        ensures shapes { shapes_of self.new ≡ shapes_of self.old }
+        ensures there { (shape : ℕ) → there_among self.new shape
+            ≡ there_among self.old shape + one_pattern (slice_index (shapes_of self.old) at) times shape }
+        ensures played { (shape : ℕ) → played_among self.new shape ≡ played_among self.old shape }
+    {
+        let meeting = &mut self.list[at];
+        meeting.there += times;
+    }
+
+    /// Counts a meeting's shape as played once more.
+    pub fn add_played(&mut self, at: usize)
+        requires inside { at < length (shapes_of self.old) }
+        requires few { played_among self.old (slice_index (shapes_of self.old) at) + 1 < 2 ^ 64 }
+        ensures shapes { shapes_of self.new ≡ shapes_of self.old }
+        ensures there { (shape : ℕ) → there_among self.new shape ≡ there_among self.old shape }
+        ensures played { (shape : ℕ) → played_among self.new shape
+            ≡ played_among self.old shape + one_pattern (slice_index (shapes_of self.old) at) 1 shape }
+    {
+        let meeting = &mut self.list[at];
+        meeting.played += 1;
+    }
+}

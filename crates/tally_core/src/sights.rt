@@ -1,0 +1,151 @@
+//! What one colour sees at an occasion: the patterns of the points that have changed since its last one.
+ghost use Rattle.std.specs.Prelude.{◌≡◌, ◌+◌, ◌<◌, ◌*◌, ◌^◌, ℕ, length, IfErr, IfOk, OnOk, All};
+ghost use Rattle.std.specs.Prelude.{Contains, ◌⊎◌};
+ghost use Rattle.go_board.specs.Point.{IsOn};
+ghost use Rattle.go_board.specs.Board.{position_of};
+ghost use Rattle.go_board.specs.declared.points.Point.{Point};
+ghost use Rattle.tally_core.specs.Walk.{shapes_of, there_among};
+ghost use Rattle.tally_core.specs.Meeting.{Meets, CountsStay, Extends};
+ghost use Rattle.tally_core.specs.Standing.{AreStays, waits_at, there_with, patterns_staying};
+ghost use Rattle.tally_core.specs.Standing.{AreStanding};
+ghost use Rattle.tally_core.specs.Sight.{Fit, there_at, PlayedStays, StaysAt, StaysWith, LooksAt};
+ghost use Rattle.tally_core.specs.Sight.{here_on, seen_on, IsSideOn, IsSeenOn};
+ghost use Rattle.std.specs.List.{flat_map};
+ghost use Rattle.tally_core.specs.declared.faults.HarvestFault.TheVariants as fault;
+ghost use Rattle.go_board.specs.declared.points.Stone.TheVariants as stone;
+
+use crate::faults::HarvestFault;
+use crate::meetings::Meetings;
+use crate::sets::take_points;
+use crate::stays::{Side, Stays, begin, index, play, settle};
+use go_board::{Colour, Point, Stone};
+use shape_core::{Field, Kinds, canonical};
+
+/// Settles what stays at a point.
+pub(crate) fn settle_point(meetings: &mut Meetings, stays: Stays, occasions: u64)
+    requires stays { AreStays (length (shapes_of meetings.old)) occasions stays }
+    requires few { Fit (there_at meetings.old occasions stays) }
+    ensures shapes { shapes_of meetings.new ≡ shapes_of meetings.old }
+    ensures there { (shape : ℕ) →
+        there_among meetings.new shape ≡ there_at meetings.old occasions stays shape }
+    ensures played { PlayedStays meetings.old meetings.new }
+{
+    settle(meetings, stays.square, occasions);
+    settle(meetings, stays.diamond, occasions);
+}
+
+/// The stays that begin at an empty point: its patterns.
+fn stays_at(
+    meetings: &mut Meetings,
+    field: &Field,
+    mover: Colour,
+    point: Point,
+    occasions: u64,
+) -> Result<Stays, HarvestFault>
+    requires on_board { IsOn field.now.board.size point }
+    requires empty { position_of field.now.board point ≡ stone.Empty }
+    ensures stays { IfOk result (AreStays (length (shapes_of meetings.new)) occasions) }
+    ensures patterns { IfOk result (λ stays. patterns_staying (shapes_of meetings.new) stays
+        ≡ here_on field.now mover point) }
+    ensures waits { IfOk result (λ stays. (shape : ℕ) →
+        waits_at (shapes_of meetings.new) occasions stays shape ≡ 0) }
+    ensures meets { OnOk result (Meets (shapes_of meetings.old)
+        (here_on field.now mover point)
+        (shapes_of meetings.new)) }
+    ensures counts { OnOk result (CountsStay meetings.old meetings.new) }
+    ensures fault { IfErr result (λ found. found ≡ fault.Memory) }
+{
+    let square = begin(meetings, canonical(field.word(point), mover), occasions)?;
+    let diamond = match field.kinds() {
+        Kinds::Squares => None,
+        Kinds::Both => begin(meetings, canonical(field.diamond(point), mover), occasions)?,
+    };
+    Ok(Stays { square, diamond })
+}
+
+/// Looks at a point again: what stayed there is settled, and its patterns begin to stay, if it is empty.
+fn see_point(
+    meetings: &mut Meetings,
+    stays: &mut Stays,
+    field: &Field,
+    mover: Colour,
+    point: Point,
+    occasions: u64,
+) -> Result<(), HarvestFault>
+    requires on_board { IsOn field.now.board.size point }
+    requires stays { AreStays (length (shapes_of meetings.old)) occasions stays.old }
+    requires few { Fit (there_at meetings.old occasions stays.old) }
+    ensures stays { OnOk result (AreStays (length (shapes_of meetings.new)) occasions stays.new) }
+    ensures patterns { OnOk result (patterns_staying (shapes_of meetings.new) stays.new
+        ≡ here_on field.now mover point) }
+    ensures there { OnOk result (StaysAt occasions meetings.old stays.old meetings.new stays.new) }
+    ensures played { OnOk result (PlayedStays meetings.old meetings.new) }
+    ensures meets { OnOk result (Meets (shapes_of meetings.old)
+        (here_on field.now mover point)
+        (shapes_of meetings.new)) }
+    ensures fault { IfErr result (λ found. found ≡ fault.Memory) }
+{
+    settle_point(meetings, *stays, occasions);
+    *stays = match field.cell(point) {
+        Stone::Empty => stays_at(meetings, field, mover, point, occasions)?,
+        Stone::Black | Stone::White => Stays {
+            square: None,
+            diamond: None,
+        },
+    };
+    Ok(())
+}
+
+/// Looks at all points again that have changed.
+fn see_points(
+    meetings: &mut Meetings,
+    side: &mut Side,
+    field: &Field,
+    mover: Colour,
+    points: &[Point],
+) -> Result<(), HarvestFault>
+    requires on_board { All (IsOn field.now.board.size) points.now }
+    requires standing { AreStanding field.now.board.size (length (shapes_of meetings.old)) side.old }
+    requires few { Fit (there_with meetings.old side.old) }
+    ensures standing { OnOk result
+        (AreStanding field.now.board.size (length (shapes_of meetings.new)) side.new) }
+    ensures occasions { side.new.occasions ≡ side.old.occasions }
+    ensures there { OnOk result (StaysWith meetings.old side.old meetings.new side.new) }
+    ensures played { OnOk result (PlayedStays meetings.old meetings.new) }
+    ensures meets { OnOk result (Meets (shapes_of meetings.old)
+        (flat_map (here_on field.now mover) points.now)
+        (shapes_of meetings.new)) }
+    ensures pending { OnOk result
+        (LooksAt field.now mover points.now meetings.old side.old meetings.new side.new) }
+    ensures fault { IfErr result (λ found. found ≡ fault.Memory) }
+{
+    for point in points {
+        let occasions = side.occasions;
+        let stays = &mut side.points[index(field.size(), *point)];
+        see_point(meetings, stays, field, mover, *point, occasions)?;
+    }
+    Ok(())
+}
+
+/// Looks at a board at an occasion: once more at the points that have changed since the last one.
+pub(crate) fn see(
+    meetings: &mut Meetings,
+    side: &mut Side,
+    field: &Field,
+    mover: Colour,
+    changed: &mut Vec<Point>,
+) -> Result<(), HarvestFault>
+    requires side { IsSideOn field.now mover meetings.old side.old }
+    requires few { Fit (there_with meetings.old side.old) }
+    ensures seen { OnOk result (IsSeenOn field.now mover meetings.new side.new) }
+    ensures occasions { side.new.occasions ≡ side.old.occasions }
+    ensures there { OnOk result (StaysWith meetings.old side.old meetings.new side.new) }
+    ensures played { OnOk result (PlayedStays meetings.old meetings.new) }
+    ensures meets { OnOk result (Meets (shapes_of meetings.old)
+        (seen_on field.now mover)
+        (shapes_of meetings.new)) }
+    ensures fault { IfErr result (λ found. found ≡ fault.Memory) }
+{
+    take_points(&mut side.changed, field.size(), changed)?;
+    see_points(meetings, side, field, mover, changed.as_slice())
+}
