@@ -1,0 +1,131 @@
+-- What stands in a table once a game was added to a share.
+use Rattle.std.proofs.Common.{◌≡◌, ℕ, ◌+◌, ◌<◌, ◌≤◌, ◌^◌, List, ◌++◌, length, ap, sym, subst, ◌∙◌, arith, inl, inr, ⊎_elim, All}
+use Rattle.std.specs.Prelude.{slice_index}
+use Rattle.std.proofs.lemmas.List.{map-append}
+use Rattle.std.proofs.lemmas.List.Sums.{sum_by-append}
+use Rattle.std.proofs.lemmas.List.Elements.{All-nil}
+use Rattle.go_record.specs.Actions.{Actions}
+use Rattle.shape_core.specs.declared.words.Kinds.{Kinds}
+use Rattle.probe_core.specs.Sequential.{IsNumber}
+use Rattle.slot_table.specs.declared.entries.Happened.{Happened}
+use Rattle.slot_table.specs.History.{content_of, Keeps}
+use Rattle.slot_table.specs.Passes.{Known}
+use Rattle.tally_core.specs.declared.meetings.Meeting.{Meeting}
+use Rattle.tally_core.specs.Walk.{IsWalk}
+use Rattle.share_core.specs.declared.rows.Row.{Row}
+use Rattle.share_core.specs.declared.making.Entered.{Entered}
+use Rattle.share_core.specs.declared.faults.HarvestFault.{HarvestFault}
+use Rattle.share_core.specs.declared.faults.HarvestFault.TheVariants as fault
+use Rattle.share_core.specs.Rows.{row_at, blank}
+use Rattle.share_core.specs.Raising.{Numbered, AreRaised, AreRowsOf, meeting_at, numbered_of, weight_of, weight_among}
+use Rattle.share_core.specs.Making.{AreNumbered, entered_at}
+use Rattle.share_core.specs.Entering.{AreEntered, AreMarked, MarkedNothing, MarkedOnly}
+use Rattle.share_core.specs.Ledgers.{Totals, IsCountFault}
+use Rattle.share_core.specs.Shares.{Held}
+use Rattle.share_core.specs.Adding.{AreFresh, HasFresh, HasGrown, IsKept, IsMarked, IsPrepareFault, IsAddFault}
+use Rattle.share_core.proofs.Raised.{same_shape, same_number}
+use Rattle.share_core.proofs.Made.{light}
+use Rattle.share_core.proofs.Added.{met_at}
+
+-- ---- passes
+pub nothing_only : {O : Type 0} (n game : ℕ) (old new : Known O) → MarkedNothing n old new → MarkedOnly n game old new
+nothing_only n game old new h = record {
+  made = h.made;
+  later = h.later;
+  marks = subst (All (λ marked. marked ≡ game)) (sym h.no_marks) (All-nil (λ marked. marked ≡ game));
+}
+
+-- ---- rows
+fresh_kept : (n : ℕ) (seen history : List Happened) (kinds : Kinds) (actions : Actions) (fresh : List Row) → Keeps n seen history → AreFresh n seen kinds actions fresh → AreFresh n history kinds actions fresh
+fresh_kept n seen history kinds actions fresh keeps h k inside =
+    let row = h k inside in (row.0, row.1, keeps.numbers (row_at fresh k).shape (row_at fresh k).number row.2)
+
+-- the number of the row of a meeting is that of its pattern
+stands_at : (n game : ℕ) (seen : List Happened) (meetings : List Meeting) (entered : List Entered) (places : List ℕ) (rows new : List Row) (i place : ℕ) →
+    AreEntered n seen game meetings entered → length entered ≡ length meetings → AreRowsOf meetings places rows → AreNumbered entered places rows → numbered_of new ≡ numbered_of rows →
+    i < length meetings → slice_index places i ≡ place → IsNumber (content_of n seen) (row_at new place).shape (row_at new place).number
+stands_at n game seen meetings entered places rows new i place each all of_rows numbered same inside at =
+    let wide = of_rows.each in
+    let here : i < length places = omega arith in
+    let low : i < length entered = omega arith in
+    let shape : (row_at new place).shape ≡ (meeting_at meetings i).shape =
+    same_shape new rows place same ∙ ap (λ p. (row_at rows p).shape) (sym at) ∙ of_rows.of_shape i here in
+    let number : (row_at new place).number ≡ (entered_at entered i).number =
+    same_number new rows place same ∙ ap (λ p. (row_at rows p).number) (sym at) ∙ numbered i here in
+    subst (λ s. IsNumber (content_of n seen) s (row_at new place).number) (sym shape)
+    (subst (IsNumber (content_of n seen) (meeting_at meetings i).shape) (sym number) (each i low).number)
+
+pub grown : (n game : ℕ) (seen history : List Happened) (actions : Actions) (meetings : List Meeting) (entered : List Entered) (places : List ℕ) (old new : Held) (rows : List Row) →
+    Keeps n seen history → (h : HasFresh n seen old.kinds actions old.rows rows) → AreEntered n seen game meetings entered → length entered ≡ length meetings →
+    AreRowsOf meetings places rows → AreNumbered entered places rows → AreRaised meetings places game rows new.rows → HasGrown n history actions old new
+grown n game seen history actions meetings entered places old new rows keeps h each all of_rows numbered raised = record {
+  fresh = h.fresh;
+  made = fresh_kept n seen history old.kinds actions h.fresh keeps h.made;
+  numbered = raised.numbered ∙ ap numbered_of h.rows ∙ map-append (λ (row : Row). (let x : Numbered = record { number = row.number; shape = row.shape } in x)) old.rows h.fresh;
+  stands = λ place inside. ⊎_elim
+      (λ (met : (i : ℕ) × (i < length meetings) × (slice_index places i ≡ place)).
+      inr (keeps.numbers (row_at new.rows place).shape (row_at new.rows place).number
+      (stands_at n game seen meetings entered places rows new.rows met.0 place each all of_rows numbered raised.numbered met.1 met.2)))
+      (λ (same : row_at new.rows place ≡ row_at rows place). inl (same ∙ ap (λ (rs : List Row). row_at rs place) h.rows))
+      (raised.others place);
+}
+
+-- ---- marks
+pub marked : (n game moves : ℕ) (seen history : List Happened) (kinds : Kinds) (actions : Actions) (meetings : List Meeting) (entered : List Entered) →
+    Keeps n seen history → IsWalk kinds actions meetings moves → AreEntered n seen game meetings entered → length entered ≡ length meetings → AreMarked history game entered →
+    IsMarked n history game kinds actions
+marked n game moves seen history kinds actions meetings entered keeps walk each all marks = (
+  walk.occasions,
+  walk.replayed,
+  λ shape some.
+      let sum = walk.there shape in
+      let met = met_at meetings shape (omega arith) in
+      let i = met.0 in
+      let inside = met.1 in
+      let low : i < length entered = omega arith in (
+        (entered_at entered i).number,
+        keeps.numbers shape (entered_at entered i).number (subst (λ s. IsNumber (content_of n seen) s (entered_at entered i).number) met.2 (each i low).number),
+        marks i low,
+      ),
+)
+
+-- ---- faults
+pub prepare_fault : (n : ℕ) (seen : List Happened) (game : ℕ) (actions : Actions) (old new : Held) (found : HarvestFault) →
+    IsPrepareFault n seen game old.kinds actions new.rows found → IsAddFault n seen game actions old new found
+prepare_fault n seen game actions old new fault.Overflow h = inr h
+prepare_fault n seen game actions old new (fault.Full at word) h = h
+prepare_fault n seen game actions old new (fault.Stranger number of_share of_table) h = h
+prepare_fault n seen game actions old new fault.Memory h = h
+prepare_fault n seen game actions old new _ h = absurd h
+
+pub count_fault : (n : ℕ) (seen : List Happened) (game moves : ℕ) (actions : Actions) (meetings : List Meeting) (old new : Held) (fresh : List Row) (found : HarvestFault) →
+    IsWalk old.kinds actions meetings moves → ((k : ℕ) → k < length fresh → row_at fresh k ≡ blank (row_at fresh k).number (row_at fresh k).shape) →
+    IsCountFault moves meetings (record { games = old.games; moves = old.moves; rows = old.rows ++ fresh }) found → IsAddFault n seen game actions old new found
+count_fault n seen game moves actions meetings old new fresh fault.Memory walk none h = tt
+count_fault n seen game moves actions meetings old new fresh fault.Overflow walk none h =
+    inl (record {
+      meetings = meetings;
+      moves = moves;
+      walked = walk;
+      large = ⊎_elim
+          (λ (heavy : 2 ^ 64 ≤ weight_of (old.rows ++ fresh) + weight_among meetings).
+          let parts = sum_by-append (λ (r : Row). r.there + r.played) old.rows fresh in
+          let zero = light fresh none in
+          inl (omega arith))
+          (λ (many : 2 ^ 64 ≤ old.moves + moves). inr many)
+          h;
+    })
+count_fault n seen game moves actions meetings old new fresh _ walk none h = absurd h
+
+-- ---- the share that is seen, once all that a game needs was found
+pub prepared_share : (worker : ℕ) (kinds other : Kinds) (old new : Totals) (fresh : List Row) → other ≡ kinds → new ≡ record old { rows = new.rows } → new.rows ≡ old.rows ++ fresh →
+    (let h : Held = record { worker = worker; kinds = other; games = new.games; moves = new.moves; rows = new.rows } in h)
+    ≡ record { worker = worker; kinds = kinds; games = old.games; moves = old.moves; rows = old.rows ++ fresh }
+prepared_share worker kinds other old new fresh same_kinds same rows =
+    let games = ap (λ (t : Totals). t.games) same in
+    let moves = ap (λ (t : Totals). t.moves) same in
+    cc
+
+pub kept : (n : ℕ) (seen : List Happened) (actions : Actions) (old new : Held) (rows : List Row) → (h : HasFresh n seen old.kinds actions old.rows rows) → new ≡ record old { rows = old.rows ++ h.fresh } →
+    IsKept n seen actions old new
+kept n seen actions old new rows h same = record { fresh = h.fresh; made = h.made; same = same }

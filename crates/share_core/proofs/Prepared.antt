@@ -1,0 +1,68 @@
+-- Rows that are made for the patterns of a game.
+use Rattle.std.proofs.Common.{◌≡◌, ℕ, ◌<◌, ◌≤◌, List, length, Some, refl, ap, ap₂, sym, subst, ◌∙◌, arith}
+use Rattle.std.proofs.lemmas.List.Elements.{All-get_or}
+use Rattle.go_record.specs.Actions.{Actions}
+use Rattle.shape_core.specs.declared.words.Kinds.{Kinds}
+use Rattle.probe_core.specs.Sequential.{IsNumber}
+use Rattle.slot_table.specs.declared.entries.Happened.{Happened}
+use Rattle.slot_table.specs.History.{content_of}
+use Rattle.tally_core.specs.declared.meetings.Meeting.{Meeting}
+use Rattle.tally_core.specs.Counts.{kinds_of, there_in}
+use Rattle.tally_core.specs.Walk.{IsWalk}
+use Rattle.share_core.specs.declared.rows.Row.{Row}
+use Rattle.share_core.specs.declared.making.Entered.{Entered}
+use Rattle.share_core.specs.declared.faults.HarvestFault.{HarvestFault}
+use Rattle.share_core.specs.declared.faults.HarvestFault.TheVariants as fault
+use Rattle.share_core.specs.Rows.{row_at, blank}
+use Rattle.share_core.specs.Raising.{meeting_at}
+use Rattle.share_core.specs.Making.{Gained, IsMakingFault, entered_at}
+use Rattle.share_core.specs.Entering.{AreEntered, IsRefused}
+use Rattle.share_core.specs.Shares.{IsPatternOf}
+use Rattle.share_core.specs.Adding.{HasFresh, IsPrepareFault}
+
+-- what is met in a game is a pattern of it
+pub met_pattern : (kinds : Kinds) (actions : Actions) (meetings : List Meeting) (moves i : ℕ) → IsWalk kinds actions meetings moves → i < length meetings → IsPatternOf kinds actions (meeting_at meetings i).shape
+met_pattern kinds actions meetings moves i walk inside =
+    let none : Meeting = record { shape = 0; there = 0; played = 0 } in
+    record {
+      occasions = walk.occasions;
+      replayed = walk.replayed;
+      was_there = All-get_or (λ (m : Meeting). 0 < there_in (kinds_of kinds) (record { size = actions.size; occasions = walk.occasions }) m.shape) meetings i none inside walk.met;
+    }
+
+pub fresh_of : (n game : ℕ) (seen : List Happened) (kinds : Kinds) (actions : Actions) (meetings : List Meeting) (entered : List Entered) (moves : ℕ) (old new : List Row) →
+    IsWalk kinds actions meetings moves → length entered ≤ length meetings → AreEntered n seen game meetings entered → Gained meetings entered old new → HasFresh n seen kinds actions old new
+fresh_of n game seen kinds actions meetings entered moves old new walk few each h = record {
+  fresh = h.fresh;
+  rows = h.rows;
+  made = λ k inside.
+      let made = h.each k inside in
+      let i = made.0 in
+      let number : (entered_at entered i).number ≡ (row_at h.fresh k).number = sym (ap (λ (r : Row). r.number) made.2) in
+      let shape : (meeting_at meetings i).shape ≡ (row_at h.fresh k).shape = sym (ap (λ (r : Row). r.shape) made.2) in
+      let low = made.1 in (
+        made.2 ∙ ap₂ (λ n s. blank n s) number shape,
+        subst (IsPatternOf kinds actions) shape (met_pattern kinds actions meetings moves i walk (omega arith)),
+        subst (λ s. IsNumber (content_of n seen) s (row_at h.fresh k).number) shape
+            (subst (IsNumber (content_of n seen) (meeting_at meetings i).shape) number (each i low).number),
+      );
+}
+
+pub stranger_of : (n game : ℕ) (seen : List Happened) (kinds : Kinds) (actions : Actions) (meetings : List Meeting) (entered : List Entered) (moves : ℕ) (rows : List Row) (found : HarvestFault) →
+    IsWalk kinds actions meetings moves → length entered ≤ length meetings → AreEntered n seen game meetings entered → IsMakingFault meetings entered rows found →
+    IsPrepareFault n seen game kinds actions rows found
+stranger_of n game seen kinds actions meetings entered moves rows fault.Memory walk few each h = tt
+stranger_of n game seen kinds actions meetings entered moves rows (fault.Stranger at (Some held) (Some other)) walk few each h =
+    let i = h.0 in
+    let low = h.1 in (
+      subst (IsPatternOf kinds actions) (sym h.3) (met_pattern kinds actions meetings moves i walk (omega arith)),
+      subst (λ p. IsNumber (content_of n seen) other p) (sym h.2) (subst (λ s. IsNumber (content_of n seen) s (entered_at entered i).number) (sym h.3) (each i low).number),
+      h.4,
+      h.5,
+    )
+stranger_of n game seen kinds actions meetings entered moves rows _ walk few each h = absurd h
+
+pub full_of : (n game : ℕ) (seen : List Happened) (kinds : Kinds) (actions : Actions) (meetings : List Meeting) (moves shape : ℕ) (rows : List Row) →
+    IsWalk kinds actions meetings moves → IsRefused n seen meetings shape → IsPrepareFault n seen game kinds actions rows (fault.Full game shape)
+full_of n game seen kinds actions meetings moves shape rows walk h =
+    (refl, subst (IsPatternOf kinds actions) (sym h.shape_is) (met_pattern kinds actions meetings moves h.place walk h.within), h.absent, h.full)

@@ -1,0 +1,54 @@
+use Rattle.std.proofs.Common.{◌≡◌, ◌^◌, ◌<◌, ℕ, List, ◌∷◌, [], length, get_or, ap, sym, subst, ◌∙◌, arith, length-append}
+use Rattle.std.proofs.lemmas.List.{get_or_default}
+use Rattle.share_core.specs.declared.making.Entered.{Entered}
+use Rattle.tally_core.specs.declared.meetings.Meeting.{Meeting}
+use Rattle.share_core.specs.Raising.{meeting_at}
+use Rattle.share_core.specs.Entering.{AreEntered}
+use Rattle.share_core.proofs.Entered.{nothing_through, all_kept, entered_more}
+use Rattle.share_core.proofs.entering.enter_all.Goals as goal
+
+pub returns-in_default-clause-later : goal.returns-in_default-clause-later
+returns-in_default-clause-later g c =
+    nothing_through (2 ^ g.O.ProbeOrder.exponent c.args.table.now.order) c.args.pass.now c.loop-meeting.pass c.enter_one.new.pass
+    c.loop-meeting.invariant.later c.enter_one.ensures.later
+
+pub returns-in_default-clause-each : goal.returns-in_default-clause-each
+returns-in_default-clause-each g c =
+    all_kept (2 ^ g.O.ProbeOrder.exponent c.args.table.now.order) c.args.game c.loop-meeting.pass.seen c.enter_one.new.pass.seen c.args.meetings.now c.loop-meeting.entered.items
+    c.enter_one.ensures.later.later.keeps c.loop-meeting.invariant.each
+
+pub returns-in_default-push-clause-later : goal.returns-in_default-push-clause-later
+returns-in_default-push-clause-later g c =
+    nothing_through (2 ^ g.O.ProbeOrder.exponent c.args.table.now.order) c.args.pass.now c.loop-meeting.pass c.enter_one.new.pass
+    c.loop-meeting.invariant.later c.enter_one.ensures.later
+
+pub returns-in_default-push-clause-each : goal.returns-in_default-push-clause-each
+returns-in_default-push-clause-each g c =
+    let n = 2 ^ g.O.ProbeOrder.exponent c.args.table.now.order in
+    subst (λ (es : List Entered). AreEntered n c.enter_one.new.pass.seen c.args.game c.args.meetings.now es) (sym c.in_default-push.ensures.items)
+    (all_kept n c.args.game c.loop-meeting.pass.seen c.enter_one.new.pass.seen c.args.meetings.now c.loop-meeting.entered.items
+    c.enter_one.ensures.later.later.keeps c.loop-meeting.invariant.each)
+
+-- the meeting that was read is the next one
+shape_read : (meetings : List Meeting) (i count : ℕ) (read : Meeting) → i < length meetings → count ≡ i → (get_or meetings i read).shape ≡ (meeting_at meetings count).shape
+shape_read meetings i count read inside same =
+    ap (λ (m : Meeting). m.shape) (get_or_default meetings i read (record { shape = 0; there = 0; played = 0 }) inside) ∙ ap (λ k. (meeting_at meetings k).shape) (sym same)
+
+pub loop-meeting-preserved : goal.loop-meeting-preserved
+loop-meeting-preserved g c =
+    let n = 2 ^ g.O.ProbeOrder.exponent c.args.table.now.order in
+    let meetings = c.args.meetings.now in
+    let i = c.loop-meeting.meeting-index in
+    let before = c.loop-meeting.entered.items in
+    let items = c.in-Ok.ensures.items in
+    let long = length-append before (c.in-Some.one ∷ []) in
+    let longer = ap length items in
+    let count = c.loop-meeting.invariant.count in
+    record {
+      pass = c.enter_one.ensures.pass;
+      later = nothing_through n c.args.pass.now c.loop-meeting.pass c.enter_one.new.pass c.loop-meeting.invariant.later c.enter_one.ensures.later;
+      count = omega arith;
+      each = subst (λ (es : List Entered). AreEntered n c.enter_one.new.pass.seen c.args.game meetings es) (sym items)
+          (entered_more n c.args.game c.loop-meeting.pass.seen c.enter_one.new.pass.seen meetings before c.in-Some.one c.meeting-item.result.shape c.enter_one.ensures.later.later.keeps
+          (ap (λ (m : Meeting). m.shape) c.meeting-item.is ∙ shape_read meetings i (length before) c.meeting-item.result (omega arith) count) c.loop-meeting.invariant.each c.in-Some.ensures.some);
+    }

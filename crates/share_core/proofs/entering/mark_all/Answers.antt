@@ -1,0 +1,23 @@
+use Rattle.std.proofs.Common.{◌≡◌, ◌^◌, ◌<◌, ◌≤◌, length, subst, arith, ⊎_elim}
+use Rattle.std.proofs.lemmas.Bool.{cases_lt}
+use Rattle.slot_table.specs.History.{least_at, IsAtMost}
+use Rattle.share_core.specs.Making.{entered_at}
+use Rattle.share_core.proofs.Entered.{only_through}
+use Rattle.share_core.proofs.entering.mark_all.Goals as goal
+
+pub loop-one-preserved : goal.loop-one-preserved
+loop-one-preserved g c =
+    let n = 2 ^ g.O.ProbeOrder.exponent c.args.table.now.order in
+    let i = c.loop-one.one-index in
+    let after = c.mark_one.ensures.later.later.keeps in
+    let inside : i < length c.args.entered.now = omega arith in
+    record {
+      pass = c.mark_one.ensures.pass;
+      later = only_through n c.args.game c.args.pass.now c.loop-one.pass c.mark_one.new.pass c.loop-one.invariant.later c.mark_one.ensures.later;
+      marked = λ k low. ⊎_elim
+          (λ (before : k < i). after.marks (entered_at c.args.entered.now k).number c.args.game (c.loop-one.invariant.marked k before))
+          (λ (last : i ≤ k).
+          let same : i ≡ k = omega arith in
+          subst (λ k. IsAtMost (least_at (entered_at c.args.entered.now k).number c.mark_one.new.pass.seen) c.args.game) same c.mark_one.ensures.marked)
+          (cases_lt k i);
+    }

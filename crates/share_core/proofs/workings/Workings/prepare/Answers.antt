@@ -1,0 +1,105 @@
+use Rattle.std.proofs.Common.{◌≡◌, ◌^◌, ◌≤◌, List, length, take, IfSome, IfNone, ap, sym, subst, ◌∙◌}
+use Rattle.std.proofs.Math.Seq.{take-length}
+use Rattle.std.proofs.lemmas.Result.{err_from_is_err_and}
+use Rattle.tally_core.specs.declared.meetings.Meeting.{Meeting}
+use Rattle.tally_core.specs.Walk.{IsWalk}
+use Rattle.share_core.specs.declared.making.Entered.{Entered}
+use Rattle.share_core.specs.declared.faults.HarvestFault.TheVariants as fault
+use Rattle.share_core.specs.Raising.{AreRowsOf}
+use Rattle.share_core.specs.Making.{AreNumbered}
+use Rattle.share_core.specs.Entering.{AreEntered, IsRefused}
+use Rattle.share_core.specs.Adding.{IsPrepareFault}
+use Rattle.share_core.proofs.Prepared.{fresh_of, stranger_of, full_of}
+use Rattle.share_core.proofs.workings.Workings.prepare.Goals as goal
+
+pub returns-in_err-make_rows-clause-fresh : goal.returns-in_err-make_rows-clause-fresh
+returns-in_err-make_rows-clause-fresh g c =
+    let n = 2 ^ g.O.ProbeOrder.exponent c.args.table.now.order in
+    let seen = c.enter_all.new.pass.seen in
+    let kinds = c.args.self.now.walk.kinds in
+    let actions = c.args.record.now in
+    let meetings = c.meetings-meetings.result.now in
+    let entered = c.as_slice-entered.result.now in
+    let value = c.as_slice-entered.ensures.value in
+    let walked = subst (λ (ms : List Meeting). IsWalk kinds actions ms c.in-Ok.moves) (sym c.meetings-meetings.ensures) c.in-Ok.ensures.walked in
+    let few = subst (λ (es : List Entered). length es ≤ length meetings) (sym value) c.enter_all.ensures.few in
+    let each = subst (λ (es : List Entered). AreEntered n seen c.args.game meetings es) (sym value) c.enter_all.ensures.each in
+    fresh_of n c.args.game seen kinds actions meetings entered c.in-Ok.moves c.args.ledger.now.rows c.make_rows.new.self.rows walked few each c.make_rows.ensures.gained
+
+pub returns-in_err-make_rows-clause-fault : goal.returns-in_err-make_rows-clause-fault
+returns-in_err-make_rows-clause-fault g c =
+    let n = 2 ^ g.O.ProbeOrder.exponent c.args.table.now.order in
+    let seen = c.enter_all.new.pass.seen in
+    let kinds = c.args.self.now.walk.kinds in
+    let actions = c.args.record.now in
+    let meetings = c.meetings-meetings.result.now in
+    let entered = c.as_slice-entered.result.now in
+    let value = c.as_slice-entered.ensures.value in
+    let walked = subst (λ (ms : List Meeting). IsWalk kinds actions ms c.in-Ok.moves) (sym c.meetings-meetings.ensures) c.in-Ok.ensures.walked in
+    let few = subst (λ (es : List Entered). length es ≤ length meetings) (sym value) c.enter_all.ensures.few in
+    let each = subst (λ (es : List Entered). AreEntered n seen c.args.game meetings es) (sym value) c.enter_all.ensures.each in
+    let p = err_from_is_err_and c.from_residual-in_err-make_rows.result c.from_residual-in_err-make_rows.ensures.1 in
+    rw (p.1, p.2) (stranger_of n c.args.game seen kinds actions meetings entered c.in-Ok.moves c.make_rows.new.self.rows c.in_err-make_rows.field-0.0 walked few each c.in_err-make_rows.ensures.fault)
+
+pub returns-in-Some-clause-fresh : goal.returns-in-Some-clause-fresh
+returns-in-Some-clause-fresh g c =
+    let n = 2 ^ g.O.ProbeOrder.exponent c.args.table.now.order in
+    let seen = c.enter_all.new.pass.seen in
+    let kinds = c.args.self.now.walk.kinds in
+    let actions = c.args.record.now in
+    let meetings = c.meetings-meetings.result.now in
+    let entered = c.as_slice-entered.result.now in
+    let value = c.as_slice-entered.ensures.value in
+    let walked = subst (λ (ms : List Meeting). IsWalk kinds actions ms c.in-Ok.moves) (sym c.meetings-meetings.ensures) c.in-Ok.ensures.walked in
+    let few = subst (λ (es : List Entered). length es ≤ length meetings) (sym value) c.enter_all.ensures.few in
+    let each = subst (λ (es : List Entered). AreEntered n seen c.args.game meetings es) (sym value) c.enter_all.ensures.each in
+    fresh_of n c.args.game seen kinds actions meetings entered c.in-Ok.moves c.args.ledger.now.rows c.make_rows.new.self.rows walked few each c.make_rows.ensures.gained
+
+pub returns-in-Some-clause-fault : goal.returns-in-Some-clause-fault
+returns-in-Some-clause-fault g c =
+    let n = 2 ^ g.O.ProbeOrder.exponent c.args.table.now.order in
+    let seen = c.enter_all.new.pass.seen in
+    let kinds = c.args.self.now.walk.kinds in
+    let actions = c.args.record.now in
+    let rows = c.make_rows.new.self.rows in
+    let meetings = c.meetings-meetings.result.now in
+    let walked = subst (λ (ms : List Meeting). IsWalk kinds actions ms c.in-Ok.moves) (sym c.meetings-meetings.ensures) c.in-Ok.ensures.walked in
+    let refused : IsRefused n seen meetings c.in-Some.shape = subst (λ o. IfSome o (IsRefused n seen meetings)) c.in-Some.is c.in_ok-refused.ensures.refused in
+    subst (IsPrepareFault n seen c.args.game kinds actions rows) (sym (c.full.ensures ∙ ap (λ w. fault.Full c.args.game w) c.word.ensures.value))
+    (full_of n c.args.game seen kinds actions meetings c.in-Ok.moves c.in-Some.shape rows walked refused)
+
+pub returns-in-None-clause-fresh : goal.returns-in-None-clause-fresh
+returns-in-None-clause-fresh g c =
+    let n = 2 ^ g.O.ProbeOrder.exponent c.args.table.now.order in
+    let seen = c.enter_all.new.pass.seen in
+    let kinds = c.args.self.now.walk.kinds in
+    let actions = c.args.record.now in
+    let meetings = c.meetings-meetings.result.now in
+    let entered = c.as_slice-entered.result.now in
+    let value = c.as_slice-entered.ensures.value in
+    let walked = subst (λ (ms : List Meeting). IsWalk kinds actions ms c.in-Ok.moves) (sym c.meetings-meetings.ensures) c.in-Ok.ensures.walked in
+    let few = subst (λ (es : List Entered). length es ≤ length meetings) (sym value) c.enter_all.ensures.few in
+    let each = subst (λ (es : List Entered). AreEntered n seen c.args.game meetings es) (sym value) c.enter_all.ensures.each in
+    fresh_of n c.args.game seen kinds actions meetings entered c.in-Ok.moves c.args.ledger.now.rows c.make_rows.new.self.rows walked few each c.make_rows.ensures.gained
+
+pub returns-in-None-clause-ok : goal.returns-in-None-clause-ok
+returns-in-None-clause-ok g c =
+    let n = 2 ^ g.O.ProbeOrder.exponent c.args.table.now.order in
+    let seen = c.enter_all.new.pass.seen in
+    let game = c.args.game in
+    let rows = c.make_rows.new.self.rows in
+    let places = c.make_rows.new.places.items in
+    let meetings = c.meetings-meetings.result.now in
+    let entered = c.as_slice-entered.result.now in
+    let same = c.meetings-meetings.ensures in
+    let value = c.as_slice-entered.ensures.value in
+    let all : length c.enter_all.new.entered.items ≡ length meetings = subst (λ o. IfNone o (length c.enter_all.new.entered.items ≡ length meetings)) c.in-None.is c.in_ok-refused.ensures.all in
+    let whole : take (length entered) meetings ≡ meetings = ap (λ k. take k meetings) (ap length value ∙ all) ∙ take-length meetings in
+    record {
+      walked = subst (λ k. IsWalk k c.args.record.now c.walk.new.self.meetings c.in-Ok.moves) (sym c.in-Ok.ensures.kinds) c.in-Ok.ensures.walked;
+      among = c.in-Ok.ensures.among;
+      entered = subst (λ (ms : List Meeting). AreEntered n seen game ms c.enter_all.new.entered.items) same c.enter_all.ensures.each;
+      all = all ∙ ap length same;
+      rows_are = subst (λ (ms : List Meeting). AreRowsOf ms places rows) (whole ∙ same) c.in_ok-make_rows.ensures.rows;
+      numbered = subst (λ (es : List Entered). AreNumbered es places rows) value c.in_ok-make_rows.ensures.numbered;
+    }

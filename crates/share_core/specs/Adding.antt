@@ -1,0 +1,93 @@
+-- What adding a game to a share does, and why it may be refused.
+use Rattle.std.specs.Prelude.{◌≡◌, ◌≢◌, ℕ, ◌+◌, ◌*◌, ◌^◌, ◌<◌, ◌≤◌, ◌⊎◌, List, [], ◌∷◌, ◌++◌, length, Some}
+use Rattle.go_record.specs.Actions.{Actions}
+use Rattle.shape_core.specs.declared.words.Kinds.{Kinds}
+use Rattle.probe_core.specs.Sequential.{IsNumber, IsAbsent, IsFull}
+use Rattle.slot_table.specs.declared.entries.Happened.{Happened}
+use Rattle.slot_table.specs.History.{content_of, least_at, IsAtMost}
+use Rattle.tally_core.specs.declared.meetings.Meeting.{Meeting}
+use Rattle.tally_core.specs.Occasions.{Occasion, AreOccasions}
+use Rattle.tally_core.specs.Counts.{kinds_of, there_in, played_in}
+use Rattle.tally_core.specs.Walk.{IsWalk}
+use Rattle.share_core.specs.declared.rows.Row.{Row}
+use Rattle.share_core.specs.declared.faults.HarvestFault.{HarvestFault}
+use Rattle.share_core.specs.declared.faults.HarvestFault.TheVariants as fault
+use Rattle.share_core.specs.Rows.{row_at, blank, there_of, played_of, first_of, earlier}
+use Rattle.share_core.specs.Raising.{numbered_of, weight_of, weight_among}
+use Rattle.share_core.specs.Making.{HasRow}
+use Rattle.share_core.specs.Shares.{Held, game_of, IsPatternOf}
+
+-- rows of patterns of a game that count nothing yet, each of the number that the pattern has after a history
+abbrev pub AreFresh : ℕ → List Happened → Kinds → Actions → List Row → Type 0
+AreFresh n seen kinds actions fresh = (k : ℕ) → k < length fresh →
+    (row_at fresh k ≡ blank (row_at fresh k).number (row_at fresh k).shape)
+    × IsPatternOf kinds actions (row_at fresh k).shape
+    × IsNumber (content_of n seen) (row_at fresh k).shape (row_at fresh k).number
+
+-- a share after a game was added
+pub record IsAdded (game : ℕ) (actions : Actions) (old new : Held) : Type 0 where
+  pub occasions : List Occasion
+  pub replayed : AreOccasions actions occasions
+  pub worker : new.worker ≡ old.worker
+  pub kinds : new.kinds ≡ old.kinds
+  pub games : new.games ≡ old.games ++ game ∷ []
+  pub moves : new.moves ≡ old.moves + length occasions
+  pub there : (shape : ℕ) → there_of new.rows shape
+      ≡ there_of old.rows shape + there_in (kinds_of old.kinds) (record { size = actions.size; occasions = occasions }) shape
+  pub played : (shape : ℕ) → played_of new.rows shape
+      ≡ played_of old.rows shape + played_in (kinds_of old.kinds) (record { size = actions.size; occasions = occasions }) shape
+  pub among : (shape : ℕ) → played_in (kinds_of old.kinds) (record { size = actions.size; occasions = occasions }) shape
+      ≤ there_in (kinds_of old.kinds) (record { size = actions.size; occasions = occasions }) shape
+  pub first : (shape : ℕ) → first_of new.rows shape
+      ≡ earlier (first_of old.rows shape) (game_of old.kinds (record { game = game; actions = actions; occasions = occasions }) shape)
+
+-- the rows that were made are of patterns of the game, and each row that was made or raised is of the number that its
+-- pattern has
+pub record HasGrown (n : ℕ) (seen : List Happened) (actions : Actions) (old new : Held) : Type 0 where
+  pub fresh : List Row
+  pub made : AreFresh n seen old.kinds actions fresh
+  pub numbered : numbered_of new.rows ≡ numbered_of old.rows ++ numbered_of fresh
+  pub stands : (place : ℕ) → place < length new.rows → (row_at new.rows place ≡ row_at (old.rows ++ fresh) place)
+      ⊎ IsNumber (content_of n seen) (row_at new.rows place).shape (row_at new.rows place).number
+
+-- each pattern of the game has a number at which a game is marked that is no later
+abbrev pub IsMarked : ℕ → List Happened → ℕ → Kinds → Actions → Type 0
+IsMarked n seen game kinds actions = (occasions : List Occasion) × AreOccasions actions occasions
+    × ((shape : ℕ) → 0 < there_in (kinds_of kinds) (record { size = actions.size; occasions = occasions }) shape
+    → (p : ℕ) × IsNumber (content_of n seen) shape p × IsAtMost (least_at p seen) game)
+
+-- rows of a game's patterns were added to these that count nothing yet
+pub record HasFresh (n : ℕ) (seen : List Happened) (kinds : Kinds) (actions : Actions) (old new : List Row) : Type 0 where
+  pub fresh : List Row
+  pub rows : new ≡ old ++ fresh
+  pub made : AreFresh n seen kinds actions fresh
+
+-- a share after a game was refused: rows may have come that count nothing
+pub record IsKept (n : ℕ) (seen : List Happened) (actions : Actions) (old new : Held) : Type 0 where
+  pub fresh : List Row
+  pub made : AreFresh n seen old.kinds actions fresh
+  pub same : new ≡ record old { rows = old.rows ++ fresh }
+
+-- the counts of a share and of a game are too large together: of all patterns, or their moves
+pub record IsTooLarge (actions : Actions) (old : Held) : Type 0 where
+  pub meetings : List Meeting
+  pub moves : ℕ
+  pub walked : IsWalk old.kinds actions meetings moves
+  pub large : (2 ^ 64 ≤ weight_of old.rows + weight_among meetings) ⊎ (2 ^ 64 ≤ old.moves + moves)
+
+-- why no counting of a game was begun: no number is free for a pattern of it; the row of the number of a pattern of it is of
+-- another one; memory was refused; the game has more actions than any input
+abbrev pub IsPrepareFault : ℕ → List Happened → ℕ → Kinds → Actions → List Row → HarvestFault → Type 0
+IsPrepareFault n seen game kinds actions rows (fault.Full at word) = (at ≡ game) × IsPatternOf kinds actions word
+    × IsAbsent (content_of n seen) word × IsFull (content_of n seen)
+IsPrepareFault n seen game kinds actions rows (fault.Stranger number (Some held) (Some other)) = IsPatternOf kinds actions other
+    × IsNumber (content_of n seen) other number × (held ≢ other) × HasRow rows number held
+IsPrepareFault n seen game kinds actions rows fault.Memory = Unit {0}
+IsPrepareFault n seen game kinds actions rows fault.Overflow = 2 ^ 64 ≤ 5410 * length actions.actions
+IsPrepareFault n seen game kinds actions rows found = ⊥
+
+-- why a game was not added: no number is free for a pattern of it; the share's row of the number of a pattern of it is of
+-- another one; memory was refused; counts are too large
+abbrev pub IsAddFault : ℕ → List Happened → ℕ → Actions → Held → Held → HarvestFault → Type 0
+IsAddFault n seen game actions old new fault.Overflow = IsTooLarge actions old ⊎ (2 ^ 64 ≤ 5410 * length actions.actions)
+IsAddFault n seen game actions old new found = IsPrepareFault n seen game old.kinds actions new.rows found

@@ -1,0 +1,25 @@
+-- The totals of a share, and what counting a game adds to them.
+use Rattle.std.specs.Prelude.{◌≡◌, ℕ, ◌+◌, ◌^◌, ◌≤◌, ◌⊎◌, List, [], ◌∷◌, ◌++◌}
+use Rattle.tally_core.specs.declared.meetings.Meeting.{Meeting}
+use Rattle.share_core.specs.declared.rows.Row.{Row}
+use Rattle.share_core.specs.declared.faults.HarvestFault.{HarvestFault}
+use Rattle.share_core.specs.declared.faults.HarvestFault.TheVariants as fault
+use Rattle.share_core.specs.Raising.{AreRaised, weight_of, weight_among}
+
+pub record Totals : Type 0 where
+  pub games : List ℕ
+  pub moves : ℕ
+  pub rows : List Row
+
+-- a game of so many moves was counted
+pub record CountsIn (game moves : ℕ) (meetings : List Meeting) (places : List ℕ) (old new : Totals) : Type 0 where
+  pub games : new.games ≡ old.games ++ game ∷ []
+  pub moves_are : new.moves ≡ old.moves + moves
+  pub rows : AreRaised meetings places game old.rows new.rows
+
+-- why a game was not counted: memory was refused, or the moves or all counts together are too large
+abbrev pub IsCountFault : ℕ → List Meeting → Totals → HarvestFault → Type 0
+IsCountFault moves meetings old fault.Memory = Unit {0}
+IsCountFault moves meetings old fault.Overflow =
+    (2 ^ 64 ≤ weight_of old.rows + weight_among meetings) ⊎ (2 ^ 64 ≤ old.moves + moves)
+IsCountFault moves meetings old found = ⊥

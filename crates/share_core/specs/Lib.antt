@@ -1,0 +1,16 @@
+pub mod Rows
+pub mod Raising
+pub mod Making
+pub mod Entering
+pub mod Ledgers
+pub mod Shares
+pub mod Adding
+pub mod Preparing
+pub mod Covering
+pub mod Checking
+pub mod Agreeing
+pub mod Faults
+pub mod Gathering
+pub mod Totals
+pub mod Confirming
+pub mod GatherFaults

@@ -1,0 +1,67 @@
+-- The rows of a share: for each number of the table that it met, the number's pattern, how often that was there and was
+-- played, and the least game in which it was there.
+use Rattle.std.specs.Prelude.{◌≡◌, ℕ, ◌<◌, ◌≤◌, ◌==◌, if◌then◌else◌, min, List, [], ◌∷◌, length, sum_by, find, Option, Some, None, slice_index_or}
+use Rattle.share_core.specs.declared.rows.Row.{Row}
+
+-- how often a pattern was there, all its rows together
+abbrev pub there_of : List Row → ℕ → ℕ
+there_of rows shape = sum_by (λ row. if row.shape == shape then row.there else 0) rows
+
+-- how often it was played
+abbrev pub played_of : List Row → ℕ → ℕ
+played_of rows shape = sum_by (λ row. if row.shape == shape then row.played else 0) rows
+
+-- no pattern was played more often than it was there
+abbrev pub ArePlayedThere : List Row → Type 0
+ArePlayedThere rows = (shape : ℕ) → played_of rows shape ≤ there_of rows shape
+
+-- the lesser of two games, where None is no game
+abbrev pub earlier : Option ℕ → Option ℕ → Option ℕ
+earlier None other = other
+earlier (Some game) None = Some game
+earlier (Some game) (Some other) = Some (min game other)
+
+-- the least game in which a pattern was there, all its rows together
+abbrev pub first_of : List Row → ℕ → Option ℕ
+first_of [] shape = None
+first_of (row ∷ rows) shape = earlier (if row.shape == shape then row.first else None) (first_of rows shape)
+
+-- the least game of all rows of a number
+abbrev pub first_at : List Row → ℕ → Option ℕ
+first_at [] number = None
+first_at (row ∷ rows) number = earlier (if row.number == number then row.first else None) (first_at rows number)
+
+-- a row that counts nothing yet
+abbrev pub blank : ℕ → ℕ → Row
+blank number shape = record { number = number; shape = shape; there = 0; played = 0; first = None }
+
+-- the row at a place, and past the end a blank one
+abbrev pub row_at : List Row → ℕ → Row
+row_at rows place = slice_index_or rows place (blank 0 0)
+
+-- these rows were made, in this order, after the old ones, and count nothing yet
+abbrev pub IsBlank : Row → Type 0
+IsBlank row = row ≡ blank row.number row.shape
+
+-- what an index has at a number
+abbrev pub place_in : List (Option ℕ) → ℕ → Option ℕ
+place_in index number = slice_index_or index number None
+
+-- an index has for each number the place of its row, so that no number has two rows
+pub record IsIndexed (index : List (Option ℕ)) (rows : List Row) : Type 0 where
+  pub found : (number place : ℕ) → place_in index number ≡ Some place
+      → (place < length rows) × ((row_at rows place).number ≡ number)
+  pub listed : (place : ℕ) → place < length rows → place_in index (row_at rows place).number ≡ Some place
+
+-- a number has no row
+abbrev pub HasNoRow : List Row → ℕ → Type 0
+HasNoRow rows number = (place : ℕ) → place < length rows → (row_at rows place).number ≡ number → ⊥
+
+-- each number has one row at most
+abbrev pub AreOfNumbers : List Row → Type 0
+AreOfNumbers rows = (one other : ℕ) → one < length rows → other < length rows
+    → (row_at rows one).number ≡ (row_at rows other).number → one ≡ other
+
+-- the first row of a number, or none
+abbrev pub row_of : List Row → ℕ → Option Row
+row_of rows number = find (λ row. row.number == number) rows

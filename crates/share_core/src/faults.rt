@@ -1,0 +1,65 @@
+//! What can go wrong in counting with shares.
+use sgf_core::SgfFault;
+use shape_core::Word;
+use tally_core::HarvestFault as TallyFault;
+use thiserror::Error;
+
+/// Why no dictionary was made.
+#[derive(Clone, Copy, Debug, PartialEq, Eq, Error)]
+pub enum HarvestFault {
+    /// The table has no number left for a pattern of this game.
+    #[error("F1 full in game {game} at {:013x}", word.bits())]
+    Full {
+        game: u64,
+        word: Word,
+    },
+    /// No share has this game.
+    #[error("F2 missing game {0}")]
+    Missing(u64),
+    /// Shares have this game twice.
+    #[error("F3 game {0} twice")]
+    Twice(u64),
+    /// A share has a row of a number at which the table has another pattern, or none.
+    #[error("F4 stranger at number {number}")]
+    Stranger {
+        number: usize,
+        of_share: Option<Word>,
+        of_table: Option<Word>,
+    },
+    /// The numbers of workers or of slots are outside their limits.
+    #[error("F5 bad settings")]
+    BadSettings,
+    /// Memory was refused.
+    #[error("F6 no memory")]
+    Memory,
+    /// The collection is not one that can be read.
+    #[error("{0}")]
+    Sgf(SgfFault),
+    /// A count is over 2^64 - 1.
+    #[error("F8 count too large")]
+    Overflow,
+    /// The least game marked at a number is not the least game of the shares' rows there.
+    #[error("F9 mark differs at number {number}")]
+    Marks {
+        number: usize,
+        of_shares: Option<u64>,
+        of_table: Option<u64>,
+    },
+}
+
+impl HarvestFault {
+    ghost use Rattle.std.specs.Prelude.{◌≡◌};
+    ghost use Rattle.share_core.specs.Faults.{same_fault};
+
+    /// A fault of counting on one thread, under its name here. It takes no memory.
+    pub fn of_tally(fault: TallyFault) -> HarvestFault
+        ensures { result ≡ same_fault fault }
+    {
+        match fault {
+            TallyFault::BadSettings => HarvestFault::BadSettings,
+            TallyFault::Memory => HarvestFault::Memory,
+            TallyFault::Sgf(found) => HarvestFault::Sgf(found),
+            TallyFault::Overflow => HarvestFault::Overflow,
+        }
+    }
+}

@@ -1,0 +1,20 @@
+//! A law of the dictionaries of shares.
+ghost use Rattle.std.specs.Prelude.{◌≡◌, ℕ, List, Some, slice_get, Contains};
+ghost use Rattle.shape_core.specs.declared.words.Kinds.{Kinds};
+ghost use Rattle.shape_dict.specs.Contents.{Contents};
+ghost use Rattle.tally_core.specs.Games.{IsDictionaryOf};
+ghost use Rattle.share_core.specs.Shares.{Held, Added, replayed_of};
+ghost use Rattle.share_core.specs.Gathering.{HaveGames, IsGathered, all_added, replayed_games};
+
+/// The dictionary of shares is that of their games, in the order of the games' numbers; and each game of a share is the
+/// one at the place of its number.
+pub fn dictionary_of_shares()
+    ensures dictionary { (kinds : Kinds) → (games : ℕ)
+        → (addeds : List (List Added)) → (shares : List Held) → HaveGames kinds games addeds shares
+        → (contents : Contents) → IsGathered kinds games shares contents
+        → IsDictionaryOf kinds (replayed_games (all_added addeds) games) contents }
+    ensures found { (kinds : Kinds) → (games : ℕ)
+        → (addeds : List (List Added)) → (shares : List Held) → HaveGames kinds games addeds shares
+        → (added : List Added) → (one : Added) → Contains addeds added → Contains added one
+        → slice_get (replayed_games (all_added addeds) games) one.game ≡ Some (replayed_of one) }
+{}

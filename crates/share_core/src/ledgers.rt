@@ -1,0 +1,120 @@
+//! What a share has counted: its games, their moves, and the rows of their patterns.
+ghost use Rattle.std.specs.Prelude.{◌≡◌, ◌+◌, ◌^◌, ◌≤◌, ◌<◌, length, OnOk, OnErr, IfErr, take};
+ghost use Rattle.share_core.specs.Ledgers.{CountsIn, IsCountFault};
+ghost use Rattle.share_core.specs.Making.{AreBelow, AreNumbered, Gained, IsMakingFault};
+ghost use Rattle.share_core.specs.Raising.{AreRowsOf};
+
+use crate::faults::HarvestFault;
+use crate::making::{Entered, make_all};
+use crate::rows::Rows;
+use crate::sums::{raise_all, weight};
+use std::alloc::Global;
+use std::marker::Model;
+use tally_core::Meeting;
+
+/// Games in the order in which they were added, their moves, and rows. The weight is the sum of all counts of the rows, so
+/// that none of them is too large while it is not.
+#[derive(Drop)]
+pub(crate) struct Ledger {
+    games: Vec<u64>,
+    moves: u64,
+    weight: u64,
+    rows: Rows,
+}
+
+impl Model for Ledger {
+    ghost use Rattle.std.specs.Prelude.{◌≡◌};
+    ghost use Rattle.share_core.specs.Ledgers.{Totals};
+    ghost use Rattle.share_core.specs.Raising.{weight_of};
+
+    ghost Value = { Totals };
+
+    ghost view = { λ l. record { games = l.games.items; moves = l.moves; rows = l.rows } };
+
+    ghost invariant = { λ l. l.weight ≡ weight_of l.rows };
+}
+
+impl Ledger {
+    ghost use Rattle.std.specs.Prelude.{◌≡◌, []};
+    ghost use Rattle.share_core.specs.Rows.{AreOfNumbers};
+
+    /// Nothing was counted yet. It takes no memory.
+    pub fn begin(alloc: Global) -> Ledger
+        ensures { result ≡ record { games = []; moves = 0; rows = [] } }
+    {
+        Ledger {
+            games: Vec::new(alloc),
+            moves: 0,
+            weight: 0,
+            rows: Rows::begin(alloc),
+        }
+    }
+
+    pub fn games(&self) -> &[u64]
+        ensures { result.now ≡ self.now.games }
+    {
+        self.games.as_slice()
+    }
+
+    pub fn moves(&self) -> u64
+        ensures { result ≡ self.now.moves }
+    {
+        self.moves
+    }
+
+    pub fn rows(&self) -> &Rows
+        ensures { result.now ≡ self.now.rows }
+    {
+        &self.rows
+    }
+
+    /// Makes rows for the meetings of a game that were entered, where there are none.
+    pub fn make_rows(
+        &mut self,
+        places: &mut Vec<usize>,
+        slots: usize,
+        meetings: &[Meeting],
+        entered: &[Entered],
+    ) -> Result<(), HarvestFault>
+        requires few { length entered.now ≤ length meetings.now }
+        requires numbers { AreBelow slots entered.now }
+        ensures gained { Gained meetings.now entered.now self.old.rows self.new.rows }
+        ensures same { self.new ≡ record self.old { rows = self.new.rows } }
+        ensures rows { OnOk result (AreRowsOf (take (length entered.now) meetings.now) places.new.items self.new.rows) }
+        ensures numbered { OnOk result (AreNumbered entered.now places.new.items self.new.rows) }
+        ensures fault { IfErr result (IsMakingFault meetings.now entered.now self.new.rows) }
+    {
+        make_all(&mut self.rows, places, slots, meetings, entered)
+    }
+
+    /// Counts a game whose meetings have their rows at these places.
+    pub fn count(
+        &mut self,
+        game: u64,
+        moves: u64,
+        meetings: &[Meeting],
+        places: &[usize],
+    ) -> Result<(), HarvestFault>
+        requires rows { AreRowsOf meetings.now places.now self.old.rows }
+        ensures ok { OnOk result (CountsIn game moves meetings.now places.now self.old self.new) }
+        ensures err { OnErr result (self.new ≡ self.old) }
+        ensures fault { IfErr result (IsCountFault moves meetings.now self.old) }
+    {
+        let Some(moves) = self.moves.checked_add(moves) else {
+            return Err(HarvestFault::Overflow);
+        };
+        let Some(added) = weight(meetings) else {
+            return Err(HarvestFault::Overflow);
+        };
+        let Some(total) = self.weight.checked_add(added) else {
+            return Err(HarvestFault::Overflow);
+        };
+        let Ok(()) = self.games.push(game) else {
+            return Err(HarvestFault::Memory);
+        };
+        raise_all(&mut self.rows, meetings, places, game);
+        self.moves = moves;
+        self.weight = total;
+        Ok(())
+    }
+}

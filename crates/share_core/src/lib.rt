@@ -1,0 +1,28 @@
+//! Shares: what workers have counted over the shared table of numbers, and how shares become a dictionary.
+#![tactic(auto)]
+
+// one share, and what adding a game to it takes
+mod entering;
+mod ledgers;
+mod making;
+mod rows;
+mod shares;
+mod sums;
+mod workings;
+
+// shares put together
+mod adding_up;
+mod agreeing;
+mod confirming;
+mod covering;
+mod faults;
+pub mod full_laws;
+mod gathering;
+pub mod laws;
+mod standing;
+
+pub use confirming::confirm_full;
+pub use faults::HarvestFault;
+pub use gathering::gather;
+pub use rows::Row;
+pub use shares::Share;

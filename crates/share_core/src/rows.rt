@@ -1,0 +1,161 @@
+//! Rows of a share, each found by its number.
+ghost use Rattle.std.specs.Prelude.{◌≡◌, ◌≤◌, ℕ, length, OnOk, Some};
+ghost use Rattle.share_core.specs.declared.faults.HarvestFault.TheVariants as fault;
+ghost use Rattle.share_core.specs.Rows.{place_in};
+
+use crate::faults::HarvestFault;
+use shape_core::{Shape, Word};
+use std::alloc::{AllocError, Global};
+use std::marker::Model;
+use tally_core::Meeting;
+
+/// What a share has counted at one number of the table: the number's pattern, how often it was there and was played, and
+/// the least game in which it was there, or None before any was counted.
+#[derive(Clone, Copy, Debug, PartialEq, Eq)]
+pub struct Row {
+    pub number: usize,
+    pub shape: Shape,
+    pub there: u64,
+    pub played: u64,
+    pub first: Option<u64>,
+}
+
+/// A share's row of this number is of another pattern than the table has there.
+fn stranger(number: usize, held: Word, asked: Word) -> HarvestFault
+    ensures { result ≡ fault.Stranger number (Some held) (Some asked) }
+{
+    HarvestFault::Stranger {
+        number,
+        of_share: Some(held),
+        of_table: Some(asked),
+    }
+}
+
+/// Gives an index at least this many places, the new ones without a row.
+fn widen(index: &mut Vec<Option<usize>>, slots: usize) -> Result<(), AllocError>
+    ensures wide { OnOk result (slots ≤ length index.new.items) }
+    ensures same { (number : ℕ) → place_in index.new.items number ≡ place_in index.old.items number }
+{
+    if index.len() < slots {
+        index.resize(slots, None)?;
+    }
+    Ok(())
+}
+
+/// Rows in the order in which they were made, with an index that has the place of each number's row. Contracts see the
+/// rows.
+#[derive(Drop)]
+pub(crate) struct Rows {
+    index: Vec<Option<usize>>,
+    rows: Vec<Row>,
+}
+
+impl Model for Rows {
+    ghost use Rattle.std.specs.Prelude.{List};
+    ghost use Rattle.share_core.specs.declared.rows.Row.{Row};
+    ghost use Rattle.share_core.specs.Rows.{IsIndexed};
+
+    ghost Value = { List Row };
+
+    ghost view = { λ r. r.rows.items };
+
+    ghost invariant = { λ r. IsIndexed r.index.items r.rows.items };
+}
+
+impl Rows {
+    ghost use Rattle.std.specs.Prelude.{◌≡◌, ◌+◌, ◌^◌, ◌<◌, ◌++◌, ◌∷◌, [], length, IfSome, IfNone, IfOk, IfErr, OnErr, slice_set};
+    ghost use Rattle.share_core.specs.Rows.{row_at, blank, HasNoRow, AreOfNumbers};
+    ghost use Rattle.share_core.specs.Making.{IsMade, IsRowFault};
+    ghost use Rattle.share_core.specs.Raising.{raised};
+
+    /// No rows yet. It takes no memory.
+    pub fn begin(alloc: Global) -> Rows
+        ensures { result ≡ [] }
+    {
+        Rows {
+            index: Vec::new(alloc),
+            rows: Vec::new(alloc),
+        }
+    }
+
+    /// The rows, in the order in which they were made.
+    pub fn as_slice(&self) -> &[Row]
+        ensures rows { result.now ≡ self.now }
+        ensures numbers { AreOfNumbers self.now }
+    {
+        self.rows.as_slice()
+    }
+
+    /// The place of a number's row, if it has one.
+    pub fn place(&self, number: usize) -> Option<usize>
+        ensures some { IfSome result (λ place. (place < length self.now) × ((row_at self.now place).number ≡ number)) }
+        ensures none { IfNone result (HasNoRow self.now number) }
+    {
+        if number < self.index.len() {
+            self.index[number]
+        } else {
+            None
+        }
+    }
+
+    /// The place of a number's row, which is made where there is none and then counts nothing. The index gets room for
+    /// this many slots, where it has less.
+    pub fn make(&mut self, slots: usize, number: usize, shape: Shape) -> Result<usize, HarvestFault>
+        requires { number < slots }
+        ensures ok { IfOk result (λ place. IsMade number shape place self.old self.new) }
+        ensures fault { IfErr result (IsRowFault number shape self.old) }
+        ensures same { OnErr result (self.new ≡ self.old) }
+    {
+        if let Some(place) = self.place(number) {
+            let held = self.rows[place].shape;
+            return if held == shape {
+                Ok(place)
+            } else {
+                Err(stranger(number, held.word(), shape.word()))
+            };
+        }
+        self.append(slots, number, shape)
+    }
+
+    /// Makes a row for a number that has none.
+    fn append(&mut self, slots: usize, number: usize, shape: Shape) -> Result<usize, HarvestFault>
+        requires number { number < slots }
+        requires none { HasNoRow self.old number }
+        ensures ok { IfOk result (λ place. (place ≡ length self.old) × (self.new ≡ self.old ++ blank number shape ∷ [])) }
+        ensures fault { IfErr result (λ found. IsRowFault number shape self.old found) }
+        ensures same { OnErr result (self.new ≡ self.old) }
+    {
+        let place = self.rows.as_slice().len();
+        let row = Row {
+            number,
+            shape,
+            there: 0,
+            played: 0,
+            first: None,
+        };
+        let Ok(()) = widen(&mut self.index, slots) else {
+            return Err(HarvestFault::Memory);
+        };
+        let Ok(()) = self.rows.push(row) else {
+            return Err(HarvestFault::Memory);
+        };
+        self.index[number] = Some(place);
+        Ok(place)
+    }
+
+    /// Adds a game's meeting to the row at a place.
+    pub fn raise(&mut self, place: usize, meeting: Meeting, game: u64)
+        requires place { place < length self.old }
+        requires there { (row_at self.old place).there + meeting.there < 2 ^ 64 }
+        requires played { (row_at self.old place).played + meeting.played < 2 ^ 64 }
+        ensures { self.new ≡ slice_set self.old place (raised (row_at self.old place) meeting game) }
+    {
+        let row = &mut self.rows[place];
+        row.there += meeting.there;
+        row.played += meeting.played;
+        row.first = match row.first {
+            None => Some(game),
+            Some(first) => Some(first.min(game)),
+        };
+    }
+}

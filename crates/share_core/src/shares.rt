@@ -1,0 +1,140 @@
+//! Shares: what one worker has counted over the table.
+ghost use Rattle.std.specs.Prelude.{◌≡◌, ◌^◌, ◌≤◌, length, IfOk, IfErr, OnOk, OnErr};
+
+use crate::entering::mark_all;
+use crate::faults::HarvestFault;
+use crate::ledgers::Ledger;
+use crate::rows::Row;
+use crate::workings::Workings;
+use go_record::Record;
+use probe_core::ProbeOrder;
+use shape_core::Kinds;
+use slot_table::{Pass, SlotTable};
+use std::alloc::Global;
+use std::marker::Model;
+
+/// What one worker has counted: games, each with all its patterns, under the numbers that these have in a table.
+///
+/// Contracts see the worker, the kinds of pattern, the games in the order in which they were added, their moves, and the
+/// rows in the order in which they were made. A share is of some games, by its type: its sums are theirs.
+#[derive(Drop)]
+pub struct Share {
+    worker: usize,
+    workings: Workings,
+    ledger: Ledger,
+}
+
+impl Model for Share {
+    ghost use Rattle.share_core.specs.Shares.{Held, IsShare};
+
+    ghost Value = { Held };
+
+    ghost view = { λ s. record { worker = s.worker; kinds = s.workings.walk.kinds; games = s.ledger.games; moves = s.ledger.moves; rows = s.ledger.rows } };
+
+    ghost invariant = { λ s. IsShare (record { worker = s.worker; kinds = s.workings.walk.kinds; games = s.ledger.games; moves = s.ledger.moves; rows = s.ledger.rows }) };
+}
+
+impl Share {
+    ghost use Rattle.std.specs.Prelude.{◌≡◌, ◌^◌, ◌<◌, [], OnOk, OnErr, IfErr};
+    ghost use Rattle.slot_table.specs.Passes.{IsPassOf};
+    ghost use Rattle.share_core.specs.Rows.{row_of, AreOfNumbers};
+    ghost use Rattle.share_core.specs.Shares.{IsShare};
+    ghost use Rattle.share_core.specs.Adding.{IsAdded, HasGrown, IsMarked, IsKept, IsAddFault};
+    ghost use Rattle.share_core.specs.Entering.{MarkedNothing, MarkedOnly};
+
+    /// A share without games, of the worker with this number. It takes no memory.
+    pub fn begin(alloc: Global, worker: usize, kinds: Kinds) -> Share
+        ensures { result ≡ record { worker = worker; kinds = kinds; games = []; moves = 0; rows = [] } }
+    {
+        Share {
+            worker,
+            workings: Workings::begin(alloc, kinds),
+            ledger: Ledger::begin(alloc),
+        }
+    }
+
+    /// The worker that counts into the share.
+    pub fn worker(&self) -> usize
+        ensures { result ≡ self.now.worker }
+    {
+        self.worker
+    }
+
+    /// The games, in the order in which they were added.
+    pub fn games(&self) -> &[u64]
+        ensures games { result.now ≡ self.now.games }
+        ensures share { IsShare self.now }
+    {
+        self.ledger.games()
+    }
+
+    /// How many moves onto empty points the games have.
+    pub fn moves(&self) -> u64
+        ensures { result ≡ self.now.moves }
+    {
+        self.ledger.moves()
+    }
+
+    /// The row of a number of the table, if the share has one. It takes no memory.
+    pub fn row_at(&self, number: usize) -> Option<Row>
+        ensures row { result ≡ row_of self.now.rows number }
+        ensures numbers { AreOfNumbers self.now.rows }
+    {
+        let made = self.made_rows();
+        match self.ledger.rows().place(number) {
+            Some(place) => Some(made[place]),
+            None => None,
+        }
+    }
+
+    /// The rows, in the order in which they were made. It takes no memory.
+    pub(crate) fn made_rows(&self) -> &[Row]
+        ensures rows { result.now ≡ self.now.rows }
+        ensures numbers { AreOfNumbers self.now.rows }
+    {
+        self.ledger.rows().as_slice()
+    }
+
+    /// Adds a game: each of its patterns is entered into the table, and what the game counts of it goes into the row of
+    /// its number; at last the game is marked at each number where no game was that is not later.
+    ///
+    /// `HarvestFault::Full` comes where no number is free for a pattern of the game, `HarvestFault::Stranger` where the
+    /// share's row of a pattern's number is of another pattern, as one from another table, `HarvestFault::Overflow` where
+    /// the share's moves or all its counts together would pass 2^64 - 1, or the game has more actions than any input, and
+    /// `HarvestFault::Memory` where memory was refused. After a refusal the share's games, moves and sums are as before and
+    /// the game is nowhere marked. Rows without counts may have come, and numbers in the table, of patterns of the game.
+    ///
+    /// The pass must be of the table, and the game below 2^28.
+    pub fn add<O: ProbeOrder>(
+        &mut self,
+        table: &SlotTable<O>,
+        pass: &mut Pass<O>,
+        game: u64,
+        record: &Record,
+    ) -> Result<(), HarvestFault>
+        requires pass { IsPassOf (2 ^ O.exponent table.now.order) table.now pass.old }
+        requires game { game < 2 ^ 28 }
+        ensures pass { IsPassOf (2 ^ O.exponent table.now.order) table.now pass.new }
+        ensures added { OnOk result (IsAdded game record.now self.old self.new) }
+        ensures grown { OnOk result (HasGrown (2 ^ O.exponent table.now.order) pass.new.seen record.now
+            self.old self.new) }
+        ensures marked { OnOk result (IsMarked (2 ^ O.exponent table.now.order) pass.new.seen game
+            self.old.kinds record.now) }
+        ensures marks { OnOk result (MarkedOnly (2 ^ O.exponent table.now.order) game pass.old pass.new) }
+        ensures kept { OnErr result (IsKept (2 ^ O.exponent table.now.order) pass.new.seen record.now
+            self.old self.new) }
+        ensures unmarked { OnErr result (MarkedNothing (2 ^ O.exponent table.now.order) pass.old pass.new) }
+        ensures fault { IfErr result (IsAddFault (2 ^ O.exponent table.now.order) pass.new.seen game record.now
+            self.old self.new) }
+    {
+        let moves = self
+            .workings
+            .prepare(&mut self.ledger, table, pass, game, record)?;
+        let meetings = self.workings.walk.meetings();
+        let entered = self.workings.entered.as_slice();
+        let places = self.workings.places.as_slice();
+        self.ledger.count(game, moves, meetings, places)?;
+        mark_all(table, pass, entered, meetings, game);
+        Ok(())
+    }
+}

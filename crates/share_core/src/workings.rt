@@ -1,0 +1,85 @@
+//! What a share needs to count a game, kept from game to game.
+ghost use Rattle.std.specs.Prelude.{◌≡◌, ◌^◌, ◌<◌, IfOk, IfErr};
+ghost use Rattle.slot_table.specs.Passes.{IsPassOf};
+ghost use Rattle.share_core.specs.Adding.{HasFresh, IsPrepareFault};
+ghost use Rattle.share_core.specs.Entering.{MarkedNothing};
+ghost use Rattle.share_core.specs.Preparing.{IsPrepared};
+ghost use Rattle.share_core.specs.declared.faults.HarvestFault.TheVariants as fault;
+
+use crate::entering::enter_all;
+use crate::faults::HarvestFault;
+use crate::ledgers::Ledger;
+use crate::making::Entered;
+use go_record::Record;
+use probe_core::ProbeOrder;
+use shape_core::{Kinds, Word};
+use slot_table::{Pass, SlotTable};
+use std::alloc::Global;
+use tally_core::Walk;
+
+/// The walk of a game, the numbers of its meetings, and the places of their rows.
+#[derive(Drop)]
+pub(crate) struct Workings {
+    pub walk: Walk,
+    pub entered: Vec<Entered>,
+    pub places: Vec<usize>,
+}
+
+/// No number is free for a pattern of a game.
+fn full(game: u64, word: Word) -> HarvestFault
+    ensures { result ≡ fault.Full game word }
+{
+    HarvestFault::Full { game, word }
+}
+
+impl Workings {
+    ghost use Rattle.std.specs.Prelude.{◌≡◌, ◌^◌, [], IfOk, IfErr};
+
+    /// Nothing was counted yet. It takes no memory.
+    pub fn begin(alloc: Global, kinds: Kinds) -> Workings
+        ensures { result.walk.kinds ≡ kinds }
+    {
+        Workings {
+            walk: Walk::begin(alloc, kinds),
+            entered: Vec::new(alloc),
+            places: Vec::new(alloc),
+        }
+    }
+
+    /// Walks a game, enters its patterns, and makes rows for their numbers; the answer is how many moves onto empty
+    /// points it has.
+    pub fn prepare<O: ProbeOrder>(
+        &mut self,
+        ledger: &mut Ledger,
+        table: &SlotTable<O>,
+        pass: &mut Pass<O>,
+        game: u64,
+        record: &Record,
+    ) -> Result<u64, HarvestFault>
+        requires { IsPassOf (2 ^ O.exponent table.now.order) table.now pass.old }
+        ensures pass { IsPassOf (2 ^ O.exponent table.now.order) table.now pass.new }
+        ensures later { MarkedNothing (2 ^ O.exponent table.now.order) pass.old pass.new }
+        ensures kinds { self.new.walk.kinds ≡ self.old.walk.kinds }
+        ensures ledger { ledger.new ≡ record ledger.old { rows = ledger.new.rows } }
+        ensures fresh { HasFresh (2 ^ O.exponent table.now.order) pass.new.seen self.old.walk.kinds record.now
+            ledger.old.rows ledger.new.rows }
+        ensures ok { IfOk result (IsPrepared (2 ^ O.exponent table.now.order) pass.new.seen game record.now
+            self.new ledger.new.rows) }
+        ensures fault { IfErr result (IsPrepareFault (2 ^ O.exponent table.now.order) pass.new.seen game
+            self.old.walk.kinds record.now ledger.new.rows) }
+    {
+        let moves = match self.walk.walk(record) {
+            Ok(moves) => moves,
+            Err(fault) => return Err(HarvestFault::of_tally(fault)),
+        };
+        let meetings = self.walk.meetings();
+        let refused = enter_all(table, pass, &mut self.entered, meetings, game)?;
+        let entered = self.entered.as_slice();
+        let slots = table.capacity().slots();
+        ledger.make_rows(&mut self.places, slots, meetings, entered)?;
+        match refused {
+            Some(shape) => Err(full(game, shape.word())),
+            None => Ok(moves),
+        }
+    }
+}
