@@ -7,6 +7,43 @@ ghost use Rattle.shapes.specs.Commands.{text_rule, workers_rule, bits_rule, glyp
 use clap::{Arg, ArgAction, Command, value_parser};
 use std::alloc::{AllocError, Global};
 
+/// What stands at the end of the program's help.
+const NOTES: &str =
+    "Without a command it does what `board` does. Input is read from standard input alone, up to
+268,435,456 bytes; what is wrong with it is said in one line on standard error.
+
+Examples:
+  cat games/*.sgf | shapes count > games.dict
+  shapes find '###########X.############' white < games.dict
+  cat a.dict b.dict | shapes join > all.dict
+
+Exit status: 0 done, 1 not found, 2 wrong words, 3 input refused, 5 no memory, 6 a read or a write
+failed";
+
+/// What stands at the end of the help of `count`.
+const COUNT_NOTES: &str =
+    "A line of the dictionary is a pattern's word, how often the pattern was there when somebody was to
+move, how often that point was then played, and in text 3 the first game that had it, from 0. Standard
+error says how many trees were games, were of other games, and were refused for a fault in their
+record. A fault of syntax anywhere refuses the whole input.
+
+Exit status: 0 done, 2 wrong words, 3 input refused, 5 no memory, 6 a read or a write failed";
+
+/// What stands at the end of the help of `find`.
+const FIND_NOTES: &str =
+    "The glyphs are: . an empty point, X a black stone, O a white one, # off the board. Those of a square
+come in five rows of 5 from the top, those of a diamond in rows of 1, 3, 5, 7, 5, 3 and 1. The point
+itself is the 13th. Turned, mirrored and with the colours exchanged it is the same pattern.
+
+Exit status: 0 found, 1 not found (the line then ends in 0 0), 2 wrong words, 3 input refused, 5 no
+memory, 6 a read or a write failed";
+
+/// What stands at the end of the help of `join`.
+const JOIN_NOTES: &str =
+    "The games of each dictionary are numbered after those of the dictionaries before it.
+
+Exit status: 0 done, 2 wrong words, 3 input refused, 5 no memory, 6 a read or a write failed";
+
 /// The argument that says which text of a dictionary is printed.
 fn text_argument<'a>(alloc: Global) -> Arg<'a>
     ensures rule { rule_of result ≡ text_rule }
@@ -17,16 +54,16 @@ fn text_argument<'a>(alloc: Global) -> Arg<'a>
         .value_name("T")
         .value_parser(value_parser!(u8).range(1..=3))
         .default_value("1")
-        .help("Which text is printed: 1 squares, 2 diamonds too, 3 first games besides")
+        .help("1: squares; 2: squares and diamonds; 3: both, with the first game of each pattern")
 }
 
 fn board_command<'a>(alloc: Global) -> Command<'a>
     ensures app { app_of result ≡ new_app (codes "board") }
     ensures local { (fields_of result).has_globals ≡ false }
 {
-    Command::new(alloc, "board").about(
-        "Prints the final position of the first game of a collection (the default)",
-    )
+    Command::new(alloc, "board")
+        .about("Prints the final position of the first game of a collection")
+        .override_usage("shapes board < GAMES.sgf")
 }
 
 fn workers_argument<'a>(alloc: Global) -> Arg<'a>
@@ -38,7 +75,7 @@ fn workers_argument<'a>(alloc: Global) -> Arg<'a>
         .value_name("W")
         .value_parser(value_parser!(u8).range(1..=64))
         .default_value("4")
-        .help("How many workers count, from 1 to 64")
+        .help("From 1 to 64; one thread counts, whatever is given")
 }
 
 fn bits_argument<'a>(alloc: Global) -> Arg<'a>
@@ -50,7 +87,7 @@ fn bits_argument<'a>(alloc: Global) -> Arg<'a>
         .value_name("K")
         .value_parser(value_parser!(u8).range(0..=22))
         .default_value("20")
-        .help("The table has 2 to this power slots, from 0 to 22")
+        .help("From 0 to 22; one thread counts any number of patterns, whatever is given")
 }
 
 fn count_command<'a>(alloc: Global) -> Result<Command<'a>, AllocError>
@@ -58,7 +95,11 @@ fn count_command<'a>(alloc: Global) -> Result<Command<'a>, AllocError>
     ensures local { IfOk result (λ command. (fields_of command).has_globals ≡ false) }
 {
     Command::new(alloc, "count")
-        .about("Prints the dictionary of a collection's patterns")
+        .about(
+            "Prints how often each local pattern was there and was played in a collection of games",
+        )
+        .override_usage("shapes count [OPTIONS] < GAMES.sgf > DICTIONARY")
+        .after_help(COUNT_NOTES)
         .arg(workers_argument(alloc))?
         .arg(bits_argument(alloc))?
         .arg(text_argument(alloc))
@@ -71,7 +112,7 @@ fn glyphs_argument<'a>(alloc: Global) -> Arg<'a>
     Arg::new(alloc, "glyphs")
         .value_name("GLYPHS")
         .required(true)
-        .help("25 glyphs, row by row: . empty, X black, O white, # off the board")
+        .help("The 25 points of the pattern, row by row from the top")
 }
 
 fn colour_argument<'a>(alloc: Global) -> Arg<'a>
@@ -81,7 +122,7 @@ fn colour_argument<'a>(alloc: Global) -> Arg<'a>
     Arg::new(alloc, "colour")
         .value_name("COLOUR")
         .required(true)
-        .help("The colour to move, black or white")
+        .help("Who is to move: black or white")
 }
 
 fn diamond_argument<'a>(alloc: Global) -> Arg<'a>
@@ -91,7 +132,7 @@ fn diamond_argument<'a>(alloc: Global) -> Arg<'a>
     Arg::new(alloc, "diamond")
         .long("diamond")
         .action(ArgAction::SetTrue)
-        .help("The glyphs are those of a diamond")
+        .help("The glyphs are those of a diamond and not of a square")
 }
 
 fn find_command<'a>(alloc: Global) -> Result<Command<'a>, AllocError>
@@ -99,9 +140,9 @@ fn find_command<'a>(alloc: Global) -> Result<Command<'a>, AllocError>
     ensures local { IfOk result (λ command. (fields_of command).has_globals ≡ false) }
 {
     Command::new(alloc, "find")
-        .about(
-            "Prints how often a pattern was there and was played, of a dictionary on standard input",
-        )
+        .about("Prints how often one pattern was there and was played, by a dictionary")
+        .override_usage("shapes find [OPTIONS] GLYPHS COLOUR < DICTIONARY")
+        .after_help(FIND_NOTES)
         .arg(glyphs_argument(alloc))?
         .arg(colour_argument(alloc))?
         .arg(diamond_argument(alloc))
@@ -112,7 +153,9 @@ fn join_command<'a>(alloc: Global) -> Result<Command<'a>, AllocError>
     ensures local { IfOk result (λ command. (fields_of command).has_globals ≡ false) }
 {
     Command::new(alloc, "join")
-        .about("Prints the join of the dictionaries on standard input, one after another")
+        .about("Adds up dictionaries that follow one another")
+        .override_usage("cat DICTIONARY.. | shapes join [OPTIONS] > DICTIONARY")
+        .after_help(JOIN_NOTES)
         .arg(text_argument(alloc))
 }
 
@@ -121,9 +164,9 @@ fn bare_program<'a>(alloc: Global) -> Command<'a>
     ensures app { app_of result ≡ bare_app }
 {
     Command::new(alloc, "shapes")
-        .about(
-            "Reads collections of Go games (SGF), or dictionaries of their patterns, on standard input",
-        )
+        .about("Counts local patterns of Go in collections of games (SGF)")
+        .override_usage("shapes [COMMAND] < INPUT")
+        .after_help(NOTES)
         .version("1.0.0")
         .no_binary_name(true)
 }
