@@ -1,0 +1,102 @@
+-- From shares, refusals and what disagrees among them to a harvest's answer.
+use Rattle.std.proofs.Common.{◌≡◌, ℕ, inl, inr, List, [], ◌∷◌, refl, sym, subst, arith, All, Contains, ⊎_elim}
+use Rattle.std.specs.List.{AllByRecursion}
+use Rattle.std.proofs.lemmas.List.Elements.{recursion_from_All, All-weaker, Contains-append_cases}
+use Rattle.shape_core.specs.declared.words.Kinds.{Kinds}
+use Rattle.slot_table.specs.declared.entries.Happened.{Happened}
+use Rattle.slot_table.specs.History.{IsLegal}
+use Rattle.slot_table.specs.Passes.{Known}
+use Rattle.share_core.specs.declared.rows.Row.{Row}
+use Rattle.share_core.specs.declared.faults.HarvestFault.{HarvestFault}
+use Rattle.share_core.specs.declared.faults.HarvestFault.TheVariants as fault
+use Rattle.share_core.specs.Checking.{all_rows}
+use Rattle.share_core.specs.Confirming.{HasShape, IsConfirmation}
+use Rattle.share_core.specs.GatherFaults.{IsGatherFault}
+use Rattle.share_core.specs.Shares.{Held}
+use Rattle.share_core.proofs.Confirmed.{more_patterns}
+use Rattle.harvest_core.specs.Working.{IsWorked, IsPatternIn, IsPatternOfGame}
+use Rattle.harvest_core.specs.Reading.{IsReadFault}
+use Rattle.harvest_core.specs.Harvest.{HasMorePatterns, IsHarvestFault}
+
+-- a row of some share is of a pattern of the input
+row_known : (bytes : List ℕ) (kinds : Kinds) (shares : List Held) (row : Row) → AllByRecursion (IsWorked bytes kinds) shares → Contains (all_rows shares) row →
+    IsPatternIn bytes kinds row.shape
+row_known bytes kinds [] row worked among = absurd (omega arith)
+row_known bytes kinds (share ∷ shares) row worked among = ⊎_elim
+    (λ (here : Contains share.rows row). worked.0.known row here)
+    (λ (there : Contains (all_rows shares) row). row_known bytes kinds shares row worked.1 there)
+    (Contains-append_cases share.rows (all_rows shares) row among)
+
+shape_known : (bytes : List ℕ) (kinds : Kinds) (shares : List Held) (shape : ℕ) → All (IsWorked bytes kinds) shares → HasShape (all_rows shares) shape →
+    IsPatternIn bytes kinds shape
+shape_known bytes kinds shares shape worked has =
+    subst (IsPatternIn bytes kinds) has.2 (row_known bytes kinds shares has.0 (recursion_from_All (IsWorked bytes kinds) shares worked) has.1)
+
+full_is : (n : ℕ) (seen : List Happened) (bytes : List ℕ) (kinds : Kinds) (shares : List Held) (game word : ℕ) → IsLegal n seen →
+    All (IsWorked bytes kinds) shares → IsPatternOfGame bytes kinds game word → IsConfirmation n seen (all_rows shares) game word (fault.Full game word) →
+    HasMorePatterns n bytes kinds game word
+full_is n seen bytes kinds shares game word legal worked pattern h =
+    let more = more_patterns n seen (all_rows shares) game word legal h in
+    record {
+      of_game = pattern;
+      keys = more.0;
+      as_many = more.1;
+      different = more.2;
+      known = All-weaker (HasShape (all_rows shares)) (IsPatternIn bytes kinds) (λ shape has. shape_known bytes kinds shares shape worked has) more.0 more.3;
+      another = more.4;
+    }
+
+-- what was confirmed, or was not
+pub explained : {O : Type 0} (n : ℕ) (bytes : List ℕ) (kinds : Kinds) (shares : List Held) (after : Known O) (game word : ℕ) (found : HarvestFault) →
+    IsLegal n after.seen → All (IsWorked bytes kinds) shares → IsPatternOfGame bytes kinds game word →
+    IsConfirmation n after.seen (all_rows shares) game word found → IsHarvestFault n bytes kinds after found
+explained n bytes kinds shares after game word (fault.Full at other) legal worked pattern h =
+    subst (λ g. IsHarvestFault n bytes kinds after (fault.Full g other)) (sym h.0)
+    (subst (λ w. IsHarvestFault n bytes kinds after (fault.Full game w)) (sym h.1)
+    (full_is n after.seen bytes kinds shares game word legal worked pattern (refl, refl, h.2, h.3)))
+explained n bytes kinds shares after game word (fault.Stranger number of_share of_table) legal worked pattern h = record {
+  shares = shares;
+  worked = worked;
+  why = inr (inl (record { game = game; word = word; of_game = pattern; confirmation = h }));
+}
+explained n bytes kinds shares after game word (fault.Missing other) legal worked pattern h = absurd h
+explained n bytes kinds shares after game word (fault.Twice other) legal worked pattern h = absurd h
+explained n bytes kinds shares after game word fault.BadSettings legal worked pattern h = absurd h
+explained n bytes kinds shares after game word fault.Memory legal worked pattern h = absurd h
+explained n bytes kinds shares after game word (fault.Sgf other) legal worked pattern h = absurd h
+explained n bytes kinds shares after game word fault.Overflow legal worked pattern h = absurd h
+explained n bytes kinds shares after game word (fault.Marks number of_shares of_table) legal worked pattern h = absurd h
+
+-- an input that cannot be read
+pub unread : {O : Type 0} (n : ℕ) (bytes : List ℕ) (kinds : Kinds) (after : Known O) (found : HarvestFault) → IsReadFault bytes found → IsHarvestFault n bytes kinds after found
+unread n bytes kinds after fault.Memory h = tt
+unread n bytes kinds after (fault.Sgf found) h = h
+unread n bytes kinds after (fault.Full game word) h = absurd h
+unread n bytes kinds after (fault.Missing game) h = absurd h
+unread n bytes kinds after (fault.Twice game) h = absurd h
+unread n bytes kinds after (fault.Stranger number of_share of_table) h = absurd h
+unread n bytes kinds after fault.BadSettings h = absurd h
+unread n bytes kinds after fault.Overflow h = absurd h
+unread n bytes kinds after (fault.Marks number of_shares of_table) h = absurd h
+
+-- shares that do not go together
+pub ungathered : {O : Type 0} (n : ℕ) (bytes : List ℕ) (kinds : Kinds) (games : ℕ) (shares : List Held) (before after : Known O) (found : HarvestFault) →
+    All (IsWorked bytes kinds) shares → IsGatherFault n games shares before after found → IsHarvestFault n bytes kinds after found
+ungathered n bytes kinds games shares before after fault.Memory worked h = tt
+ungathered n bytes kinds games shares before after (fault.Twice game) worked h =
+    record { shares = shares; worked = worked; why = inr (inr (record { games = games; before = before; fault_is = h })) }
+ungathered n bytes kinds games shares before after (fault.Missing game) worked h =
+    record { shares = shares; worked = worked; why = inr (inr (record { games = games; before = before; fault_is = h })) }
+ungathered n bytes kinds games shares before after (fault.Stranger number of_share of_table) worked h =
+    record { shares = shares; worked = worked; why = inr (inr (record { games = games; before = before; fault_is = h })) }
+ungathered n bytes kinds games shares before after (fault.Marks number of_shares of_table) worked h =
+    record { shares = shares; worked = worked; why = inr (inr (record { games = games; before = before; fault_is = h })) }
+ungathered n bytes kinds games shares before after fault.Overflow worked h =
+    record { shares = shares; worked = worked; why = inr (inr (record { games = games; before = before; fault_is = h })) }
+ungathered n bytes kinds games shares before after (fault.Full game word) worked h = absurd h
+ungathered n bytes kinds games shares before after fault.BadSettings worked h = absurd h
+ungathered n bytes kinds games shares before after (fault.Sgf found) worked h = absurd h
+
+-- all worked shares are of these kinds
+pub all_of_kinds : (bytes : List ℕ) (kinds : Kinds) (shares : List Held) → All (IsWorked bytes kinds) shares → All (λ (share : Held). share.kinds ≡ kinds) shares
+all_of_kinds bytes kinds shares worked = All-weaker (IsWorked bytes kinds) (λ (share : Held). share.kinds ≡ kinds) (λ share h. h.kinds_are) shares worked

@@ -1,0 +1,268 @@
+-- Shares that were worked from an input and have each of its games once: they give its dictionary, and each pattern of that
+-- has a number.
+use Rattle.std.proofs.Common.{◌≡◌, ℕ, ◌+◌, ◌<◌, ◌≤◌, ◌==◌, ◌||◌, nat_lt, eqb, true, false, cond, suc, List, [], ◌∷◌, ◌++◌, length, map, get_or, Some, None, refl, ap, ap₂, sym, subst, ◌∙◌, arith, add-zero, All, Contains}
+use Rattle.std.specs.Prelude.{slice_get}
+use Rattle.std.specs.List.{AllByRecursion, AllZip, IsDistinct, list_any}
+use Rattle.std.specs.List.Sorted.{IsStrictlyIncreasing}
+use Rattle.std.proofs.lemmas.Bool.{eqb-true, ne_eqb}
+use Rattle.std.proofs.lemmas.Bool.Decides.{nat_tests}
+use Rattle.std.proofs.lemmas.List.{map-append, length-map}
+use Rattle.std.proofs.lemmas.List.Elements.{All-from_recursion, recursion_from_All, All-contains, All-weaker, All-contains_itself, length_all_zip, AllZip-get_or}
+use Rattle.std.proofs.lemmas.List.Kept.{AllPairs-from_increasing}
+use Rattle.std.proofs.lemmas.List.Sums.{sum_by-cons}
+use Rattle.std.proofs.lemmas.Map.Keys.{IsDistinct-from_apart}
+use Rattle.std.proofs.lemmas.Map.Steps.{length-le_from_distinct_below}
+use Rattle.std.proofs.lemmas.Option.{same_Some, slice_get_within}
+use Rattle.sgf_core.specs.Tree.{GameTree}
+use Rattle.sgf_core.specs.Next.{HasNoTree}
+use Rattle.go_record.specs.Actions.{Actions}
+use Rattle.shape_core.specs.declared.words.Kinds.{Kinds}
+use Rattle.shape_core.specs.Word.{count_from}
+use Rattle.shape_dict.specs.declared.entries.Entry.{Entry}
+use Rattle.shape_dict.specs.Contents.{Contents, entry_of}
+use Rattle.tally_core.specs.Occasions.{AreOccasions}
+use Rattle.tally_core.specs.Counts.{Replayed}
+use Rattle.tally_core.specs.Collection.{AreTrees, AreReplayed}
+use Rattle.tally_core.specs.Counted.{IsCounted}
+use Rattle.tally_core.specs.declared.collections.Report.{Report}
+use Rattle.tally_core.proofs.RisingEntries.{shapes_of, each_is_found}
+use Rattle.probe_core.specs.Sequential.{Table, IsNumber}
+use Rattle.slot_table.specs.declared.entries.Happened.{Happened}
+use Rattle.slot_table.specs.History.{content_of, IsLegal}
+use Rattle.slot_table.proofs.Contents.{number_below, one_key}
+use Rattle.job_core.specs.Games.{HasReadAll}
+use Rattle.job_core.proofs.OneGame.{games_of, one_game}
+use Rattle.share_core.specs.declared.rows.Row.{Row}
+use Rattle.share_core.specs.Rows.{there_of, played_of, first_of}
+use Rattle.share_core.specs.Checking.{all_rows, Stand}
+use Rattle.share_core.specs.Shares.{Held, Added, replayed_of, IsShareOf}
+use Rattle.share_core.specs.Covering.{Covers, all_games, times_of}
+use Rattle.share_core.specs.Gathering.{AreWithin, HaveGames, IsGathered, gathered_entry, all_added, replayed_at, replayed_games}
+use Rattle.share_core.proofs.Numbered.{numbers_of}
+use Rattle.share_core.proofs.Gathered.{dictionary_of_shares}
+use Rattle.harvest_core.specs.Working.{IsGame, IsWorked}
+
+-- ---- the games that were added are those of the input
+-- at its number these games have its record, and it was replayed
+abbrev IsAt : List Actions → Added → Type 0
+IsAt games one = (slice_get games one.game ≡ Some one.actions) × AreOccasions one.actions one.occasions
+
+-- a game, replayed
+abbrev IsReplay : Actions → Replayed → Type 0
+IsReplay actions replayed = (replayed.size ≡ actions.size) × AreOccasions actions replayed.occasions
+
+each_at : (bytes : List ℕ) (trees : List GameTree) (end : ℕ) (added : List Added) → AreTrees bytes 0 trees end → HasNoTree bytes end →
+    AllByRecursion (λ (one : Added). IsGame bytes one.game one.actions) added → AllByRecursion (λ (one : Added). AreOccasions one.actions one.occasions) added →
+    AllByRecursion (IsAt (games_of trees)) added
+each_at bytes trees end [] written none games replays = tt
+each_at bytes trees end (one ∷ added) written none games replays = (
+  (one_game bytes trees end one.game games.0.at games.0.end one.actions written none games.0.is_of, replays.0),
+  each_at bytes trees end added written none games.1 replays.1,
+)
+
+append_at : (games : List Actions) (added more : List Added) → AllByRecursion (IsAt games) added → AllByRecursion (IsAt games) more → AllByRecursion (IsAt games) (added ++ more)
+append_at games [] more at all = all
+append_at games (one ∷ added) more at all = (at.0, append_at games added more at.1 all)
+
+numbers_within : (games : List Actions) (added : List Added) → AllByRecursion (IsAt games) added → AllByRecursion (λ game. game < length games) (numbers_of added)
+numbers_within games [] at = tt
+numbers_within games (one ∷ added) at = (slice_get_within games one.game one.actions at.0.0, numbers_within games added at.1)
+
+module _ (bytes : List ℕ) (kinds : Kinds) (trees : List GameTree) (end : ℕ) (written : AreTrees bytes 0 trees end) (none : HasNoTree bytes end) where
+  abbrev AreWorked : List Held → Type 0
+  AreWorked shares = AllByRecursion (IsWorked bytes kinds) shares
+
+  added_at : (share : Held) (h : IsWorked bytes kinds share) → AllByRecursion (IsAt (games_of trees)) h.added
+  added_at share h =
+      each_at bytes trees end h.added written none (recursion_from_All (λ (one : Added). IsGame bytes one.game one.actions) h.added h.games) h.is_of.replays
+
+  share_within : (share : Held) → IsWorked bytes kinds share → All (λ game. game < length (games_of trees)) share.games
+  share_within share h =
+      subst (All (λ game. game < length (games_of trees))) (sym h.is_of.games)
+      (All-from_recursion (λ game. game < length (games_of trees)) (numbers_of h.added) (numbers_within (games_of trees) h.added (added_at share h)))
+
+  shares_within : (shares : List Held) → AreWorked shares → AllByRecursion (λ (share : Held). All (λ game. game < length (games_of trees)) share.games) shares
+  shares_within [] of = tt
+  shares_within (share ∷ shares) of = (share_within share of.0, shares_within shares of.1)
+
+  addeds_of : (shares : List Held) → AreWorked shares → List (List Added)
+  addeds_of [] of = []
+  addeds_of (share ∷ shares) of = of.0.added ∷ addeds_of shares of.1
+
+  each_of : (shares : List Held) (of : AreWorked shares) → AllZip IsShareOf (addeds_of shares of) shares
+  unfolding addeds_of
+  each_of [] of = tt
+  each_of (share ∷ shares) of = (of.0.is_of, each_of shares of.1)
+
+  of_kinds : (shares : List Held) → AreWorked shares → AllByRecursion (λ (share : Held). share.kinds ≡ kinds) shares
+  of_kinds [] of = tt
+  of_kinds (share ∷ shares) of = (of.0.kinds_are, of_kinds shares of.1)
+
+  all_at : (shares : List Held) (of : AreWorked shares) → AllByRecursion (IsAt (games_of trees)) (all_added (addeds_of shares of))
+  unfolding addeds_of
+  all_at [] of = tt
+  all_at (share ∷ shares) of = append_at (games_of trees) of.0.added (all_added (addeds_of shares of.1)) (added_at share of.0) (all_at shares of.1)
+
+  games_of_all : (shares : List Held) (of : AreWorked shares) → all_games shares ≡ numbers_of (all_added (addeds_of shares of))
+  unfolding addeds_of
+  games_of_all [] of = refl
+  games_of_all (share ∷ shares) of =
+      ap₂ (λ (a b : List ℕ). a ++ b) of.0.is_of.games (games_of_all shares of.1) ∙ sym (map-append (λ (one : Added). one.game) of.0.added (all_added (addeds_of shares of.1)))
+
+-- the games of shares that were worked from an input are below the number of its games
+pub games_within : (bytes : List ℕ) (kinds : Kinds) (shares : List Held) (report : Report) → All (IsWorked bytes kinds) shares → HasReadAll bytes report → AreWithin report.games shares
+games_within bytes kinds shares report worked read =
+    subst (λ n. AreWithin n shares) (sym read.reported.games)
+    (All-from_recursion (λ (share : Held). All (λ game. game < length (games_of read.trees)) share.games) shares
+    (shares_within bytes kinds read.trees read.end read.written read.no_more shares (recursion_from_All (IsWorked bytes kinds) shares worked)))
+
+-- ---- in the order of their numbers they are the games of the input, replayed
+replay_found : (games : List Actions) (added : List Added) (game : ℕ) (actions : Actions) → AllByRecursion (IsAt games) added → slice_get games game ≡ Some actions →
+    1 ≤ times_of (numbers_of added) game → IsReplay actions (replayed_at added game)
+replay_found games [] game actions at is some = absurd (omega arith)
+replay_found games (one ∷ added) game actions at is some =
+    let parts = sum_by-cons (λ (n : ℕ). cond (n == game) 1 0) one.game (numbers_of added) in
+    elim (one.game == game) as (λ b. (one.game == game) ≡ b → times_of (numbers_of (one ∷ added)) game ≡ cond b 1 0 + times_of (numbers_of added) game →
+    IsReplay actions (cond b (replayed_of one) (replayed_at added game))) [
+      | true ↦ λ test p.
+          let same : one.game ≡ game = Prim.grind (arith, nat_tests) in
+          let record_is : one.actions ≡ actions = same_Some one.actions actions (sym at.0.0 ∙ ap (slice_get games) same ∙ is) in
+          (ap (λ (a : Actions). a.size) record_is, subst (λ (a : Actions). AreOccasions a one.occasions) record_is at.0.1)
+      | false ↦ λ test p. replay_found games added game actions at.1 is (omega arith)
+    ] refl parts
+
+replayed_from : (games : List Actions) (added : List Added) (from : ℕ) (rest : List Actions) → AllByRecursion (IsAt games) added →
+    ((game : ℕ) → game < length games → 1 ≤ times_of (numbers_of added) game) → ((k : ℕ) (actions : Actions) → slice_get rest k ≡ Some actions → slice_get games (from + k) ≡ Some actions) →
+    AreReplayed rest (map (replayed_at added) (count_from from (length rest)))
+replayed_from games added from [] at covers same = tt
+replayed_from games added from (first ∷ rest) at covers same =
+    let is : slice_get games from ≡ Some first = subst (λ k. slice_get games k ≡ Some first) (add-zero from) (same 0 first refl) in
+    let found = replay_found games added from first at is (covers from (slice_get_within games from first is)) in (
+      found.0,
+      found.1,
+      replayed_from games added (suc from) rest at covers
+          (λ k actions here. subst (λ g. slice_get games g ≡ Some actions) (let e : from + suc k ≡ suc from + k = omega arith in e) (same (suc k) actions here)),
+    )
+
+are_replayed : (games : List Actions) (added : List Added) → AllByRecursion (IsAt games) added → Covers (length games) (numbers_of added) →
+    AreReplayed games (replayed_games added (length games))
+are_replayed games added at covers =
+    replayed_from games added 0 games at (λ game low. let once = covers game low in omega arith)
+    (λ k actions is. subst (λ g. slice_get games g ≡ Some actions) (let e : k ≡ 0 + k = omega arith in e) is)
+
+-- shares that were worked from an input and have each of its games once give its dictionary
+pub harvested : (bytes : List ℕ) (kinds : Kinds) (shares : List Held) (report : Report) (contents : Contents) → All (IsWorked bytes kinds) shares → HasReadAll bytes report →
+    Covers report.games (all_games shares) → IsGathered kinds report.games shares contents → IsCounted kinds bytes (record { dictionary = contents; report = report })
+harvested bytes kinds shares report contents worked read covers gathered =
+    let of = recursion_from_All (IsWorked bytes kinds) shares worked in
+    let addeds = addeds_of bytes kinds read.trees read.end read.written read.no_more shares of in
+    let have : HaveGames kinds report.games addeds shares = record {
+      each = each_of bytes kinds read.trees read.end read.written read.no_more shares of;
+      of_kinds = All-from_recursion (λ (share : Held). share.kinds ≡ kinds) shares (of_kinds bytes kinds read.trees read.end read.written read.no_more shares of);
+      within = games_within bytes kinds shares report worked read;
+      covers = covers;
+    } in
+    let at = all_at bytes kinds read.trees read.end read.written read.no_more shares of in
+    let many = read.reported.games in
+    let numbers : Covers report.games (numbers_of (all_added addeds)) =
+    subst (Covers report.games) (games_of_all bytes kinds read.trees read.end read.written read.no_more shares of) covers in
+    record {
+      trees = read.trees;
+      end = read.end;
+      games = replayed_games (all_added addeds) report.games;
+      small = read.small;
+      written = read.written;
+      no_more = read.no_more;
+      replayed = subst (λ n. AreReplayed (games_of read.trees) (replayed_games (all_added addeds) n)) (sym many)
+          (are_replayed (games_of read.trees) (all_added addeds) at (subst (λ n. Covers n (numbers_of (all_added addeds))) many numbers));
+      dictionary = dictionary_of_shares kinds report.games addeds shares have contents gathered;
+      reported = read.reported;
+    }
+
+-- ---- the patterns of the dictionary
+row_before : (row : Row) (rows : List Row) (shape : ℕ) → (one : Row) × Contains rows one × (one.shape ≡ shape) → (one : Row) × Contains (row ∷ rows) one × (one.shape ≡ shape)
+row_before row rows shape found = let low = found.1.1 in (found.0, (suc found.1.0, omega arith, found.1.2), found.2)
+
+-- a pattern that was there has a row
+some_row : (rows : List Row) (shape : ℕ) → 0 < there_of rows shape → (one : Row) × Contains rows one × (one.shape ≡ shape)
+some_row [] shape some = absurd (omega arith)
+some_row (row ∷ rows) shape some =
+    let parts = sum_by-cons (λ (r : Row). cond (r.shape == shape) r.there 0) row rows in
+    elim (row.shape == shape) as (λ b. (row.shape == shape) ≡ b → there_of (row ∷ rows) shape ≡ cond b row.there 0 + there_of rows shape →
+    (one : Row) × Contains (row ∷ rows) one × (one.shape ≡ shape)) [
+      | true ↦ λ test p. (row, (0, omega arith, refl), (let same : row.shape ≡ shape = Prim.grind (arith, nat_tests) in same))
+      | false ↦ λ test p. row_before row rows shape (some_row rows shape (omega arith))
+    ] refl parts
+
+gathered_some : (rows : List Row) (shape : ℕ) (entry : Entry) → gathered_entry rows shape ≡ Some entry → 0 < there_of rows shape
+gathered_some rows shape entry is =
+    let e : Entry = record { shape = shape; there = there_of rows shape; played = played_of rows shape; first = first_of rows shape } in
+    elim (nat_lt 0 (there_of rows shape)) as (λ b. nat_lt 0 (there_of rows shape) ≡ b → cond b (Some e) None ≡ Some entry → 0 < there_of rows shape) [
+      | true ↦ λ test found. Prim.grind (arith, nat_tests)
+      | false ↦ λ test found. absurd cc
+    ] refl is
+
+-- numbers of these patterns
+numbers_for : (table : Table) (shapes : List ℕ) → AllByRecursion (λ shape. (p : ℕ) × IsNumber table shape p) shapes → (numbers : List ℕ) × AllZip (IsNumber table) shapes numbers
+numbers_for table [] each = ([], tt)
+numbers_for table (shape ∷ shapes) each = let rest = numbers_for table shapes each.1 in (each.0.0 ∷ rest.0, (each.0.1, rest.1))
+
+below_any : (xs : List ℕ) (n q : ℕ) → AllByRecursion (λ x. x < n) xs → list_any (eqb q) xs ≡ true → q < n
+below_any [] n q below any = absurd cc
+below_any (x ∷ xs) n q below any =
+    elim (eqb q x) as (λ b. eqb q x ≡ b → (b || list_any (eqb q) xs) ≡ true → q < n) [
+      | true ↦ λ test found. subst (λ k. k < n) (sym (eqb-true q x test)) below.0
+      | false ↦ λ test found. below_any xs n q below.1 found
+    ] refl any
+
+module _ (n : ℕ) (seen : List Happened) where
+  numbers_below : (shapes numbers : List ℕ) → AllZip (IsNumber (content_of n seen)) shapes numbers → AllByRecursion (λ p. p < n) numbers
+  numbers_below [] [] each = tt
+  numbers_below [] (p ∷ numbers) each = absurd each
+  numbers_below (shape ∷ shapes) [] each = absurd each
+  numbers_below (shape ∷ shapes) (p ∷ numbers) each = (number_below n seen shape p each.0, numbers_below shapes numbers each.1)
+
+  -- patterns that rise have different numbers
+  numbers_apart : (shapes numbers : List ℕ) → IsStrictlyIncreasing shapes → AllZip (IsNumber (content_of n seen)) shapes numbers → IsDistinct eqb numbers
+  numbers_apart shapes numbers rises each =
+      IsDistinct-from_apart eqb numbers (λ i j d before inside.
+      let long = length_all_zip (IsNumber (content_of n seen)) shapes numbers each in
+      let one = AllZip-get_or (IsNumber (content_of n seen)) shapes numbers i d d each (omega arith) in
+      let other = AllZip-get_or (IsNumber (content_of n seen)) shapes numbers j d d each (omega arith) in
+      let less : get_or shapes i d < get_or shapes j d = AllPairs-from_increasing shapes rises i j d before (omega arith) in
+      ne_eqb (get_or numbers i d) (get_or numbers j d) (λ same.
+      let equal = one_key n seen (get_or shapes i d) (get_or shapes j d) (get_or numbers j d) (subst (λ p. IsNumber (content_of n seen) (get_or shapes i d) p) same one) other in
+      omega arith))
+
+  few_numbered : (shapes : List ℕ) → IsStrictlyIncreasing shapes → AllByRecursion (λ shape. (p : ℕ) × IsNumber (content_of n seen) shape p) shapes → length shapes ≤ n
+  few_numbered shapes rises each =
+      let numbers = numbers_for (content_of n seen) shapes each in
+      let long = length_all_zip (IsNumber (content_of n seen)) shapes numbers.0 numbers.1 in
+      let few = length-le_from_distinct_below numbers.0 n (numbers_apart shapes numbers.0 rises numbers.1)
+      (λ q any. below_any numbers.0 n q (numbers_below shapes numbers.0 numbers.1) any) in
+      omega arith
+
+  shapes_numbered : (rest : List Entry) → AllByRecursion (λ (entry : Entry). (p : ℕ) × IsNumber (content_of n seen) entry.shape p) rest →
+      AllByRecursion (λ shape. (p : ℕ) × IsNumber (content_of n seen) shape p) (shapes_of rest)
+  shapes_numbered [] each = tt
+  shapes_numbered (entry ∷ rest) each = (each.0, shapes_numbered rest each.1)
+
+-- each pattern of that dictionary has a number, and there are at most n
+pub numbered : (n : ℕ) (seen : List Happened) (kinds : Kinds) (games : ℕ) (shares : List Held) (contents : Contents) → IsLegal n seen → Stand n seen (all_rows shares) →
+    IsGathered kinds games shares contents →
+    ((entry : Entry) → Contains contents.entries entry → (p : ℕ) × IsNumber (content_of n seen) entry.shape p) × (length contents.entries ≤ n)
+numbered n seen kinds games shares contents legal stand gathered =
+    let entries = contents.entries in
+    let rows = all_rows shares in
+    let rises = gathered.dictionary.rises in
+    let found : All (λ (entry : Entry). entry_of entry.shape entries ≡ Some entry) entries =
+    All-from_recursion (λ (entry : Entry). entry_of entry.shape entries ≡ Some entry) entries (each_is_found entries rises) in
+    let each : (entry : Entry) → Contains entries entry → (p : ℕ) × IsNumber (content_of n seen) entry.shape p = λ entry among.
+    let is = All-contains (λ (e : Entry). entry_of e.shape entries ≡ Some e) entries entry found among in
+    let row = some_row rows entry.shape (gathered_some rows entry.shape entry (sym (gathered.entries entry.shape) ∙ is)) in
+    (row.0.number, subst (λ shape. IsNumber (content_of n seen) shape row.0.number) row.2 (stand row.0 row.1)) in
+    let long : length (shapes_of entries) ≡ length entries = length-map entries (λ (entry : Entry). entry.shape) in
+    let all = All-weaker (Contains entries) (λ (entry : Entry). (p : ℕ) × IsNumber (content_of n seen) entry.shape p) each entries (All-contains_itself entries) in
+    let few = few_numbered n seen (shapes_of entries) rises
+    (shapes_numbered n seen entries (recursion_from_All (λ (entry : Entry). (p : ℕ) × IsNumber (content_of n seen) entry.shape p) entries all)) in
+    (each, omega arith)

@@ -1,0 +1,4 @@
+pub mod Additions
+pub mod Drawn
+pub mod Harvested
+pub mod Concluded

@@ -1,0 +1,14 @@
+use Rattle.std.proofs.Common.{◌≡◌, ◌≤◌}
+use Rattle.std.specs.Prelude.{All}
+use Rattle.harvest_core.specs.Crew.{IsCrew, IsHandleOf}
+use Rattle.harvest_core.proofs.threads.fn.Crew.run.scope.Given as goal
+
+-- the workers that were started so far have promised their work
+abbrev pub invariant-loop : goal.invariant-loop
+invariant-loop g l = record {
+  crew : IsCrew g.O.ProbeOrder.exponent l.crew;
+  bytes : l.crew.games.bytes ≡ l.of.bytes.now;
+  kinds : l.crew.bench.kinds ≡ l.of.kinds;
+  few : l.started ≤ l.counter;
+  handles : All (IsHandleOf l.of.bytes.now l.of.kinds) l.handles.items;
+}

@@ -1,0 +1,15 @@
+use Rattle.std.proofs.Common.{◌≡◌, ◌^◌}
+use Rattle.slot_table.specs.Passes.{IsPassOf}
+use Rattle.harvest_core.specs.Working.{IsWorked, IsRefused, HasDrawn}
+use Rattle.harvest_core.proofs.working.work.Given as goal
+
+-- the games so far
+abbrev pub invariant-loop : goal.invariant-loop
+invariant-loop g l =
+    record {
+      pass : IsPassOf (2 ^ g.O.ProbeOrder.exponent l.table.order) l.table l.pass;
+      worked : IsWorked l.fn.desk.bytes l.fn.kinds l.worked.share;
+      refused : IsRefused l.fn.desk.bytes l.fn.kinds l.worked.refused;
+      drawn : HasDrawn l.fn.desk l.worked l.desk;
+      ended : l.desk.ends_drawn ≡ l.fn.desk.ends_drawn;
+    }

@@ -1,0 +1,42 @@
+-- What threads work with.
+use Rattle.std.specs.Prelude.{◌≡◌, ℕ, ◌^◌, List, All, IfNone, IfSome}
+use Rattle.std.specs.declared.thread.PromisedHandle.{PromisedHandle}
+use Rattle.shape_core.specs.declared.words.Kinds.{Kinds}
+use Rattle.slot_table.specs.Passes.{IsPassOf}
+use Rattle.job_core.specs.Rule.{IsInStep}
+use Rattle.harvest_core.specs.declared.threads.Bench.{Bench}
+use Rattle.harvest_core.specs.declared.threads.Crew.{Crew}
+use Rattle.harvest_core.specs.declared.threads.Crop.{Crop}
+use Rattle.harvest_core.specs.declared.threads.WorkOf.{WorkOf}
+use Rattle.harvest_core.specs.declared.reading.Reading.{Reading}
+use Rattle.harvest_core.specs.declared.working.Worked.{Worked}
+use Rattle.harvest_core.specs.Working.{IsWorkOf}
+use Rattle.harvest_core.specs.Reading.{IsReadFault}
+use Rattle.job_core.specs.Games.{HasReadAll}
+
+-- a worker's bench, for this input and these kinds, with a pass of its table
+pub record IsBenchOf {O G : Type 0} (exponent : O → ℕ) (bytes : List ℕ) (kinds : Kinds) (bench : Bench O G) : Type 0 where
+  pub pass : IsPassOf (2 ^ exponent bench.table.now.order) bench.table.now bench.pass
+  pub bytes_are : bench.desk.bytes ≡ bytes
+  pub kinds_are : bench.kinds ≡ kinds
+
+-- what the thread that reads works with: its games are next at its desk
+pub record IsCrew {O G : Type 0} (exponent : O → ℕ) (crew : Crew O G) : Type 0 where
+  pub pass : IsPassOf (2 ^ exponent crew.bench.table.now.order) crew.bench.table.now crew.bench.pass
+  pub step : IsInStep crew.games crew.bench.desk
+
+-- a thread has promised work of this input and these kinds
+abbrev pub IsHandleOf : List ℕ → Kinds → PromisedHandle Worked WorkOf → Type 0
+IsHandleOf bytes kinds handle = (handle.promise.bytes.now ≡ bytes) × (handle.promise.kinds ≡ kinds)
+
+-- what the thread that reads has come to
+pub record IsReadingOf (bytes : List ℕ) (kinds : Kinds) (reading : Reading) : Type 0 where
+  pub worked_is : IsWorkOf bytes kinds reading.worked
+  pub all : IfNone reading.fault (HasReadAll bytes reading.report)
+  pub fault_is : IfSome reading.fault (IsReadFault bytes)
+
+-- what all threads have come to
+pub record IsCrop (bytes : List ℕ) (kinds : Kinds) (crop : Crop) : Type 0 where
+  pub worked_is : All (IsWorkOf bytes kinds) crop.worked.items
+  pub all : IfNone crop.fault (HasReadAll bytes crop.report)
+  pub fault_is : IfSome crop.fault (IsReadFault bytes)

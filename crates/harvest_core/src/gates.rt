@@ -1,0 +1,17 @@
+//! Gates: what is told before each game.
+
+/// What whoever counts a game calls before it. A gate changes no answer.
+pub trait Gate: Sync {
+    /// A worker is about to count a game. Workers are numbered from 1; 0 is the thread that reads.
+    fn at(&self, worker: usize, game: u64);
+}
+
+/// A gate that does nothing.
+#[derive(Clone, Copy, Debug)]
+pub struct FreeGate;
+
+impl Gate for FreeGate {
+    fn at(&self, worker: usize, game: u64) {
+        let _ = (worker, game);
+    }
+}

@@ -1,0 +1,213 @@
+//! What several workers count over one table: the dictionary of an input.
+ghost use Rattle.std.specs.Prelude.{◌≡◌, ◌^◌, [], ℕ, List, All, Contains, IfOk, IfErr};
+ghost use Rattle.shape_core.specs.declared.words.Kinds.{Kinds};
+ghost use Rattle.slot_table.specs.declared.entries.Happened.{Happened};
+ghost use Rattle.slot_table.specs.Passes.{IsPassOf};
+ghost use Rattle.share_core.specs.declared.faults.HarvestFault.TheVariants as fault;
+ghost use Rattle.crossbeam_queue.specs.Passes.{view};
+ghost use Rattle.crossbeam_queue.specs.Passes.{IsPassOf as IsSeatOf};
+ghost use Rattle.job_core.specs.Games.{HasReadAll};
+ghost use Rattle.job_core.specs.Rule.{blank};
+ghost use Rattle.harvest_core.specs.Working.{IsWorked, IsRefusal};
+ghost use Rattle.harvest_core.specs.Crew.{IsCrop};
+ghost use Rattle.harvest_core.specs.Harvest.{IsHarvest, IsHarvestFault, IsHarvestRefused};
+
+use crate::gates::Gate;
+use crate::parting::{Parted, part, worst};
+use crate::threads::{Bench, Crew, Crop};
+use job_core::{Desk, Games, Jobs, Seat, new_queue};
+use probe_core::{Capacity, OddStep, ProbeOrder};
+use shape_core::Kinds;
+use share_core::{HarvestFault, Share, confirm_full, gather};
+use slot_table::{Pass, SlotTable};
+use std::alloc::Global;
+use std::sync::Wait;
+use std::thread::Threads;
+use tally_core::{Counted, Report, Settings};
+
+/// Why a game was not added to a share: where no number was free for a pattern of it, all shares tell whether that is so.
+fn explain<O: ProbeOrder>(
+    table: &SlotTable<O>,
+    pass: &mut Pass<O>,
+    shares: &[Share],
+    refused: HarvestFault,
+) -> HarvestFault
+    requires pass { IsPassOf (2 ^ O.exponent table.now.order) table.now pass.old }
+    ensures pass { IsPassOf (2 ^ O.exponent table.now.order) table.now pass.new }
+    ensures why { (bytes : List ℕ) (kinds : Kinds) → All (IsWorked bytes kinds) shares.now → IsRefusal bytes kinds refused
+        → IsHarvestFault (2 ^ O.exponent table.now.order) bytes kinds pass.new result }
+{
+    match refused {
+        HarvestFault::Full { game, word } => confirm_full(table, pass, shares, game, word),
+        other => other,
+    }
+}
+
+/// The dictionary of all shares, of an input that was read.
+fn count_of<O: ProbeOrder>(
+    alloc: Global,
+    kinds: Kinds,
+    table: &SlotTable<O>,
+    pass: &mut Pass<O>,
+    bytes: &[u8],
+    report: Report,
+    shares: &[Share],
+) -> Result<Counted, HarvestFault>
+    requires pass { IsPassOf (2 ^ O.exponent table.now.order) table.now pass.old }
+    requires read { HasReadAll bytes.now report }
+    requires worked { All (IsWorked bytes.now kinds) shares.now }
+    ensures pass { IsPassOf (2 ^ O.exponent table.now.order) table.now pass.new }
+    ensures harvest { IfOk result (IsHarvest (2 ^ O.exponent table.now.order) pass.new.seen kinds bytes.now) }
+    ensures fault { IfErr result (IsHarvestFault (2 ^ O.exponent table.now.order) bytes.now kinds pass.new) }
+{
+    let _ = bytes;
+    match gather(alloc, table, pass, kinds, report.games, shares) {
+        Ok(dictionary) => Ok(Counted { dictionary, report }),
+        Err(fault) => Err(fault),
+    }
+}
+
+/// The dictionary of all shares, or the fault that is told: of those of the input, of the games that were refused, and of
+/// the shares together, in this order.
+fn conclude<O: ProbeOrder>(
+    alloc: Global,
+    kinds: Kinds,
+    table: &SlotTable<O>,
+    pass: &mut Pass<O>,
+    bytes: &[u8],
+    crop: Crop,
+) -> Result<Counted, HarvestFault>
+    requires pass { IsPassOf (2 ^ O.exponent table.now.order) table.now pass.old }
+    requires crop { IsCrop bytes.now kinds crop }
+    ensures pass { IsPassOf (2 ^ O.exponent table.now.order) table.now pass.new }
+    ensures harvest { IfOk result (IsHarvest (2 ^ O.exponent table.now.order) pass.new.seen kinds bytes.now) }
+    ensures fault { IfErr result (IsHarvestFault (2 ^ O.exponent table.now.order) bytes.now kinds pass.new) }
+{
+    let Crop {
+        worked,
+        report,
+        fault,
+    } = crop;
+    match fault {
+        Some(fault) => return Err(fault),
+        None => (),
+    }
+    let Ok(parted) = part(alloc, worked) else {
+        return Err(HarvestFault::Memory);
+    };
+    let Parted { shares, refusals } = parted;
+    match worst(&refusals) {
+        Some(refused) => Err(explain(table, pass, &shares, refused)),
+        None => count_of(alloc, kinds, table, pass, bytes, report, &shares),
+    }
+}
+
+/// Counts with a queue: the threads draw from it what this thread reads.
+fn count_over<'a, R: Threads + Wait + Sync, O: ProbeOrder, G: Gate>(
+    rt: &R,
+    alloc: Global,
+    settings: Settings,
+    table: &SlotTable<O>,
+    pass: &mut Pass<O>,
+    bytes: &'a [u8],
+    games: Games<'a>,
+    queue: &Jobs<'a>,
+    seat: Seat<'a>,
+    gate: &G,
+) -> Result<Crop, HarvestFault>
+where
+    O: Send + Sync,
+    requires pass { IsPassOf (2 ^ O.exponent table.now.order) table.now pass.old }
+    requires seat { IsSeatOf queue.now seat × (view seat ≡ blank) }
+    requires games { (games.bytes ≡ bytes.now) × (games.report.games ≡ 0) }
+    ensures pass { pass.new ≡ pass.old }
+    ensures crop { IfOk result (IsCrop bytes.now settings.kinds) }
+    ensures fault { IfErr result (λ found. found ≡ fault.Memory) }
+{
+    let bench = Bench {
+        desk: Desk::open(queue, seat, bytes),
+        table,
+        pass: table.split(pass),
+        gate,
+        worker: 0,
+        kinds: settings.kinds(),
+    };
+    let crew = Crew { games, bench };
+    match crew.run(rt, alloc, bytes, usize::from(settings.workers())) {
+        Ok(crop) => Ok(crop),
+        Err(_) => Err(HarvestFault::Memory),
+    }
+}
+
+/// Counts a whole collection by several workers over a table: the dictionary of its games, which are numbered from 0 in
+/// their order, and what its trees are. It is what `count_plain` answers, whatever the table, the gate, the number of
+/// workers and their turns. This project's own.
+///
+/// This thread reads, and counts what the queue has no room for; as many workers as the settings say count what they draw
+/// from it. The slots of the settings are not looked at: those of the table count. The pass must be of the table, which
+/// may have numbers already. It takes memory for a queue of 128 games, for each thread for the largest tree and its record,
+/// the board and the patterns of its games, and for the dictionary.
+///
+/// `HarvestFault::Sgf` comes with S4 where there are more than 2^28 bytes, and then nothing was done to the table; else with
+/// the fault of syntax that stands first. `HarvestFault::Memory` comes where memory was refused or a worker was not
+/// started. `HarvestFault::Full` names a game and one of its patterns for which no number was free, where that is
+/// confirmed: the input has as many other patterns as the table has numbers. `HarvestFault::Missing`, `Twice`, `Stranger`,
+/// `Overflow` and `Marks` come where the workers' shares do not go together; in a table that has numbers of other inputs
+/// `Stranger` may say so in place of `Full`, and `Marks` that a game was marked there before. The first that applies is
+/// told, in this order: want of memory and faults of the input, `Full` of the least game, `Stranger`, `Overflow`, and then
+/// those of `gather`. After each the table keeps the numbers and marks that it got.
+pub fn harvest_on<R: Threads + Wait + Sync, O: ProbeOrder, G: Gate>(
+    rt: &R,
+    alloc: Global,
+    settings: Settings,
+    table: &SlotTable<O>,
+    pass: &mut Pass<O>,
+    bytes: &[u8],
+    gate: &G,
+) -> Result<Counted, HarvestFault>
+where
+    O: Send + Sync,
+    requires pass { IsPassOf (2 ^ O.exponent table.now.order) table.now pass.old }
+    ensures pass { IsPassOf (2 ^ O.exponent table.now.order) table.now pass.new }
+    ensures harvest { IfOk result (IsHarvest (2 ^ O.exponent table.now.order) pass.new.seen settings.kinds bytes.now) }
+    ensures fault { IfErr result (IsHarvestFault (2 ^ O.exponent table.now.order) bytes.now settings.kinds pass.new) }
+{
+    let games = match Games::new(bytes) {
+        Ok(games) => games,
+        Err(fault) => return Err(HarvestFault::of_tally(fault)),
+    };
+    let (queue, seat) = match new_queue(alloc) {
+        Ok(new) => new,
+        Err(fault) => return Err(HarvestFault::of_tally(fault)),
+    };
+    let crop = count_over(
+        rt, alloc, settings, table, pass, bytes, games, &queue, seat, gate,
+    )?;
+    conclude(alloc, settings.kinds(), table, pass, bytes, crop)
+}
+
+/// Counts a whole collection by several workers over a new table of 2^k slots, where the settings have the number of
+/// workers, the exponent k and the kinds of pattern. It is what `count_plain` answers, whatever the gate, the number of
+/// workers and their turns. This project's own.
+///
+/// It takes memory for the table, and what `harvest_on` takes. The faults are those of `harvest_on`.
+pub fn harvest<R: Threads + Wait + Sync, G: Gate>(
+    rt: &R,
+    alloc: Global,
+    settings: Settings,
+    bytes: &[u8],
+    gate: &G,
+) -> Result<Counted, HarvestFault>
+    ensures harvest { IfOk result (λ counted. (seen : List Happened)
+        × IsHarvest (2 ^ settings.k) seen settings.kinds bytes.now counted) }
+    ensures fault { IfErr result (IsHarvestRefused (2 ^ settings.k) bytes.now settings.kinds) }
+{
+    let Some(capacity) = Capacity::new(u32::from(settings.k())) else {
+        return Err(HarvestFault::BadSettings);
+    };
+    let Ok((table, pass)) = SlotTable::new(alloc, OddStep { capacity }) else {
+        return Err(HarvestFault::Memory);
+    };
+    let mut pass = pass;
+    harvest_on(rt, alloc, settings, &table, &mut pass, bytes, gate)
+}

@@ -1,0 +1,248 @@
+//! The thread that reads and the workers beside it.
+ghost use Rattle.std.specs.Prelude.{◌≡◌, ◌^◌, ◌∷◌, [], All, IfOk, IfSome, IfNone, IfErr};
+ghost use Rattle.job_core.specs.Games.{HasReadAll};
+ghost use Rattle.job_core.specs.Rule.{IsInStep};
+ghost use Rattle.slot_table.specs.Passes.{IsPassOf};
+ghost use Rattle.harvest_core.specs.Working.{IsWorkOf};
+ghost use Rattle.harvest_core.specs.Crew.{IsHandleOf, IsReadingOf, IsCrop};
+ghost use Rattle.share_core.specs.declared.faults.HarvestFault.TheVariants as fault;
+
+use crate::gates::Gate;
+use crate::reading::{Reading, close, read_games};
+use crate::working::{Worked, work};
+use job_core::{Desk, Games, new_queue};
+use probe_core::ProbeOrder;
+use shape_core::Kinds;
+use share_core::HarvestFault;
+use slot_table::{Pass, SlotTable};
+use std::alloc::{AllocError, Global};
+use std::sync::Wait;
+use std::thread;
+use std::thread::{Promise, PromisedHandle, Threads};
+use tally_core::Report;
+
+/// What one thread works with: its desk at the queue, the table with a pass, and the gate.
+#[derive(Drop)]
+pub(crate) struct Bench<'q, 'a, 't, O: ProbeOrder, G: Gate> {
+    pub desk: Desk<'q, 'a>,
+    pub table: &'t SlotTable<O>,
+    pub pass: Pass<O>,
+    pub gate: &'t G,
+    pub worker: usize,
+    pub kinds: Kinds,
+}
+
+impl<'q, 'a, 't, O: ProbeOrder, G: Gate> Bench<'q, 'a, 't, O, G> {
+    ghost use Rattle.std.specs.Prelude.{◌≡◌, ◌^◌};
+    ghost use Rattle.slot_table.specs.Passes.{IsPassOf};
+    ghost use Rattle.harvest_core.specs.Working.{IsWorkOf};
+
+    /// Draws and counts to the first end.
+    fn work<R: Wait>(self, rt: &R, alloc: Global) -> Worked
+        requires { IsPassOf (2 ^ O.exponent self.table.now.order) self.table.now self.pass }
+        ensures { IsWorkOf self.entry.desk.bytes self.entry.kinds result }
+    {
+        let Bench {
+            desk,
+            table,
+            pass,
+            gate,
+            worker,
+            kinds,
+        } = self;
+        let mut desk = desk;
+        let mut pass = pass;
+        work(rt, alloc, &mut desk, worker, kinds, table, &mut pass, gate)
+    }
+}
+
+/// What the thread that reads works with: the games of the input, and its own bench.
+#[derive(Drop)]
+pub(crate) struct Crew<'q, 'a, 't, O: ProbeOrder, G: Gate> {
+    pub games: Games<'a>,
+    pub bench: Bench<'q, 'a, 't, O, G>,
+}
+
+impl<'q, 'a, 't, O: ProbeOrder, G: Gate> Crew<'q, 'a, 't, O, G> {
+    ghost use Rattle.std.specs.Prelude.{◌≡◌, ◌^◌, [], IfNone, IfSome};
+    ghost use Rattle.slot_table.specs.Passes.{IsPassOf};
+    ghost use Rattle.job_core.specs.Games.{HasReadAll};
+    ghost use Rattle.harvest_core.specs.Working.{IsWorkOf};
+    ghost use Rattle.harvest_core.specs.Reading.{IsReadFault};
+    ghost use Rattle.harvest_core.specs.Crew.{IsCrew, IsBenchOf};
+
+    /// A bench for a worker, beside this one.
+    fn another(&mut self, worker: usize) -> Bench<'q, 'a, 't, O, G>
+        requires { IsCrew O.exponent self.old }
+        ensures same { IsCrew O.exponent self.new × (self.new.games.bytes ≡ self.old.games.bytes)
+            × (self.new.bench.kinds ≡ self.old.bench.kinds) }
+        ensures theirs { IsBenchOf O.exponent self.old.games.bytes self.old.bench.kinds result }
+    {
+        Bench {
+            desk: self.bench.desk.another(),
+            table: self.bench.table,
+            pass: self.bench.table.split(&mut self.bench.pass),
+            gate: self.bench.gate,
+            worker,
+            kinds: self.bench.kinds,
+        }
+    }
+
+    /// Reads all games, beside so many workers.
+    fn read<R: Wait>(self, rt: &R, alloc: Global, workers: usize) -> Reading
+        requires { IsCrew O.exponent self }
+        ensures worked { IsWorkOf self.entry.games.bytes self.entry.bench.kinds result.worked }
+        ensures all { IfNone result.fault (HasReadAll self.entry.games.bytes result.report) }
+        ensures fault { IfSome result.fault (IsReadFault self.entry.games.bytes) }
+    {
+        let Crew { games, bench } = self;
+        let Bench {
+            desk,
+            table,
+            pass,
+            gate,
+            worker: _,
+            kinds,
+        } = bench;
+        let mut pass = pass;
+        read_games(
+            rt, alloc, games, desk, kinds, table, &mut pass, gate, workers,
+        )
+    }
+}
+
+/// Of which input and kinds a worker's result is.
+#[derive(Clone, Copy)]
+struct WorkOf<'a> {
+    bytes: &'a [u8],
+    kinds: Kinds,
+}
+
+impl<'a> Promise<Worked> for WorkOf<'a> {
+    ghost use Rattle.harvest_core.specs.Working.{IsWorkOf};
+
+    ghost kept_by = { λ p r. IsWorkOf p.bytes.now p.kinds r };
+}
+
+/// What all threads came to.
+#[derive(Drop)]
+pub(crate) struct Crop {
+    pub worked: Vec<Worked>,
+    pub report: Report,
+    pub fault: Option<HarvestFault>,
+}
+
+/// Waits for all workers, and takes what they hand back.
+fn theirs<'a, R: Threads>(
+    rt: &R,
+    of: WorkOf<'a>,
+    handles: Vec<PromisedHandle<Worked, WorkOf<'a>>>,
+) -> Result<Vec<Worked>, AllocError>
+    requires { All (IsHandleOf of.bytes.now of.kinds) handles.items }
+    ensures { IfOk result (λ all. All (IsWorkOf of.entry.bytes.now of.entry.kinds) all.items) }
+{
+    Ok(thread::join_promised(rt, handles)?)
+}
+
+/// Waits for all workers, and puts what the thread that reads has come to beside what they hand back.
+fn joined<'a, R: Threads>(
+    rt: &R,
+    of: WorkOf<'a>,
+    own: Reading,
+    handles: Vec<PromisedHandle<Worked, WorkOf<'a>>>,
+) -> Result<Crop, AllocError>
+    requires handles { All (IsHandleOf of.bytes.now of.kinds) handles.items }
+    requires own { IsReadingOf of.bytes.now of.kinds own }
+    ensures { IfOk result (IsCrop of.entry.bytes.now of.entry.kinds) }
+{
+    let mut worked = theirs(rt, of, handles)?;
+    let Reading {
+        worked: mine,
+        report,
+        fault,
+    } = own;
+    worked.push(mine)?;
+    Ok(Crop {
+        worked,
+        report,
+        fault,
+    })
+}
+
+impl<'q, 'a, 't, O: ProbeOrder, G: Gate> Crew<'q, 'a, 't, O, G> {
+    ghost use Rattle.std.specs.Prelude.{◌≡◌, ◌^◌, IfOk};
+    ghost use Rattle.slot_table.specs.Passes.{IsPassOf};
+    ghost use Rattle.harvest_core.specs.Working.{IsWorkOf};
+    ghost use Rattle.harvest_core.specs.Crew.{IsCrew, IsReadingOf, IsCrop};
+
+    /// Reads all games beside the workers that were started. Where these are fewer than were asked for, that is want of
+    /// memory, and nothing is read: the workers are told to end.
+    fn finish<R: Wait>(self, rt: &R, alloc: Global, started: usize, asked: usize) -> Reading
+        requires { IsCrew O.exponent self }
+        ensures { IsReadingOf self.entry.games.bytes self.entry.bench.kinds result }
+    {
+        if started == asked {
+            return self.read(rt, alloc, started);
+        }
+        let Crew { games, bench } = self;
+        let mut desk = bench.desk;
+        close(rt, &mut desk, started);
+        Reading {
+            worked: Worked::begin(alloc, 0, bench.kinds),
+            report: games.report(),
+            fault: Some(HarvestFault::Memory),
+        }
+    }
+
+    /// Starts workers, reads all games, and waits for the workers.
+    pub(crate) fn run<R: Threads + Wait + Sync>(
+        self,
+        rt: &R,
+        alloc: Global,
+        bytes: &'a [u8],
+        workers: usize,
+    ) -> Result<Crop, AllocError>
+    where
+        O: Send + Sync,
+        requires crew { IsCrew O.exponent self }
+        requires bytes { self.games.bytes ≡ bytes.now }
+        ensures { IfOk result (IsCrop bytes.now self.entry.bench.kinds) }
+    {
+        let crew = self;
+        let of = WorkOf {
+            bytes,
+            kinds: crew.bench.kinds,
+        };
+        thread::scope(
+            thread::scope_env(),
+            rt,
+            move |scope| -> Result<Crop, AllocError>
+                requires { IsCrew O.exponent crew × (crew.games.bytes ≡ of.bytes.now) × (crew.bench.kinds ≡ of.kinds) }
+                ensures { IfOk result (IsCrop of.entry.bytes.now of.entry.kinds) }
+            {
+                let mut crew = crew;
+                let mut started = 0;
+                let mut handles = Vec::new(alloc);
+                for _ in 0..workers {
+                    if handles.reserve(1).is_err() {
+                        break;
+                    }
+                    let bench = crew.another(started + 1);
+                    let worker = move || -> Worked
+                        requires { IsPassOf (2 ^ O.exponent bench.table.now.order) bench.table.now bench.pass }
+                        ensures { IsWorkOf bench.entry.desk.bytes bench.entry.kinds result }
+                    { bench.work(rt, alloc) };
+                    match scope.spawn_with(of, worker) {
+                        Ok(handle) => {
+                            handles.push_reserved(handle);
+                            started += 1;
+                        }
+                        Err(_refused) => break,
+                    }
+                }
+                let own = crew.finish(rt, alloc, started, workers);
+                joined(rt, of, own, handles)
+            },
+        )
+    }
+}
