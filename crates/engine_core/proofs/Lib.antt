@@ -4,3 +4,4 @@ pub mod Finals
 pub mod Runs
 pub mod Found
 pub mod Joined
+pub mod Causes

@@ -4,9 +4,10 @@ use Rattle.shape_core.specs.declared.words.Kinds.{Kinds}
 use Rattle.shape_dict.specs.declared.entries.Text.{Text}
 use Rattle.shape_dict.specs.Text.{text_of}
 use Rattle.shape_dict.specs.declared.faults.DictFault.TheVariants as dict_fault
-use Rattle.tally_core.specs.Counted.{IsCounted, IsCountFault}
+use Rattle.tally_core.specs.Counted.{IsCounted}
 use Rattle.tally_core.specs.declared.collections.Counted.{Counted}
 use Rattle.tally_core.specs.declared.collections.Report.{Report}
+use Rattle.harvest_core.specs.Harvest.{IsHarvestRefused}
 use Rattle.engine_core.specs.declared.faults.RunFault.{RunFault}
 use Rattle.engine_core.specs.declared.faults.RunFault.TheVariants as fault
 
@@ -20,16 +21,16 @@ pub record IsCountText (kinds : Kinds) (kind : Text) (report : Report) (input te
 abbrev pub HasCountText : Kinds → Text → List ℕ → List ℕ → Type 0
 HasCountText kinds kind input text = (report : Report) × IsCountText kinds kind report input text
 
--- the collection cannot be read, or memory was wanting
-abbrev pub IsCountRunFault : List ℕ → RunFault → Type 0
-IsCountRunFault input (fault.Harvest found) = IsCountFault input found
-IsCountRunFault input (fault.Dict n dict_fault.Memory) = n ≡ 1
-IsCountRunFault input (fault.Dict n found) = ⊥
-IsCountRunFault input fault.Memory = Unit {0}
-IsCountRunFault input (fault.Sgf found) = ⊥
-IsCountRunFault input (fault.Record found) = ⊥
-IsCountRunFault input (fault.Board found) = ⊥
-IsCountRunFault input (fault.Glyph found) = ⊥
-IsCountRunFault input fault.Usage = ⊥
-IsCountRunFault input fault.Read = ⊥
-IsCountRunFault input (fault.Write written) = ⊥
+-- the collection was not counted over a table of so many slots, or memory was wanting for the text
+abbrev pub IsCountRunFault : ℕ → Kinds → List ℕ → RunFault → Type 0
+IsCountRunFault slots kinds input (fault.Harvest found) = IsHarvestRefused slots input kinds found
+IsCountRunFault slots kinds input (fault.Dict n dict_fault.Memory) = n ≡ 1
+IsCountRunFault slots kinds input (fault.Dict n found) = ⊥
+IsCountRunFault slots kinds input fault.Memory = Unit {0}
+IsCountRunFault slots kinds input (fault.Sgf found) = ⊥
+IsCountRunFault slots kinds input (fault.Record found) = ⊥
+IsCountRunFault slots kinds input (fault.Board found) = ⊥
+IsCountRunFault slots kinds input (fault.Glyph found) = ⊥
+IsCountRunFault slots kinds input fault.Usage = ⊥
+IsCountRunFault slots kinds input fault.Read = ⊥
+IsCountRunFault slots kinds input (fault.Write written) = ⊥

@@ -1,8 +1,8 @@
--- The exit status of a fault: 2 usage, 3 input refused, 5 no memory, 6 read or write failed.
+-- The exit status of a fault: 2 usage, 3 input refused, 4 table full, 5 no memory, 6 read or write failed.
 use Rattle.std.specs.Prelude.{ℕ}
 use Rattle.sgf_core.specs.declared.faults.SgfFault.TheVariants as sgf
 use Rattle.go_record.specs.declared.faults.RecordFault.TheVariants as record_fault
-use Rattle.tally_core.specs.declared.faults.HarvestFault.TheVariants as harvest_fault
+use Rattle.share_core.specs.declared.faults.HarvestFault.TheVariants as harvest_fault
 use Rattle.shape_dict.specs.declared.faults.DictFault.TheVariants as dict_fault
 use Rattle.engine_core.specs.declared.faults.RunFault.{RunFault}
 use Rattle.engine_core.specs.declared.faults.RunFault.TheVariants as fault
@@ -15,6 +15,7 @@ status_of (fault.Record found) = 3
 status_of (fault.Board found) = 5
 status_of (fault.Glyph found) = 2
 status_of (fault.Harvest harvest_fault.BadSettings) = 2
+status_of (fault.Harvest (harvest_fault.Full game word)) = 4
 status_of (fault.Harvest harvest_fault.Memory) = 5
 status_of (fault.Harvest (harvest_fault.Sgf sgf.Memory)) = 5
 status_of (fault.Harvest found) = 3

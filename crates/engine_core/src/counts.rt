@@ -1,28 +1,31 @@
 //! `count`: from the bytes of a collection to a text of the dictionary of its games.
-ghost use Rattle.std.specs.Prelude.{IfOk, IfErr};
+ghost use Rattle.std.specs.Prelude.{◌^◌, IfOk, IfErr};
 ghost use Rattle.engine_core.specs.Counts.{IsCountText, HasCountText, IsCountRunFault};
 ghost use Rattle.engine_core.specs.Runs.{Wrote, IsRunFault};
 
 use crate::faults::RunFault;
 use crate::input::read_input;
 use crate::output::write_output;
-use shape_core::Kinds;
+use harvest_core::{FreeGate, harvest};
 use shape_dict::Text;
 use std::alloc::Global;
 use std::io::{Read, Write};
-use tally_core::{Report, Settings, count_plain};
+use std::sync::Wait;
+use std::thread::Threads;
+use tally_core::{Report, Settings};
 
 /// The text of the dictionary of the input's games, and how many trees it has of each sort.
-fn counted_text(
+fn counted_text<T: Threads + Wait + Sync>(
+    rt: &T,
     alloc: Global,
-    kinds: Kinds,
+    settings: Settings,
     kind: Text,
     input: &[u8],
 ) -> Result<(Vec<u8>, Report), RunFault>
-    ensures text { IfOk result (λ p. IsCountText kinds kind p.1 input.now p.0.items) }
-    ensures fault { IfErr result (IsCountRunFault input.now) }
+    ensures text { IfOk result (λ p. IsCountText settings.kinds kind p.1 input.now p.0.items) }
+    ensures fault { IfErr result (IsCountRunFault (2 ^ settings.k) settings.kinds input.now) }
 {
-    let counted = match count_plain(alloc, kinds, input) {
+    let counted = match harvest(rt, alloc, settings, input, &FreeGate) {
         Ok(counted) => counted,
         Err(fault) => return Err(RunFault::Harvest(fault)),
     };
@@ -35,16 +38,19 @@ fn counted_text(
 
 /// Reads a collection and writes a text of the dictionary of its games; the answer is how many trees it has of each sort.
 /// The kinds of pattern that are counted are those of the settings: where diamonds are not counted, texts 2 and 3 say so,
-/// and text 1 is that of the squares. Everything is counted on the calling thread, whatever the settings' workers and slots.
-/// It takes memory for the input, the largest tree and its record, the board, each pattern, and the text.
+/// and text 1 is that of the squares. This thread reads, and as many workers as the settings say count. They number the
+/// patterns in one table of 2^k slots; the text is the same whatever the settings' workers. It takes memory for the input,
+/// the table, and for each thread for the largest tree and its record, the board, and each pattern; and for the text.
 ///
 /// # Errors
 ///
-/// `Harvest` with the collection's first fault of syntax (S1 to S3), with S4 where it has more than 2^28 bytes, or with F6
-/// where memory for counting was refused; `Dict` with X6 where memory for the text was refused, `Memory` where that for
-/// the input was; `Read` where the reader failed. Nothing is written then. `Write` where the writer failed: exactly so
-/// many bytes of the text are out.
-pub fn run_count<R: Read, W: Write>(
+/// `Harvest` with the collection's first fault of syntax (S1 to S3), with S4 where it has more than 2^28 bytes, with F1
+/// where it has more patterns than the table has slots, or with F6 where memory for counting was refused or a thread was
+/// not started; with F2 to F4, F8 or F9 where the workers' shares do not go together, which is looked at and never met.
+/// `Dict` with X6 where memory for the text was refused, `Memory` where that for the input was; `Read` where the reader
+/// failed. Nothing is written then. `Write` where the writer failed: exactly so many bytes of the text are out.
+pub fn run_count<T: Threads + Wait + Sync, R: Read, W: Write>(
+    rt: &T,
     alloc: Global,
     settings: Settings,
     kind: Text,
@@ -52,10 +58,11 @@ pub fn run_count<R: Read, W: Write>(
     writer: &mut W,
 ) -> Result<Report, RunFault>
     ensures done { IfOk result (λ report. Wrote (IsCountText settings.kinds kind report) (R.remaining reader.old) (W.contents writer.old) (W.contents writer.new)) }
-    ensures fault { IfErr result (IsRunFault (HasCountText settings.kinds kind) IsCountRunFault (R.remaining reader.old) (W.contents writer.old) (W.contents writer.new)) }
+    ensures fault { IfErr result (IsRunFault (HasCountText settings.kinds kind) (IsCountRunFault (2 ^ settings.k) settings.kinds)
+        (R.remaining reader.old) (W.contents writer.old) (W.contents writer.new)) }
 {
     let input = read_input(alloc, reader)?;
-    let (text, report) = counted_text(alloc, settings.kinds(), kind, &input)?;
+    let (text, report) = counted_text(rt, alloc, settings, kind, &input)?;
     write_output(writer, &text)?;
     Ok(report)
 }

@@ -7,8 +7,8 @@ use go_record::RecordFault;
 use sgf_core::SgfFault;
 use shape_core::GlyphFault;
 use shape_dict::DictFault;
+use share_core::HarvestFault;
 use std::fmt;
-use tally_core::HarvestFault;
 use thiserror::Error;
 
 /// Why a run ended without its answer. The text is what stands on standard error behind `shapes: `.
@@ -63,7 +63,7 @@ impl fmt::Display for DictLine {
     }
 }
 
-/// The exit status of a fault: 2 usage, 3 input refused, 5 no memory, 6 read or write failed.
+/// The exit status of a fault: 2 usage, 3 input refused, 4 table full, 5 no memory, 6 read or write failed.
 pub fn status_of(fault: &RunFault) -> u8
     ensures { result ≡ status_of fault.now }
 {
@@ -80,8 +80,16 @@ pub fn status_of(fault: &RunFault) -> u8
         | RunFault::Memory => 5,
         RunFault::Sgf(_)
         | RunFault::Record(_)
-        | RunFault::Harvest(HarvestFault::Sgf(_) | HarvestFault::Overflow)
+        | RunFault::Harvest(
+            HarvestFault::Sgf(_)
+            | HarvestFault::Missing(_)
+            | HarvestFault::Twice(_)
+            | HarvestFault::Stranger { .. }
+            | HarvestFault::Marks { .. }
+            | HarvestFault::Overflow,
+        )
         | RunFault::Dict { .. } => 3,
+        RunFault::Harvest(HarvestFault::Full { .. }) => 4,
         RunFault::Glyph(_) | RunFault::Harvest(HarvestFault::BadSettings) | RunFault::Usage => 2,
         RunFault::Read | RunFault::Write { .. } => 6,
     }

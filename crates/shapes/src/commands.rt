@@ -17,7 +17,8 @@ Examples:
   shapes find '###########X.############' white < games.dict
   cat a.dict b.dict | shapes join > all.dict
 
-Exit status: 0 done, 1 not found, 2 wrong words, 3 input refused, 5 no memory, 6 a read or a write
+Exit status: 0 done, 1 not found, 2 wrong words, 3 input refused, 4 more patterns than the table
+has room for, 5 no memory, 6 a read or a write
 failed";
 
 /// What stands at the end of the help of `count`.
@@ -27,7 +28,8 @@ move, how often that point was then played, and in text 3 the first game that ha
 error says how many trees were games, were of other games, and were refused for a fault in their
 record. A fault of syntax anywhere refuses the whole input.
 
-Exit status: 0 done, 2 wrong words, 3 input refused, 5 no memory, 6 a read or a write failed";
+Exit status: 0 done, 2 wrong words, 3 input refused, 4 more patterns than the table has room for,
+5 no memory, 6 a read or a write failed";
 
 /// What stands at the end of the help of `find`.
 const FIND_NOTES: &str =
@@ -75,7 +77,7 @@ fn workers_argument<'a>(alloc: Global) -> Arg<'a>
         .value_name("W")
         .value_parser(value_parser!(u8).range(1..=64))
         .default_value("4")
-        .help("From 1 to 64; one thread counts, whatever is given")
+        .help("How many threads count, from 1 to 64; the text is the same for any number")
 }
 
 fn bits_argument<'a>(alloc: Global) -> Arg<'a>
@@ -87,7 +89,7 @@ fn bits_argument<'a>(alloc: Global) -> Arg<'a>
         .value_name("K")
         .value_parser(value_parser!(u8).range(0..=22))
         .default_value("20")
-        .help("From 0 to 22; one thread counts any number of patterns, whatever is given")
+        .help("There is room for 2 to the power of this many patterns, from 0 to 22")
 }
 
 fn count_command<'a>(alloc: Global) -> Result<Command<'a>, AllocError>

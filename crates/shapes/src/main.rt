@@ -9,6 +9,8 @@ use engine_core::{
 };
 use std::io::ErrorKind;
 use std::process::ExitCode;
+use std::sync::Wait;
+use std::thread::Threads;
 use std::{env, io};
 use words::{Task, read_words};
 
@@ -28,12 +30,14 @@ fn own_words(rt: &HostRuntime) -> Result<Vec<String>, RunFault> {
         .map_err(|_| RunFault::Memory)
 }
 
-fn run(rt: &HostRuntime) -> Result<Outcome, RunFault> {
+/// Does what the words say. The threads that count are started through `threads`.
+fn run<T: Threads + Wait + Sync>(rt: &HostRuntime, threads: &T) -> Result<Outcome, RunFault> {
     let words = own_words(rt)?;
     match read_words(rt.alloc(), &words)? {
         Task::Board => run_board(rt.alloc(), &mut rt.stdin(), &mut rt.stdout()),
         Task::Count(settings, kind) => {
             let report = run_count(
+                threads,
                 rt.alloc(),
                 settings,
                 kind,
@@ -57,7 +61,7 @@ fn run(rt: &HostRuntime) -> Result<Outcome, RunFault> {
 }
 
 fn main(rt: HostRuntime) -> ExitCode {
-    match run(&rt) {
+    match run(&rt, &rt) {
         Ok(Outcome::Done) => ExitCode::SUCCESS,
         Ok(Outcome::NotFound) => ExitCode::from(1),
         Err(fault) => {

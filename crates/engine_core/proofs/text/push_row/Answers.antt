@@ -10,7 +10,7 @@ loop-column-preserved c =
     let e = c.columns-column-end.result in
     let k = c.loop-column.column in
     let split = count_from-first e k (omega arith) in
-    piece_moved c.loop-column.text.items c.push.new.text.items (glyph k ∷ []) (map glyph (count_from (k + 1) (e - (k + 1))))
+    piece_moved c.loop-column.text.items c.push.new.self.items (glyph k ∷ []) (map glyph (count_from (k + 1) (e - (k + 1))))
     (c.args.text.now.items ++ map glyph (count_from 0 e))
-    (c.in_ok-push.ensures.ok ∙ ap (λ g. c.loop-column.text.items ++ g ∷ []) (c.glyph.ensures ∙ ap glyph_of c.cell.ensures.value))
+    (c.in_ok-push.ensures.items ∙ ap (λ g. c.loop-column.text.items ++ g ∷ []) (c.glyph.ensures ∙ ap glyph_of c.cell.ensures.value))
     (ap (λ columns. c.loop-column.text.items ++ map glyph columns) (sym split) ∙ c.loop-column.invariant)
