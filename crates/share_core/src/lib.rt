@@ -26,3 +26,8 @@ pub use faults::HarvestFault;
 pub use gathering::gather;
 pub use rows::Row;
 pub use shares::Share;
+
+#[cfg(test)]
+mod deal_tests;
+#[cfg(test)]
+mod tests;
