@@ -4,8 +4,8 @@ use go_board::BoardFault;
 use sgf_core::SgfFault;
 use shape_core::GlyphFault;
 use shape_dict::DictFault;
+use share_core::HarvestFault;
 use std::test::Fail;
-use tally_core::HarvestFault;
 
 #[test]
 fn faults_have_lines_and_statuses(rt: HostRuntime) -> Result<(), Fail> {
@@ -22,6 +22,11 @@ fn faults_have_lines_and_statuses(rt: HostRuntime) -> Result<(), Fail> {
             RunFault::Harvest(HarvestFault::BadSettings),
             "F5 bad settings",
             2,
+        ),
+        (
+            RunFault::Harvest(HarvestFault::Missing(3)),
+            "F2 missing game 3",
+            3,
         ),
         (RunFault::Harvest(HarvestFault::Memory), "F6 no memory", 5),
         (
