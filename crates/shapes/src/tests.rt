@@ -21,9 +21,9 @@ fn assert_fault(
     words: &[&str],
     wanted: RunFault,
 ) -> Result<(), Fail> {
-    match task(alloc, words)? {
+    match &task(alloc, words)? {
         Ok(_) => assert!(rt; false),
-        Err(found) => assert!(rt; found == wanted),
+        Err(found) => assert!(rt; *found == wanted),
     }
     Ok(())
 }
