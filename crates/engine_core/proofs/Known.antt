@@ -36,7 +36,7 @@ read_last a b c xs room count n h k none e l =
     subst (λ ys. IfSome a (λ all. ys ≡ take n all)) (append-nil xs)
     (read_to_end a c (xs ++ []) n (consumed_more a b c xs [] h last) e (rw append-nil l))
 
--- so many bytes more of a text were written
+-- the given number of further bytes of a text was written
 pub written_more : (a b c : Option (List ℕ)) (text : List ℕ) (at n : ℕ) → Appends a b (take at text) → Appends b c (take n (take (length text - at) (drop at text))) → Appends a c (take (at + n) text)
 written_more a b c text at n h k =
     let rest : take (length text - at) (drop at text) ≡ drop at text = take_all (length text - at) (drop at text) (rw length-drop (omega arith)) in

@@ -25,7 +25,7 @@ glyph_of stone.Empty = 46
 glyph_of stone.Black = 88
 glyph_of stone.White = 79
 
--- so many numbers, from a first one on
+-- n numbers, from a first one on
 abbrev pub count_from : ℕ → ℕ → List ℕ
 count_from first zero = []
 count_from first (suc n) = first ∷ count_from (suc first) n

@@ -21,7 +21,7 @@ pub record IsCountText (kinds : Kinds) (kind : Text) (report : Report) (input te
 abbrev pub HasCountText : Kinds → Text → List ℕ → List ℕ → Type 0
 HasCountText kinds kind input text = (report : Report) × IsCountText kinds kind report input text
 
--- the collection was not counted over a table of so many slots, or memory was wanting for the text
+-- the collection was not counted over a table of n slots, or memory was wanting for the text
 abbrev pub IsCountRunFault : ℕ → Kinds → List ℕ → RunFault → Type 0
 IsCountRunFault slots kinds input (fault.Harvest found) = IsHarvestRefused slots input kinds found
 IsCountRunFault slots kinds input (fault.Dict n dict_fault.Memory) = n ≡ 1

@@ -10,7 +10,7 @@ use Rattle.shape_dict.specs.declared.faults.DictFault.TheVariants as dict_fault
 use Rattle.engine_core.specs.declared.faults.RunFault.{RunFault}
 use Rattle.engine_core.specs.declared.faults.RunFault.TheVariants as fault
 
--- the bytes begin with a text of this dictionary, of so many bytes
+-- the bytes begin with a text of this dictionary, of this length in bytes
 pub record IsNextText (bytes : List ℕ) (count : ℕ) (next : Contents) : Type 0 where
   pub within : count ≤ length bytes
   pub is_text : IsTextOf next (take count bytes)
@@ -35,7 +35,7 @@ abbrev pub IsJoinOf : Contents → List Contents → Contents → Type 0
 IsJoinOf first [] sum = sum ≡ first
 IsJoinOf first (next ∷ others) sum = (both : Contents) × IsJoin first next both × IsJoinOf both others sum
 
--- the bytes are texts of so many dictionaries, at least one, and this is their join
+-- the bytes are texts of this number of dictionaries, at least one, and this is their join
 pub record IsJoinedText (bytes : List ℕ) (number : ℕ) (sum : Contents) : Type 0 where
   pub first : Contents
   pub others : List Contents
@@ -51,7 +51,7 @@ pub record IsJoinText (kind : Text) (input text : List ℕ) : Type 0 where
   pub joined : IsJoinedText input number sum
   pub printed : text ≡ text_of kind sum
 
--- so many dictionaries were read and joined: none at the front of the input, or some of which bytes are left
+-- this number of dictionaries was read and joined: none at the front of the input, or some, after which bytes are left
 abbrev pub WereJoined : ℕ → List ℕ → List ℕ → Type 0
 WereJoined zero read left = read ≡ []
 WereJoined (suc n) read left = (sum : Contents) × IsJoinedText read (suc n) sum × (left ≢ [])

@@ -1,7 +1,8 @@
 //! `board`: from the bytes of a collection to the final position of its first game.
 ghost use Rattle.std.specs.Prelude.{◌≡◌, ◌⊎◌, Ok, IfOk, IfErr, IfSome, IfNone};
 ghost use Rattle.std.specs.Io.KnownBytes.{Keeps};
-ghost use Rattle.engine_core.specs.Boards.{position_text, IsFinal, IsBoardText, HasNoBoard, IsBoardFault};
+ghost use Rattle.engine_core.specs.Boards.{position_text, IsFinal, IsBoardText, HasNoBoard};
+ghost use Rattle.engine_core.specs.Boards.{IsBoardFault};
 ghost use Rattle.engine_core.specs.Runs.{Wrote, IsRunFault, input_of};
 ghost use Rattle.go_board.specs.Position.{Position};
 ghost use Rattle.go_board.specs.declared.faults.BoardFault.TheVariants as board_fault;
@@ -29,7 +30,8 @@ pub enum Outcome {
 fn final_text(alloc: Global, replayed: &Record) -> Result<Vec<u8>, RunFault>
     ensures text { IfOk result (λ text. (final : Position) × IsFinal replayed.now final
         × (text.items ≡ position_text replayed.now.size final)) }
-    ensures fault { IfErr result (λ found. (found ≡ fault.Memory) ⊎ (found ≡ fault.Board board_fault.Memory)) }
+    ensures fault { IfErr result (λ found. (found ≡ fault.Memory)
+        ⊎ (found ≡ fault.Board board_fault.Memory)) }
 {
     let mut board = match Board::new(alloc, replayed.size()) {
         Ok(board) => board,
@@ -69,16 +71,21 @@ fn first_text(alloc: Global, input: &[u8]) -> Result<Option<Vec<u8>>, RunFault>
 ///
 /// The fault of the collection (S1 to S5), of the record (G1 to G4) or of the board (B1), `Read` where the reader failed,
 /// `Memory` where memory for the input or the text was refused: nothing is written then. `Write` where the writer failed:
-/// exactly so many bytes of the text are out.
+/// exactly that number of bytes of the text is out.
 pub fn run_board<R: Read, W: Write>(
     alloc: Global,
     reader: &mut R,
     writer: &mut W,
 ) -> Result<Outcome, RunFault>
-    ensures done { IfOk result (λ found. found ≡ outcome.Done → Wrote IsBoardText (R.remaining reader.old) (W.contents writer.old) (W.contents writer.new)) }
-    ensures not_found { IfOk result (λ found. found ≡ outcome.NotFound → IfSome (R.remaining reader.old) (λ all. HasNoBoard (input_of all))) }
-    ensures nothing { IfOk result (λ found. found ≡ outcome.NotFound → Keeps (W.contents writer.old) (W.contents writer.new)) }
-    ensures fault { IfErr result (IsRunFault IsBoardText IsBoardFault (R.remaining reader.old) (W.contents writer.old) (W.contents writer.new)) }
+    ensures done { IfOk result (λ found. found ≡ outcome.Done
+        → Wrote IsBoardText (R.remaining reader.old) (W.contents writer.old)
+        (W.contents writer.new)) }
+    ensures not_found { IfOk result (λ found. found ≡ outcome.NotFound
+        → IfSome (R.remaining reader.old) (λ all. HasNoBoard (input_of all))) }
+    ensures nothing { IfOk result (λ found. found ≡ outcome.NotFound
+        → Keeps (W.contents writer.old) (W.contents writer.new)) }
+    ensures fault { IfErr result (IsRunFault IsBoardText IsBoardFault (R.remaining reader.old)
+        (W.contents writer.old) (W.contents writer.new)) }
 {
     let input = read_input(alloc, reader)?;
     let Some(text) = first_text(alloc, &input)? else {

@@ -48,7 +48,7 @@ fn counted_text<T: Threads + Wait + Sync>(
 /// where it has more patterns than the table has slots, or with F6 where memory for counting was refused or a thread was
 /// not started; with F2 to F4, F8 or F9 where the workers' shares do not go together, which is looked at and never met.
 /// `Dict` with X6 where memory for the text was refused, `Memory` where that for the input was; `Read` where the reader
-/// failed. Nothing is written then. `Write` where the writer failed: exactly so many bytes of the text are out.
+/// failed. Nothing is written then. `Write` where the writer failed: exactly that number of bytes of the text is out.
 pub fn run_count<T: Threads + Wait + Sync, R: Read, W: Write>(
     rt: &T,
     alloc: Global,
@@ -57,8 +57,10 @@ pub fn run_count<T: Threads + Wait + Sync, R: Read, W: Write>(
     reader: &mut R,
     writer: &mut W,
 ) -> Result<Report, RunFault>
-    ensures done { IfOk result (λ report. Wrote (IsCountText settings.kinds kind report) (R.remaining reader.old) (W.contents writer.old) (W.contents writer.new)) }
-    ensures fault { IfErr result (IsRunFault (HasCountText settings.kinds kind) (IsCountRunFault (2 ^ settings.k) settings.kinds)
+    ensures done { IfOk result (λ report. Wrote (IsCountText settings.kinds kind report)
+        (R.remaining reader.old) (W.contents writer.old) (W.contents writer.new)) }
+    ensures fault { IfErr result (IsRunFault (HasCountText settings.kinds kind)
+        (IsCountRunFault (2 ^ settings.k) settings.kinds)
         (R.remaining reader.old) (W.contents writer.old) (W.contents writer.new)) }
 {
     let input = read_input(alloc, reader)?;

@@ -11,7 +11,7 @@ use share_core::HarvestFault;
 use std::fmt;
 use thiserror::Error;
 
-/// Why a run ended without its answer. The text is what stands on standard error behind `shapes: `.
+/// Why a run ended without its answer. The text is what stands on standard error after `shapes: `.
 #[derive(Clone, Copy, Debug, PartialEq, Eq, Error)]
 pub enum RunFault {
     /// The collection is not one that can be read.
@@ -38,7 +38,7 @@ pub enum RunFault {
     /// A read of the input failed.
     #[error("I1 read failed")]
     Read,
-    /// A write failed; exactly so many bytes of the text are out.
+    /// A write failed; exactly that number of bytes of the text is out.
     #[error("I2 write failed after {written} bytes")]
     Write { written: usize },
     /// There was no memory for the input, the text or the words of the command line.

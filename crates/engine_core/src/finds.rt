@@ -1,6 +1,7 @@
 //! `find`: the uses of one pattern in a dictionary.
 ghost use Rattle.std.specs.Prelude.{◌≡◌, IfOk, IfErr};
-ghost use Rattle.engine_core.specs.Finds.{IsEntryOf, IsFoundText, IsAbsentText, IsFindText, IsFindFault};
+ghost use Rattle.engine_core.specs.Finds.{IsEntryOf, IsFoundText, IsAbsentText, IsFindText};
+ghost use Rattle.engine_core.specs.Finds.{IsFindFault};
 ghost use Rattle.engine_core.specs.Runs.{Wrote, IsRunFault};
 ghost use Rattle.engine_core.specs.declared.boards.Outcome.TheVariants as outcome;
 
@@ -28,7 +29,8 @@ fn entry_in(alloc: Global, input: &[u8], shape: Shape) -> Result<Option<Entry>, 
 /// The pattern's line in the dictionary whose text the input is, and whether it has the pattern.
 fn answer(alloc: Global, input: &[u8], shape: Shape) -> Result<(Vec<u8>, Outcome), RunFault>
     ensures done { IfOk result (λ p. p.1 ≡ outcome.Done → IsFoundText shape input.now p.0.items) }
-    ensures not_found { IfOk result (λ p. p.1 ≡ outcome.NotFound → IsAbsentText shape input.now p.0.items) }
+    ensures not_found { IfOk result (λ p. p.1 ≡ outcome.NotFound
+        → IsAbsentText shape input.now p.0.items) }
     ensures text { IfOk result (λ p. IsFindText shape input.now p.0.items) }
     ensures fault { IfErr result (IsFindFault input.now) }
 {
@@ -53,7 +55,7 @@ fn answer(alloc: Global, input: &[u8], shape: Shape) -> Result<(Vec<u8>, Outcome
 /// # Errors
 ///
 /// `Dict` with 1 and the first fault of the text (X1 to X6, X8), `Read` where the reader failed, `Memory` where memory for
-/// the input or the line was refused: nothing is written then. `Write` where the writer failed: exactly so many bytes of
+/// the input or the line was refused: nothing is written then. `Write` where the writer failed: exactly that number of bytes of
 /// the line are out.
 pub fn run_find<R: Read, W: Write>(
     alloc: Global,
@@ -61,9 +63,14 @@ pub fn run_find<R: Read, W: Write>(
     reader: &mut R,
     writer: &mut W,
 ) -> Result<Outcome, RunFault>
-    ensures done { IfOk result (λ found. found ≡ outcome.Done → Wrote (IsFoundText shape) (R.remaining reader.old) (W.contents writer.old) (W.contents writer.new)) }
-    ensures not_found { IfOk result (λ found. found ≡ outcome.NotFound → Wrote (IsAbsentText shape) (R.remaining reader.old) (W.contents writer.old) (W.contents writer.new)) }
-    ensures fault { IfErr result (IsRunFault (IsFindText shape) IsFindFault (R.remaining reader.old) (W.contents writer.old) (W.contents writer.new)) }
+    ensures done { IfOk result (λ found. found ≡ outcome.Done
+        → Wrote (IsFoundText shape) (R.remaining reader.old) (W.contents writer.old)
+        (W.contents writer.new)) }
+    ensures not_found { IfOk result (λ found. found ≡ outcome.NotFound
+        → Wrote (IsAbsentText shape) (R.remaining reader.old) (W.contents writer.old)
+        (W.contents writer.new)) }
+    ensures fault { IfErr result (IsRunFault (IsFindText shape) IsFindFault
+        (R.remaining reader.old) (W.contents writer.old) (W.contents writer.new)) }
 {
     let input = read_input(alloc, reader)?;
     let (line, outcome) = answer(alloc, &input, shape)?;

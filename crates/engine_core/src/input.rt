@@ -1,5 +1,6 @@
 //! The whole input, read up to one byte more than a run may have.
-ghost use Rattle.std.specs.Prelude.{◌≡◌, ◌+◌, ◌^◌, ◌<◌, ◌≤◌, ℕ, [], ◌++◌, length, take, vec_len, IfOk, IfErr, IfSome, OnOk, MatchResult, ◌⊎◌};
+ghost use Rattle.std.specs.Prelude.{◌≡◌, ◌+◌, ◌^◌, ◌<◌, ◌≤◌, ℕ, [], ◌++◌, length, take, vec_len};
+ghost use Rattle.std.specs.Prelude.{IfOk, IfErr, IfSome, OnOk, MatchResult, ◌⊎◌};
 ghost use Rattle.std.specs.Io.KnownBytes.{Consumes, IsAtEnd};
 ghost use Rattle.engine_core.specs.declared.faults.RunFault.TheVariants as fault;
 ghost use Rattle.engine_core.specs.declared.input.TheConstants.{BLOCK};
@@ -26,8 +27,10 @@ fn new_block(alloc: Global) -> Result<Vec<u8>, RunFault>
 /// One read. No bytes are the end, where there was room for one.
 fn read_some<R: Read>(reader: &mut R, room: &mut [u8]) -> Result<usize, RunFault>
     ensures within { IfOk result (λ count. count ≤ length room.new) }
-    ensures taken { IfOk result (λ count. Consumes (R.remaining reader.old) (R.remaining reader.new) (take count room.new)) }
-    ensures end { IfOk result (λ count. count ≡ 0 → 0 < length room.new → IsAtEnd (R.remaining reader.new)) }
+    ensures taken { IfOk result (λ count. Consumes (R.remaining reader.old)
+        (R.remaining reader.new) (take count room.new)) }
+    ensures end { IfOk result (λ count. count ≡ 0 → 0 < length room.new
+        → IsAtEnd (R.remaining reader.new)) }
     ensures fault { IfErr result (λ found. found ≡ fault.Read) }
 {
     match reader.read(room) {
@@ -54,7 +57,8 @@ fn read_by_block<R: Read>(
 ) -> Result<(), RunFault>
     requires block { length block.old ≡ BLOCK }
     requires none { input.old.items ≡ [] }
-    ensures input { OnOk result (IfSome (R.remaining reader.old) (λ all. input.new.items ≡ take (2 ^ 28 + 1) all)) }
+    ensures input { OnOk result (IfSome (R.remaining reader.old)
+        (λ all. input.new.items ≡ take (2 ^ 28 + 1) all)) }
     ensures fault { IfErr result (λ found. (found ≡ fault.Read) ⊎ (found ≡ fault.Memory)) }
 {
     while input.len() <= MOST {
@@ -71,7 +75,8 @@ fn read_by_block<R: Read>(
 /// The reader's bytes up to its end, or the first 2^28 + 1 of them. Any error of the reader is `Read`, and a read of no
 /// bytes is the end. It takes memory for the bytes and a block more.
 pub fn read_input<R: Read>(alloc: Global, reader: &mut R) -> Result<Vec<u8>, RunFault>
-    ensures input { IfOk result (λ input. IfSome (R.remaining reader.old) (λ all. input.items ≡ take (2 ^ 28 + 1) all)) }
+    ensures input { IfOk result (λ input. IfSome (R.remaining reader.old)
+        (λ all. input.items ≡ take (2 ^ 28 + 1) all)) }
     ensures fault { IfErr result (λ found. (found ≡ fault.Read) ⊎ (found ≡ fault.Memory)) }
 {
     let mut block = new_block(alloc)?;

@@ -1,6 +1,7 @@
 //! `join`: dictionaries read one after another, and their join.
 ghost use Rattle.std.specs.Prelude.{◌≡◌, ◌≤◌, ◌^◌, length, IfOk, IfErr};
-ghost use Rattle.engine_core.specs.Joins.{IsAdded, IsAddFault, IsJoinedText, IsJoinText, IsJoinRunFault};
+ghost use Rattle.engine_core.specs.Joins.{IsAdded, IsAddFault, IsJoinedText, IsJoinText};
+ghost use Rattle.engine_core.specs.Joins.{IsJoinRunFault};
 ghost use Rattle.engine_core.specs.Runs.{Wrote, IsRunFault};
 ghost use Rattle.engine_core.specs.declared.boards.Outcome.TheVariants as outcome;
 
@@ -88,8 +89,11 @@ pub fn run_join<R: Read, W: Write>(
     reader: &mut R,
     writer: &mut W,
 ) -> Result<Outcome, RunFault>
-    ensures done { IfOk result (λ found. (found ≡ outcome.Done) × Wrote (IsJoinText kind) (R.remaining reader.old) (W.contents writer.old) (W.contents writer.new)) }
-    ensures fault { IfErr result (IsRunFault (IsJoinText kind) IsJoinRunFault (R.remaining reader.old) (W.contents writer.old) (W.contents writer.new)) }
+    ensures done { IfOk result (λ found. (found ≡ outcome.Done)
+        × Wrote (IsJoinText kind) (R.remaining reader.old) (W.contents writer.old)
+        (W.contents writer.new)) }
+    ensures fault { IfErr result (IsRunFault (IsJoinText kind) IsJoinRunFault
+        (R.remaining reader.old) (W.contents writer.old) (W.contents writer.new)) }
 {
     let input = read_input(alloc, reader)?;
     let text = joined_text(alloc, kind, &input)?;

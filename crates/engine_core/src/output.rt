@@ -10,7 +10,8 @@ use std::io::Write;
 /// are out. It takes no memory.
 pub fn write_output<W: Write>(writer: &mut W, text: &[u8]) -> Result<(), RunFault>
     ensures whole { OnOk result (Appends (W.contents writer.old) (W.contents writer.new) text.now) }
-    ensures front { IfErr result (WroteFront (W.contents writer.old) (W.contents writer.new) text.now) }
+    ensures front { IfErr result (WroteFront (W.contents writer.old) (W.contents writer.new)
+        text.now) }
 {
     let mut written = 0;
     while written < text.len() {

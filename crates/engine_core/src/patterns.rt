@@ -3,7 +3,8 @@ ghost use Rattle.std.specs.Prelude.{◌≡◌, ◌≢◌, ◌<◌, ◌^◌, IfOk
 ghost use Rattle.go_board.specs.declared.points.Colour.{Colour as Mover};
 ghost use Rattle.shape_core.specs.Glyph.{glyphs_of};
 ghost use Rattle.shape_core.specs.Word.{kind_of};
-ghost use Rattle.engine_core.specs.Patterns.{colour_text, IsPatternOf, IsGlyphFault, IsPatternFault};
+ghost use Rattle.engine_core.specs.Patterns.{colour_text, IsPatternOf, IsGlyphFault};
+ghost use Rattle.engine_core.specs.Patterns.{IsPatternFault};
 
 use crate::faults::RunFault;
 use go_board::Colour;

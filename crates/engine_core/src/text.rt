@@ -21,7 +21,8 @@ fn glyph(stone: Stone) -> u8
 /// Appends the glyphs of a row, and a line feed.
 fn push_row(text: &mut Vec<u8>, board: &Board, row: u8) -> Result<(), AllocError>
     requires { row < board.now.size.rows }
-    ensures { OnOk result (text.new.items ≡ text.old.items ++ row_text board.now.size (position_of board.now) row) }
+    ensures { OnOk result (text.new.items
+        ≡ text.old.items ++ row_text board.now.size (position_of board.now) row) }
 {
     for column in 0..board.size().columns() {
         text.push(glyph(board.cell(Point { column, row })))?;
@@ -32,7 +33,8 @@ fn push_row(text: &mut Vec<u8>, board: &Board, row: u8) -> Result<(), AllocError
 
 /// The rows of the board from the top, each ended by a line feed.
 fn rows_text(alloc: Global, board: &Board) -> Result<Vec<u8>, AllocError>
-    ensures { IfOk result (λ text. text.items ≡ position_text board.now.size (position_of board.now)) }
+    ensures { IfOk result (λ text. text.items
+        ≡ position_text board.now.size (position_of board.now)) }
 {
     let mut text = Vec::new(alloc);
     for row in 0..board.size().rows() {
@@ -43,7 +45,8 @@ fn rows_text(alloc: Global, board: &Board) -> Result<Vec<u8>, AllocError>
 
 /// The text of a board. `RunFault::Memory` comes where memory was refused.
 pub fn board_text(alloc: Global, board: &Board) -> Result<Vec<u8>, RunFault>
-    ensures ok { IfOk result (λ text. text.items ≡ position_text board.now.size (position_of board.now)) }
+    ensures ok { IfOk result (λ text. text.items
+        ≡ position_text board.now.size (position_of board.now)) }
     ensures fault { IfErr result (λ found. found ≡ fault.Memory) }
 {
     match rows_text(alloc, board) {

@@ -31,13 +31,18 @@ impl Model for Board {
 
     ghost Value = { Stones };
 
-    ghost view = { λ b. record { size = b.size; stones = b.stones.items; removed = b.removed.points } };
+    ghost view = { λ b. record {
+      size = b.size;
+      stones = b.stones.items;
+      removed = b.removed.points;
+    } };
 
     ghost invariant = { λ b. IsHeld b.size b.stones.items b.group.size b.removed };
 }
 
 impl Board {
-    ghost use Rattle.std.specs.Prelude.{◌≡◌, ◌≢◌, ◌+◌, ◌⊎◌, ◌↔◌, [], length, Contains, IsTrue, IfOk};
+    ghost use Rattle.std.specs.Prelude.{◌≡◌, ◌≢◌, ◌+◌, ◌⊎◌, ◌↔◌, [], length, Contains, IsTrue};
+    ghost use Rattle.std.specs.Prelude.{IfOk};
     ghost use Rattle.go_board.specs.declared.points.Point.{Point};
     ghost use Rattle.go_board.specs.declared.points.Stone.TheVariants as kind;
     ghost use Rattle.go_board.specs.Point.{IsOn};
@@ -50,7 +55,8 @@ impl Board {
     /// It takes memory for each point of the board. `BoardFault::Memory` comes where memory is refused.
     pub fn new(alloc: Global, size: Size) -> Result<Board, BoardFault>
         ensures size { IfOk result (λ board. board.size ≡ size) }
-        ensures empty { IfOk result (λ board. (q : Point) → IsOn size q → position_of board q ≡ kind.Empty) }
+        ensures empty { IfOk result (λ board. (q : Point) → IsOn size q
+            → position_of board q ≡ kind.Empty) }
         ensures removed { IfOk result (λ board. board.removed ≡ []) }
         ensures board { IfOk result IsBoard }
     {
@@ -104,7 +110,8 @@ impl Board {
     pub fn play(&mut self, colour: Colour, point: Point) -> Played
         requires { IsOn self.old.size point }
         ensures size { self.new.size ≡ self.old.size }
-        ensures position { Plays self.old.size (position_of self.old) colour point (position_of self.new) }
+        ensures position { Plays self.old.size (position_of self.old) colour point
+            (position_of self.new) }
         ensures removed { ListsOnce
             (IsRemoved self.old.size (position_of self.old) colour point (position_of self.new))
             self.new.removed }

@@ -18,9 +18,11 @@ fn visit(size: Size, stones: &[Stone], group: &mut PointSet, stone: Stone, point
     requires board { length stones.now ≡ size.columns * size.rows }
     requires sized { group.old.size ≡ size }
     ensures sized { group.new.size ≡ size }
-    ensures gathers { Gathers size (position_in size stones.now) stone point group.old.points group.new.points }
+    ensures gathers { Gathers size (position_in size stones.now) stone point group.old.points
+        group.new.points }
     ensures liberty { OnTrue result (HasLiberty size (position_in size stones.now) point) }
-    ensures surrounded { OnFalse result (IsSurrounded size (position_in size stones.now) stone group.new.points point) }
+    ensures surrounded { OnFalse result (IsSurrounded size (position_in size stones.now) stone
+        group.new.points point) }
 {
     for next in &neighbours(size, point) {
         if let Some(next) = *next {
@@ -44,7 +46,8 @@ pub(crate) fn is_alive(size: Size, stones: &[Stone], group: &mut PointSet, point
     ensures sized { group.new.size ≡ size }
     ensures alive { IsTrue result ↔ IsAlive size (position_in size stones.now) point }
     ensures group { OnFalse result
-        ((q : Point) → Contains group.new.points q ↔ AreJoined size (position_in size stones.now) point q) }
+        ((q : Point) → Contains group.new.points q ↔ AreJoined size (position_in size stones.now)
+        point q) }
 {
     let stone = stones[size.index(point)];
     group.clear();
@@ -66,9 +69,11 @@ fn remove(size: Size, stones: &mut [Stone], group: &PointSet, removed: &mut Poin
     requires group_sized { group.now.size ≡ size }
     requires removed_sized { removed.old.size ≡ size }
     ensures removed_sized { removed.new.size ≡ size }
-    ensures stones { Removes size (Contains group.now.points) (position_in size stones.old) (position_in size stones.new) }
+    ensures stones { Removes size (Contains group.now.points) (position_in size stones.old)
+        (position_in size stones.new) }
     ensures removed { (q : Point) →
-        Contains removed.new.points q ↔ (Contains removed.old.points q ⊎ Contains group.now.points q) }
+        Contains removed.new.points q ↔ (Contains removed.old.points q
+        ⊎ Contains group.now.points q) }
 {
     for point in group.points() {
         stones[size.index(*point)] = Stone::Empty;
@@ -97,7 +102,8 @@ pub(crate) fn remove_if_dead(
         (position_in size stones.new) }
     ensures removed { (q : Point) →
         Contains removed.new.points q
-        ↔ (Contains removed.old.points q ⊎ IsDead size (position_in size stones.old) stone point q) }
+        ↔ (Contains removed.old.points q
+        ⊎ IsDead size (position_in size stones.old) stone point q) }
 {
     if stones[size.index(point)] == stone && !is_alive(size, stones, group, point) {
         remove(size, stones, group, removed);
@@ -125,7 +131,8 @@ pub(crate) fn capture(
         (position_in size stones.old)
         (position_in size stones.new) }
     ensures removed { (q : Point) →
-        Contains removed.new.points q ↔ IsCaptured size (position_in size stones.old) mover point q }
+        Contains removed.new.points q ↔ IsCaptured size (position_in size stones.old) mover point
+        q }
 {
     let opponent = mover.other().stone();
     for next in &neighbours(size, point) {

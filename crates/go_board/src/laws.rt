@@ -9,7 +9,8 @@ ghost use Rattle.go_board.specs.Play.{Plays};
 
 /// A move makes one position of a position: two that it makes agree at every point of the board.
 pub fn moves_have_one_result()
-    ensures { (size : Extent) (before : Position) (mover : Colour) (at : Point) (first second : Position) →
+    ensures { (size : Extent) (before : Position) (mover : Colour) (at : Point)
+        (first second : Position) →
         IsOn size at →
         Plays size before mover at first →
         Plays size before mover at second →

@@ -24,7 +24,8 @@ impl Model for PointSet {
 }
 
 impl PointSet {
-    ghost use Rattle.std.specs.Prelude.{◌≡◌, ◌*◌, ◌≤◌, ◌<◌, ◌⊎◌, List, [], ◌∷◌, ◌++◌, length, slice_index_or, IfOk, Contains};
+    ghost use Rattle.std.specs.Prelude.{◌≡◌, ◌*◌, ◌≤◌, ◌<◌, ◌⊎◌, List, [], ◌∷◌, ◌++◌, length};
+    ghost use Rattle.std.specs.Prelude.{slice_index_or, IfOk, Contains};
     ghost use Rattle.go_board.specs.Gathered.{Gathered, IsGathered};
     ghost use Rattle.go_board.specs.Point.{IsOn};
 

@@ -17,11 +17,12 @@ pub trait Replayable {
     /// What it keeps beside the board stays as it is: how the first is, the second is too.
     ghost Stays: { Self → Self → Type 0 };
 
-    /// It is as it is.
+    /// `Stays` is reflexive.
     ghost stays: { (board : Self) → Stays board board };
 
-    /// What stays twice, stays.
-    ghost stays_on: { (before between after : Self) → Stays before between → Stays between after → Stays before after };
+    /// `Stays` is transitive.
+    ghost stays_on: { (before between after : Self) → Stays before between
+        → Stays between after → Stays before after };
 
     /// Puts a stone on a point, or empties it, whatever stood there; nothing is captured. The point is on the board. It
     /// takes no memory.
@@ -29,14 +30,16 @@ pub trait Replayable {
         requires { IsOn (board_of self.old).size point }
         ensures size { (board_of self.new).size ≡ (board_of self.old).size }
         ensures position { (q : Point) → IsOn (board_of self.old).size q
-            → position_of (board_of self.new) q ≡ placed (position_of (board_of self.old)) point stone q }
+            → position_of (board_of self.new) q
+            ≡ placed (position_of (board_of self.old)) point stone q }
         ensures stays { Stays self.old self.new };
 
     /// Plays a move by the rule of capture. The point is on the board. It takes no memory.
     fn play_move(&mut self, colour: Colour, point: Point) -> Played
         requires { IsOn (board_of self.old).size point }
         ensures size { (board_of self.new).size ≡ (board_of self.old).size }
-        ensures position { Plays (board_of self.old).size (position_of (board_of self.old)) colour point (position_of (board_of self.new)) }
+        ensures position { Plays (board_of self.old).size (position_of (board_of self.old)) colour
+            point (position_of (board_of self.new)) }
         ensures stays { Stays self.old self.new };
 }
 

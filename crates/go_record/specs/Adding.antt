@@ -1,4 +1,4 @@
--- What is behind the actions so far once more results are added.
+-- What comes after the actions so far once more results are added.
 use Rattle.std.specs.Prelude.{◌≡◌, List, ◌++◌, Option, Result, Ok, Err}
 use Rattle.go_record.specs.declared.actions.Action.{Action}
 use Rattle.go_record.specs.declared.faults.RecordFault.{RecordFault}

@@ -16,7 +16,7 @@ trimmed bytes = reverse (without_white_front (reverse (without_white_front bytes
 abbrev pub is_digit : ℕ → Bool
 is_digit byte = nat_le 48 byte && nat_le byte 57
 
--- the number that decimal digits write behind others, whose number is `before`
+-- the number that decimal digits write after others, whose number is `before`
 abbrev pub digits_after : ℕ → List ℕ → ℕ
 digits_after before [] = before
 digits_after before (digit ∷ digits) = digits_after (10 * before + (digit - 48)) digits

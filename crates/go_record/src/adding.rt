@@ -29,7 +29,8 @@ pub(crate) fn add_setups(
     actions: &mut Vec<Action>,
 ) -> Result<(), RecordFault>
     requires { All (IsActionOn size) actions.old.items }
-    ensures adds { Adds (map (λ v. setup_of size stone (record { at = v.at; bytes = v.bytes.now })) values.now) actions.old.items actions.new.items result }
+    ensures adds { Adds (map (λ v. setup_of size stone (record { at = v.at; bytes = v.bytes.now }))
+        values.now) actions.old.items actions.new.items result }
     ensures on_board { OnOk result (All (IsActionOn size) actions.new.items) }
 {
     for value in values {
@@ -48,7 +49,9 @@ pub(crate) fn add_moves(
     actions: &mut Vec<Action>,
 ) -> Result<(), RecordFault>
     requires { All (IsActionOn size) actions.old.items }
-    ensures adds { Adds (map (λ v. always (move_of size colour (record { at = v.at; bytes = v.bytes.now }))) values.now) actions.old.items actions.new.items result }
+    ensures adds { Adds (map (λ v. always (move_of size colour
+        (record { at = v.at; bytes = v.bytes.now }))) values.now) actions.old.items
+        actions.new.items result }
     ensures on_board { OnOk result (All (IsActionOn size) actions.new.items) }
 {
     for value in values {

@@ -1,7 +1,8 @@
 //! Which properties set stones, which play them, and the first value of a name.
 ghost use Rattle.std.specs.Prelude.{◌≡◌};
 ghost use Rattle.std.specs.Option.{option_map};
-ghost use Rattle.go_record.specs.Record.{is_named, setup_stone, move_colour, front_value, first_value};
+ghost use Rattle.go_record.specs.Record.{is_named, setup_stone, move_colour, front_value};
+ghost use Rattle.go_record.specs.Record.{first_value};
 
 use go_board::{Colour, Stone};
 use sgf_core::{Node, Prop, Value};
@@ -41,14 +42,16 @@ pub(crate) fn move_colour(prop: &Prop<'_>) -> Option<Colour>
 }
 
 fn front_value<'a>(prop: &Prop<'a>) -> Option<Value<'a>>
-    ensures { option_map (λ v. record { at = v.at; bytes = v.bytes.now }) result ≡ front_value prop.now.values }
+    ensures { option_map (λ v. record { at = v.at; bytes = v.bytes.now }) result
+        ≡ front_value prop.now.values }
 {
     prop.values().first().copied()
 }
 
 /// The first value of the node's first property of this name.
 pub(crate) fn first_value<'a>(node: &Node<'_, 'a>, name: &[u8]) -> Option<Value<'a>>
-    ensures { option_map (λ v. record { at = v.at; bytes = v.bytes.now }) result ≡ first_value name.now node.now }
+    ensures { option_map (λ v. record { at = v.at; bytes = v.bytes.now }) result
+        ≡ first_value name.now node.now }
 {
     for prop in node.props() {
         if is_named(prop, name) {

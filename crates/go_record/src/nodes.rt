@@ -19,7 +19,8 @@ fn add_prop_setups(
     actions: &mut Vec<Action>,
 ) -> Result<(), RecordFault>
     requires { All (IsActionOn size) actions.old.items }
-    ensures adds { Adds (setups_of size (setup_stone prop.now) prop.now) actions.old.items actions.new.items result }
+    ensures adds { Adds (setups_of size (setup_stone prop.now) prop.now) actions.old.items
+        actions.new.items result }
     ensures on_board { OnOk result (All (IsActionOn size) actions.new.items) }
 {
     match setup_stone(prop) {
@@ -31,7 +32,8 @@ fn add_prop_setups(
 /// Adds the moves of a property, where it is a move property.
 fn add_prop_moves(size: Size, prop: &Prop<'_>, actions: &mut Vec<Action>) -> Result<(), RecordFault>
     requires { All (IsActionOn size) actions.old.items }
-    ensures adds { Adds (moves_of size (move_colour prop.now) prop.now) actions.old.items actions.new.items result }
+    ensures adds { Adds (moves_of size (move_colour prop.now) prop.now) actions.old.items
+        actions.new.items result }
     ensures on_board { OnOk result (All (IsActionOn size) actions.new.items) }
 {
     match move_colour(prop) {
@@ -47,7 +49,8 @@ fn add_node_setups(
     actions: &mut Vec<Action>,
 ) -> Result<(), RecordFault>
     requires { All (IsActionOn size) actions.old.items }
-    ensures adds { Adds (flat_map (λ property. setups_of size (setup_stone property) property) node.now) actions.old.items actions.new.items result }
+    ensures adds { Adds (flat_map (λ property. setups_of size (setup_stone property) property)
+        node.now) actions.old.items actions.new.items result }
     ensures on_board { OnOk result (All (IsActionOn size) actions.new.items) }
 {
     for prop in node.props() {
@@ -63,7 +66,8 @@ fn add_node_moves(
     actions: &mut Vec<Action>,
 ) -> Result<(), RecordFault>
     requires { All (IsActionOn size) actions.old.items }
-    ensures adds { Adds (flat_map (λ property. moves_of size (move_colour property) property) node.now) actions.old.items actions.new.items result }
+    ensures adds { Adds (flat_map (λ property. moves_of size (move_colour property) property)
+        node.now) actions.old.items actions.new.items result }
     ensures on_board { OnOk result (All (IsActionOn size) actions.new.items) }
 {
     for prop in node.props() {
@@ -89,7 +93,8 @@ pub(crate) fn add_nodes(
     actions: &mut Vec<Action>,
 ) -> Result<(), RecordFault>
     requires { All (IsActionOn size) actions.old.items }
-    ensures adds { Adds (flat_map (node_deeds size) line.entry) actions.old.items actions.new.items result }
+    ensures adds { Adds (flat_map (node_deeds size) line.entry) actions.old.items actions.new.items
+        result }
     ensures on_board { OnOk result (All (IsActionOn size) actions.new.items) }
 {
     for node in line {

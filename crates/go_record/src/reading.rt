@@ -2,7 +2,8 @@
 ghost use Rattle.std.specs.Prelude.{◌≡◌, All, Ok, IfOk, IfErr};
 ghost use Rattle.sgf_core.specs.Tree.{GameTree, main_line_of};
 ghost use Rattle.sgf_core.specs.Marks.{marks_of};
-ghost use Rattle.go_record.specs.Record.{record_of, is_go, board_of, root_of, first_value, collected, node_deeds};
+ghost use Rattle.go_record.specs.Record.{record_of, is_go, board_of, root_of, first_value};
+ghost use Rattle.go_record.specs.Record.{collected, node_deeds};
 ghost use Rattle.go_record.specs.Actions.{IsActionOn};
 ghost use Rattle.go_record.specs.Adding.{IsUnlessMemory, IsFaultOrMemory};
 ghost use Rattle.std.specs.Option.{option_map};
@@ -20,7 +21,8 @@ use std::alloc::Global;
 
 /// The first value of this name in the first node of a main line.
 fn root_value<'a>(mut line: MainLine<'_, 'a>, name: &[u8]) -> Option<Value<'a>>
-    ensures { option_map (λ v. record { at = v.at; bytes = v.bytes.now }) result ≡ first_value name.now (root_of line.entry) }
+    ensures { option_map (λ v. record { at = v.at; bytes = v.bytes.now }) result
+        ≡ first_value name.now (root_of line.entry) }
 {
     let root = line.next()?;
     first_value(&root, name)
@@ -28,7 +30,8 @@ fn root_value<'a>(mut line: MainLine<'_, 'a>, name: &[u8]) -> Option<Value<'a>>
 
 /// Whether the tree is of Go, by its value of GM.
 fn is_go(value: Option<Value<'_>>) -> bool
-    ensures { result ≡ is_go (option_map (λ v. record { at = v.at; bytes = v.bytes.now }) value.entry) }
+    ensures { result ≡ is_go (option_map (λ v. record { at = v.at; bytes = v.bytes.now })
+        value.entry) }
 {
     let Some(value) = value else {
         return true;
@@ -39,7 +42,8 @@ fn is_go(value: Option<Value<'_>>) -> bool
 
 /// The board's size, by the value of SZ.
 fn board_of(value: Option<Value<'_>>) -> Result<Size, RecordFault>
-    ensures { result ≡ board_of (option_map (λ v. record { at = v.at; bytes = v.bytes.now }) value.entry) }
+    ensures { result ≡ board_of (option_map (λ v. record { at = v.at; bytes = v.bytes.now })
+        value.entry) }
 {
     match value {
         None => Ok(Size::new(19, 19).unwrap()),
@@ -49,8 +53,10 @@ fn board_of(value: Option<Value<'_>>) -> Result<Size, RecordFault>
 
 /// What is done on a board of this size along a main line.
 fn actions_of(alloc: Global, size: Size, line: MainLine<'_, '_>) -> Result<Vec<Action>, RecordFault>
-    ensures actions { IfOk result (λ actions. collected (flat_map (node_deeds size) line.entry) ≡ Ok actions.items) }
-    ensures fault { IfErr result (IsFaultOrMemory (collected (flat_map (node_deeds size) line.entry))) }
+    ensures actions { IfOk result (λ actions. collected (flat_map (node_deeds size) line.entry)
+        ≡ Ok actions.items) }
+    ensures fault { IfErr result (IsFaultOrMemory (collected
+        (flat_map (node_deeds size) line.entry))) }
     ensures on_board { IfOk result (λ actions. All (IsActionOn size) actions.items) }
 {
     let mut actions = Vec::new(alloc);
@@ -70,7 +76,8 @@ fn actions_of(alloc: Global, size: Size, line: MainLine<'_, '_>) -> Result<Vec<A
 /// The first fault, of the size, and then of the nodes in order: `BadSize`, `BadPoint`, `OffBoard`, each with the place
 /// of its value. `Memory` where memory for the actions was refused.
 pub fn read_record(alloc: Global, tree: &Tree<'_>) -> Result<Kind, RecordFault>
-    ensures { (game : GameTree) → tree.now.marks ≡ marks_of game → IsUnlessMemory result (record_of (main_line_of game)) }
+    ensures { (game : GameTree) → tree.now.marks ≡ marks_of game
+        → IsUnlessMemory result (record_of (main_line_of game)) }
 {
     if !is_go(root_value(tree.main_line(), b"GM")) {
         return Ok(Kind::Other);

@@ -16,8 +16,10 @@ fn fill_row<B: Replayable>(board: &mut B, row: u8, first: u8, last: u8, stone: S
     requires corners { first ≤ last }
     ensures size { (B.board_of board.new).size ≡ (B.board_of board.old).size }
     ensures stays { B.Stays board.old board.new }
-    ensures position { (q : Point) → IsOn (B.board_of board.old).size q → position_of (B.board_of board.new) q
-        ≡ filled (position_of (B.board_of board.old)) (record { column = first; row = row }) (record { column = last; row = row }) stone q }
+    ensures position { (q : Point) → IsOn (B.board_of board.old).size q
+        → position_of (B.board_of board.new) q
+        ≡ filled (position_of (B.board_of board.old)) (record { column = first; row = row })
+        (record { column = last; row = row }) stone q }
 {
     for column in first..=last {
         board.put(Point { column, row }, stone);
@@ -30,7 +32,9 @@ fn fill<B: Replayable>(board: &mut B, low: Point, high: Point, stone: Stone)
     requires corners { (low.column ≤ high.column) × (low.row ≤ high.row) }
     ensures size { (B.board_of board.new).size ≡ (B.board_of board.old).size }
     ensures stays { B.Stays board.old board.new }
-    ensures position { (q : Point) → IsOn (B.board_of board.old).size q → position_of (B.board_of board.new) q ≡ filled (position_of (B.board_of board.old)) low high stone q }
+    ensures position { (q : Point) → IsOn (B.board_of board.old).size q
+        → position_of (B.board_of board.new) q
+        ≡ filled (position_of (B.board_of board.old)) low high stone q }
 {
     for row in low.row..=high.row {
         fill_row(board, row, low.column, high.column, stone);
@@ -43,7 +47,8 @@ pub fn apply<B: Replayable>(board: &mut B, action: Action)
     requires { IsActionOn (B.board_of board.old).size action }
     ensures size { (B.board_of board.new).size ≡ (B.board_of board.old).size }
     ensures stays { B.Stays board.old board.new }
-    ensures does { Does (B.board_of board.old).size action (position_of (B.board_of board.old)) (position_of (B.board_of board.new)) }
+    ensures does { Does (B.board_of board.old).size action (position_of (B.board_of board.old))
+        (position_of (B.board_of board.new)) }
 {
     match action {
         Action::Set { low, high, stone } => fill(board, low, high, stone),
@@ -59,7 +64,8 @@ pub fn replay<B: Replayable>(board: &mut B, actions: &[Action])
     requires { All (IsActionOn (B.board_of board.old).size) actions.now }
     ensures size { (B.board_of board.new).size ≡ (B.board_of board.old).size }
     ensures stays { B.Stays board.old board.new }
-    ensures replays { Replays (B.board_of board.old).size actions.now (position_of (B.board_of board.old)) (position_of (B.board_of board.new)) }
+    ensures replays { Replays (B.board_of board.old).size actions.now
+        (position_of (B.board_of board.old)) (position_of (B.board_of board.new)) }
 {
     for action in actions {
         apply(board, *action);

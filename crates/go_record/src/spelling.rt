@@ -1,9 +1,11 @@
 //! How numbers, sizes and points are spelled in a value.
-ghost use Rattle.std.specs.Prelude.{◌≡◌, ◌<◌, ℕ, min, reverse, false, true, IsTrue, MatchOption, Option, map, position};
+ghost use Rattle.std.specs.Prelude.{◌≡◌, ◌<◌, ℕ, min, reverse, false, true, IsTrue, MatchOption};
+ghost use Rattle.std.specs.Prelude.{Option, map, position};
 ghost use Rattle.std.specs.Option.{option_map};
 ghost use Rattle.std.specs.List.{list_any, before_first, after_first};
 ghost use Rattle.sgf_core.specs.Bytes.{is_white, is_upper, is_lower};
-ghost use Rattle.go_record.specs.Spelling.{without_white_front, trimmed, is_digit, unsigned_of, number_of, side_of, is_colon, size_of};
+ghost use Rattle.go_record.specs.Spelling.{without_white_front, trimmed, is_digit, unsigned_of};
+ghost use Rattle.go_record.specs.Spelling.{number_of, side_of, is_colon, size_of};
 ghost use Rattle.go_record.specs.Point.{coordinate_of, point_of};
 ghost use Rattle.go_record.specs.declared.spelling.TheConstants.{CAP};
 
@@ -103,10 +105,12 @@ fn colon_at(text: &[u8]) -> Option<usize>
     text.iter().position(|byte| *byte == b':')
 }
 
-/// The parts before and behind the first colon.
+/// The parts before and after the first colon.
 pub(crate) fn split_colon(text: &[u8]) -> Option<(&[u8], &[u8])>
-    ensures { MatchOption result (list_any is_colon text.now ≡ false) (λ parts. (list_any is_colon text.now ≡ true)
-        × (parts.0.now ≡ before_first is_colon text.now) × (parts.1.now ≡ after_first is_colon text.now)) }
+    ensures { MatchOption result (list_any is_colon text.now ≡ false)
+        (λ parts. (list_any is_colon text.now ≡ true)
+        × (parts.0.now ≡ before_first is_colon text.now)
+        × (parts.1.now ≡ after_first is_colon text.now)) }
 {
     let at = colon_at(text)?;
     Some((&text[..at], &text[at + 1..]))

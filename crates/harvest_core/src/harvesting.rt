@@ -34,7 +34,8 @@ fn explain<O: ProbeOrder>(
 ) -> HarvestFault
     requires pass { IsPassOf (2 ^ O.exponent table.now.order) table.now pass.old }
     ensures pass { IsPassOf (2 ^ O.exponent table.now.order) table.now pass.new }
-    ensures why { (bytes : List ℕ) (kinds : Kinds) → All (IsWorked bytes kinds) shares.now → IsRefusal bytes kinds refused
+    ensures why { (bytes : List ℕ) (kinds : Kinds) → All (IsWorked bytes kinds) shares.now
+        → IsRefusal bytes kinds refused
         → IsHarvestFault (2 ^ O.exponent table.now.order) bytes kinds pass.new result }
 {
     match refused {
@@ -57,8 +58,10 @@ fn count_of<O: ProbeOrder>(
     requires read { HasReadAll bytes.now report }
     requires worked { All (IsWorked bytes.now kinds) shares.now }
     ensures pass { IsPassOf (2 ^ O.exponent table.now.order) table.now pass.new }
-    ensures harvest { IfOk result (IsHarvest (2 ^ O.exponent table.now.order) pass.new.seen kinds bytes.now) }
-    ensures fault { IfErr result (IsHarvestFault (2 ^ O.exponent table.now.order) bytes.now kinds pass.new) }
+    ensures harvest { IfOk result (IsHarvest (2 ^ O.exponent table.now.order) pass.new.seen kinds
+        bytes.now) }
+    ensures fault { IfErr result (IsHarvestFault (2 ^ O.exponent table.now.order) bytes.now kinds
+        pass.new) }
 {
     let _ = bytes;
     match gather(alloc, table, pass, kinds, report.games, shares) {
@@ -80,8 +83,10 @@ fn conclude<O: ProbeOrder>(
     requires pass { IsPassOf (2 ^ O.exponent table.now.order) table.now pass.old }
     requires crop { IsCrop bytes.now kinds crop }
     ensures pass { IsPassOf (2 ^ O.exponent table.now.order) table.now pass.new }
-    ensures harvest { IfOk result (IsHarvest (2 ^ O.exponent table.now.order) pass.new.seen kinds bytes.now) }
-    ensures fault { IfErr result (IsHarvestFault (2 ^ O.exponent table.now.order) bytes.now kinds pass.new) }
+    ensures harvest { IfOk result (IsHarvest (2 ^ O.exponent table.now.order) pass.new.seen kinds
+        bytes.now) }
+    ensures fault { IfErr result (IsHarvestFault (2 ^ O.exponent table.now.order) bytes.now kinds
+        pass.new) }
 {
     let Crop {
         worked,
@@ -169,8 +174,10 @@ where
     O: Send + Sync,
     requires pass { IsPassOf (2 ^ O.exponent table.now.order) table.now pass.old }
     ensures pass { IsPassOf (2 ^ O.exponent table.now.order) table.now pass.new }
-    ensures harvest { IfOk result (IsHarvest (2 ^ O.exponent table.now.order) pass.new.seen settings.kinds bytes.now) }
-    ensures fault { IfErr result (IsHarvestFault (2 ^ O.exponent table.now.order) bytes.now settings.kinds pass.new) }
+    ensures harvest { IfOk result (IsHarvest (2 ^ O.exponent table.now.order) pass.new.seen
+        settings.kinds bytes.now) }
+    ensures fault { IfErr result (IsHarvestFault (2 ^ O.exponent table.now.order) bytes.now
+        settings.kinds pass.new) }
 {
     let games = match Games::new(bytes) {
         Ok(games) => games,

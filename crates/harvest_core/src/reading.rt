@@ -39,7 +39,8 @@ fn offer<'a, R: Wait, O: ProbeOrder, G: Gate>(
     ensures worked { (kinds : Kinds) → IsWorked job.entry.bytes kinds worked.old.share
         → IsWorked job.entry.bytes kinds worked.new.share }
     ensures refused { (kinds : Kinds) → IsWorked job.entry.bytes kinds worked.old.share
-        → IsRefused job.entry.bytes kinds worked.old.refused → IsRefused job.entry.bytes kinds worked.new.refused }
+        → IsRefused job.entry.bytes kinds worked.old.refused
+        → IsRefused job.entry.bytes kinds worked.new.refused }
 {
     if alone {
         worked.count(table, pass, gate, &job);
@@ -74,7 +75,8 @@ fn read_all<'a, R: Wait, O: ProbeOrder, G: Gate>(
     ensures pass { IsPassOf (2 ^ O.exponent table.now.order) table.now pass.new }
     ensures worked { (kinds : Kinds) → IsWorked games.old.bytes kinds worked.old.share
         → IsRefused games.old.bytes kinds worked.old.refused
-        → IsWorked games.old.bytes kinds worked.new.share × IsRefused games.old.bytes kinds worked.new.refused }
+        → IsWorked games.old.bytes kinds worked.new.share
+        × IsRefused games.old.bytes kinds worked.new.refused }
     ensures all { OnOk result (HasReadAll games.old.bytes games.new.report) }
     ensures fault { IfErr result (IsReadFault games.old.bytes) }
 {

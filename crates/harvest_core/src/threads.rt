@@ -88,7 +88,7 @@ impl<'q, 'a, 't, O: ProbeOrder, G: Gate> Crew<'q, 'a, 't, O, G> {
         }
     }
 
-    /// Reads all games, beside so many workers.
+    /// Reads all games, beside this number of workers.
     fn read<R: Wait>(self, rt: &R, alloc: Global, workers: usize) -> Reading
         requires { IsCrew O.exponent self }
         ensures worked { IsWorkOf self.entry.games.bytes self.entry.bench.kinds result.worked }
@@ -217,7 +217,8 @@ impl<'q, 'a, 't, O: ProbeOrder, G: Gate> Crew<'q, 'a, 't, O, G> {
             thread::scope_env(),
             rt,
             move |scope| -> Result<Crop, AllocError>
-                requires { IsCrew O.exponent crew × (crew.games.bytes ≡ of.bytes.now) × (crew.bench.kinds ≡ of.kinds) }
+                requires { IsCrew O.exponent crew × (crew.games.bytes ≡ of.bytes.now)
+                    × (crew.bench.kinds ≡ of.kinds) }
                 ensures { IfOk result (IsCrop of.entry.bytes.now of.entry.kinds) }
             {
                 let mut crew = crew;
@@ -229,7 +230,8 @@ impl<'q, 'a, 't, O: ProbeOrder, G: Gate> Crew<'q, 'a, 't, O, G> {
                     }
                     let bench = crew.another(started + 1);
                     let worker = move || -> Worked
-                        requires { IsPassOf (2 ^ O.exponent bench.table.now.order) bench.table.now bench.pass }
+                        requires { IsPassOf (2 ^ O.exponent bench.table.now.order) bench.table.now
+                            bench.pass }
                         ensures { IsWorkOf bench.entry.desk.bytes bench.entry.kinds result }
                     { bench.work(rt, alloc) };
                     match scope.spawn_with(of, worker) {

@@ -49,7 +49,8 @@ impl Worked {
         ensures worked { (kinds : Kinds) → IsWorked job.now.bytes kinds self.old.share
             → IsWorked job.now.bytes kinds self.new.share }
         ensures refused { (kinds : Kinds) → IsWorked job.now.bytes kinds self.old.share
-            → IsRefused job.now.bytes kinds self.old.refused → IsRefused job.now.bytes kinds self.new.refused }
+            → IsRefused job.now.bytes kinds self.old.refused
+            → IsRefused job.now.bytes kinds self.new.refused }
         ensures games { IsCounted job.now.game self.old self.new }
     {
         if self.refused.is_some() {

@@ -1,5 +1,6 @@
 //! The games of an input, one after another.
-ghost use Rattle.std.specs.Prelude.{◌≡◌, ◌≢◌, ◌^◌, ◌+◌, ◌<◌, ◌≤◌, ◌↔◌, ℕ, length, Ok, Some, None, IfOk, IfErr, IfSome, IfNone, IsOk};
+ghost use Rattle.std.specs.Prelude.{◌≡◌, ◌≢◌, ◌^◌, ◌+◌, ◌<◌, ◌≤◌, ◌↔◌, ℕ, length, Ok, Some, None};
+ghost use Rattle.std.specs.Prelude.{IfOk, IfErr, IfSome, IfNone, IsOk};
 ghost use Rattle.sgf_core.specs.Tree.{GameTree};
 ghost use Rattle.sgf_core.specs.Marks.{marks_of};
 ghost use Rattle.sgf_core.specs.Next.{IsNextTree, HasNoTree};
@@ -150,8 +151,11 @@ impl<'a> Games<'a> {
     /// `HarvestFault::Sgf` with `SgfFault::TooLarge` comes exactly where the input has more than 2^28 bytes.
     pub fn new(bytes: &'a [u8]) -> Result<Games<'a>, HarvestFault>
         ensures small { IsOk result ↔ (length bytes.now ≤ 2 ^ 28) }
-        ensures begins { IfOk result (λ games. games ≡ record
-            { bytes = bytes.now; from = 0; report = record { games = 0; others = 0; refused = 0 } }) }
+        ensures begins { IfOk result (λ games. games ≡ record {
+          bytes = bytes.now;
+          from = 0;
+          report = record { games = 0; others = 0; refused = 0 };
+        }) }
         ensures large { IfErr result (λ found. found ≡ fault.Sgf sgf.TooLarge) }
         ensures fault { IfErr result (IsCountFault bytes.now) }
     {

@@ -16,7 +16,7 @@ use tally_core::{HarvestFault, Report};
 /// Two games, and between them a tree of another game and one with a board of no column.
 const MIXED: &[u8] = b"(;SZ[1];B[aa])(;GM[2])(;SZ[0])\n(;B[aa];W[bb])";
 
-/// A collection of so many games.
+/// A collection of n games.
 fn collection(alloc: Global, games: u64) -> Result<Vec<u8>, AllocError> {
     let mut bytes = Vec::new(alloc);
     for _ in 0..games {

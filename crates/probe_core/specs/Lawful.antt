@@ -15,7 +15,7 @@ use Rattle.probe_core.specs.Hall.{world_of, IsFitted}
 abbrev pub AreTimed : ℕ → List Finished → Type 0
 AreTimed events finished = (k : ℕ) (f : Finished) → slice_get finished k ≡ Some f → (f.begun < f.ended) × (f.ended < events)
 
--- each call ends before those that stand behind it
+-- each call ends before those that come after it
 abbrev pub AreRising : List Finished → Type 0
 AreRising finished =
     (j k : ℕ) (f g : Finished) → j < k → slice_get finished j ≡ Some f → slice_get finished k ≡ Some g → f.ended < g.ended

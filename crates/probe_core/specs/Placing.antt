@@ -1,4 +1,4 @@
--- Where keys stand among the words of a table: never behind a free place of their order.
+-- Where keys stand among the words of a table: never after a free place of their order.
 use Rattle.std.specs.Prelude.{◌≡◌, ◌≢◌, ℕ, ◌<◌, List, length, slice_index_or}
 use Rattle.probe_core.specs.Machine.{code_of}
 
@@ -24,7 +24,7 @@ IsNowhere n words key = (p : ℕ) → p < n → slice_index_or words p 0 ≢ cod
 abbrev pub AreAllTaken : ℕ → List ℕ → Type 0
 AreAllTaken n words = (p : ℕ) → p < n → slice_index_or words p 0 ≢ 0
 
--- n words, of which no key stands behind a free place of its order
+-- n words, of which no key comes after a free place of its order
 pub record IsOrderly (n : ℕ) (place : ℕ → ℕ → ℕ) (words : List ℕ) : Type 0 where
   pub whole : length words ≡ n
   pub placed : IsPlaced n place words

@@ -9,7 +9,7 @@ abbrev pub turn_of : {O : Type 0} → O → Followed → Turn O
 turn_of order (Runs machine) = turn.On (record { order = order; machine = machine })
 turn_of order (Answers answer) = turn.Done answer
 
--- a probe that goes on has fewer than so many steps left, with n places
+-- a probe that goes on has at most `steps` - 1 steps left, with n places
 abbrev pub HasFewer : {O : Type 0} → ℕ → ℕ → Turn O → Type 0
 HasFewer n steps (turn.On probe) = left_of n probe.machine < steps
 HasFewer n steps (turn.Done answer) = ⊤

@@ -14,7 +14,7 @@ MaySwap (call.Enter key) swaps = ⊤
 MaySwap (call.LookUp key) true = ⊥
 MaySwap (call.LookUp key) false = ⊤
 
--- a call at one of n places, behind places that other keys hold
+-- a call at one of n places, after places that other keys hold
 pub record IsOnWay (n : ℕ) (place : ℕ → ℕ → ℕ) (words : List ℕ) (machine : Machine) : Type 0 where
   pub within : machine.index < n
   pub passed : HoldOthers (place (key_of machine.call)) words (key_of machine.call) machine.index

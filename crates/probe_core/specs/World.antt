@@ -19,7 +19,7 @@ pub record World : Type 0 where
   pub finished : List Finished
   pub events : ℕ
 
--- n free words and so many idle callers
+-- n free words and this number of idle callers
 abbrev pub new_world : ℕ → ℕ → World
 new_world n callers = record { words = replicate n 0; callers = replicate callers None; finished = []; events = 0 }
 

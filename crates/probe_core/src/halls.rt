@@ -1,5 +1,6 @@
 //! Halls: a table's words with the callers at them, and what each event does.
-ghost use Rattle.std.specs.Prelude.{◌≡◌, ℕ, ◌+◌, ◌<◌, ◌≤◌, ◌^◌, ◌↔◌, [], ◌∷◌, replicate, IsTrue, IfOk, Some, None, slice_get, count_by, vec_len, vec_capacity};
+ghost use Rattle.std.specs.Prelude.{◌≡◌, ℕ, ◌+◌, ◌<◌, ◌≤◌, ◌^◌, ◌↔◌, [], ◌∷◌, replicate, IsTrue};
+ghost use Rattle.std.specs.Prelude.{IfOk, Some, None, slice_get, count_by, vec_len, vec_capacity};
 ghost use Rattle.probe_core.specs.World.{new_world, began, stepped, happened, counted};
 ghost use Rattle.probe_core.specs.Hall.{world_of, call_of, IsFitted, is_step, HasRoom};
 
@@ -28,10 +29,11 @@ pub(crate) struct Hall<O: ProbeOrder> {
 }
 
 impl<O: ProbeOrder> Hall<O> {
-    /// So many idle callers at a free word for each slot of the order.
+    /// `callers` idle callers at a free word for each slot of the order.
     pub(crate) fn new(alloc: Global, order: O, callers: usize) -> Result<Hall<O>, AllocError>
         ensures order { IfOk result (λ hall. hall.order ≡ order) }
-        ensures world { IfOk result (λ hall. world_of hall ≡ new_world (2 ^ O.exponent order) callers) }
+        ensures world { IfOk result (λ hall. world_of hall
+            ≡ new_world (2 ^ O.exponent order) callers) }
         ensures fitted { IfOk result (λ hall. IsFitted O.exponent hall) }
     {
         let slots = order.capacity().slots();
@@ -53,10 +55,12 @@ impl<O: ProbeOrder> Hall<O> {
         requires few { self.old.events < 2 ^ 62 }
         ensures order { self.new.order ≡ self.old.order }
         ensures world { world_of self.new ≡
-            counted (happened (2 ^ O.exponent self.old.order) (O.place_of self.old.order) (world_of self.old) event) }
+            counted (happened (2 ^ O.exponent self.old.order) (O.place_of self.old.order)
+            (world_of self.old) event) }
         ensures fitted { IsFitted O.exponent self.new }
         ensures capacity { vec_capacity self.new.finished ≡ vec_capacity self.old.finished }
-        ensures grown { vec_len self.new.finished ≤ vec_len self.old.finished + count_by is_step (event ∷ []) }
+        ensures grown { vec_len self.new.finished
+            ≤ vec_len self.old.finished + count_by is_step (event ∷ []) }
         ensures events { self.new.events ≡ self.old.events + 1 }
     {
         match event {
@@ -77,7 +81,8 @@ impl<O: ProbeOrder> Hall<O> {
     fn begin(&mut self, caller: usize, call: Call)
         requires { IsFitted O.exponent self.old }
         ensures order { self.new.order ≡ self.old.order }
-        ensures world { world_of self.new ≡ began (world_of self.old) caller call (slice_get (world_of self.old).callers caller) }
+        ensures world { world_of self.new ≡ began (world_of self.old) caller call
+            (slice_get (world_of self.old).callers caller) }
         ensures fitted { IsFitted O.exponent self.new }
         ensures finished { self.new.finished ≡ self.old.finished }
         ensures events { self.new.events ≡ self.old.events }
@@ -95,7 +100,8 @@ impl<O: ProbeOrder> Hall<O> {
         requires room { vec_len self.old.finished < vec_capacity self.old.finished }
         ensures order { self.new.order ≡ self.old.order }
         ensures world { world_of self.new ≡
-            stepped (2 ^ O.exponent self.old.order) (O.place_of self.old.order) (world_of self.old) caller (slice_get (world_of self.old).callers caller) }
+            stepped (2 ^ O.exponent self.old.order) (O.place_of self.old.order) (world_of self.old)
+            caller (slice_get (world_of self.old).callers caller) }
         ensures fitted { IsFitted O.exponent self.new }
         ensures capacity { vec_capacity self.new.finished ≡ vec_capacity self.old.finished }
         ensures grown { vec_len self.new.finished ≤ vec_len self.old.finished + 1 }
@@ -117,7 +123,8 @@ impl<O: ProbeOrder> Hall<O> {
         requires room { vec_len self.old.finished < vec_capacity self.old.finished }
         ensures order { self.new.order ≡ self.old.order }
         ensures world { world_of self.new ≡
-            stepped (2 ^ O.exponent self.old.order) (O.place_of self.old.order) (world_of self.old) caller (Some (Some (call_of call))) }
+            stepped (2 ^ O.exponent self.old.order) (O.place_of self.old.order) (world_of self.old)
+            caller (Some (Some (call_of call))) }
         ensures fitted { IsFitted O.exponent self.new }
         ensures capacity { vec_capacity self.new.finished ≡ vec_capacity self.old.finished }
         ensures grown { vec_len self.new.finished ≤ vec_len self.old.finished + 1 }
@@ -138,7 +145,7 @@ impl<O: ProbeOrder> Hall<O> {
     }
 }
 
-/// So many callers without a call.
+/// `count` callers without a call.
 fn idle_callers<O: ProbeOrder>(
     alloc: Global,
     count: usize,

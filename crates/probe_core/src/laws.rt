@@ -1,13 +1,16 @@
 //! Laws of the definitions, for proofs in the crates above. Each is a function that does nothing, and its contract is
 //! the law. They speak of words as plain lists.
-ghost use Rattle.std.specs.Prelude.{◌≡◌, ℕ, ◌^◌, ◌<◌, None, List, [], ◌∷◌, ◌++◌, length, replicate, slice_index_or, slice_set};
+ghost use Rattle.std.specs.Prelude.{◌≡◌, ℕ, ◌^◌, ◌<◌, None, List, [], ◌∷◌, ◌++◌, length, replicate};
+ghost use Rattle.std.specs.Prelude.{slice_index_or, slice_set};
 ghost use Rattle.probe_core.specs.declared.calls.Call.{Call as Asked};
 ghost use Rattle.probe_core.specs.Order.{IsOrder};
 ghost use Rattle.probe_core.specs.Machine.{Machine, code_of, begun, follows, place_in};
 ghost use Rattle.probe_core.specs.Sequential.{Table, Step, IsNumber};
-ghost use Rattle.probe_core.specs.History.{Answered, content, content_from, IsRunFrom, IsLegal, AreWordsOf};
+ghost use Rattle.probe_core.specs.History.{Answered, content, content_from, IsRunFrom, IsLegal};
+ghost use Rattle.probe_core.specs.History.{AreWordsOf};
 ghost use Rattle.probe_core.specs.World.{words_after, history_of};
-ghost use Rattle.probe_core.specs.Placing.{HoldOthers, IsPlaced, IsNowhere, AreAllTaken, IsOrderly, HaveGrown};
+ghost use Rattle.probe_core.specs.Placing.{HoldOthers, IsPlaced, IsNowhere, AreAllTaken, IsOrderly};
+ghost use Rattle.probe_core.specs.Placing.{HaveGrown};
 ghost use Rattle.probe_core.specs.Showing.{key_in, table_of, words_showing};
 ghost use Rattle.probe_core.specs.Way.{IsOnWay, Tells};
 
@@ -20,7 +23,7 @@ pub fn places_are_all_places<O: ProbeOrder>(_order: &O, _key: Key)
     ensures { IsOrder (2 ^ O.exponent _order.now) (O.place_of _order.now _key) }
 {}
 
-/// A free place of a key's order, behind places that other keys hold, tells that the key has no number. It takes no
+/// A free place of a key's order, after places that other keys hold, tells that the key has no number. It takes no
 /// memory.
 pub fn free_place_ends_the_search<O: ProbeOrder>(_order: &O, _key: Key, _words: &[u64], _i: usize)
     requires placed { IsPlaced (2 ^ O.exponent _order.now) (O.place_of _order.now) _words.now }
@@ -36,7 +39,7 @@ pub fn last_place_ends_the_search<O: ProbeOrder>(_order: &O, _key: Key, _words: 
     ensures full { AreAllTaken (2 ^ O.exponent _order.now) _words.now }
 {}
 
-/// A swap that wins, at a free place behind places that other keys hold, leaves each key behind places that other
+/// A swap that wins, at a free place after places that other keys hold, leaves each key after places that other
 /// keys hold. It takes no memory.
 pub fn win_keeps_the_order<O: ProbeOrder>(_order: &O, _key: Key, _words: &[u64], _i: usize)
     requires placed { IsPlaced (2 ^ O.exponent _order.now) (O.place_of _order.now) _words.now }
@@ -44,7 +47,8 @@ pub fn win_keeps_the_order<O: ProbeOrder>(_order: &O, _key: Key, _words: &[u64],
     requires whole { length _words.now ≡ 2 ^ O.exponent _order.now }
     requires passed { HoldOthers (O.place_of _order.now _key) _words.now _key _i }
     requires free { slice_index_or _words.now (O.place_of _order.now _key _i) 0 ≡ 0 }
-    ensures { IsPlaced (2 ^ O.exponent _order.now) (O.place_of _order.now) (slice_set _words.now (O.place_of _order.now _key _i) (code_of _key)) }
+    ensures { IsPlaced (2 ^ O.exponent _order.now) (O.place_of _order.now)
+        (slice_set _words.now (O.place_of _order.now _key _i) (code_of _key)) }
 {}
 
 /// A key that has a number after a history has it after every run that goes on from there. It takes no memory.
@@ -57,18 +61,22 @@ pub fn numbers_stay(
 )
     requires run { IsRunFrom (content _slots (history_of _earlier.now)) (history_of _later.now) }
     requires number { IsNumber (content _slots (history_of _earlier.now)) _key _number }
-    ensures { IsNumber (content_from (content _slots (history_of _earlier.now)) (history_of _later.now)) _key _number }
+    ensures { IsNumber (content_from (content _slots (history_of _earlier.now))
+        (history_of _later.now)) _key _number }
 {}
 
 /// Free words are orderly, and show the content of the history of no calls. It takes no memory.
 pub fn free_words_show_no_calls<O: ProbeOrder>(_order: &O)
-    ensures orderly { IsOrderly (2 ^ O.exponent _order.now) (O.place_of _order.now) (replicate (2 ^ O.exponent _order.now) 0) }
-    ensures content { content (2 ^ O.exponent _order.now) [] ≡ table_of (replicate (2 ^ O.exponent _order.now) 0) }
+    ensures orderly { IsOrderly (2 ^ O.exponent _order.now) (O.place_of _order.now)
+        (replicate (2 ^ O.exponent _order.now) 0) }
+    ensures content { content (2 ^ O.exponent _order.now) []
+        ≡ table_of (replicate (2 ^ O.exponent _order.now) 0) }
 {}
 
 /// A call that begins is on its way, whatever the words are. It takes no memory.
 pub fn calls_begin_on_their_way<O: ProbeOrder>(_order: &O)
-    ensures { (words : List ℕ) (asked : Asked) → IsOnWay (2 ^ O.exponent _order.now) (O.place_of _order.now) words (begun asked) }
+    ensures { (words : List ℕ) (asked : Asked)
+        → IsOnWay (2 ^ O.exponent _order.now) (O.place_of _order.now) words (begun asked) }
 {}
 
 /// What a load or an exchange tells a call on its way over orderly words: the call goes on its way and the words stay,
@@ -115,8 +123,10 @@ pub fn legal_histories_go_on()
 /// The front of a legal history is legal, and what follows it is a run from the front's content. Numbers that keys have
 /// after the front they have after the whole, and words that show both have only grown. It takes no memory.
 pub fn longer_histories_keep_numbers()
-    ensures front { (slots : ℕ) (front rest : List Answered) → IsLegal slots (front ++ rest) → IsLegal slots front }
-    ensures rest { (slots : ℕ) (front rest : List Answered) → IsLegal slots (front ++ rest) → IsRunFrom (content slots front) rest }
+    ensures front { (slots : ℕ) (front rest : List Answered) → IsLegal slots (front ++ rest)
+        → IsLegal slots front }
+    ensures rest { (slots : ℕ) (front rest : List Answered) → IsLegal slots (front ++ rest)
+        → IsRunFrom (content slots front) rest }
     ensures numbers { (slots : ℕ) (front rest : List Answered) (key number : ℕ) →
         IsLegal slots (front ++ rest) →
         IsNumber (content slots front) key number →
@@ -140,8 +150,10 @@ pub fn keys_have_one_number()
 /// Words are those of what they show: a number has the key x exactly where its word is x + 1. Words that are made of a
 /// table show it, and words that are made of what words show are those again. It takes no memory.
 pub fn words_are_of_what_they_show()
-    ensures words { (words : List ℕ) (table : Table) → table ≡ table_of words → AreWordsOf words table }
-    ensures at { (words : List ℕ) (p : ℕ) → slice_index_or (table_of words) p None ≡ key_in (slice_index_or words p 0) }
+    ensures words { (words : List ℕ) (table : Table) → table ≡ table_of words
+        → AreWordsOf words table }
+    ensures at { (words : List ℕ) (p : ℕ)
+        → slice_index_or (table_of words) p None ≡ key_in (slice_index_or words p 0) }
     ensures again { (words : List ℕ) → words_showing (table_of words) ≡ words }
     ensures made { (table : Table) → table_of (words_showing table) ≡ table }
 {}

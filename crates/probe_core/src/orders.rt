@@ -1,6 +1,7 @@
 //! Probe orders: for each key, in which order the places of a table are probed.
 ghost use Rattle.std.specs.Prelude.{◌≡◌, ℕ, ◌+◌, ◌-◌, ◌*◌, ◌/◌, ◌%◌, ◌^◌, ◌<◌, ◌≤◌};
-ghost use Rattle.probe_core.specs.Order.{IsOrder, mixed_of, start_of, linear_place, step_of, odd_place};
+ghost use Rattle.probe_core.specs.Order.{IsOrder, mixed_of, start_of, linear_place, step_of};
+ghost use Rattle.probe_core.specs.Order.{odd_place};
 ghost use Rattle.probe_core.specs.Stepping.{linear_is_order, steps_are_order};
 
 use crate::capacities::Capacity;

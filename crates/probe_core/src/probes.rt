@@ -1,6 +1,8 @@
 //! Probes: a call on its way through the places of its key, one step at a time.
 ghost use Rattle.std.specs.Prelude.{◌≡◌, ℕ, ◌+◌, ◌*◌, ◌^◌, ◌<◌, ◌≤◌, false, true};
-ghost use Rattle.probe_core.specs.Machine.{Machine, begun, next_step, follows, followed_by, left_of, steps_of, place_in, key_of, code_of, place_wanted, GoesOn};
+ghost use Rattle.probe_core.specs.Machine.{Machine, begun, next_step, follows, followed_by};
+ghost use Rattle.probe_core.specs.Machine.{left_of, steps_of, place_in, key_of, code_of};
+ghost use Rattle.probe_core.specs.Machine.{place_wanted, GoesOn};
 ghost use Rattle.probe_core.specs.Turn.{turn_of, HasFewer};
 
 use crate::calls::{Answer, Call, Want};
@@ -24,11 +26,19 @@ impl<O: ProbeOrder> Model for Probe<O> {
 
     ghost Value = { Probing O };
 
-    ghost view = { λ p. record { order = p.order; machine = record { call = p.call; index = p.index; swaps = p.swaps } } };
+    ghost view = { λ p. record {
+      order = p.order;
+      machine = record { call = p.call; index = p.index; swaps = p.swaps };
+    } };
 
     ghost invariant = { λ p. p.index < 2 ^ O.exponent p.order };
 
-    ghost inverse = { λ v. record { order = v.order; call = v.machine.call; index = v.machine.index; swaps = v.machine.swaps } };
+    ghost inverse = { λ v. record {
+      order = v.order;
+      call = v.machine.call;
+      index = v.machine.index;
+      swaps = v.machine.swaps;
+    } };
 }
 
 /// What follows a step of a probe.
@@ -56,7 +66,8 @@ impl<O: ProbeOrder> Probe<O> {
     pub fn begin(order: &O, call: Call) -> Probe<O>
         ensures order { result.order ≡ order.now }
         ensures machine { result.machine ≡ begun call }
-        ensures steps { left_of (2 ^ O.exponent order.now) result.machine ≡ steps_of call (2 ^ O.exponent order.now) false }
+        ensures steps { left_of (2 ^ O.exponent order.now) result.machine
+            ≡ steps_of call (2 ^ O.exponent order.now) false }
     {
         Probe {
             order: *order,
@@ -69,7 +80,8 @@ impl<O: ProbeOrder> Probe<O> {
     /// The next step: a load, or a compare-exchange from 0 to the key and 1 more. Its place is below the number of
     /// slots. It takes no memory.
     pub fn wants(&self) -> Want
-        ensures step { result ≡ next_step self.now.machine (place_in (O.place_of self.now.order) self.now.machine) }
+        ensures step { result ≡ next_step self.now.machine
+            (place_in (O.place_of self.now.order) self.now.machine) }
         ensures within { place_wanted result < 2 ^ O.exponent self.now.order }
     {
         let place = self.place();
@@ -96,15 +108,18 @@ impl<O: ProbeOrder> Probe<O> {
     /// answer Number. After another word the next place is loaded, and after the last place the answer is Full. A
     /// probe that goes on has fewer steps left.
     pub fn told(self, value: u64) -> Turn<O>
-        ensures turn { result ≡ turn_of self.order (follows (2 ^ O.exponent self.order) self.machine (place_in (O.place_of self.order) self.machine) value) }
-        ensures fewer { HasFewer (2 ^ O.exponent self.order) (left_of (2 ^ O.exponent self.order) self.machine) result }
+        ensures turn { result ≡ turn_of self.order (follows (2 ^ O.exponent self.order)
+            self.machine (place_in (O.place_of self.order) self.machine) value) }
+        ensures fewer { HasFewer (2 ^ O.exponent self.order)
+            (left_of (2 ^ O.exponent self.order) self.machine) result }
     {
         self.turn(value)
     }
 
     /// What follows a step that found this value.
     fn turn(self, value: u64) -> Turn<O>
-        ensures turn { result ≡ turn_of self.order (follows (2 ^ O.exponent self.order) self.machine (place_in (O.place_of self.order) self.machine) value) }
+        ensures turn { result ≡ turn_of self.order (follows (2 ^ O.exponent self.order)
+            self.machine (place_in (O.place_of self.order) self.machine) value) }
         ensures within { self.machine.index < 2 ^ O.exponent self.order }
     {
         if value == 0 && !self.swaps {
@@ -124,7 +139,8 @@ impl<O: ProbeOrder> Probe<O> {
 
     /// A load of the next place, or Full after the last one.
     fn moved_on(self) -> Turn<O>
-        ensures { result ≡ turn_of self.order (followed_by (2 ^ O.exponent self.order) self.machine GoesOn) }
+        ensures { result ≡ turn_of self.order (followed_by (2 ^ O.exponent self.order) self.machine
+            GoesOn) }
     {
         let slots = self.order.capacity().slots();
         let index = self.index + 1;

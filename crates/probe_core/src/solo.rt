@@ -31,7 +31,8 @@ impl<O: ProbeOrder> Model for SoloTable<O> {
 
     ghost view = { λ t. record { order = t.order; table = table_of t.words.items } };
 
-    ghost invariant = { λ t. IsOrderly (2 ^ O.exponent t.order) (O.place_of t.order) t.words.items };
+    ghost invariant = { λ t. IsOrderly (2 ^ O.exponent t.order) (O.place_of t.order)
+        t.words.items };
 }
 
 impl<O: ProbeOrder> SoloTable<O> {

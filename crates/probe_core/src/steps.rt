@@ -30,10 +30,13 @@ fn take_step(words: &mut [u64], want: Want) -> u64
 /// slot.
 pub(crate) fn advance<O: ProbeOrder>(words: &mut [u64], probe: Probe<O>) -> Turn<O>
     requires { 2 ^ O.exponent probe.order ≤ length words.old }
-    ensures words { words.new ≡ words_after words.old probe.machine (place_in (O.place_of probe.order) probe.machine) }
+    ensures words { words.new ≡ words_after words.old probe.machine
+        (place_in (O.place_of probe.order) probe.machine) }
     ensures turn { let place = place_in (O.place_of probe.order) probe.machine
-        in result ≡ turn_of probe.order (follows (2 ^ O.exponent probe.order) probe.machine place (slice_index words.old place)) }
-    ensures fewer { HasFewer (2 ^ O.exponent probe.order) (left_of (2 ^ O.exponent probe.order) probe.machine) result }
+        in result ≡ turn_of probe.order (follows (2 ^ O.exponent probe.order) probe.machine place
+        (slice_index words.old place)) }
+    ensures fewer { HasFewer (2 ^ O.exponent probe.order)
+        (left_of (2 ^ O.exponent probe.order) probe.machine) result }
 {
     let held = take_step(words, probe.wants());
     probe.told(held)
@@ -44,8 +47,10 @@ pub(crate) fn advance<O: ProbeOrder>(words: &mut [u64], probe: Probe<O>) -> Turn
 pub(crate) fn look<O: ProbeOrder>(words: &[u64], probe: Probe<O>) -> Turn<O>
     requires { 2 ^ O.exponent probe.order ≤ length words.now }
     ensures turn { let place = place_in (O.place_of probe.order) probe.machine
-        in result ≡ turn_of probe.order (follows (2 ^ O.exponent probe.order) probe.machine place (slice_index words.now place)) }
-    ensures fewer { HasFewer (2 ^ O.exponent probe.order) (left_of (2 ^ O.exponent probe.order) probe.machine) result }
+        in result ≡ turn_of probe.order (follows (2 ^ O.exponent probe.order) probe.machine place
+        (slice_index words.now place)) }
+    ensures fewer { HasFewer (2 ^ O.exponent probe.order)
+        (left_of (2 ^ O.exponent probe.order) probe.machine) result }
 {
     let place = wanted_place(probe.wants());
     probe.told(words[place])

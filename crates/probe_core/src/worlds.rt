@@ -1,5 +1,6 @@
 //! Worlds: any number of callers at one table, one step at a time in any order.
-ghost use Rattle.std.specs.Prelude.{◌≡◌, ◌+◌, ◌<◌, ◌^◌, ◌↔◌, IfOk, OnOk, OnErr, IsOkUnless, IsErrOf, length, count_by};
+ghost use Rattle.std.specs.Prelude.{◌≡◌, ◌+◌, ◌<◌, ◌^◌, ◌↔◌, IfOk, OnOk, OnErr, IsOkUnless};
+ghost use Rattle.std.specs.Prelude.{IsErrOf, length, count_by};
 ghost use Rattle.probe_core.specs.World.{new_world, after_events};
 ghost use Rattle.probe_core.specs.Hall.{is_step};
 ghost use Rattle.probe_core.specs.Lawful.{IsLawful, GrowsAmong};
@@ -35,12 +36,13 @@ impl<O: ProbeOrder> Model for World<O> {
 }
 
 impl<O: ProbeOrder> World<O> {
-    /// A world of free words and so many idle callers, before any event.
+    /// A world of free words and this number of idle callers, before any event.
     ///
     /// It takes memory for each slot of the order and each caller. `ProbeFault::Memory` comes where memory is refused.
     pub fn new(alloc: Global, order: O, callers: usize) -> Result<World<O>, ProbeFault>
         ensures order { IfOk result (λ world. world.order ≡ order) }
-        ensures world { IfOk result (λ world. world.world ≡ new_world (2 ^ O.exponent order) callers) }
+        ensures world { IfOk result (λ world. world.world
+            ≡ new_world (2 ^ O.exponent order) callers) }
         ensures lawful { IfOk result (λ world. IsLawful (2 ^ O.exponent order) world.world) }
         ensures memory { IsOkUnless result ProbeFault.Memory }
     {
@@ -59,11 +61,14 @@ impl<O: ProbeOrder> World<O> {
     pub fn run(&mut self, events: &[Event]) -> Result<(), ProbeFault>
         ensures order { self.new.order ≡ self.old.order }
         ensures world { OnOk result
-            (self.new.world ≡ after_events (2 ^ O.exponent self.old.order) (O.place_of self.old.order) self.old.world events.now) }
+            (self.new.world ≡ after_events (2 ^ O.exponent self.old.order)
+            (O.place_of self.old.order) self.old.world events.now) }
         ensures grows { OnOk result
-            (GrowsAmong self.old.world.events events.now self.old.world.finished self.new.world.finished) }
+            (GrowsAmong self.old.world.events events.now self.old.world.finished
+            self.new.world.finished) }
         ensures lawful { IsLawful (2 ^ O.exponent self.new.order) self.new.world }
-        ensures too_long { IsErrOf result ProbeFault.TooLong ↔ (2 ^ 62 < self.old.world.events + length events.now) }
+        ensures too_long { IsErrOf result ProbeFault.TooLong ↔
+            (2 ^ 62 < self.old.world.events + length events.now) }
         ensures err { OnErr result (self.new ≡ self.old) }
     {
         if events.len() > MOST_EVENTS - self.hall.events {

@@ -76,7 +76,7 @@ module _ (bytes part : List ℕ) (from place : ℕ) (is : part ≡ drop place by
         none_passed offset h.0.before,
       )
 
--- behind the parenthesis and white bytes
+-- after the parenthesis and white bytes
 module _ (bytes : List ℕ) (at next : ℕ) (opens_at : slice_index bytes at ≡ open_parenthesis) (before : at < length bytes) (after : at + 1 ≤ next) (within : next ≤ length bytes) (white : IsTrue (list_all is_white (slice_range bytes (at + 1) next))) where
   pub begins_here : next < length bytes → slice_index bytes next ≡ semicolon → BeginsTree (drop at bytes)
   begins_here more here =

@@ -8,7 +8,7 @@ use Rattle.sgf_core.specs.declared.marks.Mark.{Mark}
 use Rattle.sgf_core.specs.declared.marks.Mark.TheVariants as mark
 
 -- what the last marks of a tree say: properties of a node that began before, nodes and trees of a tree that did,
--- and for each tree round that one the trees behind it
+-- and for each tree round that one the trees after it
 pub record Rest : Type 0 where
   pub properties : List Property
   pub nodes : List Node
@@ -36,7 +36,7 @@ build (m ∷ marks) = before m (build marks)
 abbrev pub tree_of : List Mark → GameTree
 tree_of marks = record { nodes = (build marks).nodes; inner = (build marks).inner }
 
--- a tree's marks behind the first
+-- a tree's marks after the first
 abbrev pub inner_marks : GameTree → List Mark
 inner_marks tree = flat_map node_marks tree.nodes ++ forest_marks tree.inner ++ mark.End ∷ []
 

@@ -18,7 +18,7 @@ behind_end forest = mark.End ∷ forest_marks forest
 abbrev spell : Rest → List Mark
 spell rest = map mark.Prop rest.properties ++ (flat_map node_marks rest.nodes ++ (forest_marks rest.inner ++ flat_map behind_end rest.outer))
 
--- as many trees are open round the innermost, and nothing stands behind the outermost
+-- as many trees are open round the innermost, and nothing comes after the outermost
 abbrev AreOuter : ℕ → List Forest → Type 0
 AreOuter zero outer = outer ≡ no_trees ∷ []
 AreOuter (suc depth) [] = ⊥
@@ -98,7 +98,7 @@ built_begin e depth marks h fits =
       outer = found.3;
     }
 
--- a parenthesis behind a tree in another
+-- a parenthesis after a tree in another
 built_end : (e : Expects) (depth : ℕ) (marks : List Mark) → Built (inside expects.Tree depth) marks → (AreOuter (suc depth) ((build marks).inner ∷ (build marks).outer) → Fits (inside e (suc depth)) (before mark.End (build marks))) → Built (inside e (suc depth)) (mark.End ∷ marks)
 built_end e depth marks h fits =
     let rest = build marks in
@@ -114,7 +114,7 @@ built_end e depth marks h fits =
       outer = (h.inner, h.outer);
     }
 
--- and behind the outermost
+-- and after the outermost
 built_last : (e : Expects) → Fits (inside e 0) (before mark.End (build [])) → Built (inside e 0) (mark.End ∷ [])
 built_last e fits = record { spelled = refl; fits = fits; properties = tt; nodes = tt; inner = tt; outer = (tt, tt) }
 

@@ -18,7 +18,7 @@ pub nil_not : (a : List ℕ) (b : ℕ) (c : List ℕ) → [] ≡ a ++ b ∷ c �
 nil_not [] b c e = cc
 nil_not (x ∷ a) b c e = cc
 
--- a sign behind white bytes, and the rest
+-- a sign after white bytes, and the rest
 pub record SignFirst (at : ℕ) (byte : ℕ) (parts : List Part) (text : List ℕ) : Type 0 where
   pub white : List ℕ
   pub rest : List ℕ
@@ -37,7 +37,7 @@ sign_first at part byte parts text one (w, written, rest, is, hw, hp, hr) =
       writes = subst (λ n. WritesParts (at + length w + n) parts rest) (ap (λ (ys : List ℕ). length ys) e) hr;
     }
 
--- a name behind white bytes, and the rest
+-- a name after white bytes, and the rest
 pub record NameFirst (at : ℕ) (identifier : List ℕ) (parts : List Part) (text : List ℕ) : Type 0 where
   pub white : List ℕ
   pub rest : List ℕ
@@ -59,7 +59,7 @@ name_first at identifier parts text (w, written, rest, is, hw, hp, hr) =
       writes = subst (λ ys. WritesParts (at + length w + length ys) parts rest) hp.0 hr;
     }
 
--- a value behind white bytes, and the rest
+-- a value after white bytes, and the rest
 pub record ValueFirst (at : ℕ) (value : PropertyValue) (parts : List Part) (text : List ℕ) : Type 0 where
   pub white : List ℕ
   pub rest : List ℕ
@@ -194,7 +194,7 @@ no_bracket at (names identifier ∷ parts) text white rest first h all is = name
 no_bracket at (has_value value ∷ parts) text white rest first h all is = first
 no_bracket at (closes ∷ parts) text white rest first h all is = closes_no_bracket at parts text white rest h all is
 
--- the same values, and one text for what comes behind them
+-- the same values, and one text for what comes after them
 pub record SameValues (values others : List PropertyValue) (parts more : List Part) : Type 0 where
   pub same : values ≡ others
   pub at : ℕ

@@ -46,7 +46,7 @@ tree-run at tree text h =
 pub good_front : (at : ℕ) (a b : List ℕ) → IsGoodFront at (a ++ b) → IsGoodFront at a
 good_front at a b h = record { continuation = b ++ h.continuation; tree = h.tree; writes = subst (λ ys. WritesTree at h.tree ys) (append_assoc a b h.continuation) h.writes }
 
--- how far a tree has been read: its marks behind the first and the bytes behind the first parenthesis
+-- how far a tree has been read: its marks after the first and the bytes after the first parenthesis
 pub record IsFront (at : ℕ) (marks : List Mark) (expected : Expects) (depth : ℕ) (text : List ℕ) : Type 0 where
   pub wrote : Wrote (at + 1) (parts_of marks) text
   pub follows : follow_all (inside expects.Node 0) marks ≡ inside expected depth
@@ -126,7 +126,7 @@ front-more at marks e depth text m more h allowed k =
 
 -- ---- what the bytes have led to
 
--- white bytes behind what has been read
+-- white bytes after what has been read
 pub agrees-white : (state : State) (e : Expects) (depth : ℕ) (white : List ℕ) → Agrees state (inside e depth) → IsTrue (list_all is_white white) → run state white ≡ state
 agrees-white state expects.Node depth white g h = ap (λ (s : State). run s white) g ∙ (run-white begun depth white tt h ∙ sym g)
 agrees-white state expects.Any depth white g h = ap (λ (s : State). run s white) g.2 ∙ (elim g.1 [ inl e ↦ rw e (run-white in_node depth white tt h) | inr e ↦ rw e (run-white valued depth white tt h) ] ∙ sym g.2)

@@ -29,7 +29,7 @@ same_tree at tree other text h k =
     let marks : inner_marks tree ≡ inner_marks other = same_marks (inner_marks tree) (inner_marks other) (inside expects.Node 0) (at + 1) k.inside (follow-inner_marks tree h.complete) (follow-inner_marks other k.complete) a b in
     sym (tree_of-inner_marks tree) ∙ (ap tree_of marks ∙ tree_of-inner_marks other)
 
--- no tree goes on behind another's end
+-- no tree goes on after another's end
 no_longer : (at : ℕ) (tree other : GameTree) (a b : List ℕ) → WritesTree at tree a → WritesTree at other (a ++ b) → b ≡ []
 no_longer at tree other a [] h k = refl
 no_longer at tree other a (byte ∷ b) h k =

@@ -100,7 +100,7 @@ kinds mark.End (mark.Prop other) a b h k e = letter_not close_parenthesis b a k 
 same_kind : (m n : Mark) (text : List ℕ) → FirstByte m text → FirstByte n text → SameKind m n
 same_kind m n text f g = kinds m n f.byte g.byte f.kind g.kind (same_white f.white g.white f.rest g.rest f.byte g.byte f.all_white g.all_white f.plain g.plain (sym f.is ∙ g.is)).1
 
--- one text behind two marks
+-- one text after two marks
 record SameRest (parts more : List Part) : Type 0 where
   at : ℕ
   text : List ℕ
@@ -184,7 +184,7 @@ node_rest at marks others text h k = same_sign at semicolon (parts_of marks) (pa
 end_rest : (at : ℕ) (marks others : List Mark) (text : List ℕ) → WritesParts at (parts_of (mark.End ∷ marks)) text → WritesParts at (parts_of (mark.End ∷ others)) text → SameRest (parts_of marks) (parts_of others)
 end_rest at marks others text h k = same_sign at close_parenthesis (parts_of marks) (parts_of others) text refl (sign_first at closes close_parenthesis (parts_of marks) text (λ n ys j. j) h) (sign_first at closes close_parenthesis (parts_of others) text (λ n ys j. j) k)
 
--- the same mark, and one text behind both
+-- the same mark, and one text after both
 same_mark : (stage : Stage) (at : ℕ) (m n : Mark) (marks others : List Mark) (text : List ℕ) → follow_all stage (m ∷ marks) ≡ finished → follow_all stage (n ∷ others) ≡ finished → WritesParts at (parts_of (m ∷ marks)) text → WritesParts at (parts_of (n ∷ others)) text
     → SameKind m n → (m ≡ n) × SameRest (parts_of marks) (parts_of others)
 same_mark stage at mark.Begin mark.Begin marks others text p q h k same = (refl, begin_rest at marks others text h k)

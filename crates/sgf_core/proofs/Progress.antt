@@ -153,7 +153,7 @@ last_of p (x ∷ y ∷ xs) some all =
     let later = last_of p (y ∷ xs) (λ none. cc) (and-right (p x) (list_all p (y ∷ xs)) all) in
     (x ∷ later.0, later.1, ap (λ (ys : List ℕ). x ∷ ys) later.2, later.3)
 
--- behind a name and white bytes, what is neither a letter of the name nor a value leads nowhere
+-- after a name and white bytes, what is neither a letter of the name nor a value leads nowhere
 white_names : (depth byte : ℕ) → IsTrue (is_white byte) → step (live in_name depth) byte ≡ live named depth
 white_names depth byte h =
     let other : is_letter byte ≡ false = grind (arith, nat_tests) in

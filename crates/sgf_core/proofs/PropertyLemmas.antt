@@ -32,7 +32,7 @@ value_parts at bytes h =
       refl,
     )
 
--- one more value behind those so far
+-- one more value after those so far
 pub value_more : (values : List PropertyValue) (value : PropertyValue) (at : ℕ) (a b : List ℕ) → Wrote at (map has_value values) a → WritesParts (at + length a) (has_value value ∷ []) b
     → WritesParts at (map has_value (values ++ value ∷ [])) (a ++ b)
 value_more values value at a b h k =
@@ -115,7 +115,7 @@ is_unfinished bytes from end place values value more name h some k =
     some_last [] x e = cc
     some_last (y ∷ xs) x e = cc
 
--- a value behind the others, and the white bytes behind it
+-- a value after the others, and the white bytes after it
 pub reads_more : (bytes : List ℕ) (end place close next : ℕ) (values : List PropertyValue) → HasRead bytes end place values → place < length bytes → slice_index bytes place ≡ open_bracket
     → (place + 1 ≤ close) × (close < length bytes) × (slice_index bytes close ≡ close_bracket) × IsTrue (is_value_text (slice_range bytes (place + 1) close))
     → (close + 1 ≤ next) × (next ≤ length bytes) → IsTrue (list_all is_white (slice_range bytes (close + 1) next))
@@ -157,7 +157,7 @@ is_unclosed bytes from end place values more name h within open_is text =
     some_end [] x = cc
     some_end (y ∷ xs) x = cc
 
--- nothing but white bytes behind the identifier
+-- nothing but white bytes after the identifier
 pub ends_behind_name : (bytes : List ℕ) (from end place : ℕ) (values : List PropertyValue) → IsIdentifier bytes from end → HasRead bytes end place values → length bytes ≤ place → EndsInMark bytes expects.Any from
 ends_behind_name bytes from end place values name h over =
     let e : open_bracket ∷ close_bracket ∷ [] ≡ drop place bytes ++ open_bracket ∷ close_bracket ∷ [] = ap (λ (ys : List ℕ). ys ++ open_bracket ∷ close_bracket ∷ []) (sym (drop_all place bytes over)) in
@@ -165,7 +165,7 @@ ends_behind_name bytes from end place values name h over =
     is_unfinished bytes from end place values value (open_bracket ∷ close_bracket ∷ []) name h (λ none. cc)
     (subst (λ ys. WritesParts place (has_value value ∷ []) ys) e (value_parts place [] refl))
 
--- something else behind it
+-- something else after it
 pub is_alone : (bytes : List ℕ) (from end place : ℕ) → IsIdentifier bytes from end → HasRead bytes end place [] → place < length bytes → is_white (slice_index bytes place) ≡ false → slice_index bytes place ≢ open_bracket
     → (end < length bytes → is_letter (slice_index bytes end) ≡ false) → IsNameAlone bytes from place
 is_alone bytes from end place name h within not_white no_value ended =

@@ -31,7 +31,7 @@ parts-split at (part ∷ parts) more text (w, written, rest, is, hw, hp, hr) =
       subst (λ n. WritesParts n more later.1) e later.4,
     )
 
--- a sign behind white bytes
+-- a sign after white bytes
 sign-run : (phase : Phase) (depth at : ℕ) (part : Part) (byte : ℕ) (text : List ℕ) → IsBetween phase → ((n : ℕ) (ys : List ℕ) → IsPartText n part ys → ys ≡ byte ∷ []) → WritesParts at (part ∷ []) text → run (live phase depth) text ≡ step (live phase depth) byte
 sign-run phase depth at part byte text between one (w, written, rest, is, hw, hp, hr) =
     let e : text ≡ w ++ byte ∷ [] = is ∙ (ap (λ (ys : List ℕ). w ++ written ++ ys) hr ∙ (append-nil (w ++ written) ∙ ap (λ (ys : List ℕ). w ++ ys) (one _ _ hp))) in
@@ -42,7 +42,7 @@ value-run state depth bytes begins text =
     ap (λ (s : State). run s (bytes ++ close_bracket ∷ [])) begins
     ∙ (run-append (live in_value depth) bytes (close_bracket ∷ []) ∙ ap (λ (s : State). step s close_bracket) (run-text false depth bytes text))
 
--- values behind a value
+-- values after a value
 values-run : (depth at : ℕ) (values : List PropertyValue) (text : List ℕ) → WritesParts at (map has_value values) text → run (live valued depth) text ≡ live valued depth
 values-run depth at [] text h = ap (run (live valued depth)) h
 values-run depth at (value ∷ values) text (w, written, rest, is, hw, hp, hr) =
@@ -53,7 +53,7 @@ values-run depth at (value ∷ values) text (w, written, rest, is, hw, hp, hr) =
     ∙ (ap (λ (s : State). run s rest) (ap (run (live valued depth)) hp.0 ∙ value-run (live valued depth) depth value.bytes refl hp.1)
     ∙ values-run depth (at + length w + length written) values rest hr))))
 
--- values behind a name
+-- values after a name
 named-run : (depth at : ℕ) (values : List PropertyValue) (text : List ℕ) → values ≢ [] → WritesParts at (map has_value values) text → run (live in_name depth) text ≡ live valued depth
 named-run depth at [] text some h = absurd (some refl)
 named-run depth at (value ∷ values) text some (w, written, rest, is, hw, hp, hr) =

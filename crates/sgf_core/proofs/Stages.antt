@@ -1,4 +1,4 @@
--- What the marks of a tree lead to behind its first, mark by mark.
+-- What the marks of a tree lead to after its first, mark by mark.
 use Rattle.std.proofs.Common.{◌≡◌, ℕ, zero, suc, List, [], ◌∷◌, ◌++◌, refl, sym, ◌∙◌}
 use Rattle.sgf_core.specs.Tree.{PropertyValue}
 use Rattle.sgf_core.specs.declared.marks.Mark.{Mark}
@@ -49,7 +49,7 @@ pub follow_wrong : (a : List Mark) → follow_all wrong a ≡ wrong
 follow_wrong [] = refl
 follow_wrong (m ∷ a) = follow_wrong a
 
--- behind the end nothing comes
+-- after the end nothing comes
 pub follow_finished : (a : List Mark) → follow_all finished a ≡ finished → a ≡ []
 follow_finished [] h = refl
 follow_finished (m ∷ a) h = let e : wrong ≡ finished = sym (follow_wrong a) ∙ h in cc

@@ -43,7 +43,7 @@ run-letters depth (byte ∷ letters) h =
     let now : step (live in_name depth) byte ≡ live in_name depth = rw first refl in
     ap (λ s. run s letters) now ∙ run-letters depth letters (and-right (is_letter byte) _ h)
 
--- behind a name, white bytes leave only a value to come
+-- after a name, white bytes leave only a value to come
 pub run-name-white : (depth : ℕ) (white : List ℕ) → IsTrue (list_all is_white white) → (run (live in_name depth) white ≡ live in_name depth) ⊎ (run (live in_name depth) white ≡ live named depth)
 run-name-white depth [] h = inl refl
 run-name-white depth (byte ∷ white) h =

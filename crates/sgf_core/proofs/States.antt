@@ -1,4 +1,4 @@
--- What the bytes of a tree lead to behind its first parenthesis, byte by byte. No contract speaks of it.
+-- What the bytes of a tree lead to after its first parenthesis, byte by byte. No contract speaks of it.
 use Rattle.std.proofs.Common.{◌≡◌, ℕ, zero, suc, List, [], ◌∷◌, ◌++◌, refl}
 use Rattle.std.specs.Prelude.{◌==◌, if◌then◌else◌}
 use Rattle.sgf_core.specs.Bytes.{is_white, is_letter, open_parenthesis, close_parenthesis, semicolon, open_bracket, backslash, close_bracket}

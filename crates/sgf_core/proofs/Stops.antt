@@ -39,7 +39,7 @@ done-not_live : (text : List ℕ) → IsLive (run done text) → ⊥
 done-not_live [] h = let f : done ≡ live h.phase h.depth = h.is in cc
 done-not_live (byte ∷ text) h = live-not_dead (run dead text) h (run-dead text)
 
--- a tree that a part of the bytes writes ends behind the first parenthesis
+-- a tree that a part of the bytes writes ends after the first parenthesis
 tree_inside : (bytes : List ℕ) (at end : ℕ) (tree : GameTree) → at < length bytes → WritesTree at tree (slice_range bytes at end)
     → (inside : List ℕ) × (rest : List ℕ) × (drop (at + 1) bytes ≡ inside ++ rest) × (run (live begun 0) inside ≡ done)
 tree_inside bytes at end tree within h =
@@ -97,7 +97,7 @@ turns_bad bytes from at bad after within opens_at first alive stops good =
 
 -- ---- an identifier and white bytes at the end
 
--- neither within an identifier or a value, nor behind an identifier
+-- neither within an identifier or a value, nor after an identifier
 abbrev pub IsBoundary : State → Type 0
 IsBoundary dead = ⊥
 IsBoundary done = ⊥
@@ -169,7 +169,7 @@ all-elsewhere : (state : State) (white : List ℕ) → IsElsewhere state → IsT
 all-elsewhere state [] a h = a
 all-elsewhere state (byte ∷ white) a h = all-elsewhere (step state byte) white (white-elsewhere state byte a (and-left (is_white byte) (list_all is_white white) h)) (and-right (is_white byte) (list_all is_white white) h)
 
--- behind an identifier and white bytes is no boundary
+-- after an identifier and white bytes is no boundary
 pub no_identifier : (text : List ℕ) → IsBoundary (run (live begun 0) text) → EndsWithIdentifier (open_parenthesis ∷ text) → ⊥
 no_identifier text boundary h = go h.before h.letter h.white h.ends h.is_letter h.is_white
   where

@@ -23,7 +23,7 @@ white-front at white part parts text h (w, written, rest, is, hw, hp, hr) =
       subst (λ n. WritesParts (n + length written) parts rest) e hr,
     )
 
--- and some behind them
+-- and some after them
 pub parts-append : (at : ℕ) (parts more : List Part) (a b : List ℕ) → WritesParts at parts a → WritesParts (at + length a) more b → WritesParts at (parts ++ more) (a ++ b)
 parts-append at [] more a b none h =
     let e : at + length a ≡ at = ap (λ (ys : List ℕ). at + length ys) none ∙ omega arith in

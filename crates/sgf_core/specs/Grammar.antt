@@ -5,7 +5,7 @@ use Rattle.std.specs.List.{flat_map, list_all, AllByRecursion}
 use Rattle.sgf_core.specs.Bytes.{is_white, is_letter, open_parenthesis, close_parenthesis, semicolon, open_bracket, backslash, close_bracket}
 use Rattle.sgf_core.specs.Tree.{PropertyValue, Property, Node, Forest, no_trees, a_tree, GameTree}
 
--- what a tree is written of, behind its first parenthesis
+-- what a tree is written of, after its first parenthesis
 pub data Part : Type 0 where
   opens : Part
   begins_node : Part
@@ -27,7 +27,7 @@ forest_parts no_trees = []
 forest_parts (a_tree nodes inner rest) =
     opens ∷ (flat_map node_parts nodes ++ forest_parts inner ++ closes ∷ forest_parts rest)
 
--- the parts of a tree behind its first parenthesis
+-- the parts of a tree after its first parenthesis
 abbrev pub tree_parts : GameTree → List Part
 tree_parts tree = flat_map node_parts tree.nodes ++ forest_parts tree.inner ++ closes ∷ []
 
@@ -51,7 +51,7 @@ IsPartText at (has_value value) text =
     (text ≡ open_bracket ∷ value.bytes ++ close_bracket ∷ []) × IsTrue (is_value_text value.bytes) × (value.at ≡ at + 1)
 IsPartText at closes text = text ≡ close_parenthesis ∷ []
 
--- the bytes that write these parts in order, each behind any number of white bytes
+-- the bytes that write these parts in order, each after any number of white bytes
 abbrev pub WritesParts : ℕ → List Part → List ℕ → Type 0
 WritesParts at [] text = text ≡ []
 WritesParts at (part ∷ parts) text =

@@ -23,7 +23,7 @@ abbrev pub HasNoTree : List ℕ → ℕ → Type 0
 HasNoTree bytes from = (at : ℕ) → from ≤ at → BeginsTree (drop at bytes) → ⊥
 
 -- the next tree from a place on, with its bounds: its first parenthesis stands at `at`, and `end` is the place
--- behind its last
+-- after its last
 pub record IsNextTree (bytes : List ℕ) (from at end : ℕ) (tree : GameTree) : Type 0 where
   pub first : IsFirstBegin bytes from at
   pub before_end : at ≤ end

@@ -20,7 +20,7 @@ mark_parts mark.End = closes ∷ []
 abbrev pub parts_of : List Mark → List Part
 parts_of marks = flat_map mark_parts marks
 
--- the bytes that write these parts, and white bytes behind them
+-- the bytes that write these parts, and white bytes after them
 pub record Wrote (at : ℕ) (parts : List Part) (text : List ℕ) : Type 0 where
   pub body : List ℕ
   pub white : List ℕ
@@ -28,7 +28,7 @@ pub record Wrote (at : ℕ) (parts : List Part) (text : List ℕ) : Type 0 where
   pub ends_white : IsTrue (list_all is_white white)
   pub writes : WritesParts at parts body
 
--- which marks may come: a node alone behind a tree's first parenthesis, any in a node, and behind an inner tree
+-- which marks may come: a node alone after a tree's first parenthesis, any in a node, and after an inner tree
 -- another or the end
 abbrev pub IsAllowed : Expects → Mark → Type 0
 IsAllowed expects.Node mark.Node = Unit {0}
@@ -50,7 +50,7 @@ is_fitting expects.Node byte = byte == semicolon
 is_fitting expects.Any byte = is_letter byte || byte == semicolon || byte == open_parenthesis || byte == close_parenthesis
 is_fitting expects.Tree byte = byte == open_parenthesis || byte == close_parenthesis
 
--- neither a further value nor white bytes stand behind a property
+-- neither a further value nor white bytes come after a property
 abbrev pub IsWhole : List ℕ → ℕ → Mark → Type 0
 IsWhole bytes end (mark.Prop property) =
     end < length bytes → (slice_index bytes end ≢ open_bracket) × (is_white (slice_index bytes end) ≡ false)
@@ -58,7 +58,7 @@ IsWhole bytes end mark.Begin = Unit {0}
 IsWhole bytes end mark.Node = Unit {0}
 IsWhole bytes end mark.End = Unit {0}
 
--- the bytes that write a mark; behind a property they may go on with white bytes
+-- the bytes that write a mark; after a property they may go on with white bytes
 abbrev pub IsMarkText : ℕ → Mark → List ℕ → Type 0
 IsMarkText at (mark.Prop property) text = Wrote at (property_parts property) text
 IsMarkText at mark.Begin text = WritesParts at (mark_parts mark.Begin) text
@@ -81,7 +81,7 @@ pub record EndsInMark (bytes : List ℕ) (expected : Expects) (from : ℕ) : Typ
   pub some_more : more ≢ []
   pub writes : WritesParts from (mark_parts begun) (drop from bytes ++ more)
 
--- behind white bytes stands one with which no mark that may come begins
+-- after white bytes stands one with which no mark that may come begins
 pub record IsMisfit (bytes : List ℕ) (expected : Expects) (from bad : ℕ) : Type 0 where
   pub after : from ≤ bad
   pub in_input : bad < length bytes
@@ -89,7 +89,7 @@ pub record IsMisfit (bytes : List ℕ) (expected : Expects) (from bad : ℕ) : T
   pub not_white : is_white (slice_index bytes bad) ≡ false
   pub misfit : is_fitting expected (slice_index bytes bad) ≡ false
 
--- behind an identifier and white bytes stands what is no value
+-- after an identifier and white bytes stands what is no value
 pub record IsNameAlone (bytes : List ℕ) (from bad : ℕ) : Type 0 where
   pub after : from ≤ bad
   pub in_input : bad < length bytes

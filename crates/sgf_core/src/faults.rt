@@ -15,7 +15,7 @@ pub enum SgfFault {
     /// This byte of a tree fits nowhere: what stands before it in the tree could still have become one.
     #[error("S2 bad byte at {0}")]
     BadByte(usize),
-    /// As before, and the byte stands behind an identifier and white bytes, in the place of its first value.
+    /// As before, and the byte comes after an identifier and white bytes, in the place of its first value.
     #[error("S3 no value at {0}")]
     NoValue(usize),
     /// The input has more than 2^28 bytes.

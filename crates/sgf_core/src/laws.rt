@@ -9,7 +9,8 @@ ghost use Rattle.sgf_core.specs.declared.faults.SgfFault.{SgfFault};
 /// From a place on at most one tree is next, with one place where it begins and one where it ends. So a tree that is
 /// next is the one that is read.
 pub fn one_next_tree()
-    ensures { (bytes : List ℕ) (from at end : ℕ) (tree : GameTree) (other_at other_end : ℕ) (other : GameTree)
+    ensures { (bytes : List ℕ) (from at end : ℕ) (tree : GameTree) (other_at other_end : ℕ)
+        (other : GameTree)
         → IsNextTree bytes from at end tree → IsNextTree bytes from other_at other_end other
         → (at ≡ other_at) × (end ≡ other_end) × (tree ≡ other) }
 {}

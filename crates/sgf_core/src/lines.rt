@@ -26,7 +26,8 @@ impl<'t, 'a> Model for MainLine<'t, 'a> {
 /// The place of the first node's mark, where one comes before the first end of a tree.
 fn node_place(marks: &[Mark<'_>]) -> Option<usize>
     ensures { MatchOption result (line_of marks.now ≡ []) (λ place. (place < length marks.now)
-        × (line_of marks.now ≡ leading_properties (drop (place + 1) marks.now) ∷ line_of (drop (place + 1) marks.now))) }
+        × (line_of marks.now ≡ leading_properties (drop (place + 1) marks.now) ∷ line_of
+        (drop (place + 1) marks.now))) }
 {
     for (place, mark) in marks.iter().enumerate() {
         match mark {

@@ -12,7 +12,7 @@ use std::marker::Model;
 /// A value of a property, as SGF FF[4] has it: the bytes between its brackets as they stand there, escapes not undone.
 #[derive(Clone, Copy, Debug, Default, PartialEq, Eq)]
 pub struct Value<'a> {
-    /// The place of its first byte, which stands behind the bracket: a byte offset in the whole input, from 0.
+    /// The place of its first byte, which comes after the bracket: a byte offset in the whole input, from 0.
     pub at: usize,
     /// Its bytes: a slice of the input.
     pub bytes: &'a [u8],
@@ -32,7 +32,11 @@ impl<'a> Model for Prop<'a> {
 
     ghost Value = { Property };
 
-    ghost view = { λ p. record { identifier = p.identifier.now; values = map value_of p.values.items } };
+    ghost view = { λ p. record {
+      identifier = p.identifier.now;
+      values = map value_of
+          p.values.items;
+    } };
 }
 
 impl<'a> Prop<'a> {
@@ -90,7 +94,7 @@ impl<'a> Tree<'a> {
         self.at
     }
 
-    /// The place behind the tree's last parenthesis, a byte offset in the whole input, from 0.
+    /// The place after the tree's last parenthesis, a byte offset in the whole input, from 0.
     pub fn end(&self) -> usize
         ensures { result ≡ self.now.end }
     {

@@ -17,15 +17,15 @@ use std::alloc::Global;
 /// What may come next within a tree.
 #[derive(Clone, Copy)]
 pub(crate) enum Expects {
-    /// A node: behind the tree's first parenthesis.
+    /// A node: after the tree's first parenthesis.
     Node,
     /// Any part: in a node.
     Any,
-    /// A tree, or the end of this one: behind an inner tree.
+    /// A tree, or the end of this one: after an inner tree.
     Tree,
 }
 
-/// The next mark from `from` on of the tree that begins at `at`, and the place behind it.
+/// The next mark from `from` on of the tree that begins at `at`, and the place after it.
 fn read_mark<'a>(
     alloc: Global,
     bytes: &'a [u8],
@@ -60,7 +60,8 @@ fn read_mark<'a>(
 pub(crate) fn read_tree<'a>(alloc: Global, bytes: &'a [u8], at: usize) -> Result<Tree<'a>, SgfFault>
     requires small { length bytes.now ≤ 2 ^ 28 }
     requires begins { BeginsTree (drop at bytes.now) }
-    ensures bounds { IfOk result (λ read. (read.at ≡ at) × (at < read.end) × (read.end ≤ length bytes.now)) }
+    ensures bounds { IfOk result (λ read. (read.at ≡ at) × (at < read.end)
+        × (read.end ≤ length bytes.now)) }
     ensures tree { IfOk result (λ read. (tree : GameTree)
         × WritesTree at tree (slice_range bytes.now at read.end) × (read.marks ≡ marks_of tree)) }
     ensures fault { IfErr result (λ fault. (from : ℕ)

@@ -10,7 +10,7 @@ use crate::scan::{letters_end, value_end, white_end};
 use smallvec::SmallVec;
 use std::alloc::Global;
 
-/// The property whose identifier begins at `from`, in the tree that begins at `at`, and the place behind its values
+/// The property whose identifier begins at `from`, in the tree that begins at `at`, and the place after its values
 /// and the white bytes after them.
 pub(crate) fn read_property<'a>(
     alloc: Global,
@@ -20,7 +20,8 @@ pub(crate) fn read_property<'a>(
 ) -> Result<(Prop<'a>, usize), SgfFault>
     requires within { from < length bytes.now }
     requires letter { IsTrue (is_letter (slice_index bytes.now from)) }
-    ensures read { IfOk result (λ found. ReadsMark bytes.now Expects.Any from found.1 (Mark.Prop found.0)) }
+    ensures read { IfOk result (λ found. ReadsMark bytes.now Expects.Any from found.1
+        (Mark.Prop found.0)) }
     ensures fault { IfErr result (MarkFault bytes.now at Expects.Any from) }
 {
     let identifier_end = letters_end(bytes, from);

@@ -1,5 +1,6 @@
 //! The reader of a collection: one tree after the other.
-ghost use Rattle.std.specs.Prelude.{◌≡◌, ◌<◌, ◌≤◌, ◌^◌, Some, None, IfOk, IfErr, IfSome, IfNone, IsOk, ◌↔◌, MatchOption, length};
+ghost use Rattle.std.specs.Prelude.{◌≡◌, ◌<◌, ◌≤◌, ◌^◌, Some, None, IfOk, IfErr, IfSome, IfNone};
+ghost use Rattle.std.specs.Prelude.{IsOk, ◌↔◌, MatchOption, length};
 ghost use Rattle.sgf_core.specs.Tree.{GameTree};
 ghost use Rattle.sgf_core.specs.Next.{IsFirstBegin, HasNoTree, IsNextTree};
 ghost use Rattle.sgf_core.specs.Marks.{marks_of};
@@ -31,9 +32,17 @@ impl<'a> Model for Trees<'a> {
 
     ghost Value = { Reading };
 
-    ghost view = { λ trees. record { bytes = trees.bytes.now; from = trees.from; fault = trees.fault } };
+    ghost view = { λ trees. record {
+      bytes = trees.bytes.now;
+      from = trees.from;
+      fault = trees.fault;
+    } };
 
-    ghost invariant = { λ trees. IsReading (record { bytes = trees.bytes.now; from = trees.from; fault = trees.fault }) };
+    ghost invariant = { λ trees. IsReading (record {
+      bytes = trees.bytes.now;
+      from = trees.from;
+      fault = trees.fault;
+    }) };
 }
 
 /// The first place from `from` on at which a tree begins.
@@ -68,7 +77,8 @@ impl<'a> Trees<'a> {
     /// S4 comes where the input has more than 2^28 bytes.
     pub fn new(bytes: &'a [u8]) -> Result<Trees<'a>, SgfFault>
         ensures small { IsOk result ↔ (length bytes.now ≤ 2 ^ 28) }
-        ensures begins { IfOk result (λ trees. trees ≡ record { bytes = bytes.now; from = 0; fault = None }) }
+        ensures begins { IfOk result (λ trees. trees
+            ≡ record { bytes = bytes.now; from = 0; fault = None }) }
         ensures large { IfErr result (λ fault. fault ≡ TooLarge) }
     {
         if bytes.len() > LIMIT {
@@ -89,12 +99,14 @@ impl<'a> Trees<'a> {
     /// then stands where it stood.
     pub fn next_tree(&mut self, alloc: Global) -> Result<Option<Tree<'a>>, SgfFault>
         ensures tree { IfOk result (λ found. IfSome found (λ read. (tree : GameTree)
-            × IsNextTree self.old.bytes self.old.from read.at read.end tree × (read.marks ≡ marks_of tree))) }
+            × IsNextTree self.old.bytes self.old.from read.at read.end tree
+            × (read.marks ≡ marks_of tree))) }
         ensures after_tree { IfOk result (λ found. IfSome found (λ read.
             self.new ≡ record self.old { from = read.end })) }
         ensures forward { IfOk result (λ found. IfSome found (λ read.
             (self.old.from < read.end) × (read.end ≤ length self.old.bytes))) }
-        ensures none { IfOk result (λ found. IfNone found (HasNoTree self.old.bytes self.old.from)) }
+        ensures none { IfOk result (λ found. IfNone found
+            (HasNoTree self.old.bytes self.old.from)) }
         ensures after_none { IfOk result (λ found. IfNone found
             (self.new ≡ record self.old { from = length self.old.bytes })) }
         ensures fault { IfErr result (λ fault. IsFaultOrMemory self.old.bytes self.old.from fault) }

@@ -1,5 +1,6 @@
 //! Where white space, letters and a value end.
-ghost use Rattle.std.specs.Prelude.{◌≡◌, ◌≤◌, ◌<◌, ℕ, List, IsTrue, Some, MatchOption, false, length, slice_index, slice_range, drop, ◌++◌};
+ghost use Rattle.std.specs.Prelude.{◌≡◌, ◌≤◌, ◌<◌, ℕ, List, IsTrue, Some, MatchOption, false};
+ghost use Rattle.std.specs.Prelude.{length, slice_index, slice_range, drop, ◌++◌};
 ghost use Rattle.std.specs.List.{list_all};
 ghost use Rattle.sgf_core.specs.Bytes.{is_white, is_letter, close_bracket};
 ghost use Rattle.sgf_core.specs.Grammar.{is_value_text};
@@ -39,7 +40,8 @@ pub(crate) fn value_end(bytes: &[u8], from: usize) -> Option<usize>
     requires { from ≤ length bytes.now }
     ensures { MatchOption result
         ((more : List ℕ) × IsTrue (is_value_text (drop from bytes.now ++ more)))
-        (λ end. (from ≤ end) × (end < length bytes.now) × (slice_index bytes.now end ≡ close_bracket)
+        (λ end. (from ≤ end) × (end < length bytes.now)
+        × (slice_index bytes.now end ≡ close_bracket)
         × IsTrue (is_value_text (slice_range bytes.now from end))) }
 {
     let mut escaped = false;

@@ -177,7 +177,8 @@ fn too_large(rt: HostRuntime) -> Result<(), AllocError> {
 fn places(alloc: Global, tree: &Tree<'_>, name: &[u8]) -> Result<Vec<usize>, AllocError>
     ensures { IfOk result (λ places. (whole : GameTree) → tree.now.marks ≡ marks_of whole
         → places.items ≡ flat_map (λ node. flat_map (λ property.
-        if bytes_eq (name_of property.identifier) name.now then map (λ value. value.at) property.values else [])
+        if bytes_eq (name_of property.identifier) name.now
+        then map (λ value. value.at) property.values else [])
         node) (main_line_of whole)) }
 {
     let mut places = Vec::new(alloc);

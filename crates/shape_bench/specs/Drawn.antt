@@ -3,7 +3,7 @@ use Rattle.std.specs.Prelude.{ℕ, ◌*◌, ◌%◌, ◌/◌, ◌^◌}
 use Rattle.go_board.specs.Extent.{Extent}
 use Rattle.go_board.specs.declared.points.Point.{Point}
 
--- the number behind this one
+-- the number after this one
 abbrev pub next_of : ℕ → ℕ
 next_of number = number * 6364136223846793005 % 2 ^ 64
 

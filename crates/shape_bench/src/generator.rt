@@ -16,7 +16,7 @@ pub struct Generator {
 }
 
 impl Generator {
-    /// The generator that begins behind 1.
+    /// The generator that begins after 1.
     pub fn new() -> Generator
         ensures { result.state ≡ 1 }
     {

@@ -54,7 +54,7 @@ fn mover(number: u64) -> Colour
     }
 }
 
-/// Makes so many canonical forms, of squares and of diamonds, for Black and White in turn. Takes no memory.
+/// Makes this number of canonical forms, of squares and of diamonds, for Black and White in turn. Takes no memory.
 pub fn make_forms(count: u64) -> Made
     ensures count { result.count ≡ count }
     ensures odd { result.mixed % 2 ≡ 1 }
@@ -69,7 +69,7 @@ pub fn make_forms(count: u64) -> Made
     made
 }
 
-/// Plays so many moves, of Black and White in turn, on a field of 19 columns and 19 rows that keeps squares and
+/// Plays this number of moves, of Black and White in turn, on a field of 19 columns and 19 rows that keeps squares and
 /// diamonds.
 ///
 /// A move may go where a stone stands, and the board is never cleared. So it is soon as full as captures leave it, and

@@ -124,7 +124,7 @@ same_list-true (x ∷ xs) (y ∷ ys) h =
     let parts = and_parts (eqb x y) (same_list xs ys) h in
     ap₂ ◌∷◌ (eqb-true x y parts.0) (same_list-true xs ys parts.1)
 
--- the bits of the mask and those so many places above them, each in the other's place
+-- the bits of the mask and those `places` places above them, each in the other's place
 abbrev pub swap : ℕ → ℕ → Moves
 swap mask places = joined (raised (masked whole mask) places) (masked (lowered whole places) mask)
 

@@ -18,7 +18,7 @@ sum_of-push (x ∷ cs) c =
 powers_rise : (i j : ℕ) → i ≤ j → 4 ^ i ≤ 4 ^ j
 powers_rise i j h = pow-le-pow_right {n = 4} (omega arith) {i = i} {j = j} h
 
--- a code so many cells up, as the program shifts it
+-- a code `i` cells up, as the program shifts it
 weighed : (c i : ℕ) → c < 4 → i < 25 → (c * 2 ^ (2 * i) % 2 ^ 64 ≡ c * 4 ^ i) × (c * 4 ^ i < 2 ^ 50)
 weighed c i p q =
     let low = powers_rise i 24 (omega arith) in

@@ -5,7 +5,7 @@ use Rattle.std.specs.List.{flat_map}
 use Rattle.shape_core.specs.declared.words.Kind.{Kind}
 use Rattle.shape_core.specs.declared.words.Kind.TheVariants as kind
 
--- so many columns to the right and rows down
+-- a number of columns to the right and of rows down
 pub record Offset : Type 0 where
   pub dx : ℤ
   pub dy : ℤ

@@ -26,7 +26,7 @@ kind_of word = if nat_lt word (2 ^ 50) then kind.Square else kind.Diamond
 abbrev pub code_at : ℕ → ℕ → ℕ
 code_at word cell = (word / 4 ^ cell) % 4
 
--- the numbers from a first one on, so many
+-- n numbers, from a first one on
 abbrev pub count_from : ℕ → ℕ → List ℕ
 count_from first zero = []
 count_from first (suc n) = first ∷ count_from (suc first) n

@@ -22,13 +22,18 @@ impl Model for Field {
 
     ghost Value = { Kept };
 
-    ghost view = { λ f. record { board = f.board; kinds = f.kept.kinds; changed = f.kept.changed.items } };
+    ghost view = { λ f. record {
+      board = f.board;
+      kinds = f.kept.kinds;
+      changed = f.kept.changed.items;
+    } };
 
     ghost invariant = { λ f. IsField f.board f.kept };
 }
 
 impl Field {
-    ghost use Rattle.std.specs.Prelude.{◌≡◌, ◌+◌, ◌⊎◌, ◌↔◌, [], length, Contains, IsTrue, IfOk, MatchOption};
+    ghost use Rattle.std.specs.Prelude.{◌≡◌, ◌+◌, ◌⊎◌, ◌↔◌, [], length, Contains, IsTrue, IfOk};
+    ghost use Rattle.std.specs.Prelude.{MatchOption};
     ghost use Rattle.go_board.specs.declared.points.Point.{Point};
     ghost use Rattle.go_board.specs.declared.points.Stone.TheVariants as stone;
     ghost use Rattle.go_board.specs.Point.{IsOn};
@@ -37,7 +42,8 @@ impl Field {
     ghost use Rattle.go_board.specs.Board.{position_of, IsBoard};
     ghost use Rattle.shape_core.specs.declared.words.Kind.TheVariants as kind;
     ghost use Rattle.shape_core.specs.Around.{word_around};
-    ghost use Rattle.shape_core.specs.Field.{IsMarked, MarksChanges, IsFirstMarked, Unmarks, AreJoined};
+    ghost use Rattle.shape_core.specs.Field.{IsMarked, MarksChanges, IsFirstMarked, Unmarks};
+    ghost use Rattle.shape_core.specs.Field.{AreJoined};
     ghost use Rattle.shape_core.specs.KeptLists.{AreMarks};
 
     /// An empty board of this size, with the words of both kinds kept and no point marked.

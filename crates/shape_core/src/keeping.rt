@@ -1,5 +1,6 @@
 //! Words kept as a stone changes: one code exchanged in each word that has the point among its cells, and marks.
-ghost use Rattle.std.specs.Prelude.{◌≡◌, ◌<◌, ◌≤◌, ◌+◌, ◌*◌, ◌^◌, ◌⊎◌, ℕ, length, map, slice_index, slice_set, bit_or, All};
+ghost use Rattle.std.specs.Prelude.{◌≡◌, ◌<◌, ◌≤◌, ◌+◌, ◌*◌, ◌^◌, ◌⊎◌, ℕ, length, map, slice_index};
+ghost use Rattle.std.specs.Prelude.{slice_set, bit_or, All};
 ghost use Rattle.go_board.specs.declared.points.Point.{Point};
 ghost use Rattle.go_board.specs.declared.points.Stone.{Stone};
 ghost use Rattle.go_board.specs.Extent.{IsExtent};

@@ -108,7 +108,8 @@ impl KeptWords {
 
 /// The words of this kind of all points of a board, row by row from the top, each row from the left.
 fn words_of(alloc: Global, board: &Board, kind: Kind) -> Result<Vec<Word>, AllocError>
-    ensures { IfOk result (λ words. AreWords kind board.now.size (position_of board.now) words.items) }
+    ensures { IfOk result (λ words. AreWords kind board.now.size (position_of board.now)
+        words.items) }
 {
     let columns = usize::from(board.size().columns());
     let count = columns * usize::from(board.size().rows());

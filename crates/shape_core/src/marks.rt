@@ -1,5 +1,6 @@
 //! Marks of points: for each row a number with a bit for each column.
-ghost use Rattle.std.specs.Prelude.{◌≡◌, ◌≢◌, ◌<◌, ◌≤◌, ◌^◌, ◌↔◌, ℕ, length, slice_index, slice_set, bit_or, IsTrue, MatchOption, EachIndex, All};
+ghost use Rattle.std.specs.Prelude.{◌≡◌, ◌≢◌, ◌<◌, ◌≤◌, ◌^◌, ◌↔◌, ℕ, length, slice_index};
+ghost use Rattle.std.specs.Prelude.{slice_set, bit_or, IsTrue, MatchOption, EachIndex, All};
 ghost use Rattle.go_board.specs.declared.points.Point.{Point};
 ghost use Rattle.go_board.specs.Extent.{Extent};
 ghost use Rattle.shape_core.specs.Field.{IsMarked, ComesBefore, Unmarks, AreJoined};
@@ -12,7 +13,8 @@ pub fn mark(changed: &mut [u64], point: Point)
     requires row { point.row < length changed.old }
     requires column { point.column < 64 }
     ensures { changed.new
-        ≡ slice_set changed.old point.row (bit_or (slice_index changed.old point.row) (2 ^ point.column)) }
+        ≡ slice_set changed.old point.row (bit_or (slice_index changed.old point.row)
+        (2 ^ point.column)) }
 {
     changed[usize::from(point.row)] |= 1 << point.column;
 }

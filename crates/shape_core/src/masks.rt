@@ -5,7 +5,7 @@ ghost use Rattle.shape_core.specs.declared.symmetries.Symmetry.TheVariants as sy
 
 use crate::words::DIAMOND;
 
-/// The bits of the mask and those so many places above them, each in the other's place; no other bit.
+/// The bits of the mask and those `places` places above them, each in the other's place; no other bit.
 fn swapped(word: u64, mask: u64, places: u32) -> u64
     requires { places < 64 }
     ensures { result

@@ -105,7 +105,8 @@ pub fn same_canonical()
 
 /// A canonical word is of its word's kind, and the word of a point is of the kind that was looked at.
 pub fn kinds_stay()
-    ensures canonical { (word : ℕ) (mover : Colour) → kind_of (canonical_of word mover) ≡ kind_of word }
+    ensures canonical { (word : ℕ) (mover : Colour)
+        → kind_of (canonical_of word mover) ≡ kind_of word }
     ensures around { (kind : Kind) (size : Extent) (position : Position) (point : Point)
         → kind_of (word_around kind size position point) ≡ kind }
 {}

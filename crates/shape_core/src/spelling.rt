@@ -1,5 +1,6 @@
 //! Words written as 25 glyphs: `.` empty, `X` black, `O` white, `#` off the board.
-ghost use Rattle.std.specs.Prelude.{◌≡◌, ◌≢◌, ◌↔◌, ◌<◌, ◌≤◌, ◌^◌, ℕ, length, IsSome, IfSome, IfOk, is_some};
+ghost use Rattle.std.specs.Prelude.{◌≡◌, ◌≢◌, ◌↔◌, ◌<◌, ◌≤◌, ◌^◌, ℕ, length, IsSome, IfSome, IfOk};
+ghost use Rattle.std.specs.Prelude.{is_some};
 ghost use Rattle.shape_core.specs.Glyph.{glyph_of, is_glyph, glyphs_of, IsFirstBad};
 
 use crate::words::{DIAMOND, Word};
@@ -92,7 +93,8 @@ pub fn from_glyphs(bytes: &[u8]) -> Result<Word, GlyphFault>
 ///
 /// `BadLength` comes exactly where there are not 25 bytes, and else `BadGlyph` at the first byte that is no glyph.
 pub fn from_diamond_glyphs(bytes: &[u8]) -> Result<Word, GlyphFault>
-    ensures ok { IfOk result (λ word. (2 ^ 50 ≤ word) × (word < 2 ^ 51) × (glyphs_of word ≡ bytes.now)) }
+    ensures ok { IfOk result (λ word. (2 ^ 50 ≤ word) × (word < 2 ^ 51)
+        × (glyphs_of word ≡ bytes.now)) }
     ensures found { (word : ℕ) →
         2 ^ 50 ≤ word →
         word < 2 ^ 51 →

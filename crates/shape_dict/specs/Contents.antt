@@ -24,7 +24,7 @@ diamonds_of entries = filter (λ entry. not (is_square entry)) entries
 abbrev pub played_in : List Entry → ℕ
 played_in entries = sum_by (λ entry. entry.played) entries
 
--- one pattern of a dictionary of so many games
+-- one pattern of a dictionary of this number of games
 pub record IsEntry (games : ℕ) (entry : Entry) : Type 0 where
   pub word : entry.shape < 2 ^ 51
   pub canonical : least_image entry.shape ≡ entry.shape

@@ -7,7 +7,7 @@ use Rattle.shape_dict.specs.declared.faults.DictFault.TheVariants as fault
 use Rattle.shape_dict.specs.Merging.{moved_entry, summed_entry}
 
 -- a pattern of both: the sums, and what the left says of its first game; one of the right alone has its own first game,
--- behind the left's games
+-- after the left's games
 abbrev pub joined_entry : ℕ → Option Entry → Option Entry → Option Entry
 joined_entry games None None = None
 joined_entry games (Some left) None = Some left

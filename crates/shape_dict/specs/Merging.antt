@@ -3,7 +3,7 @@ use Rattle.std.specs.Prelude.{ℕ, suc, ◌+◌, ◌≤◌, nat_lt, List, [], �
 use Rattle.std.specs.Option.{option_map}
 use Rattle.shape_dict.specs.declared.entries.Entry.{Entry}
 
--- an entry of the right alone, behind the left's games
+-- an entry of the right alone, after the left's games
 abbrev pub moved_entry : ℕ → Entry → Entry
 moved_entry games right = record right { first = option_map (λ game. game + games) right.first }
 

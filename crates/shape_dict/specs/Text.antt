@@ -15,7 +15,7 @@ line_feed = 10 ∷ []
 abbrev pub hexadecimal_digit : ℕ → ℕ
 hexadecimal_digit digit = if nat_lt digit 10 then 48 + digit else 87 + digit
 
--- so many hexadecimal digits of a number, in lower case
+-- the last n hexadecimal digits of a number, in lower case
 abbrev pub hexadecimal : ℕ → ℕ → List ℕ
 hexadecimal zero number = []
 hexadecimal (suc digits) number = hexadecimal digits (number / 16) ++ hexadecimal_digit (number % 16) ∷ []
@@ -36,7 +36,7 @@ counts_text text.One squares diamonds = codes " patterns " ++ decimal squares
 counts_text text.Two squares diamonds = codes " squares " ++ decimal squares ++ codes " diamonds " ++ optional_number diamonds
 counts_text text.Three squares diamonds = codes " squares " ++ decimal squares ++ codes " diamonds " ++ optional_number diamonds
 
--- the games and moves behind the text's number
+-- the games and moves after the text's number
 abbrev pub games_text : Text → ℕ → ℕ → List ℕ
 games_text text games moves = front_text text ++ decimal games ++ codes " moves " ++ decimal moves
 

@@ -13,7 +13,7 @@ use shape_core::Shape;
 use std::alloc::Global;
 use std::marker::Model;
 
-/// How often each pattern was there and was played in so many games, of so many moves.
+/// How often each pattern was there and was played in a number of games, and their moves.
 #[derive(Drop)]
 pub struct Dictionary {
     games: u64,
@@ -27,13 +27,24 @@ impl Model for Dictionary {
 
     ghost Value = { Contents };
 
-    ghost view = { λ d. record { games = d.games; moves = d.moves; entries = d.entries.items; counts_diamonds = d.counts_diamonds } };
+    ghost view = { λ d. record {
+      games = d.games;
+      moves = d.moves;
+      entries = d.entries.items;
+      counts_diamonds = d.counts_diamonds;
+    } };
 
-    ghost invariant = { λ d. IsDictionary (record { games = d.games; moves = d.moves; entries = d.entries.items; counts_diamonds = d.counts_diamonds }) };
+    ghost invariant = { λ d. IsDictionary (record {
+      games = d.games;
+      moves = d.moves;
+      entries = d.entries.items;
+      counts_diamonds = d.counts_diamonds;
+    }) };
 }
 
 impl Dictionary {
-    ghost use Rattle.std.specs.Prelude.{◌≡◌, ◌++◌, ◌<◌, ◌≤◌, ◌^◌, ℕ, length, take, OnOk, IfOk, IfErr, MatchResult};
+    ghost use Rattle.std.specs.Prelude.{◌≡◌, ◌++◌, ◌<◌, ◌≤◌, ◌^◌, ℕ, length, take, OnOk, IfOk};
+    ghost use Rattle.std.specs.Prelude.{IfErr, MatchResult};
     ghost use Rattle.shape_dict.specs.Text.{text_of};
     ghost use Rattle.shape_dict.specs.declared.faults.DictFault.TheVariants as fault;
     ghost use Rattle.shape_dict.specs.Contents.{Contents, IsDictionary, entry_of};
@@ -44,8 +55,18 @@ impl Dictionary {
     /// most as often, the plays of the squares add up to the moves, and those of the diamonds where they are counted;
     /// with no games there are no moves. It takes no memory.
     pub fn new(games: u64, moves: u64, entries: Vec<Entry>, counts_diamonds: bool) -> Dictionary
-        requires { IsDictionary (record { games = games; moves = moves; entries = entries.items; counts_diamonds = counts_diamonds }) }
-        ensures { result ≡ record { games = games; moves = moves; entries = entries.items; counts_diamonds = counts_diamonds } }
+        requires { IsDictionary (record {
+          games = games;
+          moves = moves;
+          entries = entries.items;
+          counts_diamonds = counts_diamonds;
+        }) }
+        ensures { result ≡ record {
+          games = games;
+          moves = moves;
+          entries = entries.items;
+          counts_diamonds = counts_diamonds;
+        } }
     {
         Dictionary {
             games,
@@ -92,7 +113,7 @@ impl Dictionary {
     }
 
     /// What two dictionaries are together: the games of the right one follow those of the left, and all counts are sums.
-    /// A pattern keeps what the left says of its first game; one of the right alone has its own, behind the left's games.
+    /// A pattern keeps what the left says of its first game; one of the right alone has its own, after the left's games.
     ///
     /// `DictFault::MixedKinds` comes exactly where one counts diamonds and the other does not; else
     /// `DictFault::Overflow` where a sum is over 2^64 - 1, and `DictFault::Memory` where memory was refused.
@@ -124,7 +145,8 @@ impl Dictionary {
     /// `DictFault::BadLine` where bytes follow the text. `DictFault::Memory` comes where memory was refused.
     pub fn read(alloc: Global, bytes: &[u8]) -> Result<Dictionary, DictFault>
         ensures found { IfOk result (λ d. IsTextOf d bytes.now × (length bytes.now ≤ 2 ^ 28)) }
-        ensures only { (contents : Contents) → IsTextOf contents bytes.now → length bytes.now ≤ 2 ^ 28
+        ensures only { (contents : Contents) → IsTextOf contents bytes.now
+            → length bytes.now ≤ 2 ^ 28
             → MatchResult result (λ d. d ≡ contents) (λ found. found ≡ fault.Memory) }
         ensures fault { IfErr result (IsTextFault bytes.now) }
         ensures large { 2 ^ 28 < length bytes.now → IfErr result (λ found. found ≡ fault.TooLarge) }
@@ -135,9 +157,12 @@ impl Dictionary {
     /// The dictionary of the text that these bytes begin with, and how many bytes that text has. It takes memory. The
     /// faults are those of `read`, but that bytes may follow.
     pub fn read_front(alloc: Global, bytes: &[u8]) -> Result<(Dictionary, usize), DictFault>
-        ensures found { IfOk result (λ p. (p.1 ≤ length bytes.now) × IsTextOf p.0 (take p.1 bytes.now) × (length bytes.now ≤ 2 ^ 28)) }
-        ensures only { (contents : Contents) → (count : ℕ) → count ≤ length bytes.now → IsTextOf contents (take count bytes.now) → length bytes.now ≤ 2 ^ 28
-            → MatchResult result (λ p. (p.0 ≡ contents) × (p.1 ≡ count)) (λ found. found ≡ fault.Memory) }
+        ensures found { IfOk result (λ p. (p.1 ≤ length bytes.now)
+            × IsTextOf p.0 (take p.1 bytes.now) × (length bytes.now ≤ 2 ^ 28)) }
+        ensures only { (contents : Contents) → (count : ℕ) → count ≤ length bytes.now
+            → IsTextOf contents (take count bytes.now) → length bytes.now ≤ 2 ^ 28
+            → MatchResult result (λ p. (p.0 ≡ contents) × (p.1 ≡ count))
+            (λ found. found ≡ fault.Memory) }
         ensures fault { IfErr result (IsFrontFault bytes.now) }
         ensures large { 2 ^ 28 < length bytes.now → IfErr result (λ found. found ≡ fault.TooLarge) }
     {
@@ -148,7 +173,8 @@ impl Dictionary {
     /// bytes are then as they were. Text 1 is that of the squares, text 2 has the diamonds too, text 3 first games besides.
     pub fn write(&self, text: Text, out: &mut Vec<u8>) -> Result<(), DictFault>
         ensures ok { OnOk result (out.new.items ≡ out.old.items ++ text_of text self.now) }
-        ensures err { IfErr result (λ found. (found ≡ fault.Memory) × (out.new.items ≡ out.old.items)) }
+        ensures err { IfErr result (λ found. (found ≡ fault.Memory)
+            × (out.new.items ≡ out.old.items)) }
     {
         let start = out.len();
         match append(self, text, out) {

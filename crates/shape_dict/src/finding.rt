@@ -10,8 +10,10 @@ use shape_core::Shape;
 fn place_of(entries: &[Entry], word: u64) -> usize
     requires { IsStrictlyIncreasing (map (λ entry. entry.shape) entries.now) }
     ensures fits { result ≤ length entries.now }
-    ensures below { (k : ℕ) → k < result → slice_index (map (λ entry. entry.shape) entries.now) k < word }
-    ensures above { (k : ℕ) → result ≤ k → k < length entries.now → word ≤ slice_index (map (λ entry. entry.shape) entries.now) k }
+    ensures below { (k : ℕ) → k < result → slice_index (map (λ entry. entry.shape) entries.now) k
+        < word }
+    ensures above { (k : ℕ) → result ≤ k → k < length entries.now
+        → word ≤ slice_index (map (λ entry. entry.shape) entries.now) k }
 {
     let mut low = 0;
     let mut high = entries.len();

@@ -1,5 +1,6 @@
 //! Headers of dictionaries.
-ghost use Rattle.std.specs.Prelude.{◌≡◌, ◌++◌, ◌<◌, ◌^◌, ℕ, List, IfSome, IfNone, IsSomeAnd, Option, None, codes};
+ghost use Rattle.std.specs.Prelude.{◌≡◌, ◌++◌, ◌<◌, ◌^◌, ℕ, List, IfSome, IfNone, IsSomeAnd};
+ghost use Rattle.std.specs.Prelude.{Option, None, codes};
 ghost use Rattle.std.specs.Fmt.{decimal};
 ghost use Rattle.shape_dict.specs.Text.{front_text, counts_text, header_text};
 ghost use Rattle.shape_dict.specs.Parsing.{IsEnded};
@@ -24,7 +25,8 @@ pub(crate) struct Header {
 /// Which text it is, and what follows.
 fn front(bytes: &[u8]) -> Option<(Text, &[u8])>
     ensures found { IfSome result (λ p. bytes.now ≡ front_text p.0 ++ p.1.now) }
-    ensures only { (text : Kind) → (left : List ℕ) → bytes.now ≡ front_text text ++ left → IsSomeAnd result (λ p. (p.0 ≡ text) × (p.1.now ≡ left)) }
+    ensures only { (text : Kind) → (left : List ℕ) → bytes.now ≡ front_text text ++ left
+        → IsSomeAnd result (λ p. (p.0 ≡ text) × (p.1.now ≡ left)) }
 {
     if let Some(rest) = after(bytes, b"shapes 1 games ") {
         return Some((Text::One, rest));
@@ -38,8 +40,11 @@ fn front(bytes: &[u8]) -> Option<(Text, &[u8])>
 
 /// The games and moves, and what follows.
 fn games_and_moves(bytes: &[u8]) -> Option<(u64, u64, &[u8])>
-    ensures found { IfSome result (λ p. (bytes.now ≡ decimal p.0 ++ (codes " moves " ++ (decimal p.1 ++ p.2.now))) × (p.0 < 2 ^ 64) × (p.1 < 2 ^ 64)) }
-    ensures only { (games : ℕ) → (moves : ℕ) → (left : List ℕ) → games < 2 ^ 64 → moves < 2 ^ 64 → IsEnded left
+    ensures found { IfSome result (λ p. (bytes.now
+        ≡ decimal p.0 ++ (codes " moves " ++ (decimal p.1 ++ p.2.now))) × (p.0 < 2 ^ 64)
+        × (p.1 < 2 ^ 64)) }
+    ensures only { (games : ℕ) → (moves : ℕ) → (left : List ℕ) → games < 2 ^ 64 → moves < 2 ^ 64
+        → IsEnded left
         → bytes.now ≡ decimal games ++ (codes " moves " ++ (decimal moves ++ left))
         → IsSomeAnd result (λ p. (p.0 ≡ games) × (p.1 ≡ moves) × (p.2.now ≡ left)) }
 {
@@ -50,8 +55,10 @@ fn games_and_moves(bytes: &[u8]) -> Option<(u64, u64, &[u8])>
 
 /// How many patterns follow, and what follows.
 fn counts(bytes: &[u8], text: Text) -> Option<(u64, Option<u64>, &[u8])>
-    ensures found { IfSome result (λ p. (bytes.now ≡ counts_text text p.0 p.1 ++ p.2.now) × (p.0 < 2 ^ 64) × IfSome p.1 (λ n. n < 2 ^ 64) × (text ≡ kind.One → p.1 ≡ None)) }
-    ensures only { (squares : ℕ) → (diamonds : Option ℕ) → (left : List ℕ) → squares < 2 ^ 64 → IfSome diamonds (λ n. n < 2 ^ 64) → (text ≡ kind.One → diamonds ≡ None) → IsEnded left
+    ensures found { IfSome result (λ p. (bytes.now ≡ counts_text text p.0 p.1 ++ p.2.now)
+        × (p.0 < 2 ^ 64) × IfSome p.1 (λ n. n < 2 ^ 64) × (text ≡ kind.One → p.1 ≡ None)) }
+    ensures only { (squares : ℕ) → (diamonds : Option ℕ) → (left : List ℕ) → squares < 2 ^ 64
+        → IfSome diamonds (λ n. n < 2 ^ 64) → (text ≡ kind.One → diamonds ≡ None) → IsEnded left
         → bytes.now ≡ counts_text text squares diamonds ++ left
         → IsSomeAnd result (λ p. (p.0 ≡ squares) × (p.1 ≡ diamonds) × (p.2.now ≡ left)) }
 {

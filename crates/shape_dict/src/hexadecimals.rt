@@ -5,7 +5,8 @@ ghost use Rattle.shape_dict.specs.Text.{hexadecimal_digit, word_text};
 /// The value of a hexadecimal digit in lower case.
 fn digit_value(byte: u8) -> Option<u8>
     ensures found { IfSome result (λ digit. (digit < 16) × (hexadecimal_digit digit ≡ byte)) }
-    ensures only { (digit : ℕ) → digit < 16 → hexadecimal_digit digit ≡ byte → IsSomeAnd result (λ value. value ≡ digit) }
+    ensures only { (digit : ℕ) → digit < 16 → hexadecimal_digit digit ≡ byte
+        → IsSomeAnd result (λ value. value ≡ digit) }
 {
     match byte {
         b'0'..=b'9' => Some(byte - b'0'),
@@ -17,7 +18,9 @@ fn digit_value(byte: u8) -> Option<u8>
 /// The number of 13 hexadecimal digits, and what follows them.
 pub(crate) fn word_bits(bytes: &[u8]) -> Option<(u64, &[u8])>
     ensures found { IfSome result (λ p. (bytes.now ≡ word_text p.0 ++ p.1.now) × (p.0 < 2 ^ 52)) }
-    ensures only { (word : ℕ) → (left : List ℕ) → word < 2 ^ 52 → bytes.now ≡ word_text word ++ left → IsSomeAnd result (λ p. (p.0 ≡ word) × (p.1.now ≡ left)) }
+    ensures only { (word : ℕ) → (left : List ℕ) → word < 2 ^ 52
+        → bytes.now ≡ word_text word ++ left
+        → IsSomeAnd result (λ p. (p.0 ≡ word) × (p.1.now ≡ left)) }
 {
     if bytes.len() < 13 {
         return None;

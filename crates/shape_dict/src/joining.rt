@@ -1,5 +1,6 @@
 //! The join of two lists of entries whose words rise.
-ghost use Rattle.std.specs.Prelude.{◌≡◌, ◌++◌, ◌∷◌, [], ◌+◌, ◌^◌, ◌<◌, ◌≤◌, ◌⊎◌, All, map, OnOk, IfOk, IfErr, IfSome};
+ghost use Rattle.std.specs.Prelude.{◌≡◌, ◌++◌, ◌∷◌, [], ◌+◌, ◌^◌, ◌<◌, ◌≤◌, ◌⊎◌, All, map, OnOk};
+ghost use Rattle.std.specs.Prelude.{IfOk, IfErr, IfSome};
 ghost use Rattle.std.specs.List.Sorted.{IsStrictlyIncreasing};
 ghost use Rattle.shape_dict.specs.Merging.{moved_entry, summed_entry, merged};
 ghost use Rattle.shape_dict.specs.Join.{HasLargeEntry};
@@ -37,7 +38,8 @@ fn summed(left: Entry, right: Entry) -> Result<Entry, DictFault>
     requires left { left.played ≤ left.there }
     requires right { right.played ≤ right.there }
     ensures ok { IfOk result (λ both. both ≡ summed_entry left right) }
-    ensures err { IfErr result (λ found. (found ≡ fault.Overflow) × (2 ^ 64 ≤ left.there + right.there)) }
+    ensures err { IfErr result (λ found. (found ≡ fault.Overflow)
+        × (2 ^ 64 ≤ left.there + right.there)) }
 {
     let there = sum_of(left.there, right.there)?;
     Ok(Entry {
@@ -76,7 +78,8 @@ fn push_kept(entries: &mut Vec<Entry>, left: &[Entry]) -> Result<(), DictFault>
 fn push_moved(entries: &mut Vec<Entry>, right: &[Entry], games: u64) -> Result<(), DictFault>
     requires small { All (λ entry. entry.there < 2 ^ 64) entries.old.items }
     requires first { All (λ entry. IfSome entry.first (λ game. game + games < 2 ^ 64)) right.now }
-    ensures ok { OnOk result (entries.new.items ≡ entries.old.items ++ map (moved_entry games) right.now) }
+    ensures ok { OnOk result (entries.new.items
+        ≡ entries.old.items ++ map (moved_entry games) right.now) }
     ensures small { OnOk result (All (λ entry. entry.there < 2 ^ 64) entries.new.items) }
     ensures fault { IfErr result (λ found. found ≡ fault.Memory) }
 {
@@ -99,10 +102,12 @@ pub(crate) fn merge(
     requires right_rises { IsStrictlyIncreasing (map (λ entry. entry.shape) right.now) }
     requires left_played { All (λ entry. entry.played ≤ entry.there) left.now }
     requires right_played { All (λ entry. entry.played ≤ entry.there) right.now }
-    requires right_first { All (λ entry. IfSome entry.first (λ game. game + games < 2 ^ 64)) right.now }
+    requires right_first { All (λ entry. IfSome entry.first (λ game. game + games < 2 ^ 64))
+        right.now }
     ensures ok { IfOk result (λ both. both.items ≡ merged games left.now right.now) }
     ensures small { IfOk result (λ both. All (λ entry. entry.there < 2 ^ 64) both.items) }
-    ensures err { IfErr result (λ found. (found ≡ fault.Memory) ⊎ (found ≡ fault.Overflow) × HasLargeEntry left.now right.now) }
+    ensures err { IfErr result (λ found. (found ≡ fault.Memory)
+        ⊎ (found ≡ fault.Overflow) × HasLargeEntry left.now right.now) }
 {
     let mut both = Vec::new(alloc);
     let mut of_left = 0;

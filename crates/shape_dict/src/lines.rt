@@ -1,5 +1,6 @@
 //! Lines of dictionaries, read off the front of bytes.
-ghost use Rattle.std.specs.Prelude.{◌≡◌, ◌++◌, ◌<◌, ◌≤◌, ◌^◌, ℕ, List, length, IfSome, IfNone, IsSomeAnd, MatchBool, codes, Option};
+ghost use Rattle.std.specs.Prelude.{◌≡◌, ◌++◌, ◌<◌, ◌≤◌, ◌^◌, ℕ, List, length, IfSome, IfNone};
+ghost use Rattle.std.specs.Prelude.{IsSomeAnd, MatchBool, codes, Option};
 ghost use Rattle.std.specs.Fmt.{decimal};
 ghost use Rattle.shape_dict.specs.Text.{first_text, line_text, line_feed, optional_number};
 ghost use Rattle.shape_dict.specs.Parsing.{IsEnded, IsPlain, IsSpelled, MayStand, entry_of_line};
@@ -23,8 +24,11 @@ pub(crate) struct Line {
 
 /// How often a pattern was there and was played.
 fn uses(bytes: &[u8]) -> Option<(u64, u64, &[u8])>
-    ensures found { IfSome result (λ p. (bytes.now ≡ codes " " ++ (decimal p.0 ++ (codes " " ++ (decimal p.1 ++ p.2.now)))) × (p.0 < 2 ^ 64) × (p.1 < 2 ^ 64)) }
-    ensures only { (there : ℕ) → (played : ℕ) → (left : List ℕ) → there < 2 ^ 64 → played < 2 ^ 64 → IsEnded left
+    ensures found { IfSome result (λ p. (bytes.now
+        ≡ codes " " ++ (decimal p.0 ++ (codes " " ++ (decimal p.1 ++ p.2.now)))) × (p.0 < 2 ^ 64)
+        × (p.1 < 2 ^ 64)) }
+    ensures only { (there : ℕ) → (played : ℕ) → (left : List ℕ) → there < 2 ^ 64 → played < 2 ^ 64
+        → IsEnded left
         → bytes.now ≡ codes " " ++ (decimal there ++ (codes " " ++ (decimal played ++ left)))
         → IsSomeAnd result (λ p. (p.0 ≡ there) × (p.1 ≡ played) × (p.2.now ≡ left)) }
 {
@@ -35,8 +39,10 @@ fn uses(bytes: &[u8]) -> Option<(u64, u64, &[u8])>
 
 /// What a line says of a first game, up to the line's end.
 fn first_and_end(bytes: &[u8], text: Text) -> Option<(Option<u64>, &[u8])>
-    ensures found { IfSome result (λ p. (bytes.now ≡ first_text text p.0 ++ (line_feed ++ p.1.now)) × IsPlain text p.0 × IfSome p.0 (λ game. game < 2 ^ 64)) }
-    ensures only { (first : Option ℕ) → (left : List ℕ) → IsPlain text first → IfSome first (λ game. game < 2 ^ 64)
+    ensures found { IfSome result (λ p. (bytes.now ≡ first_text text p.0 ++ (line_feed ++ p.1.now))
+        × IsPlain text p.0 × IfSome p.0 (λ game. game < 2 ^ 64)) }
+    ensures only { (first : Option ℕ) → (left : List ℕ) → IsPlain text first
+        → IfSome first (λ game. game < 2 ^ 64)
         → bytes.now ≡ first_text text first ++ (line_feed ++ left)
         → IsSomeAnd result (λ p. (p.0 ≡ first) × (p.1.now ≡ left)) }
 {
@@ -55,8 +61,10 @@ fn first_and_end(bytes: &[u8], text: Text) -> Option<(Option<u64>, &[u8])>
 
 /// A line's parts, whatever they say.
 fn spelled_line(bytes: &[u8], text: Text) -> Option<(Line, &[u8])>
-    ensures found { IfSome result (λ p. IsSpelled text (entry_of_line p.0) × (bytes.now ≡ line_text text (entry_of_line p.0) ++ p.1.now)) }
-    ensures only { (entry : Entry) → (left : List ℕ) → IsSpelled text entry → bytes.now ≡ line_text text entry ++ left
+    ensures found { IfSome result (λ p. IsSpelled text (entry_of_line p.0)
+        × (bytes.now ≡ line_text text (entry_of_line p.0) ++ p.1.now)) }
+    ensures only { (entry : Entry) → (left : List ℕ) → IsSpelled text entry
+        → bytes.now ≡ line_text text entry ++ left
         → IsSomeAnd result (λ p. (entry_of_line p.0 ≡ entry) × (p.1.now ≡ left)) }
 {
     let (bits, rest) = word_bits(bytes)?;
@@ -87,7 +95,8 @@ fn kind_at(header: &Header, place: u64) -> Kind
 
 /// Whether a first game is one of the games counted.
 fn is_counted(games: u64, first: Option<u64>) -> bool
-    ensures { MatchBool result (IfSome first (λ game. game < games)) (IfSome first (λ game. game < games) → ⊥) }
+    ensures { MatchBool result (IfSome first (λ game. game < games))
+        (IfSome first (λ game. game < games) → ⊥) }
 {
     match first {
         None => true,
@@ -97,7 +106,8 @@ fn is_counted(games: u64, first: Option<u64>) -> bool
 
 /// Whether what a line says may stand at its place.
 fn may_stand(header: &Header, place: u64, line: &Line) -> bool
-    ensures { MatchBool result (MayStand header.now place line.now) (MayStand header.now place line.now → ⊥) }
+    ensures { MatchBool result (MayStand header.now place line.now)
+        (MayStand header.now place line.now → ⊥) }
 {
     line.word.kind() == kind_at(header, place)
         && 1 <= line.there
@@ -111,7 +121,8 @@ pub(crate) fn read_line<'a>(
     place: u64,
     bytes: &'a [u8],
 ) -> Option<(Line, &'a [u8])>
-    ensures found { IfSome result (λ p. IsLine header.now place (entry_of_line p.0) × (bytes.now ≡ line_text header.now.text (entry_of_line p.0) ++ p.1.now)) }
+    ensures found { IfSome result (λ p. IsLine header.now place (entry_of_line p.0)
+        × (bytes.now ≡ line_text header.now.text (entry_of_line p.0) ++ p.1.now)) }
     ensures none { IfNone result (HasNoLine header.now place bytes.now) }
 {
     match spelled_line(bytes, header.text) {

@@ -1,5 +1,6 @@
 //! Literals and decimal numbers, read off the front of bytes.
-ghost use Rattle.std.specs.Prelude.{◌≡◌, ◌++◌, ◌+◌, ◌<◌, ◌≤◌, ◌^◌, ℕ, List, length, take, drop, SomeIff, IfSome, IsSomeAnd, Option};
+ghost use Rattle.std.specs.Prelude.{◌≡◌, ◌++◌, ◌+◌, ◌<◌, ◌≤◌, ◌^◌, ℕ, List, length, take, drop};
+ghost use Rattle.std.specs.Prelude.{SomeIff, IfSome, IsSomeAnd, Option};
 ghost use Rattle.std.specs.Fmt.{decimal};
 ghost use Rattle.shape_dict.specs.Text.{optional_number};
 ghost use Rattle.shape_dict.specs.Parsing.{IsEnded, AreDigits, read_on};
@@ -7,7 +8,8 @@ ghost use Rattle.shape_dict.specs.Parsing.{IsEnded, AreDigits, read_on};
 /// What follows these bytes, or None where the input does not begin with them.
 pub(crate) fn after<'a>(bytes: &'a [u8], literal: &[u8]) -> Option<&'a [u8]>
     ensures found { IfSome result (λ rest. bytes.now ≡ literal.now ++ rest.now) }
-    ensures only { (left : List ℕ) → bytes.now ≡ literal.now ++ left → IsSomeAnd result (λ rest. rest.now ≡ left) }
+    ensures only { (left : List ℕ) → bytes.now ≡ literal.now ++ left
+        → IsSomeAnd result (λ rest. rest.now ≡ left) }
 {
     bytes.strip_prefix(literal)
 }
@@ -43,8 +45,10 @@ fn value_of(digits: &[u8]) -> Option<u64>
 
 /// A decimal number without leading zeros, at most 2^64 - 1, and what follows it, which does not begin with a digit.
 pub(crate) fn number(bytes: &[u8]) -> Option<(u64, &[u8])>
-    ensures found { IfSome result (λ p. (bytes.now ≡ decimal p.0 ++ p.1.now) × (p.0 < 2 ^ 64) × IsEnded p.1.now) }
-    ensures only { (n : ℕ) → (left : List ℕ) → n < 2 ^ 64 → IsEnded left → bytes.now ≡ decimal n ++ left → IsSomeAnd result (λ p. (p.0 ≡ n) × (p.1.now ≡ left)) }
+    ensures found { IfSome result (λ p. (bytes.now ≡ decimal p.0 ++ p.1.now) × (p.0 < 2 ^ 64)
+        × IsEnded p.1.now) }
+    ensures only { (n : ℕ) → (left : List ℕ) → n < 2 ^ 64 → IsEnded left
+        → bytes.now ≡ decimal n ++ left → IsSomeAnd result (λ p. (p.0 ≡ n) × (p.1.now ≡ left)) }
 {
     let count = count_digits(bytes);
     if count == 0 {
@@ -57,19 +61,25 @@ pub(crate) fn number(bytes: &[u8]) -> Option<(u64, &[u8])>
     Some((value, &bytes[count..]))
 }
 
-/// A number behind these bytes, and what follows it.
+/// A number after these bytes, and what follows it.
 pub(crate) fn number_after<'a>(bytes: &'a [u8], literal: &[u8]) -> Option<(u64, &'a [u8])>
-    ensures found { IfSome result (λ p. (bytes.now ≡ literal.now ++ (decimal p.0 ++ p.1.now)) × (p.0 < 2 ^ 64) × IsEnded p.1.now) }
-    ensures only { (n : ℕ) → (left : List ℕ) → n < 2 ^ 64 → IsEnded left → bytes.now ≡ literal.now ++ (decimal n ++ left) → IsSomeAnd result (λ p. (p.0 ≡ n) × (p.1.now ≡ left)) }
+    ensures found { IfSome result (λ p. (bytes.now ≡ literal.now ++ (decimal p.0 ++ p.1.now))
+        × (p.0 < 2 ^ 64) × IsEnded p.1.now) }
+    ensures only { (n : ℕ) → (left : List ℕ) → n < 2 ^ 64 → IsEnded left
+        → bytes.now ≡ literal.now ++ (decimal n ++ left)
+        → IsSomeAnd result (λ p. (p.0 ≡ n) × (p.1.now ≡ left)) }
 {
     let rest = after(bytes, literal)?;
     number(rest)
 }
 
-/// A number or `-` behind these bytes, and what follows it.
+/// A number or `-` after these bytes, and what follows it.
 pub(crate) fn optional_after<'a>(bytes: &'a [u8], literal: &[u8]) -> Option<(Option<u64>, &'a [u8])>
-    ensures found { IfSome result (λ p. (bytes.now ≡ literal.now ++ (optional_number p.0 ++ p.1.now)) × IfSome p.0 (λ n. n < 2 ^ 64)) }
-    ensures only { (number : Option ℕ) → (left : List ℕ) → IfSome number (λ n. n < 2 ^ 64) → IsEnded left → bytes.now ≡ literal.now ++ (optional_number number ++ left) → IsSomeAnd result (λ p. (p.0 ≡ number) × (p.1.now ≡ left)) }
+    ensures found { IfSome result (λ p. (bytes.now
+        ≡ literal.now ++ (optional_number p.0 ++ p.1.now)) × IfSome p.0 (λ n. n < 2 ^ 64)) }
+    ensures only { (number : Option ℕ) → (left : List ℕ) → IfSome number (λ n. n < 2 ^ 64)
+        → IsEnded left → bytes.now ≡ literal.now ++ (optional_number number ++ left)
+        → IsSomeAnd result (λ p. (p.0 ≡ number) × (p.1.now ≡ left)) }
 {
     let rest = after(bytes, literal)?;
     if let Some(left) = after(rest, b"-") {

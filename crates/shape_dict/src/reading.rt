@@ -1,7 +1,9 @@
 //! Dictionaries read off the front of bytes.
-ghost use Rattle.std.specs.Prelude.{◌≡◌, ◌++◌, ◌∷◌, [], ◌<◌, ◌≤◌, ◌-◌, ◌+◌, ◌^◌, ℕ, List, length, map, slice_index, IfOk, IfErr, MatchBool, min, take};
+ghost use Rattle.std.specs.Prelude.{◌≡◌, ◌++◌, ◌∷◌, [], ◌<◌, ◌≤◌, ◌-◌, ◌+◌, ◌^◌, ℕ, List, length};
+ghost use Rattle.std.specs.Prelude.{map, slice_index, IfOk, IfErr, MatchBool, min, take};
 ghost use Rattle.shape_dict.specs.Text.{header_text};
-ghost use Rattle.shape_dict.specs.Reading.{IsHeader, BeginsWith, HasAllLines, IsFrontFault, IsTextFault, IsTextOf, IsRead, lines_after};
+ghost use Rattle.shape_dict.specs.Reading.{IsHeader, BeginsWith, HasAllLines, IsFrontFault};
+ghost use Rattle.shape_dict.specs.Reading.{IsTextFault, IsTextOf, IsRead, lines_after};
 ghost use Rattle.shape_dict.specs.declared.faults.DictFault.TheVariants as fault;
 
 use crate::dictionaries::Dictionary;
@@ -16,8 +18,10 @@ use std::alloc::Global;
 
 /// Whether a word is above that of the last entry.
 fn is_above(entries: &[Entry], word: Word) -> bool
-    ensures { MatchBool result (0 < length entries.now → slice_index (map (λ entry. entry.shape) entries.now) (length entries.now - 1) < word)
-        ((0 < length entries.now) × (word ≤ slice_index (map (λ entry. entry.shape) entries.now) (length entries.now - 1))) }
+    ensures { MatchBool result (0 < length entries.now
+        → slice_index (map (λ entry. entry.shape) entries.now) (length entries.now - 1) < word)
+        ((0 < length entries.now)
+        × (word ≤ slice_index (map (λ entry. entry.shape) entries.now) (length entries.now - 1))) }
 {
     if entries.is_empty() {
         return true;
@@ -32,10 +36,14 @@ fn next_entry<'a>(
     entries: &[Entry],
     bytes: &'a [u8],
 ) -> Result<(Entry, &'a [u8]), DictFault>
-    ensures ok { IfOk result (λ p. (whole : List ℕ) → BeginsWith whole header.now entries.now bytes.now → length entries.now < lines_after header.now
+    ensures ok { IfOk result (λ p. (whole : List ℕ)
+        → BeginsWith whole header.now entries.now bytes.now
+        → length entries.now < lines_after header.now
         → BeginsWith whole header.now (entries.now ++ p.0 ∷ []) p.1.now) }
     ensures shorter { IfOk result (λ p. length p.1.now < length bytes.now) }
-    ensures fault { IfErr result (λ found. (whole : List ℕ) → BeginsWith whole header.now entries.now bytes.now → length entries.now < lines_after header.now
+    ensures fault { IfErr result (λ found. (whole : List ℕ)
+        → BeginsWith whole header.now entries.now bytes.now
+        → length entries.now < lines_after header.now
         → IsFrontFault whole found) }
 {
     let place = entries.len() as u64;
@@ -64,14 +72,15 @@ fn count_lines(header: &Header) -> u64
     header.squares.saturating_add(header.diamonds.unwrap_or(0))
 }
 
-/// The entries of all lines behind a header, and what follows them.
+/// The entries of all lines after a header, and what follows them.
 fn read_lines<'a>(
     alloc: Global,
     header: &Header,
     bytes: &'a [u8],
 ) -> Result<(Vec<Entry>, &'a [u8]), DictFault>
     requires { IsHeader header.now }
-    ensures ok { IfOk result (λ p. HasAllLines (header_text header.now ++ bytes.now) header.now p.0.items p.1.now) }
+    ensures ok { IfOk result (λ p. HasAllLines (header_text header.now ++ bytes.now) header.now
+        p.0.items p.1.now) }
     ensures fault { IfErr result (IsFrontFault (header_text header.now ++ bytes.now)) }
 {
     let mut entries = Vec::new(alloc);
@@ -111,7 +120,8 @@ fn read_text(alloc: Global, bytes: &[u8]) -> Result<(Dictionary, &[u8]), DictFau
 
 /// The dictionary of the text that the bytes begin with, and how many bytes the text has.
 pub(crate) fn front_of(alloc: Global, bytes: &[u8]) -> Result<(Dictionary, usize), DictFault>
-    ensures found { IfOk result (λ p. (p.1 ≤ length bytes.now) × IsTextOf p.0 (take p.1 bytes.now) × (length bytes.now ≤ 2 ^ 28)) }
+    ensures found { IfOk result (λ p. (p.1 ≤ length bytes.now) × IsTextOf p.0 (take p.1 bytes.now)
+        × (length bytes.now ≤ 2 ^ 28)) }
     ensures fault { IfErr result (IsFrontFault bytes.now) }
     ensures large { 2 ^ 28 < length bytes.now → IfErr result (λ found. found ≡ fault.TooLarge) }
 {

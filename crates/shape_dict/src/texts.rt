@@ -1,8 +1,10 @@
 //! The whole text of a dictionary: its header, and a line for each pattern.
-ghost use Rattle.std.specs.Prelude.{◌≡◌, ◌++◌, ◌∷◌, [], ℕ, List, length, IsTrue, OnOk, OnErr, IfErr, Option};
+ghost use Rattle.std.specs.Prelude.{◌≡◌, ◌++◌, ◌∷◌, [], ℕ, List, length, IsTrue, OnOk, OnErr};
+ghost use Rattle.std.specs.Prelude.{IfErr, Option};
 ghost use Rattle.std.specs.List.{flat_map};
 ghost use Rattle.shape_dict.specs.Contents.{is_square, squares_of, diamonds_of};
-ghost use Rattle.shape_dict.specs.Text.{front_text, counts_text, games_text, header_text, line_text};
+ghost use Rattle.shape_dict.specs.Text.{front_text, counts_text, games_text, header_text};
+ghost use Rattle.shape_dict.specs.Text.{line_text};
 ghost use Rattle.shape_dict.specs.Writing.{Begins};
 ghost use Rattle.shape_dict.specs.declared.entries.Text.TheVariants as kind;
 ghost use Rattle.shape_dict.specs.declared.faults.DictFault.TheVariants as fault;
@@ -103,7 +105,14 @@ pub(crate) fn push_header(
     squares: u64,
     diamonds: Option<u64>,
 ) -> Result<(), DictFault>
-    ensures ok { OnOk result (out.new.items ≡ out.old.items ++ header_text (record { text = text; games = games; moves = moves; squares = squares; diamonds = diamonds })) }
+    ensures ok { OnOk result (out.new.items
+        ≡ out.old.items ++ header_text (record {
+          text = text;
+          games = games;
+          moves = moves;
+          squares = squares;
+          diamonds = diamonds;
+        })) }
     ensures begins { Begins out.old.items out.new.items }
     ensures fault { IfErr result (λ found. found ≡ fault.Memory) }
 {
@@ -114,7 +123,8 @@ pub(crate) fn push_header(
 
 /// Appends a line for each pattern.
 pub(crate) fn push_lines(out: &mut Vec<u8>, text: Text, entries: &[Entry]) -> Result<(), DictFault>
-    ensures ok { OnOk result (out.new.items ≡ out.old.items ++ flat_map (line_text text) entries.now) }
+    ensures ok { OnOk result (out.new.items
+        ≡ out.old.items ++ flat_map (line_text text) entries.now) }
     ensures begins { Begins out.old.items out.new.items }
     ensures fault { IfErr result (λ found. found ≡ fault.Memory) }
 {
@@ -126,7 +136,8 @@ pub(crate) fn push_lines(out: &mut Vec<u8>, text: Text, entries: &[Entry]) -> Re
 
 /// Appends a line of text 1 for each square.
 pub(crate) fn push_squares(out: &mut Vec<u8>, entries: &[Entry]) -> Result<(), DictFault>
-    ensures ok { OnOk result (out.new.items ≡ out.old.items ++ flat_map (line_text kind.One) (squares_of entries.now)) }
+    ensures ok { OnOk result (out.new.items
+        ≡ out.old.items ++ flat_map (line_text kind.One) (squares_of entries.now)) }
     ensures begins { Begins out.old.items out.new.items }
     ensures fault { IfErr result (λ found. found ≡ fault.Memory) }
 {

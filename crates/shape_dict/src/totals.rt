@@ -9,7 +9,8 @@ use crate::texts::is_square;
 
 /// The plays of the squares, or None where they are over 2^64 - 1.
 fn played_in_squares(entries: &[Entry]) -> Option<u64>
-    ensures { SomeIff result (played_in (squares_of entries.now) < 2 ^ 64) (played_in (squares_of entries.now)) }
+    ensures { SomeIff result (played_in (squares_of entries.now) < 2 ^ 64)
+        (played_in (squares_of entries.now)) }
 {
     let mut played: u64 = 0;
     for entry in entries {
@@ -22,7 +23,8 @@ fn played_in_squares(entries: &[Entry]) -> Option<u64>
 
 /// The plays of the diamonds, or None where they are over 2^64 - 1.
 fn played_in_diamonds(entries: &[Entry]) -> Option<u64>
-    ensures { SomeIff result (played_in (diamonds_of entries.now) < 2 ^ 64) (played_in (diamonds_of entries.now)) }
+    ensures { SomeIff result (played_in (diamonds_of entries.now) < 2 ^ 64)
+        (played_in (diamonds_of entries.now)) }
 {
     let mut played: u64 = 0;
     for entry in entries {
@@ -33,9 +35,10 @@ fn played_in_diamonds(entries: &[Entry]) -> Option<u64>
     Some(played)
 }
 
-/// Whether the squares' plays are so many.
+/// Whether the squares were played this number of times.
 fn squares_agree(entries: &[Entry], moves: u64) -> bool
-    ensures { MatchBool result (played_in (squares_of entries.now) ≡ moves) (played_in (squares_of entries.now) ≡ moves → ⊥) }
+    ensures { MatchBool result (played_in (squares_of entries.now) ≡ moves)
+        (played_in (squares_of entries.now) ≡ moves → ⊥) }
 {
     match played_in_squares(entries) {
         Some(played) => played == moves,
@@ -43,9 +46,10 @@ fn squares_agree(entries: &[Entry], moves: u64) -> bool
     }
 }
 
-/// Whether the diamonds' plays are so many.
+/// Whether the diamonds were played this number of times.
 fn diamonds_agree(entries: &[Entry], moves: u64) -> bool
-    ensures { MatchBool result (played_in (diamonds_of entries.now) ≡ moves) (played_in (diamonds_of entries.now) ≡ moves → ⊥) }
+    ensures { MatchBool result (played_in (diamonds_of entries.now) ≡ moves)
+        (played_in (diamonds_of entries.now) ≡ moves → ⊥) }
 {
     match played_in_diamonds(entries) {
         Some(played) => played == moves,
@@ -56,7 +60,9 @@ fn diamonds_agree(entries: &[Entry], moves: u64) -> bool
 /// Whether the plays add up to the moves: those of the squares, and those of the diamonds where they are counted. With
 /// no games there are no moves.
 pub(crate) fn have_totals(header: &Header, entries: &[Entry]) -> bool
-    ensures { MatchBool result (HasTotals header.now.games header.now.moves entries.now (counts_of header.now)) (HasTotals header.now.games header.now.moves entries.now (counts_of header.now) → ⊥) }
+    ensures { MatchBool result (HasTotals header.now.games header.now.moves entries.now
+        (counts_of header.now)) (HasTotals header.now.games header.now.moves entries.now
+        (counts_of header.now) → ⊥) }
 {
     if header.games == 0 && header.moves != 0 {
         return false;

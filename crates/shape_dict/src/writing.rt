@@ -1,8 +1,10 @@
 //! The texts of a dictionary, appended to bytes.
-ghost use Rattle.std.specs.Prelude.{◌≡◌, ◌++◌, ◌∷◌, [], ◌<◌, ◌^◌, ℕ, length, OnOk, OnErr, IfErr, Option};
+ghost use Rattle.std.specs.Prelude.{◌≡◌, ◌++◌, ◌∷◌, [], ◌<◌, ◌^◌, ℕ, length, OnOk, OnErr, IfErr};
+ghost use Rattle.std.specs.Prelude.{Option};
 ghost use Rattle.std.specs.List.{flat_map};
 ghost use Rattle.std.specs.Fmt.{decimal};
-ghost use Rattle.shape_dict.specs.Text.{hexadecimal_digit, word_text, optional_number, uses_text, first_text, line_text};
+ghost use Rattle.shape_dict.specs.Text.{hexadecimal_digit, word_text, optional_number, uses_text};
+ghost use Rattle.shape_dict.specs.Text.{first_text, line_text};
 ghost use Rattle.shape_dict.specs.Writing.{Begins};
 ghost use Rattle.shape_dict.specs.declared.entries.Entry.{Entry};
 ghost use Rattle.shape_dict.specs.declared.faults.DictFault.TheVariants as fault;

@@ -2,7 +2,9 @@
 ghost use Rattle.std.specs.Prelude.{◌≡◌, false, codes, IfOk};
 ghost use Rattle.clap.specs.Words.{app_of, new_app, rule_of};
 ghost use Rattle.clap.specs.declared.Command.TheViews.{out-Command as fields_of};
-ghost use Rattle.shapes.specs.Commands.{text_rule, workers_rule, bits_rule, glyphs_rule, colour_rule, diamond_rule, count_app, find_app, join_app, bare_app, program_app};
+ghost use Rattle.shapes.specs.Commands.{text_rule, workers_rule, bits_rule, glyphs_rule};
+ghost use Rattle.shapes.specs.Commands.{colour_rule, diamond_rule, count_app, find_app, join_app};
+ghost use Rattle.shapes.specs.Commands.{bare_app, program_app};
 
 use clap::{Arg, ArgAction, Command, value_parser};
 use std::alloc::{AllocError, Global};

@@ -1,5 +1,6 @@
 //! The words of the command line, and the task that they ask for.
-ghost use Rattle.std.specs.Prelude.{◌≡◌, List, ℕ, Option, Some, codes, map, string_bytes, IfOk, IfErr};
+ghost use Rattle.std.specs.Prelude.{◌≡◌, List, ℕ, Option, Some, codes, map, string_bytes, IfOk};
+ghost use Rattle.std.specs.Prelude.{IfErr};
 ghost use Rattle.clap.specs.Words.{Row, found_of, rows_of, subcommand_rows_of};
 ghost use Rattle.shapes.specs.Commands.{IsNumberOf, asked_by};
 ghost use Rattle.shapes.specs.Words.{IsKindOf, IsTaskOf, IsWordsFault, kinds_for, number_of};
@@ -42,7 +43,8 @@ fn number(matches: &ArgMatches<'_>, option: &str) -> Result<u8, RunFault>
 
 /// The text of the number that `--text` has.
 fn text_of(matches: &ArgMatches<'_>) -> Result<Text, RunFault>
-    ensures text { IfOk result (λ text. IsNumberOf (codes "text") (rows_of (found_of matches.now)) (number_of text)) }
+    ensures text { IfOk result (λ text. IsNumberOf (codes "text") (rows_of (found_of matches.now))
+        (number_of text)) }
     ensures fault { IfErr result (λ found. found ≡ fault.Usage) }
 {
     match number(matches, "text")? {
@@ -89,7 +91,11 @@ fn kind_of(matches: &ArgMatches<'_>) -> Kind
 
 fn find_task(matches: &ArgMatches<'_>) -> Result<Task, RunFault>
     ensures task { IfOk result (IsTaskOf (Some (codes "find", rows_of (found_of matches.now)))) }
-    ensures fault { IfErr result (IsWordsFault (Some (codes "find", rows_of (found_of matches.now)))) }
+    ensures fault { IfErr result (IsWordsFault (Some (
+      codes "find",
+      rows_of
+          (found_of matches.now),
+    ))) }
 {
     let Some(glyphs) = matches.get_str("glyphs") else {
         return Err(RunFault::Usage);

@@ -67,7 +67,7 @@ IsLeastFrom slots rows (Some least) = (slots ≤ least.number) × (row_of rows l
 abbrev pub AreBelow : ℕ → List Row → Type 0
 AreBelow slots rows = (row : Row) → Contains rows row → row.number < slots
 
--- a row is of a number that is none of a table of so many, and no other one is of a lesser such number
+-- a row is of a number that a table of n does not have, and no other one is of a lesser such number
 abbrev pub IsBeyondFault : ℕ → List Row → HarvestFault → Type 0
 IsBeyondFault slots rows (fault.Stranger number of_share None) = (slots ≤ number) × (of_share ≡ stranger_in rows number None)
     × ((word : ℕ) × (of_share ≡ Some word)) × ((row : Row) → Contains rows row → slots ≤ row.number → number ≤ row.number)

@@ -11,7 +11,7 @@ pub record Totals : Type 0 where
   pub moves : ℕ
   pub rows : List Row
 
--- a game of so many moves was counted
+-- a game with this number of moves was counted
 pub record CountsIn (game moves : ℕ) (meetings : List Meeting) (places : List ℕ) (old new : Totals) : Type 0 where
   pub games : new.games ≡ old.games ++ game ∷ []
   pub moves_are : new.moves ≡ old.moves + moves

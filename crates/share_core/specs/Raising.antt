@@ -47,7 +47,7 @@ pub record AreRowsOf (meetings : List Meeting) (places : List ℕ) (rows : List 
   pub within : (i : ℕ) → i < length places → slice_index places i < length rows
   pub of_shape : (i : ℕ) → i < length places → (row_at rows (slice_index places i)).shape ≡ (meeting_at meetings i).shape
 
--- a place is one of the first so many
+-- a place is one of the first n
 abbrev pub IsAmongFirst : ℕ → List ℕ → ℕ → Type 0
 IsAmongFirst count places place = (i : ℕ) × (i < count) × (slice_index places i ≡ place)
 

@@ -1,5 +1,6 @@
 //! The dictionary of all that shares have counted.
-ghost use Rattle.std.specs.Prelude.{◌≡◌, ◌<◌, ◌≤◌, ◌++◌, ◌^◌, ℕ, All, IfSome, IfNone, IfOk, IfErr, OnOk};
+ghost use Rattle.std.specs.Prelude.{◌≡◌, ◌<◌, ◌≤◌, ◌++◌, ◌^◌, ℕ, All, IfSome, IfNone, IfOk, IfErr};
+ghost use Rattle.std.specs.Prelude.{OnOk};
 ghost use Rattle.std.specs.List.Sorted.{IsPermutation, IsNonDecreasingBy};
 ghost use Rattle.tally_core.specs.Entries.{IsShape};
 ghost use Rattle.tally_core.specs.Games.{counts_diamonds};
@@ -8,8 +9,10 @@ ghost use Rattle.share_core.specs.Rows.{earlier};
 ghost use Rattle.share_core.specs.Shares.{IsShare};
 ghost use Rattle.share_core.specs.Covering.{all_games, Covers};
 ghost use Rattle.share_core.specs.Checking.{all_rows};
-ghost use Rattle.share_core.specs.Totals.{with_row, IsTooMuch, IsTotalAt, IsLargeAt, entries_of_row, entries_of_total, AreEntriesBelow};
-ghost use Rattle.share_core.specs.Gathering.{AreOneEach, AreWithin, all_moves, IsGathered, IsSumFault};
+ghost use Rattle.share_core.specs.Totals.{with_row, IsTooMuch, IsTotalAt, IsLargeAt};
+ghost use Rattle.share_core.specs.Totals.{entries_of_row, entries_of_total, AreEntriesBelow};
+ghost use Rattle.share_core.specs.Gathering.{AreOneEach, AreWithin, all_moves, IsGathered};
+ghost use Rattle.share_core.specs.Gathering.{IsSumFault};
 
 use crate::faults::HarvestFault;
 use crate::rows::Row;

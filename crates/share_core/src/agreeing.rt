@@ -64,8 +64,10 @@ pub(crate) fn check_marks<O: ProbeOrder>(
 ) -> Result<(), HarvestFault>
     requires { IsPassOf (2 ^ O.exponent table.now.order) table.now pass.old }
     ensures pass { IsPassOf (2 ^ O.exponent table.now.order) table.now pass.new }
-    ensures ok { OnOk result (AskedAll (2 ^ O.exponent table.now.order) (all_rows shares.now) pass.old pass.new) }
-    ensures fault { IfErr result (IsMarksFault (2 ^ O.exponent table.now.order) (all_rows shares.now) pass.old pass.new) }
+    ensures ok { OnOk result (AskedAll (2 ^ O.exponent table.now.order) (all_rows shares.now)
+        pass.old pass.new) }
+    ensures fault { IfErr result (IsMarksFault (2 ^ O.exponent table.now.order)
+        (all_rows shares.now) pass.old pass.new) }
 {
     for number in 0..table.capacity().slots() {
         let of_table = table.first(pass, number);

@@ -1,5 +1,6 @@
 //! Whether each game is in one share, and in one only.
-ghost use Rattle.std.specs.Prelude.{◌≡◌, ◌<◌, ℕ, List, ◌++◌, ◌∷◌, [], All, length, OnOk, IfOk, IfErr};
+ghost use Rattle.std.specs.Prelude.{◌≡◌, ◌<◌, ℕ, List, ◌++◌, ◌∷◌, [], All, length, OnOk, IfOk};
+ghost use Rattle.std.specs.Prelude.{IfErr};
 ghost use Rattle.share_core.specs.Covering.{all_games, Covers, AreNoted, IsCoverFault};
 ghost use Rattle.share_core.specs.declared.faults.HarvestFault.TheVariants as fault;
 
@@ -18,7 +19,8 @@ struct Seen {
 fn note(seen: &mut Seen, game: u64)
     requires { game < length seen.old.games.items }
     ensures long { length seen.new.games.items ≡ length seen.old.games.items }
-    ensures noted { (list : List ℕ) → AreNoted list seen.old → AreNoted (list ++ game ∷ []) seen.new }
+    ensures noted { (list : List ℕ) → AreNoted list seen.old
+        → AreNoted (list ++ game ∷ []) seen.new }
 {
     let at = game as usize;
     if !seen.games[at] {
@@ -35,7 +37,8 @@ fn note(seen: &mut Seen, game: u64)
 fn note_all(seen: &mut Seen, games: &[u64])
     requires { All (λ game. game < length seen.old.games.items) games.now }
     ensures long { length seen.new.games.items ≡ length seen.old.games.items }
-    ensures noted { (list : List ℕ) → AreNoted list seen.old → AreNoted (list ++ games.now) seen.new }
+    ensures noted { (list : List ℕ) → AreNoted list seen.old
+        → AreNoted (list ++ games.now) seen.new }
 {
     for game in games {
         note(seen, *game);

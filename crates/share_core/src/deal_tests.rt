@@ -165,7 +165,8 @@ fn part_of<O: ProbeOrder>(
     requires pass { IsPassOf (2 ^ O.exponent table.now.order) table.now pass }
     requires few { length records.now ≤ 2 ^ 28 }
     requires dealt { length dealt.now ≡ length records.now }
-    ensures pass { IfOk result (λ part. IsPassOf (2 ^ O.exponent table.now.order) table.now part.pass) }
+    ensures pass { IfOk result (λ part. IsPassOf (2 ^ O.exponent table.now.order) table.now
+        part.pass) }
     ensures kinds { IfOk result (λ part. part.share.kinds ≡ kinds.Both) }
     ensures games { IfOk result (λ part. All (λ game. game < length records.now) part.share.games) }
 {
@@ -196,7 +197,8 @@ fn two_of<O: ProbeOrder + Send + Sync, R: Threads + Sync>(
     requires few { length records.now ≤ 2 ^ 28 }
     requires dealt { length dealt.now ≡ length records.now }
     requires turn { turn < 4 }
-    ensures pass { IfOk result (λ two. IsPassOf (2 ^ O.exponent table.now.order) table.now two.pass) }
+    ensures pass { IfOk result (λ two. IsPassOf (2 ^ O.exponent table.now.order) table.now
+        two.pass) }
     ensures one { IfOk result (λ two. two.one.kinds ≡ kinds.Both) }
     ensures games { IfOk result (λ two. All (λ game. game < length records.now) two.one.games) }
     ensures other { IfOk result (λ two. two.other.kinds ≡ kinds.Both) }
@@ -210,17 +212,21 @@ fn two_of<O: ProbeOrder + Send + Sync, R: Threads + Sync>(
             requires pass { IsPassOf (2 ^ O.exponent table.now.order) table.now pass }
             requires few { length records.now ≤ 2 ^ 28 }
             requires dealt { length dealt.now ≡ length records.now }
-            ensures pass { IfOk result (λ part. IsPassOf (2 ^ O.exponent table.entry.now.order) table.entry.now part.pass) }
+            ensures pass { IfOk result (λ part. IsPassOf (2 ^ O.exponent table.entry.now.order)
+                table.entry.now part.pass) }
             ensures kinds { IfOk result (λ part. part.share.kinds ≡ kinds.Both) }
-            ensures games { IfOk result (λ part. All (λ game. game < length records.entry.now) part.share.games) }
+            ensures games { IfOk result (λ part. All (λ game. game < length records.entry.now)
+                part.share.games) }
         { part_of(alloc, table, pass, records, dealt, turn) },
         move || -> Result<Part<O>, HarvestFault>
             requires pass { IsPassOf (2 ^ O.exponent table.now.order) table.now second }
             requires few { length records.now ≤ 2 ^ 28 }
             requires dealt { length dealt.now ≡ length records.now }
-            ensures pass { IfOk result (λ part. IsPassOf (2 ^ O.exponent table.entry.now.order) table.entry.now part.pass) }
+            ensures pass { IfOk result (λ part. IsPassOf (2 ^ O.exponent table.entry.now.order)
+                table.entry.now part.pass) }
             ensures kinds { IfOk result (λ part. part.share.kinds ≡ kinds.Both) }
-            ensures games { IfOk result (λ part. All (λ game. game < length records.entry.now) part.share.games) }
+            ensures games { IfOk result (λ part. All (λ game. game < length records.entry.now)
+                part.share.games) }
         { part_of(alloc, table, second, records, dealt, next) },
     );
     let Part { pass, share: one } = left?;

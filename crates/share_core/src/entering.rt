@@ -1,9 +1,11 @@
 //! A game's patterns are entered into the table, and at last the game is marked at their numbers.
-ghost use Rattle.std.specs.Prelude.{◌≡◌, false, ◌-◌, ◌^◌, ◌<◌, ◌≤◌, ℕ, length, IfSome, IfNone, IfOk, IfErr, OnOk};
+ghost use Rattle.std.specs.Prelude.{◌≡◌, false, ◌-◌, ◌^◌, ◌<◌, ◌≤◌, ℕ, length, IfSome, IfNone};
+ghost use Rattle.std.specs.Prelude.{IfOk, IfErr, OnOk};
 ghost use Rattle.probe_core.specs.Sequential.{IsAbsent, IsFull};
 ghost use Rattle.slot_table.specs.History.{content_of, least_at, IsAtMost};
 ghost use Rattle.slot_table.specs.Passes.{IsPassOf};
-ghost use Rattle.share_core.specs.Entering.{IsEntered, AreEntered, IsRefused, AreMarked, MarkedNothing, MarkedOnly};
+ghost use Rattle.share_core.specs.Entering.{IsEntered, AreEntered, IsRefused, AreMarked};
+ghost use Rattle.share_core.specs.Entering.{MarkedNothing, MarkedOnly};
 ghost use Rattle.share_core.specs.declared.faults.HarvestFault.TheVariants as fault;
 
 use crate::faults::HarvestFault;
@@ -40,9 +42,12 @@ fn enter_one<O: ProbeOrder>(
     requires { IsPassOf (2 ^ O.exponent table.now.order) table.now pass.old }
     ensures pass { IsPassOf (2 ^ O.exponent table.now.order) table.now pass.new }
     ensures later { MarkedNothing (2 ^ O.exponent table.now.order) pass.old pass.new }
-    ensures some { IfSome result (IsEntered (2 ^ O.exponent table.now.order) pass.new.seen game shape) }
-    ensures absent { IfNone result (IsAbsent (content_of (2 ^ O.exponent table.now.order) pass.new.seen) shape) }
-    ensures full { IfNone result (IsFull (content_of (2 ^ O.exponent table.now.order) pass.new.seen)) }
+    ensures some { IfSome result (IsEntered (2 ^ O.exponent table.now.order) pass.new.seen game
+        shape) }
+    ensures absent { IfNone result (IsAbsent (content_of (2 ^ O.exponent table.now.order)
+        pass.new.seen) shape) }
+    ensures full { IfNone result (IsFull (content_of (2 ^ O.exponent table.now.order)
+        pass.new.seen)) }
 {
     match table.enter(pass, key_of(shape)) {
         Answer::Number(number) => {
@@ -66,9 +71,12 @@ pub(crate) fn enter_all<O: ProbeOrder>(
     ensures pass { IsPassOf (2 ^ O.exponent table.now.order) table.now pass.new }
     ensures later { MarkedNothing (2 ^ O.exponent table.now.order) pass.old pass.new }
     ensures few { length entered.new.items ≤ length meetings.now }
-    ensures each { AreEntered (2 ^ O.exponent table.now.order) pass.new.seen game meetings.now entered.new.items }
-    ensures all { IfOk result (λ refused. IfNone refused (length entered.new.items ≡ length meetings.now)) }
-    ensures refused { IfOk result (λ refused. IfSome refused (IsRefused (2 ^ O.exponent table.now.order) pass.new.seen meetings.now)) }
+    ensures each { AreEntered (2 ^ O.exponent table.now.order) pass.new.seen game meetings.now
+        entered.new.items }
+    ensures all { IfOk result (λ refused. IfNone refused
+        (length entered.new.items ≡ length meetings.now)) }
+    ensures refused { IfOk result (λ refused. IfSome refused
+        (IsRefused (2 ^ O.exponent table.now.order) pass.new.seen meetings.now)) }
     ensures fault { IfErr result (λ found. found ≡ fault.Memory) }
 {
     entered.clear();
@@ -107,7 +115,8 @@ pub(crate) fn mark_all<O: ProbeOrder>(
     game: u64,
 )
     requires pass { IsPassOf (2 ^ O.exponent table.now.order) table.now pass.old }
-    requires each { AreEntered (2 ^ O.exponent table.now.order) pass.old.seen game meetings.now entered.now }
+    requires each { AreEntered (2 ^ O.exponent table.now.order) pass.old.seen game meetings.now
+        entered.now }
     requires game { game < 2 ^ 64 - 1 }
     ensures pass { IsPassOf (2 ^ O.exponent table.now.order) table.now pass.new }
     ensures later { MarkedOnly (2 ^ O.exponent table.now.order) game pass.old pass.new }

@@ -44,9 +44,12 @@ pub fn gather<O: ProbeOrder>(
     ensures pass { IsPassOf (2 ^ O.exponent table.now.order) table.now pass.new }
     ensures gathered { IfOk result (IsGathered kinds games shares.now) }
     ensures covers { OnOk result (Covers games (all_games shares.now)) }
-    ensures stand { OnOk result (Stand (2 ^ O.exponent table.now.order) pass.new.seen (all_rows shares.now)) }
-    ensures asked { OnOk result (AskedAll (2 ^ O.exponent table.now.order) (all_rows shares.now) pass.old pass.new) }
-    ensures fault { IfErr result (IsGatherFault (2 ^ O.exponent table.now.order) games shares.now pass.old pass.new) }
+    ensures stand { OnOk result (Stand (2 ^ O.exponent table.now.order) pass.new.seen
+        (all_rows shares.now)) }
+    ensures asked { OnOk result (AskedAll (2 ^ O.exponent table.now.order) (all_rows shares.now)
+        pass.old pass.new) }
+    ensures fault { IfErr result (IsGatherFault (2 ^ O.exponent table.now.order) games shares.now
+        pass.old pass.new) }
 {
     check_games(alloc, games, shares)?;
     check_rows(table, pass, shares)?;

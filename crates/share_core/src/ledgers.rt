@@ -50,18 +50,21 @@ impl Ledger {
         }
     }
 
+    /// The games, in the order in which they were added.
     pub fn games(&self) -> &[u64]
         ensures { result.now ≡ self.now.games }
     {
         self.games.as_slice()
     }
 
+    /// How many moves onto empty points the games have.
     pub fn moves(&self) -> u64
         ensures { result ≡ self.now.moves }
     {
         self.moves
     }
 
+    /// The rows, in the order in which they were made.
     pub fn rows(&self) -> &Rows
         ensures { result.now ≡ self.now.rows }
     {
@@ -80,7 +83,8 @@ impl Ledger {
         requires numbers { AreBelow slots entered.now }
         ensures gained { Gained meetings.now entered.now self.old.rows self.new.rows }
         ensures same { self.new ≡ record self.old { rows = self.new.rows } }
-        ensures rows { OnOk result (AreRowsOf (take (length entered.now) meetings.now) places.new.items self.new.rows) }
+        ensures rows { OnOk result (AreRowsOf (take (length entered.now) meetings.now)
+            places.new.items self.new.rows) }
         ensures numbered { OnOk result (AreNumbered entered.now places.new.items self.new.rows) }
         ensures fault { IfErr result (IsMakingFault meetings.now entered.now self.new.rows) }
     {

@@ -27,7 +27,8 @@ pub(crate) fn make_all(
     requires few { length entered.now ≤ length meetings.now }
     requires numbers { AreBelow slots entered.now }
     ensures gained { Gained meetings.now entered.now rows.old rows.new }
-    ensures rows { OnOk result (AreRowsOf (take (length entered.now) meetings.now) places.new.items rows.new) }
+    ensures rows { OnOk result (AreRowsOf (take (length entered.now) meetings.now) places.new.items
+        rows.new) }
     ensures numbered { OnOk result (AreNumbered entered.now places.new.items rows.new) }
     ensures fault { IfErr result (IsMakingFault meetings.now entered.now rows.new) }
 {

@@ -34,7 +34,8 @@ fn stranger(number: usize, held: Word, asked: Word) -> HarvestFault
 /// Gives an index at least this many places, the new ones without a row.
 fn widen(index: &mut Vec<Option<usize>>, slots: usize) -> Result<(), AllocError>
     ensures wide { OnOk result (slots ≤ length index.new.items) }
-    ensures same { (number : ℕ) → place_in index.new.items number ≡ place_in index.old.items number }
+    ensures same { (number : ℕ) → place_in index.new.items number
+        ≡ place_in index.old.items number }
 {
     if index.len() < slots {
         index.resize(slots, None)?;
@@ -63,7 +64,8 @@ impl Model for Rows {
 }
 
 impl Rows {
-    ghost use Rattle.std.specs.Prelude.{◌≡◌, ◌+◌, ◌^◌, ◌<◌, ◌++◌, ◌∷◌, [], length, IfSome, IfNone, IfOk, IfErr, OnErr, slice_set};
+    ghost use Rattle.std.specs.Prelude.{◌≡◌, ◌+◌, ◌^◌, ◌<◌, ◌++◌, ◌∷◌, [], length, IfSome, IfNone};
+    ghost use Rattle.std.specs.Prelude.{IfOk, IfErr, OnErr, slice_set};
     ghost use Rattle.share_core.specs.Rows.{row_at, blank, HasNoRow, AreOfNumbers};
     ghost use Rattle.share_core.specs.Making.{IsMade, IsRowFault};
     ghost use Rattle.share_core.specs.Raising.{raised};
@@ -88,7 +90,8 @@ impl Rows {
 
     /// The place of a number's row, if it has one.
     pub fn place(&self, number: usize) -> Option<usize>
-        ensures some { IfSome result (λ place. (place < length self.now) × ((row_at self.now place).number ≡ number)) }
+        ensures some { IfSome result (λ place. (place < length self.now)
+            × ((row_at self.now place).number ≡ number)) }
         ensures none { IfNone result (HasNoRow self.now number) }
     {
         if number < self.index.len() {
@@ -121,7 +124,8 @@ impl Rows {
     fn append(&mut self, slots: usize, number: usize, shape: Shape) -> Result<usize, HarvestFault>
         requires number { number < slots }
         requires none { HasNoRow self.old number }
-        ensures ok { IfOk result (λ place. (place ≡ length self.old) × (self.new ≡ self.old ++ blank number shape ∷ [])) }
+        ensures ok { IfOk result (λ place. (place ≡ length self.old)
+            × (self.new ≡ self.old ++ blank number shape ∷ [])) }
         ensures fault { IfErr result (λ found. IsRowFault number shape self.old found) }
         ensures same { OnErr result (self.new ≡ self.old) }
     {
@@ -148,7 +152,8 @@ impl Rows {
         requires place { place < length self.old }
         requires there { (row_at self.old place).there + meeting.there < 2 ^ 64 }
         requires played { (row_at self.old place).played + meeting.played < 2 ^ 64 }
-        ensures { self.new ≡ slice_set self.old place (raised (row_at self.old place) meeting game) }
+        ensures { self.new ≡ slice_set self.old place
+            (raised (row_at self.old place) meeting game) }
     {
         let row = &mut self.rows[place];
         row.there += meeting.there;

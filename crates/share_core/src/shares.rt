@@ -29,9 +29,21 @@ impl Model for Share {
 
     ghost Value = { Held };
 
-    ghost view = { λ s. record { worker = s.worker; kinds = s.workings.walk.kinds; games = s.ledger.games; moves = s.ledger.moves; rows = s.ledger.rows } };
+    ghost view = { λ s. record {
+      worker = s.worker;
+      kinds = s.workings.walk.kinds;
+      games = s.ledger.games;
+      moves = s.ledger.moves;
+      rows = s.ledger.rows;
+    } };
 
-    ghost invariant = { λ s. IsShare (record { worker = s.worker; kinds = s.workings.walk.kinds; games = s.ledger.games; moves = s.ledger.moves; rows = s.ledger.rows }) };
+    ghost invariant = { λ s. IsShare (record {
+      worker = s.worker;
+      kinds = s.workings.walk.kinds;
+      games = s.ledger.games;
+      moves = s.ledger.moves;
+      rows = s.ledger.rows;
+    }) };
 }
 
 impl Share {
@@ -44,7 +56,13 @@ impl Share {
 
     /// A share without games, of the worker with this number. It takes no memory.
     pub fn begin(alloc: Global, worker: usize, kinds: Kinds) -> Share
-        ensures { result ≡ record { worker = worker; kinds = kinds; games = []; moves = 0; rows = [] } }
+        ensures { result ≡ record {
+          worker = worker;
+          kinds = kinds;
+          games = [];
+          moves = 0;
+          rows = [];
+        } }
     {
         Share {
             worker,
@@ -116,15 +134,20 @@ impl Share {
         requires game { game < 2 ^ 28 }
         ensures pass { IsPassOf (2 ^ O.exponent table.now.order) table.now pass.new }
         ensures added { OnOk result (IsAdded game record.now self.old self.new) }
-        ensures grown { OnOk result (HasGrown (2 ^ O.exponent table.now.order) pass.new.seen record.now
+        ensures grown { OnOk result (HasGrown (2 ^ O.exponent table.now.order) pass.new.seen
+            record.now
             self.old self.new) }
         ensures marked { OnOk result (IsMarked (2 ^ O.exponent table.now.order) pass.new.seen game
             self.old.kinds record.now) }
-        ensures marks { OnOk result (MarkedOnly (2 ^ O.exponent table.now.order) game pass.old pass.new) }
-        ensures kept { OnErr result (IsKept (2 ^ O.exponent table.now.order) pass.new.seen record.now
+        ensures marks { OnOk result (MarkedOnly (2 ^ O.exponent table.now.order) game pass.old
+            pass.new) }
+        ensures kept { OnErr result (IsKept (2 ^ O.exponent table.now.order) pass.new.seen
+            record.now
             self.old self.new) }
-        ensures unmarked { OnErr result (MarkedNothing (2 ^ O.exponent table.now.order) pass.old pass.new) }
-        ensures fault { IfErr result (IsAddFault (2 ^ O.exponent table.now.order) pass.new.seen game record.now
+        ensures unmarked { OnErr result (MarkedNothing (2 ^ O.exponent table.now.order) pass.old
+            pass.new) }
+        ensures fault { IfErr result (IsAddFault (2 ^ O.exponent table.now.order) pass.new.seen
+            game record.now
             self.old self.new) }
     {
         let moves = self

@@ -1,8 +1,10 @@
 //! Whether the rows of shares are of the patterns that the table has at their numbers.
-ghost use Rattle.std.specs.Prelude.{◌≡◌, ◌^◌, ◌<◌, ◌≤◌, ◌++◌, ◌∷◌, [], List, Some, None, IfSome, OnOk, IfErr};
+ghost use Rattle.std.specs.Prelude.{◌≡◌, ◌^◌, ◌<◌, ◌≤◌, ◌++◌, ◌∷◌, [], List, Some, None, IfSome};
+ghost use Rattle.std.specs.Prelude.{OnOk, IfErr};
 ghost use Rattle.slot_table.specs.Passes.{IsPassOf, IsLater};
 ghost use Rattle.share_core.specs.declared.rows.Row.{Row};
-ghost use Rattle.share_core.specs.Checking.{all_rows, stranger_in, Stand, IsStandFault, AreBelow, IsBeyondFault, unlike_of, IsLeastFrom};
+ghost use Rattle.share_core.specs.Checking.{all_rows, stranger_in, Stand, IsStandFault, AreBelow};
+ghost use Rattle.share_core.specs.Checking.{IsBeyondFault, unlike_of, IsLeastFrom};
 ghost use Rattle.share_core.specs.declared.faults.HarvestFault.TheVariants as fault;
 
 use crate::faults::HarvestFault;
@@ -48,7 +50,8 @@ pub(crate) fn stranger(shares: &[Share], number: usize, found: Option<u64>) -> O
 
 /// The lesser of two rows by their numbers, the first where these are one. Rows of numbers below `slots` do not count.
 fn lesser(least: Option<Row>, row: Row, slots: usize) -> Option<Row>
-    ensures { (rows : List Row) → IsLeastFrom slots rows least → IsLeastFrom slots (rows ++ row ∷ []) result }
+    ensures { (rows : List Row) → IsLeastFrom slots rows least
+        → IsLeastFrom slots (rows ++ row ∷ []) result }
 {
     if row.number < slots {
         return least;
@@ -67,7 +70,8 @@ fn lesser(least: Option<Row>, row: Row, slots: usize) -> Option<Row>
 
 /// The same over the rows of a share.
 fn least_in(least: Option<Row>, more: &[Row], slots: usize) -> Option<Row>
-    ensures { (rows : List Row) → IsLeastFrom slots rows least → IsLeastFrom slots (rows ++ more.now) result }
+    ensures { (rows : List Row) → IsLeastFrom slots rows least
+        → IsLeastFrom slots (rows ++ more.now) result }
 {
     let mut found = least;
     for row in more {
@@ -76,7 +80,7 @@ fn least_in(least: Option<Row>, more: &[Row], slots: usize) -> Option<Row>
     found
 }
 
-/// The first row of the least number that is none of a table of so many slots, among those of all shares.
+/// The first row of the least number that a table of `slots` slots does not have, among those of all shares.
 fn least_beyond(shares: &[Share], slots: usize) -> Option<Row>
     ensures { IsLeastFrom slots (all_rows shares.now) result }
 {
@@ -145,8 +149,10 @@ pub(crate) fn check_rows<O: ProbeOrder>(
     requires { IsPassOf (2 ^ O.exponent table.now.order) table.now pass.old }
     ensures pass { IsPassOf (2 ^ O.exponent table.now.order) table.now pass.new }
     ensures later { IsLater (2 ^ O.exponent table.now.order) pass.old [] pass.new }
-    ensures ok { OnOk result (Stand (2 ^ O.exponent table.now.order) pass.new.seen (all_rows shares.now)) }
-    ensures fault { IfErr result (IsStandFault (2 ^ O.exponent table.now.order) pass.new.seen (all_rows shares.now)) }
+    ensures ok { OnOk result (Stand (2 ^ O.exponent table.now.order) pass.new.seen
+        (all_rows shares.now)) }
+    ensures fault { IfErr result (IsStandFault (2 ^ O.exponent table.now.order) pass.new.seen
+        (all_rows shares.now)) }
 {
     let slots = table.capacity().slots();
     for number in 0..slots {

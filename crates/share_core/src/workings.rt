@@ -61,11 +61,14 @@ impl Workings {
         ensures later { MarkedNothing (2 ^ O.exponent table.now.order) pass.old pass.new }
         ensures kinds { self.new.walk.kinds ≡ self.old.walk.kinds }
         ensures ledger { ledger.new ≡ record ledger.old { rows = ledger.new.rows } }
-        ensures fresh { HasFresh (2 ^ O.exponent table.now.order) pass.new.seen self.old.walk.kinds record.now
+        ensures fresh { HasFresh (2 ^ O.exponent table.now.order) pass.new.seen self.old.walk.kinds
+            record.now
             ledger.old.rows ledger.new.rows }
-        ensures ok { IfOk result (IsPrepared (2 ^ O.exponent table.now.order) pass.new.seen game record.now
+        ensures ok { IfOk result (IsPrepared (2 ^ O.exponent table.now.order) pass.new.seen game
+            record.now
             self.new ledger.new.rows) }
-        ensures fault { IfErr result (IsPrepareFault (2 ^ O.exponent table.now.order) pass.new.seen game
+        ensures fault { IfErr result (IsPrepareFault (2 ^ O.exponent table.now.order) pass.new.seen
+            game
             self.old.walk.kinds record.now ledger.new.rows) }
     {
         let moves = match self.walk.walk(record) {

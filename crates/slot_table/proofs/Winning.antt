@@ -1,4 +1,4 @@
--- A swap that wins keeps each key behind places that other keys hold.
+-- A swap that wins keeps each key after places that other keys hold.
 use Rattle.std.proofs.Common.{◌≡◌, ◌≢◌, ℕ, ◌<◌, ◌≤◌, List, length, slice_index_or, slice_set, ap, ◌∙◌, sym, subst, inl, inr, arith}
 use Rattle.std.proofs.lemmas.Bool.{cases_eq}
 use Rattle.std.proofs.lemmas.List.{get_or-set_same, get_or-set_other}
@@ -28,7 +28,7 @@ pub other_places : (place : ℕ → ℕ) (words : List ℕ) (x p c l : ℕ) → 
 other_places place words x p c l free other =
     stays_other words p c (place l) x (λ e. other.taken (ap (λ q. slice_index_or words q 0) e ∙ free)) other
 
--- a key that is written to a free place behind other keys leaves each key behind other keys
+-- a key that is written to a free place after other keys leaves each key after other keys
 pub placed_by_win : (n : ℕ) (place : ℕ → ℕ → ℕ) (words : List ℕ) (key i : ℕ) → IsOrder n (place key) → IsPlaced n place words
     → i < n → n ≤ length words → HoldOthers (place key) words key i → slice_index_or words (place key i) 0 ≡ 0
     → IsPlaced n place (slice_set words (place key i) (code_of key))

@@ -61,7 +61,7 @@ abbrev pub IsMarkWord : Option ℕ → ℕ → Type 0
 IsMarkWord None word = word ≡ 0xFFFF_FFFF_FFFF_FFFF
 IsMarkWord (Some game) word = (word ≡ game) × (game < 0xFFFF_FFFF_FFFF_FFFF)
 
--- the n words behind the first n are those of the least games that the history marks
+-- the n words after the first n are those of the least games that the history marks
 abbrev pub AreMarkWords : ℕ → List ℕ → List Happened → Type 0
 AreMarkWords n words log = (p : ℕ) → p < n → IsMarkWord (least_at p log) (slice_index_or words (n + p) 0)
 

@@ -20,7 +20,7 @@ abbrev pub entries_of : Call → Followed → List Happened
 entries_of asked (Runs machine) = []
 entries_of asked (Answers found) = entry.Asked asked found ∷ []
 
--- the places of these entries, behind a history of this length
+-- the places of these entries, after a history of this length
 abbrev pub places_from : ℕ → List Happened → List ℕ
 places_from k [] = []
 places_from k (e ∷ entries) = k ∷ places_from (k + 1) entries
@@ -100,7 +100,7 @@ pub record IsSeatOf {O : Type 0} (n : ℕ) (of : TableId) (key : O) (seated : Ta
   pub legal : IsLegal n me.0.seen
   pub rises : IsRising 0 me.0.mine (length me.0.seen)
 
--- in the table the first so many places hold other keys
+-- in the table the first n places hold other keys
 abbrev pub PassedOthers : (ℕ → ℕ) → Table → ℕ → ℕ → Type 0
 PassedOthers place table key i = (j : ℕ) → j < i → (x : ℕ) × IsNumber table x (place j) × (x ≢ key)
 
@@ -109,7 +109,7 @@ abbrev pub MaySwap : Call → Type 0
 MaySwap (call.Enter key) = Unit {0}
 MaySwap (call.LookUp key) = ⊥
 
--- a machine on its way, where this much was seen: behind places that other keys hold
+-- a machine on its way, where this much was seen: after places that other keys hold
 pub record IsSearch (n : ℕ) (place : ℕ → ℕ → ℕ) (machine : Machine) (seen : List Happened) : Type 0 where
   pub within : machine.index < n
   pub small : key_of machine.call < 2 ^ 51

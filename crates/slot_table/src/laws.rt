@@ -1,6 +1,7 @@
 //! Laws of tables and their histories, for proofs in the crates above. Each is a function that does nothing, and its
 //! contract is the law, for any number of numbers n and any history.
-ghost use Rattle.std.specs.Prelude.{◌≡◌, ◌≢◌, ℕ, ◌<◌, ◌↔◌, List, None, Some, AllPairs, Contains, length, slice_index_or};
+ghost use Rattle.std.specs.Prelude.{◌≡◌, ◌≢◌, ℕ, ◌<◌, ◌↔◌, List, None, Some, AllPairs, Contains};
+ghost use Rattle.std.specs.Prelude.{length, slice_index_or};
 ghost use Rattle.probe_core.specs.Sequential.{IsNumber, IsFree, IsFull};
 ghost use Rattle.slot_table.specs.declared.entries.Happened.{Happened};
 ghost use Rattle.slot_table.specs.History.{IsLegal, content_of, keys_of};

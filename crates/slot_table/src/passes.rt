@@ -17,7 +17,13 @@ impl<O> Model for Pass<O> {
 
     ghost Value = { Known O };
 
-    ghost view = { λ p. record { table = p.seat.table_id; order = p.seat.me.0.order; seen = p.seat.me.0.seen; mine = p.seat.me.0.mine } };
+    ghost view = { λ p. record {
+      table = p.seat.table_id;
+      order = p.seat.me.0.order;
+      seen = p.seat.me.0.seen;
+      mine = p.seat.me.0.mine;
+    } };
 
-    ghost invariant = { λ p. (p.seat.me.1 ≡ []) × (p.seat.me.0.met ≡ []) × IsSome p.seat.me.0.order };
+    ghost invariant = { λ p. (p.seat.me.1 ≡ []) × (p.seat.me.0.met ≡ [])
+        × IsSome p.seat.me.0.order };
 }

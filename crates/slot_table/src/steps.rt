@@ -12,12 +12,17 @@ use std::marker::Brand;
 
 /// Takes the step that the probe wants, and answers what follows.
 fn turn<A: Ask, O: ProbeOrder>(shared: &Shown<O>, seat: &mut Place<O>, probe: Probe<O>) -> Turn<O>
-    requires seat { IsSeatOf (2 ^ O.exponent shared.now.key) shared.now.table_id shared.now.key seat.old.table_id seat.old.me }
+    requires seat { IsSeatOf (2 ^ O.exponent shared.now.key) shared.now.table_id shared.now.key
+        seat.old.table_id seat.old.me }
     requires probe { (probe.order ≡ shared.now.key) × (probe.machine ≡ A.machine) }
-    requires search { IsSearch (2 ^ O.exponent shared.now.key) (O.place_of shared.now.key) probe.machine seat.old.me.0.seen }
-    ensures seat { IsSeatOf (2 ^ O.exponent shared.now.key) shared.now.table_id shared.now.key seat.new.table_id seat.new.me }
-    ensures turned { Turned (2 ^ O.exponent shared.now.key) (O.place_of shared.now.key) shared.now.key probe.machine seat.old.me.0 result seat.new.me.0 }
-    ensures fewer { HasFewer (2 ^ O.exponent shared.now.key) (left_of (2 ^ O.exponent shared.now.key) probe.machine) result }
+    requires search { IsSearch (2 ^ O.exponent shared.now.key) (O.place_of shared.now.key)
+        probe.machine seat.old.me.0.seen }
+    ensures seat { IsSeatOf (2 ^ O.exponent shared.now.key) shared.now.table_id shared.now.key
+        seat.new.table_id seat.new.me }
+    ensures turned { Turned (2 ^ O.exponent shared.now.key) (O.place_of shared.now.key)
+        shared.now.key probe.machine seat.old.me.0 result seat.new.me.0 }
+    ensures fewer { HasFewer (2 ^ O.exponent shared.now.key)
+        (left_of (2 ^ O.exponent shared.now.key) probe.machine) result }
 {
     let found = match probe.wants() {
         Want::Load(place) => shared.load::<Told<A>>(seat, place),
@@ -33,11 +38,14 @@ pub(crate) fn asked<O: ProbeOrder>(
     order: &O,
     call: Call,
 ) -> Answer
-    requires seat { IsSeatOf (2 ^ O.exponent shared.now.key) shared.now.table_id shared.now.key seat.old.table_id seat.old.me }
+    requires seat { IsSeatOf (2 ^ O.exponent shared.now.key) shared.now.table_id shared.now.key
+        seat.old.table_id seat.old.me }
     requires order { order.now ≡ shared.now.key }
     requires small { key_of call < 2 ^ 51 }
-    ensures seat { IsSeatOf (2 ^ O.exponent shared.now.key) shared.now.table_id shared.now.key seat.new.table_id seat.new.me }
-    ensures called { Called (2 ^ O.exponent shared.now.key) seat.old.me.0 (entry.Asked call result) seat.new.me.0 }
+    ensures seat { IsSeatOf (2 ^ O.exponent shared.now.key) shared.now.table_id shared.now.key
+        seat.new.table_id seat.new.me }
+    ensures called { Called (2 ^ O.exponent shared.now.key) seat.old.me.0 (entry.Asked call result)
+        seat.new.me.0 }
     ensures told { Tells (2 ^ O.exponent shared.now.key) seat.new.me.0.seen call result }
 {
     let mut probe = Probe::begin(order, call);
@@ -55,11 +63,15 @@ pub(crate) fn word_at<O: ProbeOrder>(
     seat: &mut Place<O>,
     number: usize,
 ) -> Option<Key>
-    requires seat { IsSeatOf (2 ^ O.exponent shared.now.key) shared.now.table_id shared.now.key seat.old.table_id seat.old.me }
+    requires seat { IsSeatOf (2 ^ O.exponent shared.now.key) shared.now.table_id shared.now.key
+        seat.old.table_id seat.old.me }
     requires number { number < 2 ^ O.exponent shared.now.key }
-    ensures seat { IsSeatOf (2 ^ O.exponent shared.now.key) shared.now.table_id shared.now.key seat.new.table_id seat.new.me }
-    ensures seen { (longest : _) × Grown (2 ^ O.exponent shared.now.key) seat.old.me.0 longest [] seat.new.me.0 }
-    ensures key { result ≡ slice_index_or (content_of (2 ^ O.exponent shared.now.key) seat.new.me.0.seen) number None }
+    ensures seat { IsSeatOf (2 ^ O.exponent shared.now.key) shared.now.table_id shared.now.key
+        seat.new.table_id seat.new.me }
+    ensures seen { (longest : _) × Grown (2 ^ O.exponent shared.now.key) seat.old.me.0 longest []
+        seat.new.me.0 }
+    ensures key { result ≡ slice_index_or (content_of (2 ^ O.exponent shared.now.key)
+        seat.new.me.0.seen) number None }
 {
     let found = shared.load::<Looked>(seat, number);
     if found == 0 {
@@ -71,9 +83,11 @@ pub(crate) fn word_at<O: ProbeOrder>(
 
 /// A new seat that has seen what this one has.
 pub(crate) fn split<O: ProbeOrder>(shared: &Shown<O>, seat: &mut Place<O>) -> Place<O>
-    requires { IsSeatOf (2 ^ O.exponent shared.now.key) shared.now.table_id shared.now.key seat.old.table_id seat.old.me }
+    requires { IsSeatOf (2 ^ O.exponent shared.now.key) shared.now.table_id shared.now.key
+        seat.old.table_id seat.old.me }
     ensures same { (seat.new.table_id ≡ seat.old.table_id) × (seat.new.me ≡ seat.old.me) }
-    ensures seat { IsSeatOf (2 ^ O.exponent shared.now.key) shared.now.table_id shared.now.key result.table_id result.me }
+    ensures seat { IsSeatOf (2 ^ O.exponent shared.now.key) shared.now.table_id shared.now.key
+        result.table_id result.me }
     ensures view { (result.me.0.seen ≡ seat.old.me.0.seen) × (result.me.0.mine ≡ []) }
 {
     shared.split_seat::<Cut>(seat)
@@ -81,16 +95,19 @@ pub(crate) fn split<O: ProbeOrder>(shared: &Shown<O>, seat: &mut Place<O>) -> Pl
 
 /// Joins the other seat to this one.
 pub(crate) fn meet<O: ProbeOrder>(shared: &Shown<O>, seat: &mut Place<O>, other: Place<O>)
-    requires seat { IsSeatOf (2 ^ O.exponent shared.now.key) shared.now.table_id shared.now.key seat.old.table_id seat.old.me }
-    requires other { IsSeatOf (2 ^ O.exponent shared.now.key) shared.now.table_id shared.now.key other.table_id other.me }
-    ensures seat { IsSeatOf (2 ^ O.exponent shared.now.key) shared.now.table_id shared.now.key seat.new.table_id seat.new.me }
+    requires seat { IsSeatOf (2 ^ O.exponent shared.now.key) shared.now.table_id shared.now.key
+        seat.old.table_id seat.old.me }
+    requires other { IsSeatOf (2 ^ O.exponent shared.now.key) shared.now.table_id shared.now.key
+        other.table_id other.me }
+    ensures seat { IsSeatOf (2 ^ O.exponent shared.now.key) shared.now.table_id shared.now.key
+        seat.new.table_id seat.new.me }
     ensures joined { Joined (2 ^ O.exponent shared.now.key) seat.old.me.0 other.me.0 seat.new.me.0 }
 {
     shared.join_seat::<Glue>(seat, other);
     shared.load::<Looked>(seat, 0);
 }
 
-/// Lowers a number's mark word to a game, in a table of so many slots.
+/// Lowers a number's mark word to a game, in a table of `slots` slots.
 pub(crate) fn mark<O: ProbeOrder>(
     shared: &Shown<O>,
     seat: &mut Place<O>,
@@ -98,29 +115,35 @@ pub(crate) fn mark<O: ProbeOrder>(
     number: usize,
     game: u64,
 )
-    requires seat { IsSeatOf (2 ^ O.exponent shared.now.key) shared.now.table_id shared.now.key seat.old.table_id seat.old.me }
+    requires seat { IsSeatOf (2 ^ O.exponent shared.now.key) shared.now.table_id shared.now.key
+        seat.old.table_id seat.old.me }
     requires slots { (slots ≡ 2 ^ O.exponent shared.now.key) × (slots < 2 ^ 32) }
     requires number { number < slots }
     requires game { game < 2 ^ 64 - 1 }
-    ensures seat { IsSeatOf (2 ^ O.exponent shared.now.key) shared.now.table_id shared.now.key seat.new.table_id seat.new.me }
-    ensures called { Called (2 ^ O.exponent shared.now.key) seat.old.me.0 (entry.Marked number game) seat.new.me.0 }
+    ensures seat { IsSeatOf (2 ^ O.exponent shared.now.key) shared.now.table_id shared.now.key
+        seat.new.table_id seat.new.me }
+    ensures called { Called (2 ^ O.exponent shared.now.key) seat.old.me.0
+        (entry.Marked number game) seat.new.me.0 }
     ensures least { IsAtMost (least_at number seat.new.me.0.seen) game }
 {
     shared.fetch_min::<Marked>(seat, slots + number, game);
 }
 
-/// Loads a number's mark word, in a table of so many slots.
+/// Loads a number's mark word, in a table of `slots` slots.
 pub(crate) fn first<O: ProbeOrder>(
     shared: &Shown<O>,
     seat: &mut Place<O>,
     slots: usize,
     number: usize,
 ) -> Option<u64>
-    requires seat { IsSeatOf (2 ^ O.exponent shared.now.key) shared.now.table_id shared.now.key seat.old.table_id seat.old.me }
+    requires seat { IsSeatOf (2 ^ O.exponent shared.now.key) shared.now.table_id shared.now.key
+        seat.old.table_id seat.old.me }
     requires slots { (slots ≡ 2 ^ O.exponent shared.now.key) × (slots < 2 ^ 32) }
     requires number { number < slots }
-    ensures seat { IsSeatOf (2 ^ O.exponent shared.now.key) shared.now.table_id shared.now.key seat.new.table_id seat.new.me }
-    ensures called { Called (2 ^ O.exponent shared.now.key) seat.old.me.0 (entry.First number result) seat.new.me.0 }
+    ensures seat { IsSeatOf (2 ^ O.exponent shared.now.key) shared.now.table_id shared.now.key
+        seat.new.table_id seat.new.me }
+    ensures called { Called (2 ^ O.exponent shared.now.key) seat.old.me.0
+        (entry.First number result) seat.new.me.0 }
     ensures least { result ≡ least_at number seat.new.me.0.seen }
 {
     let found = shared.load::<First>(seat, slots + number);

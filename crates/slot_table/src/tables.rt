@@ -1,5 +1,6 @@
 //! Tables of numbers for keys, as threads call them.
-ghost use Rattle.std.specs.Prelude.{◌≡◌, ℕ, ◌+◌, ◌-◌, ◌*◌, ◌^◌, ◌<◌, [], ◌∷◌, IfOk, None, length, slice_index_or};
+ghost use Rattle.std.specs.Prelude.{◌≡◌, ℕ, ◌+◌, ◌-◌, ◌*◌, ◌^◌, ◌<◌, [], ◌∷◌, IfOk, None, length};
+ghost use Rattle.std.specs.Prelude.{slice_index_or};
 ghost use Rattle.probe_core.specs.declared.calls.Call.TheVariants as call;
 ghost use Rattle.probe_core.specs.Machine.{key_of};
 ghost use Rattle.slot_table.specs.declared.entries.Happened.TheVariants as entry;

@@ -155,7 +155,8 @@ fn jobs_of<O: ProbeOrder>(
 ) -> Result<Vec<Job<O>>, AllocError>
     requires { IsPassOf (2 ^ O.exponent table.now.order) table.now pass.old }
     ensures pass { IsPassOf (2 ^ O.exponent table.now.order) table.now pass.new }
-    ensures jobs { IfOk result (λ v. All (λ job. IsPassOf (2 ^ O.exponent table.now.order) table.now job.pass) v.items) }
+    ensures jobs { IfOk result (λ v. All (λ job. IsPassOf (2 ^ O.exponent table.now.order)
+        table.now job.pass) v.items) }
 {
     let mut jobs = Vec::new(alloc);
     for first in 0..count {
@@ -185,8 +186,10 @@ fn run_all<O: ProbeOrder + Send + Sync, R: Threads + Abort + Sync>(
     table: &SlotTable<O>,
     jobs: Vec<Job<O>>,
 ) -> Result<Vec<Done<O>>, AllocError>
-    requires { All (λ job. IsPassOf (2 ^ O.exponent table.now.order) table.now job.pass) jobs.items }
-    ensures { IfOk result (λ v. All (λ done. IsPassOf (2 ^ O.exponent table.now.order) table.now done.pass) v.items) }
+    requires { All (λ job. IsPassOf (2 ^ O.exponent table.now.order) table.now job.pass)
+        jobs.items }
+    ensures { IfOk result (λ v. All (λ done. IsPassOf (2 ^ O.exponent table.now.order) table.now
+        done.pass) v.items) }
 {
     thread::map_vec(
         rt,
@@ -239,7 +242,8 @@ fn assert_read_back<O: ProbeOrder>(
     mut done: Vec<Done<O>>,
 )
     requires pass { IsPassOf (2 ^ O.exponent table.now.order) table.now pass }
-    requires done { All (λ done. IsPassOf (2 ^ O.exponent table.now.order) table.now done.pass) done.items }
+    requires done { All (λ done. IsPassOf (2 ^ O.exponent table.now.order) table.now done.pass)
+        done.items }
 {
     let mut all = pass;
     while let Some(other) = done.pop() {
@@ -286,7 +290,8 @@ fn enter_each<O: ProbeOrder + Send + Sync, R: Threads + Abort + Sync>(
     table: &SlotTable<O>,
     jobs: Vec<Job<O>>,
 ) -> Result<Vec<Answer>, AllocError>
-    requires { All (λ job. IsPassOf (2 ^ O.exponent table.now.order) table.now job.pass) jobs.items }
+    requires { All (λ job. IsPassOf (2 ^ O.exponent table.now.order) table.now job.pass)
+        jobs.items }
 {
     thread::map_vec(
         rt,
@@ -324,8 +329,10 @@ fn mark_each<O: ProbeOrder + Send + Sync, R: Threads + Sync>(
     table: &SlotTable<O>,
     jobs: Vec<Job<O>>,
 ) -> Result<Vec<Done<O>>, AllocError>
-    requires { All (λ job. IsPassOf (2 ^ O.exponent table.now.order) table.now job.pass) jobs.items }
-    ensures { IfOk result (λ v. All (λ done. IsPassOf (2 ^ O.exponent table.now.order) table.now done.pass) v.items) }
+    requires { All (λ job. IsPassOf (2 ^ O.exponent table.now.order) table.now job.pass)
+        jobs.items }
+    ensures { IfOk result (λ v. All (λ done. IsPassOf (2 ^ O.exponent table.now.order) table.now
+        done.pass) v.items) }
 {
     thread::map_vec(
         rt,
@@ -354,7 +361,8 @@ fn mark_one<O: ProbeOrder>(table: &SlotTable<O>, job: Job<O>) -> Done<O>
 
 /// Each pass reads that 41 is the least game at number 0.
 fn assert_least<O: ProbeOrder>(rt: &impl Abort, table: &SlotTable<O>, mut done: Vec<Done<O>>)
-    requires { All (λ done. IsPassOf (2 ^ O.exponent table.now.order) table.now done.pass) done.items }
+    requires { All (λ done. IsPassOf (2 ^ O.exponent table.now.order) table.now done.pass)
+        done.items }
 {
     assert!(rt; table.capacity().slots() > 0);
     while let Some(other) = done.pop() {

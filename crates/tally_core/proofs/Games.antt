@@ -78,7 +78,7 @@ counted-more number (suc there) played first n m among more_among none =
     ap (used_again number n m) (counted-some (suc there) played first (omega arith))
     ∙ sym (counted-some (suc there + n) (played + m) first (omega arith))
 
--- a game more behind games of which some had the pattern
+-- one more game after games of which some had the pattern
 first-kept : {X : Type 0} (amount : X → ℕ) (xs : List X) (x : X) → 0 < sum_by amount xs → first_of amount (xs ++ x ∷ []) ≡ first_of amount xs
 unfolding first_of
 first-kept amount xs x h =
@@ -87,7 +87,7 @@ first-kept amount xs x h =
     position_or_len_push (λ y. nat_lt 0 (amount y)) xs x
     ∙ ap (λ b. cond b (length xs + cond (nat_lt 0 (amount x)) 0 1) (first_of amount xs)) test
 
--- and behind games of which none had it
+-- and after games of which none had it
 first-new : {X : Type 0} (amount : X → ℕ) (xs : List X) (x : X) → sum_by amount xs ≡ 0 → 0 < amount x → first_of amount (xs ++ x ∷ []) ≡ length xs
 unfolding first_of
 first-new amount xs x h some =

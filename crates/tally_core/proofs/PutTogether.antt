@@ -17,7 +17,7 @@ use Rattle.tally_core.proofs.PlayedPatterns.{CanonicalStays, AroundStays}
 use Rattle.tally_core.proofs.PlayedThere.{played_there}
 
 -- ---- the first game of two lists
--- a place among so many, if it is one
+-- a place among n, if it is one
 abbrev place_among : ℕ → ℕ → Option ℕ
 place_among n m = cond (nat_lt n m) (Some n) None
 

@@ -165,7 +165,7 @@ within_later place later counter fits h = record {
   uses = λ shape. omega (arith, h.uses shape);
 }
 
--- one tree more stands behind the others
+-- one tree more comes after the others
 pub trees_push : (bytes : List ℕ) (from middle : ℕ) (trees : List GameTree) (at next : ℕ) (tree : GameTree) →
     AreTrees bytes from trees middle → IsNextTree bytes middle at next tree → AreTrees bytes from (trees ++ tree ∷ []) next
 trees_push bytes from middle [] at next tree h is = (at, next, subst (λ f. IsNextTree bytes f at next tree) (sym h) is, refl)

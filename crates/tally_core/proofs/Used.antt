@@ -20,7 +20,7 @@ pub again-none : (game : ℕ) (old : Option Count) → used_again game 0 0 old �
 again-none game None = refl
 again-none game (Some count) = ap₂ (λ t p. Some (record count { there = t; played = p })) (add-zero count.there) (add-zero count.played)
 
--- so many times, and then so many more
+-- n times, and then m more
 pub again-again : (game there played more_there more_played : ℕ) (old : Option Count) →
     used_again game more_there more_played (used_again game there played old) ≡ used_again game (there + more_there) (played + more_played) old
 again-again game there played more_there more_played (Some count) =
@@ -60,7 +60,7 @@ fault-later (fault.Sgf found) few most a b h k = k
 at_test : (a b : ℕ) → is_at (nat_cmp a) b ≡ (a == b)
 at_test a b = Prim.grind (arith, nat_tests)
 
--- a pattern that had no count was there and was played so many times
+-- a pattern that had no count was there and was played this often
 pub used_first : (game only there played : ℕ) (a b : ℕ → Option Count) → 0 < there + played → a only ≡ None →
     ((q : ℕ) → b q ≡ cond (is_at (nat_cmp only) q) (Some (record { there = there; played = played; first = game })) (a q)) →
     AreCounts (used game (one_pattern only there) (one_pattern only played) a) b

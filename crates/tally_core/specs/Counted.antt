@@ -33,7 +33,7 @@ pub record IsCounted (kinds : Kinds) (bytes : List ℕ) (counted : Counted) : Ty
   pub dictionary : IsDictionaryOf kinds games counted.dictionary
   pub reported : IsReport trees counted.report
 
--- behind trees that can be read, the next one has this fault of syntax
+-- after trees that can be read, the next one has this fault of syntax
 pub record HasFault (bytes : List ℕ) (found : SgfFault) : Type 0 where
   pub trees : List GameTree
   pub end : ℕ

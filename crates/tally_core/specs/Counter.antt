@@ -27,28 +27,28 @@ uses_at (Some count) = count.there + count.played
 abbrev pub GrowsBy : ℕ → (ℕ → Option Count) → (ℕ → Option Count) → Type 0
 GrowsBy most before after = (shape : ℕ) → uses_at (after shape) ≤ uses_at (before shape) + most
 
--- memory was wanting, or some pattern was counted so often that so many more would pass 2 ^ 64 - 1
+-- memory was wanting, or some pattern was counted so often that these counts more would pass 2 ^ 64 - 1
 abbrev pub IsCountingFault : ℕ → (ℕ → Option Count) → HarvestFault → Type 0
 IsCountingFault most before fault.Memory = Unit {0}
 IsCountingFault most before fault.Overflow = (shape : ℕ) × (2 ^ 64 ≤ uses_at (before shape) + most)
 IsCountingFault most before found = ⊥
 
--- the count of a pattern that had none, once it was there and was played so many times in a game
+-- the count of a pattern that had none, once it was there and was played this often in a game
 abbrev pub first_used : ℕ → ℕ → ℕ → Option Count
 first_used game zero zero = None
 first_used game zero (suc played) = Some (record { there = 0; played = suc played; first = game })
 first_used game (suc there) played = Some (record { there = suc there; played = played; first = game })
 
--- a pattern's count once it was there and was played so many times more, in a game
+-- a pattern's count once it was there and was played this often again, in a game
 abbrev pub used_again : ℕ → ℕ → ℕ → Option Count → Option Count
 used_again game there played None = first_used game there played
 used_again game there played (Some count) = Some (record count { there = count.there + there; played = count.played + played })
 
--- what each pattern's count is once each was there and was played so many times more
+-- what each pattern's count is once each was there and was played this often again
 abbrev pub used : ℕ → (ℕ → ℕ) → (ℕ → ℕ) → (ℕ → Option Count) → ℕ → Option Count
 used game there played before shape = used_again game (there shape) (played shape) (before shape)
 
--- one pattern so many times, and no other
+-- one pattern n times, and no other
 abbrev pub one_pattern : ℕ → ℕ → ℕ → ℕ
 one_pattern only times shape = if only == shape then times else 0
 
@@ -77,7 +77,7 @@ IsMeetingsFault game meetings before found =
 abbrev pub AreAmong : List ℕ → List ℕ → Type 0
 AreAmong played there = (shape : ℕ) → count_by (λ c. c == shape) played ≤ count_by (λ c. c == shape) there
 
--- a game of so many occasions was counted
+-- a game with this number of occasions was counted
 pub record CountsGame (kinds : Kinds) (game : Actions) (number : ℕ) (before after : ℕ → Option Count) (moves : ℕ) : Type 0 where
   pub occasions : List Occasion
   pub replayed : AreOccasions game occasions

@@ -76,17 +76,17 @@ abbrev pub AreSidesOn : Kept → List Meeting → Sides → Type 0
 AreSidesOn field meetings sides =
     AreSides field.kinds field.board.size (position_of field.board) (shapes_of meetings) sides
 
--- so many patterns more were there, with all that stays
+-- this number of further patterns was there, with all that stays
 abbrev pub AddsThere : List ℕ → List Meeting → Side → List Meeting → Side → Type 0
 AddsThere patterns before side after new =
     (shape : ℕ) → there_with after new shape ≡ there_with before side shape + times_in patterns shape
 
--- so many patterns more were played
+-- this number of further patterns was played
 abbrev pub AddsPlayed : List ℕ → List Meeting → List Meeting → Type 0
 AddsPlayed patterns before after =
     (shape : ℕ) → played_among after shape ≡ played_among before shape + times_in patterns shape
 
--- so many occasions of an action were counted
+-- this number of occasions of an action was counted
 abbrev pub CountsAction : Kept → Action → List Meeting → Sides → List Meeting → Sides → ℕ → Type 0
 CountsAction field action before sides after new =
     IsCountedOn field.kinds field.board.size (occasion_of (position_of field.board) action) before sides after new

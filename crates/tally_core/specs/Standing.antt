@@ -89,7 +89,7 @@ StayThere kinds size position mover shapes points q =
 abbrev pub is_in_set : List ℕ → Point → Bool
 is_in_set set q = bit_at (slice_index set q.row) q.column == 1
 
--- a list of what stays at points, which is good for a board and for so many meetings
+-- a list of what stays at points, which is good for a board and for this number of meetings
 pub record AreStanding (size : Extent) (met : ℕ) (side : Side) : Type 0 where
   pub room : length side.points.items ≡ size.columns * size.rows
   pub marks : AreMarks size side.changed.items
@@ -117,7 +117,7 @@ pub record HaveRoom (meetings : List Meeting) (sides : Sides) : Type 0 where
   pub black : sides.black.occasions + 1 < 2 ^ 64
   pub white : sides.white.occasions + 1 < 2 ^ 64
 
--- the occasions of an action, of which there are so many, were counted
+-- the occasions of an action, this number of them, were counted
 pub record IsCountedOn (kinds : Kinds) (size : Extent) (done : List Occasion) (met : List Meeting) (before : Sides) (meetings : List Meeting) (after : Sides) (moves : ℕ) : Type 0 where
   pub moves_counted : moves ≡ length done
   pub few : moves ≤ 1
@@ -134,7 +134,7 @@ pub record IsNewSide (size : Extent) (side : Side) : Type 0 where
   pub nothing : (shapes : List ℕ) (shape : ℕ) → waiting shapes 0 side.points.items shape ≡ 0
   pub all : (q : Point) → IsOn size q → IsMarked side.changed.items q
 
--- these meetings are those of all occasions of some actions, of which there are so many
+-- these meetings are those of all occasions of some actions, this number of them
 pub record IsWalkOf (kinds : Kinds) (size : Extent) (actions : List Action) (start : Position) (meetings : List Meeting) (moves : ℕ) : Type 0 where
   pub occasions : List Occasion
   pub replayed : HasOccasions size actions start occasions

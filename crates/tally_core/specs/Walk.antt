@@ -26,7 +26,7 @@ abbrev pub once_each : List ℕ → List ℕ
 once_each [] = []
 once_each (x ∷ xs) = x ∷ filter (λ y. not (y == x)) (once_each xs)
 
--- these meetings are those of a game of so many occasions
+-- these meetings are those of a game with this number of occasions
 pub record IsWalk (kinds : Kinds) (game : Actions) (meetings : List Meeting) (moves : ℕ) : Type 0 where
   pub occasions : List Occasion
   pub replayed : AreOccasions game occasions

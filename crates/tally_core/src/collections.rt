@@ -43,7 +43,8 @@ pub struct Counted {
 pub fn count_plain(alloc: Global, kinds: Kinds, bytes: &[u8]) -> Result<Counted, HarvestFault>
     ensures counted { IfOk result (IsCounted kinds bytes.now) }
     ensures fault { IfErr result (IsCountFault bytes.now) }
-    ensures large { 2 ^ 28 < length bytes.now → IfErr result (λ found. found ≡ fault.Sgf sgf.TooLarge) }
+    ensures large { 2 ^ 28 < length bytes.now
+        → IfErr result (λ found. found ≡ fault.Sgf sgf.TooLarge) }
 {
     let mut trees = match Trees::new(bytes) {
         Ok(trees) => trees,

@@ -18,9 +18,10 @@ pub struct Count {
 impl Count {
     ghost use Rattle.std.specs.Prelude.{◌≡◌, ◌+◌, ◌^◌, ◌≤◌, IfSome, IfNone};
 
-    /// The count once the pattern was there and was played so many times more; None where that passes 2^64 - 1.
+    /// The count once the pattern was there and was played this often again; None where that passes 2^64 - 1.
     fn raised(self, there: u64, played: u64) -> Option<Count>
-        ensures some { IfSome result (λ count. count ≡ record self { there = self.there + there; played = self.played + played }) }
+        ensures some { IfSome result (λ count. count
+            ≡ record self { there = self.there + there; played = self.played + played }) }
         ensures none { IfNone result (2 ^ 64 ≤ self.there + self.played + there + played) }
     {
         Some(Count {
@@ -31,7 +32,7 @@ impl Count {
     }
 }
 
-/// Counts a pattern as being there and being played so many times more, in a game.
+/// Counts a pattern as being there and being played this often again, in a game.
 pub(crate) fn add(
     counts: &mut BTreeMap<Shape, Count>,
     shape: Shape,
@@ -39,8 +40,10 @@ pub(crate) fn add(
     played: u64,
     game: u64,
 ) -> Result<(), HarvestFault>
-    ensures ok { OnOk result (AreCounts (used game (one_pattern shape there) (one_pattern shape played) (count_in counts.old)) (count_in counts.new)) }
-    ensures fault { IfErr result (IsCountingFault 0 (used game (one_pattern shape there) (one_pattern shape played) (count_in counts.old))) }
+    ensures ok { OnOk result (AreCounts (used game (one_pattern shape there)
+        (one_pattern shape played) (count_in counts.old)) (count_in counts.new)) }
+    ensures fault { IfErr result (IsCountingFault 0 (used game (one_pattern shape there)
+        (one_pattern shape played) (count_in counts.old))) }
 {
     if there == 0 && played == 0 {
         return Ok(());

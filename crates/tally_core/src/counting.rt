@@ -1,12 +1,14 @@
 //! The trees of a collection, counted one after another.
-ghost use Rattle.std.specs.Prelude.{◌≡◌, ◌≢◌, ℕ, ◌+◌, ◌^◌, ◌<◌, ◌≤◌, ◌∷◌, [], ◌++◌, List, length, Ok, None, IfErr, IfOk, IfSome, IfNone, OnOk};
+ghost use Rattle.std.specs.Prelude.{◌≡◌, ◌≢◌, ℕ, ◌+◌, ◌^◌, ◌<◌, ◌≤◌, ◌∷◌, [], ◌++◌, List, length};
+ghost use Rattle.std.specs.Prelude.{Ok, None, IfErr, IfOk, IfSome, IfNone, OnOk};
 ghost use Rattle.sgf_core.specs.Tree.{GameTree};
 ghost use Rattle.sgf_core.specs.Marks.{marks_of};
 ghost use Rattle.sgf_core.specs.Next.{IsNextTree, HasNoTree};
 ghost use Rattle.go_record.specs.declared.records.Kind.TheVariants as kind;
 ghost use Rattle.go_record.specs.declared.faults.RecordFault.TheVariants as record_fault;
 ghost use Rattle.tally_core.specs.Collection.{record_of_tree};
-ghost use Rattle.tally_core.specs.Counting.{CountsTrees, IsWithin, IsSmallTree, CountsAll, IsNextFault};
+ghost use Rattle.tally_core.specs.Counting.{CountsTrees, IsWithin, IsSmallTree, CountsAll};
+ghost use Rattle.tally_core.specs.Counting.{IsNextFault};
 ghost use Rattle.tally_core.specs.Counted.{IsCountFault};
 ghost use Rattle.tally_core.specs.declared.faults.HarvestFault.TheVariants as harvest_fault;
 
@@ -58,10 +60,14 @@ fn count_record(
     counter: &mut Counter,
     replayed: &Record,
 ) -> Result<(), HarvestFault>
-    requires { (place : ℕ) × IsWithin place counter.old × (place + length replayed.now.actions < 2 ^ 28) }
-    ensures counted { (before : List GameTree) (game : GameTree) → record_of_tree game ≡ Ok (kind.Go replayed.now) → CountsTrees walk.old.kinds before counter.old
+    requires { (place : ℕ) × IsWithin place counter.old
+        × (place + length replayed.now.actions < 2 ^ 28) }
+    ensures counted { (before : List GameTree) (game : GameTree)
+        → record_of_tree game ≡ Ok (kind.Go replayed.now)
+        → CountsTrees walk.old.kinds before counter.old
         → OnOk result (CountsTrees walk.old.kinds (before ++ game ∷ []) counter.new) }
-    ensures within { (place : ℕ) → IsWithin place counter.old → OnOk result (IsWithin (place + length replayed.now.actions + 1) counter.new) }
+    ensures within { (place : ℕ) → IsWithin place counter.old
+        → OnOk result (IsWithin (place + length replayed.now.actions + 1) counter.new) }
     ensures fault { IfErr result (λ found. found ≡ harvest_fault.Memory) }
     ensures kinds { walk.new.kinds ≡ walk.old.kinds }
 {
@@ -92,7 +98,8 @@ fn count_tree(
 ) -> Result<(), HarvestFault>
     requires small { (game : GameTree) × IsSmallTree tree.now game }
     requires within { IsWithin tree.now.at counter.old }
-    ensures counted { (before : List GameTree) (game : GameTree) → tree.now.marks ≡ marks_of game → CountsTrees walk.old.kinds before counter.old
+    ensures counted { (before : List GameTree) (game : GameTree) → tree.now.marks ≡ marks_of game
+        → CountsTrees walk.old.kinds before counter.old
         → OnOk result (CountsTrees walk.old.kinds (before ++ game ∷ []) counter.new) }
     ensures within { OnOk result (IsWithin tree.now.end counter.new) }
     ensures fault { IfErr result (λ found. found ≡ harvest_fault.Memory) }
@@ -113,9 +120,12 @@ fn count_tree(
 /// The next tree, or None where none is left.
 fn next<'a>(alloc: Global, trees: &mut Trees<'a>) -> Result<Option<Tree<'a>>, HarvestFault>
     ensures tree { IfOk result (λ found. IfSome found (λ read. (tree : GameTree)
-        × IsNextTree trees.old.bytes trees.old.from read.at read.end tree × (read.marks ≡ marks_of tree))) }
-    ensures after { IfOk result (λ found. IfSome found (λ read. trees.new ≡ record trees.old { from = read.end })) }
-    ensures forward { IfOk result (λ found. IfSome found (λ read. (trees.old.from < read.end) × (read.end ≤ length trees.old.bytes))) }
+        × IsNextTree trees.old.bytes trees.old.from read.at read.end tree
+        × (read.marks ≡ marks_of tree))) }
+    ensures after { IfOk result (λ found. IfSome found
+        (λ read. trees.new ≡ record trees.old { from = read.end })) }
+    ensures forward { IfOk result (λ found. IfSome found
+        (λ read. (trees.old.from < read.end) × (read.end ≤ length trees.old.bytes))) }
     ensures none { IfOk result (λ found. IfNone found (HasNoTree trees.old.bytes trees.old.from)) }
     ensures fault { IfErr result (IsNextFault trees.old.bytes trees.old.from) }
 {

@@ -23,7 +23,7 @@ fn has_diamonds(kinds: Kinds) -> bool
     }
 }
 
-/// The dictionary of the games whose counts a map has: `games` of them, with so many moves. It takes memory for an entry
+/// The dictionary of the games whose counts a map has: `games` of them, with `moves` moves. It takes memory for an entry
 /// of each pattern; `HarvestFault::Memory` comes where that was refused.
 pub(crate) fn dictionary_of(
     alloc: Global,
@@ -32,8 +32,11 @@ pub(crate) fn dictionary_of(
     moves: u64,
     counts: &BTreeMap<Shape, Count>,
 ) -> Result<Dictionary, HarvestFault>
-    requires counted { (replayed : List Replayed) × (length replayed ≡ games) × CountsGames kinds replayed (count_in counts.now) moves }
-    ensures ok { IfOk result (λ d. (replayed : List Replayed) → length replayed ≡ games → CountsGames kinds replayed (count_in counts.now) moves → IsDictionaryOf kinds replayed d) }
+    requires counted { (replayed : List Replayed) × (length replayed ≡ games)
+        × CountsGames kinds replayed (count_in counts.now) moves }
+    ensures ok { IfOk result (λ d. (replayed : List Replayed) → length replayed ≡ games
+        → CountsGames kinds replayed (count_in counts.now) moves
+        → IsDictionaryOf kinds replayed d) }
     ensures fault { IfErr result (λ found. found ≡ fault.Memory) }
 {
     kinds_stay();

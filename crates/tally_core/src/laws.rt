@@ -10,10 +10,12 @@ use shape_core::kinds_stay;
 
 /// The dictionary of two lists of games put together is the join of their dictionaries, and the join is that.
 pub fn dictionaries_join()
-    ensures join { (kinds : Kinds) → (left : List Replayed) → (right : List Replayed) → (of_left : Contents) → (of_right : Contents) → (both : Contents)
+    ensures join { (kinds : Kinds) → (left : List Replayed) → (right : List Replayed)
+        → (of_left : Contents) → (of_right : Contents) → (both : Contents)
         → IsDictionaryOf kinds left of_left → IsDictionaryOf kinds right of_right
         → IsDictionaryOf kinds (left ++ right) both → IsJoin of_left of_right both }
-    ensures dictionary { (kinds : Kinds) → (left : List Replayed) → (right : List Replayed) → (of_left : Contents) → (of_right : Contents) → (both : Contents)
+    ensures dictionary { (kinds : Kinds) → (left : List Replayed) → (right : List Replayed)
+        → (of_left : Contents) → (of_right : Contents) → (both : Contents)
         → IsDictionaryOf kinds left of_left → IsDictionaryOf kinds right of_right
         → IsJoin of_left of_right both → IsDictionaryOf kinds (left ++ right) both }
 {

@@ -27,7 +27,7 @@ pub struct Meeting {
 #[derive(Drop)]
 pub struct Meetings {
     list: Vec<Meeting>,
-    /// For a place made of a shape, and those behind it, one more than the index of a meeting; 0 where it is free. Of a
+    /// For a place made of a shape, and those after it, one more than the index of a meeting; 0 where it is free. Of a
     /// place nothing is believed that the meeting itself does not say, so the index needs no invariant: were it wrong,
     /// a shape would have two meetings.
     index: Vec<u32>,
@@ -190,13 +190,14 @@ impl Meetings {
         Ok(at)
     }
 
-    /// Counts a meeting's shape as being there so many times more.
+    /// Counts a meeting's shape as being there this often again.
     pub fn add_there(&mut self, at: usize, times: u64)
         requires inside { at < length (shapes_of self.old) }
         requires few { there_among self.old (slice_index (shapes_of self.old) at) + times < 2 ^ 64 }
         ensures shapes { shapes_of self.new ≡ shapes_of self.old }
         ensures there { (shape : ℕ) → there_among self.new shape
-            ≡ there_among self.old shape + one_pattern (slice_index (shapes_of self.old) at) times shape }
+            ≡ there_among self.old shape
+            + one_pattern (slice_index (shapes_of self.old) at) times shape }
         ensures played { (shape : ℕ) → played_among self.new shape ≡ played_among self.old shape }
     {
         let meeting = &mut self.list[at];
@@ -210,7 +211,8 @@ impl Meetings {
         ensures shapes { shapes_of self.new ≡ shapes_of self.old }
         ensures there { (shape : ℕ) → there_among self.new shape ≡ there_among self.old shape }
         ensures played { (shape : ℕ) → played_among self.new shape
-            ≡ played_among self.old shape + one_pattern (slice_index (shapes_of self.old) at) 1 shape }
+            ≡ played_among self.old shape
+            + one_pattern (slice_index (shapes_of self.old) at) 1 shape }
     {
         let meeting = &mut self.list[at];
         meeting.played += 1;

@@ -122,7 +122,8 @@ pub(crate) fn act(
     ensures size { field.new.board.size ≡ field.old.board.size }
     ensures kinds { field.new.kinds ≡ field.old.kinds }
     ensures does { OnOk result
-        (Does field.old.board.size action (position_of field.old.board) (position_of field.new.board)) }
+        (Does field.old.board.size action (position_of field.old.board)
+        (position_of field.new.board)) }
     ensures fault { IfErr result (λ found. found ≡ fault.Memory) }
 {
     let moves = count_action(meetings, sides, field, action)?;

@@ -18,7 +18,11 @@ impl Model for Settings {
 
     ghost view = { λ s. record { workers = s.workers; k = s.exponent; kinds = s.kinds } };
 
-    ghost invariant = { λ s. AreLimits (record { workers = s.workers; k = s.exponent; kinds = s.kinds }) };
+    ghost invariant = { λ s. AreLimits (record {
+      workers = s.workers;
+      k = s.exponent;
+      kinds = s.kinds;
+    }) };
 
     ghost inverse = { λ l. record { workers = l.workers; exponent = l.k; kinds = l.kinds } };
 }
@@ -32,8 +36,13 @@ impl Settings {
     /// Settings that count squares. `HarvestFault::BadSettings` comes where the workers are outside 1 to 64, or k is
     /// over 22.
     pub fn new(workers: u8, k: u8) -> Result<Settings, HarvestFault>
-        ensures ok { IsOk result ↔ AreLimits (record { workers = workers; k = k; kinds = kinds.Squares }) }
-        ensures value { IfOk result (λ settings. settings ≡ record { workers = workers; k = k; kinds = kinds.Squares }) }
+        ensures ok { IsOk result ↔ AreLimits (record {
+          workers = workers;
+          k = k;
+          kinds = kinds.Squares;
+        }) }
+        ensures value { IfOk result (λ settings. settings
+            ≡ record { workers = workers; k = k; kinds = kinds.Squares }) }
         ensures fault { IfErr result (λ found. found ≡ fault.BadSettings) }
     {
         if workers < 1 || workers > 64 || k > 22 {

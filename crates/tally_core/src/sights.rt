@@ -105,7 +105,8 @@ fn see_points(
     points: &[Point],
 ) -> Result<(), HarvestFault>
     requires on_board { All (IsOn field.now.board.size) points.now }
-    requires standing { AreStanding field.now.board.size (length (shapes_of meetings.old)) side.old }
+    requires standing { AreStanding field.now.board.size (length (shapes_of meetings.old))
+        side.old }
     requires few { Fit (there_with meetings.old side.old) }
     ensures standing { OnOk result
         (AreStanding field.now.board.size (length (shapes_of meetings.new)) side.new) }

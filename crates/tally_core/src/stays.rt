@@ -54,11 +54,13 @@ pub(crate) fn index(size: Size, point: Point) -> usize
 pub(crate) fn settle(meetings: &mut Meetings, stay: Option<Stay>, occasions: u64)
     requires stay { IsStay (length (shapes_of meetings.old)) occasions stay }
     requires few { (shape : ℕ) →
-        there_among meetings.old shape + waits (shapes_of meetings.old) occasions stay shape < 2 ^ 64 }
+        there_among meetings.old shape + waits (shapes_of meetings.old) occasions stay shape
+        < 2 ^ 64 }
     ensures shapes { shapes_of meetings.new ≡ shapes_of meetings.old }
     ensures there { (shape : ℕ) → there_among meetings.new shape
         ≡ there_among meetings.old shape + waits (shapes_of meetings.old) occasions stay shape }
-    ensures played { (shape : ℕ) → played_among meetings.new shape ≡ played_among meetings.old shape }
+    ensures played { (shape : ℕ) → played_among meetings.new shape
+        ≡ played_among meetings.old shape }
 {
     if let Some(stay) = stay {
         meetings.add_there(stay.meeting, occasions - stay.since);
@@ -72,7 +74,8 @@ pub(crate) fn play(meetings: &mut Meetings, stay: Option<Stay>)
     ensures shapes { shapes_of meetings.new ≡ shapes_of meetings.old }
     ensures there { (shape : ℕ) → there_among meetings.new shape ≡ there_among meetings.old shape }
     ensures played { (shape : ℕ) → played_among meetings.new shape
-        ≡ played_among meetings.old shape + times_in (patterns_of (shapes_of meetings.old) stay) shape }
+        ≡ played_among meetings.old shape
+        + times_in (patterns_of (shapes_of meetings.old) stay) shape }
 {
     if let Some(stay) = stay {
         meetings.add_played(stay.meeting);
@@ -89,7 +92,8 @@ pub(crate) fn begin(
     ensures pattern { IfOk result (λ stay. patterns_of (shapes_of meetings.new) stay ≡ shape ∷ []) }
     ensures waits { IfOk result (λ stay. (other : ℕ) →
         waits (shapes_of meetings.new) occasions stay other ≡ 0) }
-    ensures meets { OnOk result (Meets (shapes_of meetings.old) (shape ∷ []) (shapes_of meetings.new)) }
+    ensures meets { OnOk result (Meets (shapes_of meetings.old) (shape ∷ [])
+        (shapes_of meetings.new)) }
     ensures counts { OnOk result (CountsStay meetings.old meetings.new) }
     ensures fault { IfErr result (λ found. found ≡ fault.Memory) }
 {

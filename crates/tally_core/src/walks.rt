@@ -21,7 +21,7 @@ use shape_core::{Field, Kinds};
 use std::alloc::Global;
 use std::marker::Model;
 
-/// From so many actions on, counts of a game may pass 2^64 - 1. An occasion is counted at most 5410 times.
+/// From this number of actions on, counts of a game may pass 2^64 - 1. An occasion is counted at most 5410 times.
 const MOST_ACTIONS: usize = 3_409_749_366_674_594;
 
 /// One walk of a game after another: what it needs, and the patterns that the last game had.
@@ -66,7 +66,8 @@ fn new_side(alloc: Global, size: Size) -> Result<Side, HarvestFault>
 
 /// Settles what stays at all points.
 fn settle_side(meetings: &mut Meetings, side: &Side)
-    requires stays { All (AreStays (length (shapes_of meetings.old)) side.now.occasions) side.now.points.items }
+    requires stays { All (AreStays (length (shapes_of meetings.old)) side.now.occasions)
+        side.now.points.items }
     requires few { (shape : ℕ) → there_with meetings.old side.now shape < 2 ^ 64 }
     ensures shapes { shapes_of meetings.new ≡ shapes_of meetings.old }
     ensures there { (shape : ℕ) →
@@ -128,7 +129,8 @@ impl Walk {
     pub fn walk(&mut self, replayed: &Record) -> Result<u64, HarvestFault>
         ensures walked { IfOk result (IsWalk self.old.kinds replayed.now self.new.meetings) }
         ensures among { OnOk result (IsAmong self.new.meetings) }
-        ensures small { OnOk result (IsSmall (5410 * length replayed.now.actions) self.new.meetings) }
+        ensures small { OnOk result (IsSmall (5410 * length replayed.now.actions)
+            self.new.meetings) }
         ensures kinds { self.new.kinds ≡ self.old.kinds }
         ensures few { IfOk result (λ moves. moves ≤ length replayed.now.actions) }
         ensures fault { IfErr result (IsTallyFault replayed.now) }

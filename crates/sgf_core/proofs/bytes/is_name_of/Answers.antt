@@ -4,7 +4,7 @@ use Rattle.std.proofs.lemmas.Bool.Decides.{Decides-eqb}
 use Rattle.sgf_core.specs.Tree.{name_of}
 use Rattle.sgf_core.proofs.bytes.is_name_of.Goals as goal
 
--- behind the identifier, nothing may be left of the name
+-- after the identifier, nothing may be left of the name
 at_end : (identifier name : List ℕ) (index place : ℕ) → length identifier ≤ index → place ≤ length name → ((name_of (drop index identifier) ≡ drop place name) ↔ (name_of identifier ≡ name)) → IsTrue (nat_eq place (length name)) ↔ (name_of identifier ≡ name)
 at_end identifier name index place over within same =
     let none : name_of (drop index identifier) ≡ [] = ap name_of (drop_all index identifier over) in (
