@@ -1,11 +1,12 @@
-// Stands between the program and the C library: refuses one request for memory, one read or one write, and cuts each
-// read and write to one byte. REFUSE names what: malloc, read, write, short (cuts alone), read_byte or write_byte (cuts,
-// and refuses a read or a write). REFUSE_AT says which one is refused, from 1, and REFUSE_MARK names a file that is made
-// when it was.
+// Stands between the program and the C library: refuses one request for memory, one thread, one read or one write, and
+// cuts each read and write to one byte. REFUSE names what: malloc, thread, read, write, short (cuts alone), read_byte or
+// write_byte (cuts, and refuses a read or a write). REFUSE_AT says which one is refused, from 1, and REFUSE_MARK names a
+// file that is made when it was. Threads may ask at the same time.
 #define _GNU_SOURCE
 #include <dlfcn.h>
 #include <errno.h>
 #include <fcntl.h>
+#include <pthread.h>
 #include <stdlib.h>
 #include <string.h>
 #include <unistd.h>
@@ -21,7 +22,7 @@ static int cut(void) { return asked("short") || asked("read_byte") || asked("wri
 
 static int refused(const char *what) {
     const char *at = getenv("REFUSE_AT");
-    if (!asked(what) || at == NULL || ++counted != atol(at)) return 0;
+    if (!asked(what) || at == NULL || __atomic_add_fetch(&counted, 1, __ATOMIC_RELAXED) != atol(at)) return 0;
     const char *mark = getenv("REFUSE_MARK");
     if (mark != NULL) close(open(mark, O_CREAT | O_WRONLY, 0600));
     return 1;
@@ -37,6 +38,12 @@ void *realloc(void *old, size_t size) {
     static void *(*next)(void *, size_t);
     if (next == NULL) next = (void *(*)(void *, size_t))dlsym(RTLD_NEXT, "realloc");
     return refused("malloc") ? NULL : next(old, size);
+}
+
+int pthread_create(pthread_t *thread, const pthread_attr_t *attr, void *(*start)(void *), void *with) {
+    static int (*next)(pthread_t *, const pthread_attr_t *, void *(*)(void *), void *);
+    if (next == NULL) next = (int (*)(pthread_t *, const pthread_attr_t *, void *(*)(void *), void *))dlsym(RTLD_NEXT, "pthread_create");
+    return refused("thread") ? EAGAIN : next(thread, attr, start, with);
 }
 
 ssize_t read(int fd, void *to, size_t size) {
