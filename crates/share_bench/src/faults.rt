@@ -1,0 +1,79 @@
+//! Why the program ends without its lines.
+ghost use Rattle.std.specs.Prelude.{◌≡◌};
+ghost use Rattle.share_bench.specs.declared.faults.BenchFault.TheVariants as fault;
+
+use engine_core::RunFault;
+use go_board::BoardFault;
+use share_core::HarvestFault;
+use std::alloc::AllocError;
+use std::{fmt, io};
+use tally_core::HarvestFault as TallyFault;
+
+/// What ends the program with status 2.
+#[derive(Debug, Drop)]
+pub enum BenchFault {
+    /// The words are none but `--clock`.
+    Usage,
+    /// The input was not read.
+    Input(RunFault),
+    /// The collection was not counted.
+    Count(HarvestFault),
+    /// A map and a share counted different moves.
+    Different,
+    /// The arguments, the clock or standard output failed.
+    System(io::Error),
+}
+
+impl fmt::Display for BenchFault {
+    fn fmt<W: fmt::Write>(&self, f: &mut fmt::Formatter<W>) -> fmt::Result {
+        match self {
+            BenchFault::Usage => f.write_str("give no word, or --clock"),
+            BenchFault::Input(found) => write!(f, "{found}"),
+            BenchFault::Count(found) => write!(f, "{found}"),
+            BenchFault::Different => f.write_str("different numbers of moves"),
+            BenchFault::System(error) => write!(f, "{error}"),
+        }
+    }
+}
+
+impl From<io::Error> for BenchFault {
+    ghost from_gives = { λ error result. result ≡ fault.System error };
+
+    fn from(error: io::Error) -> BenchFault {
+        BenchFault::System(error)
+    }
+}
+
+impl From<RunFault> for BenchFault {
+    ghost from_gives = { λ found result. result ≡ fault.Input found };
+
+    fn from(found: RunFault) -> BenchFault {
+        BenchFault::Input(found)
+    }
+}
+
+impl From<HarvestFault> for BenchFault {
+    ghost from_gives = { λ found result. result ≡ fault.Count found };
+
+    fn from(found: HarvestFault) -> BenchFault {
+        BenchFault::Count(found)
+    }
+}
+
+impl From<TallyFault> for BenchFault {
+    fn from(found: TallyFault) -> BenchFault {
+        BenchFault::Count(HarvestFault::of_tally(found))
+    }
+}
+
+impl From<AllocError> for BenchFault {
+    fn from(_: AllocError) -> BenchFault {
+        BenchFault::Count(HarvestFault::Memory)
+    }
+}
+
+impl From<BoardFault> for BenchFault {
+    fn from(_: BoardFault) -> BenchFault {
+        BenchFault::Count(HarvestFault::Memory)
+    }
+}
