@@ -12,7 +12,7 @@ tail_numbers row rows h one other low high same = let deep : suc one ≡ suc oth
 pub others_differ : (row : Row) (rows : List Row) → AreOfNumbers (row ∷ rows) → HasNoRow rows row.number
 others_differ row rows h place low same = let clash : suc place ≡ 0 = h (suc place) 0 (omega arith) (omega arith) same in absurd (omega arith)
 
-tail_none : (row : Row) (rows : List Row) (number : ℕ) → HasNoRow (row ∷ rows) number → HasNoRow rows number
+pub tail_none : (row : Row) (rows : List Row) (number : ℕ) → HasNoRow (row ∷ rows) number → HasNoRow rows number
 tail_none row rows number h place low same = h (suc place) (omega arith) same
 
 pub found_none : (rows : List Row) (number : ℕ) → HasNoRow rows number → row_of rows number ≡ None

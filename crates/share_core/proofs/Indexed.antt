@@ -1,5 +1,5 @@
 -- Indexes of rows: what stays when an index is widened, and when a row is made.
-use Rattle.std.proofs.Common.{◌≡◌, ℕ, ◌+◌, ◌<◌, ◌≤◌, List, [], ◌∷◌, ◌++◌, length, Option, Some, None, ap, sym, ◌∙◌, arith, length-append, ⊎_elim}
+use Rattle.std.proofs.Common.{◌≡◌, ℕ, ◌+◌, ◌^◌, ◌<◌, ◌≤◌, List, [], ◌∷◌, ◌++◌, length, Option, Some, None, ap, sym, ◌∙◌, arith, length-append, ⊎_elim}
 use Rattle.std.proofs.Math.ListN.{set, get_or-append}
 use Rattle.std.proofs.lemmas.List.{length-set}
 use Rattle.std.proofs.Math.Seq.{get_or-append_seam}
@@ -10,10 +10,11 @@ use Rattle.share_core.specs.Rows.{row_at, place_in, blank, IsIndexed, HasNoRow}
 
 -- an index that has the same at each number is one of the same rows
 pub widened : (index wider : List (Option ℕ)) (rows : List Row) → ((number : ℕ) → place_in wider number ≡ place_in index number)
-    → IsIndexed index rows → IsIndexed wider rows
-widened index wider rows same h = record {
+    → length wider ≤ 2 ^ 22 → IsIndexed index rows → IsIndexed wider rows
+widened index wider rows same few h = record {
   found = λ number place is. h.found number place (sym (same number) ∙ is);
   listed = λ place within. same (row_at rows place).number ∙ h.listed place within;
+  few = few;
 }
 
 -- the row at a place of rows to which one more was added
@@ -53,6 +54,7 @@ appended index rows number shape within none h =
           ∙ get_or-set_same index number (Some (length rows)) None within
           ∙ ap (λ p. Some p) (sym at_end))
           (cases_lt place (length rows));
+      few = let same = length-set index number (Some (length rows)) in let high = h.few in omega arith;
     }
 
 -- the row at a place after a row was put at another, or at the same
@@ -73,4 +75,5 @@ put index rows at row within same h =
     record {
       found = λ number place is. let old = h.found number place is in (omega arith, put_row rows at place row within same ∙ old.1);
       listed = λ place inside. ap (place_in index) (put_row rows at place row within same) ∙ h.listed place (omega arith);
+      few = h.few;
     }

@@ -7,6 +7,9 @@ pub mod Added
 pub mod Outcomes
 pub mod Covered
 pub mod Found
+pub mod Few
+pub mod Rising
+pub mod RowsLeft
 pub mod Strangers
 pub mod Beyond
 pub mod Stood

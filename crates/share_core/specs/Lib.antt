@@ -1,3 +1,4 @@
+pub mod Places
 pub mod Rows
 pub mod Raising
 pub mod Making
@@ -8,6 +9,7 @@ pub mod Adding
 pub mod Preparing
 pub mod Covering
 pub mod Checking
+pub mod ShareRows
 pub mod Agreeing
 pub mod Faults
 pub mod Gathering

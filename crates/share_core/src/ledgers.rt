@@ -81,6 +81,7 @@ impl Ledger {
     ) -> Result<(), HarvestFault>
         requires few { length entered.now ≤ length meetings.now }
         requires numbers { AreBelow slots entered.now }
+        requires slots { slots ≤ 2 ^ 22 }
         ensures gained { Gained meetings.now entered.now self.old.rows self.new.rows }
         ensures same { self.new ≡ record self.old { rows = self.new.rows } }
         ensures rows { OnOk result (AreRowsOf (take (length entered.now) meetings.now)

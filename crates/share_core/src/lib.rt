@@ -5,7 +5,9 @@
 mod entering;
 mod ledgers;
 mod making;
+mod places;
 mod rows;
+mod share_rows;
 mod shares;
 mod sums;
 mod workings;
@@ -25,9 +27,12 @@ pub use confirming::confirm_full;
 pub use faults::HarvestFault;
 pub use gathering::gather;
 pub use rows::Row;
+pub use share_rows::ShareRows;
 pub use shares::Share;
 
 #[cfg(test)]
 mod deal_tests;
+#[cfg(test)]
+mod memory_tests;
 #[cfg(test)]
 mod tests;

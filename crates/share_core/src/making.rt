@@ -1,5 +1,5 @@
 //! Rows for the numbers that a game's patterns have in the table.
-ghost use Rattle.std.specs.Prelude.{◌≡◌, ◌<◌, ◌≤◌, ℕ, length, take, OnOk, IfErr};
+ghost use Rattle.std.specs.Prelude.{◌≡◌, ◌^◌, ◌<◌, ◌≤◌, ℕ, length, take, OnOk, IfErr};
 ghost use Rattle.share_core.specs.Raising.{AreRowsOf};
 ghost use Rattle.share_core.specs.Making.{AreBelow, AreNumbered, Gained, IsMakingFault};
 
@@ -26,6 +26,7 @@ pub(crate) fn make_all(
 ) -> Result<(), HarvestFault>
     requires few { length entered.now ≤ length meetings.now }
     requires numbers { AreBelow slots entered.now }
+    requires slots { slots ≤ 2 ^ 22 }
     ensures gained { Gained meetings.now entered.now rows.old rows.new }
     ensures rows { OnOk result (AreRowsOf (take (length entered.now) meetings.now) places.new.items
         rows.new) }

@@ -4,6 +4,7 @@ ghost use Rattle.share_core.specs.declared.faults.HarvestFault.TheVariants as fa
 ghost use Rattle.share_core.specs.Rows.{place_in};
 
 use crate::faults::HarvestFault;
+use crate::places::RowPlace;
 use shape_core::{Shape, Word};
 use std::alloc::{AllocError, Global};
 use std::marker::Model;
@@ -31,23 +32,25 @@ fn stranger(number: usize, held: Word, asked: Word) -> HarvestFault
     }
 }
 
-/// Gives an index at least this many places, the new ones without a row.
-fn widen(index: &mut Vec<Option<usize>>, slots: usize) -> Result<(), AllocError>
+/// Gives an index at least this many slots, the new ones without a row.
+fn widen(index: &mut Vec<RowPlace>, slots: usize) -> Result<(), AllocError>
     ensures wide { OnOk result (slots ≤ length index.new.items) }
+    ensures few { (high : ℕ) → slots ≤ high → length index.old.items ≤ high
+        → length index.new.items ≤ high }
     ensures same { (number : ℕ) → place_in index.new.items number
         ≡ place_in index.old.items number }
 {
     if index.len() < slots {
-        index.resize(slots, None)?;
+        index.resize(slots, RowPlace::none())?;
     }
     Ok(())
 }
 
-/// Rows in the order in which they were made, with an index that has the place of each number's row. Contracts see the
-/// rows.
+/// Rows in the order in which they were made, with an index that has the place of each number's row: four bytes for each
+/// slot of the table. Contracts see the rows.
 #[derive(Drop)]
 pub(crate) struct Rows {
-    index: Vec<Option<usize>>,
+    index: Vec<RowPlace>,
     rows: Vec<Row>,
 }
 
@@ -64,9 +67,10 @@ impl Model for Rows {
 }
 
 impl Rows {
-    ghost use Rattle.std.specs.Prelude.{◌≡◌, ◌+◌, ◌^◌, ◌<◌, ◌++◌, ◌∷◌, [], length, IfSome, IfNone};
+    ghost use Rattle.std.specs.Prelude.{◌≡◌, ◌+◌, ◌^◌, ◌<◌, ◌≤◌, ◌++◌, ◌∷◌, [], length, IfSome, IfNone};
     ghost use Rattle.std.specs.Prelude.{IfOk, IfErr, OnErr, slice_set};
     ghost use Rattle.share_core.specs.Rows.{row_at, blank, HasNoRow, AreOfNumbers};
+    ghost use Rattle.share_core.specs.Checking.{IsLeastFrom};
     ghost use Rattle.share_core.specs.Making.{IsMade, IsRowFault};
     ghost use Rattle.share_core.specs.Raising.{raised};
 
@@ -95,16 +99,30 @@ impl Rows {
         ensures none { IfNone result (HasNoRow self.now number) }
     {
         if number < self.index.len() {
-            self.index[number]
+            self.index[number].place()
         } else {
             None
         }
     }
 
+    /// The row of the least number at or above this one that has a row. It walks the index up to there.
+    pub fn first_from(&self, from: usize) -> Option<Row>
+        ensures first { IsLeastFrom from self.now result }
+        ensures small { IfSome result (λ row. row.number < 2 ^ 22) }
+    {
+        for later in from..self.index.len() {
+            if let Some(place) = self.place(later) {
+                return Some(self.rows[place]);
+            }
+        }
+        None
+    }
+
     /// The place of a number's row, which is made where there is none and then counts nothing. The index gets room for
     /// this many slots, where it has less.
     pub fn make(&mut self, slots: usize, number: usize, shape: Shape) -> Result<usize, HarvestFault>
-        requires { number < slots }
+        requires number { number < slots }
+        requires few { slots ≤ 2 ^ 22 }
         ensures ok { IfOk result (λ place. IsMade number shape place self.old self.new) }
         ensures fault { IfErr result (IsRowFault number shape self.old) }
         ensures same { OnErr result (self.new ≡ self.old) }
@@ -123,6 +141,7 @@ impl Rows {
     /// Makes a row for a number that has none.
     fn append(&mut self, slots: usize, number: usize, shape: Shape) -> Result<usize, HarvestFault>
         requires number { number < slots }
+        requires few { slots ≤ 2 ^ 22 }
         requires none { HasNoRow self.old number }
         ensures ok { IfOk result (λ place. (place ≡ length self.old)
             × (self.new ≡ self.old ++ blank number shape ∷ [])) }
@@ -143,7 +162,7 @@ impl Rows {
         let Ok(()) = self.rows.push(row) else {
             return Err(HarvestFault::Memory);
         };
-        self.index[number] = Some(place);
+        self.index[number] = RowPlace::of(place);
         Ok(place)
     }
 

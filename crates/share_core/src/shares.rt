@@ -5,6 +5,7 @@ use crate::entering::mark_all;
 use crate::faults::HarvestFault;
 use crate::ledgers::Ledger;
 use crate::rows::Row;
+use crate::share_rows::ShareRows;
 use crate::workings::Workings;
 use go_record::Record;
 use probe_core::ProbeOrder;
@@ -111,6 +112,16 @@ impl Share {
         ensures numbers { AreOfNumbers self.now.rows }
     {
         self.ledger.rows().as_slice()
+    }
+
+    /// The rows, numbers rising. It takes no memory.
+    pub fn rows(&self) -> ShareRows<'_>
+        ensures rows { result ≡ record { rows = self.now.rows; from = 0 } }
+        ensures numbers { AreOfNumbers self.now.rows }
+    {
+        // Its contract says that no number is there twice.
+        let _ = self.made_rows();
+        ShareRows::new(self.ledger.rows())
     }
 
     /// Adds a game: each of its patterns is entered into the table, and what the game counts of it goes into the row of

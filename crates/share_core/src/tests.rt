@@ -233,52 +233,62 @@ fn a_mark_of_another_differs(rt: HostRuntime) -> Result<(), Fail> {
     Ok(())
 }
 
-/// With memory refused at any request the share has the game or is as before, and so has the dictionary.
-#[test]
-fn memory_is_found_or_named(rt: HostRuntime) -> Result<(), Fail> {
-    let alloc = rt.alloc();
-    let memory = Some(HarvestFault::Memory);
-    let (Some(two), Ok((table, mut pass))) = (
-        record_of(alloc, TWO_POINTS),
-        SlotTable::new(alloc, order_of(&rt, 4)),
-    ) else {
-        return Ok(());
-    };
-    let mut share = Share::begin(alloc, 0, Kinds::Both);
-    let mut added = share.add(&table, &mut pass, 0, &two);
-    if added.is_err() {
-        assert!(rt; added.err() == memory);
-        assert!(rt; share.games().is_empty() && share.moves() == 0);
-        assert!(rt; all_blank(&share));
-        added = share.add(&table, &mut pass, 0, &two);
-    }
-    assert!(rt; added.is_ok());
-    assert_eq!(rt; (share.games(), share.moves()), ([0].as_slice(), 2));
-    let shares = [share];
-    let gathered = match gather(alloc, &table, &mut pass, Kinds::Both, 1, &shares) {
-        Ok(gathered) => gathered,
-        Err(fault) => {
-            assert!(rt; Some(fault) == memory);
-            gather(alloc, &table, &mut pass, Kinds::Both, 1, &shares)?
+/// Whether these rows have one that is this but for its number.
+fn has_row(rows: &[Row], wanted: Row) -> bool {
+    rows.iter().any(|row| {
+        *row == Row {
+            number: row.number,
+            ..wanted
         }
-    };
-    assert_eq!(rt; (gathered.games(), gathered.moves()), (1, 2));
-    let wanted = [
-        entry_of(&rt, EMPTY, 2, 1, 0),
-        entry_of(&rt, TAKEN, 1, 1, 0),
-        entry_of(&rt, 0x7ffcffcffffff, 2, 1, 0),
-        entry_of(&rt, 0x7ffeffcffffff, 1, 1, 0),
-    ];
-    assert!(rt; gathered.entries() == wanted.as_slice());
+    })
+}
+
+fn row_of(rt: &impl Abort, bits: u64, there: u64, played: u64, first: u64) -> Row {
+    Row {
+        number: 0,
+        shape: shape_of(rt, bits),
+        there,
+        played,
+        first: Some(first),
+    }
+}
+
+#[test]
+fn rows_come_by_rising_numbers(rt: HostRuntime) -> Result<(), Fail> {
+    let alloc = rt.alloc();
+    let two = record_of(alloc, TWO_POINTS).ok_or("no record")?;
+    let one = record_of(alloc, ONE_POINT).ok_or("no record")?;
+    let (table, mut pass) = SlotTable::new(alloc, order_of(&rt, 4))?;
+    let mut share = share_of(alloc, &table, &mut pass, 1, &two)?;
+    share.add(&table, &mut pass, 0, &one)?;
+    let mut before = None;
+    let mut rows = Vec::new(alloc);
+    for row in share.rows() {
+        assert!(rt; before < Some(row.number));
+        before = Some(row.number);
+        rows.push(row)?;
+    }
+    assert_eq!(rt; rows.len(), 3);
+    assert!(rt; has_row(&rows, row_of(&rt, EMPTY, 2, 1, 1)));
+    assert!(rt; has_row(&rows, row_of(&rt, TAKEN, 1, 1, 1)));
+    assert!(rt; has_row(&rows, row_of(&rt, ALONE, 1, 1, 0)));
     Ok(())
 }
 
-/// Whether no row of the first sixteen numbers counts anything.
-fn all_blank(share: &Share) -> bool {
-    (0..16).all(|number| match share.row_at(number) {
-        Some(row) => row.there == 0 && row.played == 0 && row.first.is_none(),
-        None => true,
-    })
+#[test]
+fn no_row_comes_after_the_last(rt: HostRuntime) -> Result<(), Fail> {
+    let alloc = rt.alloc();
+    let one = record_of(alloc, ONE_POINT).ok_or("no record")?;
+    let (table, mut pass) = SlotTable::new(alloc, order_of(&rt, 4))?;
+    let none = Share::begin(alloc, 0, Kinds::Squares);
+    assert!(rt; none.rows().next().is_none());
+    let share = share_of(alloc, &table, &mut pass, 0, &one)?;
+    let mut rows = share.rows();
+    let first = rows.next();
+    assert!(rt; first.is_some());
+    assert!(rt; rows.next().is_none());
+    assert!(rt; rows.next().is_none());
+    Ok(())
 }
 
 #[test]

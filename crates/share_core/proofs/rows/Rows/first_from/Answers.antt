@@ -1,0 +1,29 @@
+use Rattle.std.proofs.Common.{◌≤◌, List, Some, get_or, ap, sym, subst, ◌∙◌, arith}
+use Rattle.std.proofs.lemmas.List.{get_or_default}
+use Rattle.share_core.specs.declared.rows.Row.{Row}
+use Rattle.share_core.specs.Rows.{row_at, blank, AreOfNumbers, IsIndexed}
+use Rattle.share_core.specs.Checking.{IsLeastFrom}
+use Rattle.share_core.proofs.Few.{of_numbers}
+use Rattle.share_core.proofs.Rising.{AreBeyond, step_beyond, first_row, no_row}
+use Rattle.share_core.proofs.rows.Rows.first_from.Goals as goal
+
+pub returns-in-Some-clause-first : goal.returns-in-Some-clause-first
+returns-in-Some-clause-first c =
+    let rows = c.args.self.now in
+    let place = c.in-Some.place in
+    let some = c.in-Some.ensures.some in
+    let numbers = subst AreOfNumbers c.self.view_is (of_numbers c.self.inside.index.items c.self.inside.rows.items c.self.invariant) in
+    let read = c.index.ensures ∙ ap (λ (rs : List Row). get_or rs place c.index.result.now) c.self.view_is ∙ get_or_default rows place c.index.result.now (blank 0 0) some.0 in
+    let beyond = subst (AreBeyond rows c.args.from) (sym some.1) c.loop-later.invariant in
+    let low = c.loop-later.auto.later in
+    let number = some.1 in
+    let high : c.args.from ≤ (row_at rows place).number = omega arith in
+    subst (λ row. IsLeastFrom c.args.from rows (Some row)) (sym read) (first_row rows c.args.from place numbers some.0 high beyond)
+
+pub loop-later-preserved : goal.loop-later-preserved
+loop-later-preserved c = step_beyond c.args.self.now c.args.from c.loop-later.later c.in_default.ensures.none c.loop-later.invariant
+
+pub returns-clause-first : goal.returns-clause-first
+returns-clause-first c =
+    let indexed = subst (IsIndexed c.self.inside.index.items) c.self.view_is c.self.invariant in
+    no_row c.self.inside.index.items c.args.self.now c.args.from indexed c.loop-later.later (omega (arith, c.loop-later-test.false, c.len-later-end.ensures)) c.loop-later.invariant

@@ -1,0 +1,20 @@
+-- The rows of a share, one after another, numbers rising.
+use Rattle.std.specs.Prelude.{◌≡◌, ℕ, ◌+◌, nat_le, List, count_by, Option, Some, None}
+use Rattle.std.specs.Iterator.{Count, at_most}
+use Rattle.share_core.specs.declared.rows.Row.{Row}
+use Rattle.share_core.specs.Checking.{IsLeastFrom}
+
+-- rows, and the number from which on they are still to come
+pub record RowsFrom : Type 0 where
+  pub rows : List Row
+  pub from : ℕ
+
+-- the row of the least number from this one on comes next, and then those after its number; where there is none, nothing
+-- changes, so that there is none from then on
+abbrev pub IsNextRow : RowsFrom → Option Row → RowsFrom → Type 0
+IsNextRow old None new = IsLeastFrom old.from old.rows None × (new ≡ old)
+IsNextRow old (Some row) new = IsLeastFrom old.from old.rows (Some row) × (new ≡ record old { from = row.number + 1 })
+
+-- how many rows are still to come
+abbrev pub rows_left : RowsFrom → Count
+rows_left left = at_most (count_by (λ row. nat_le left.from row.number) left.rows)
