@@ -1,9 +1,10 @@
 -- What threads work with.
-use Rattle.std.specs.Prelude.{◌≡◌, ℕ, ◌^◌, List, All, IfNone, IfSome}
+use Rattle.std.specs.Prelude.{◌≡◌, ◌⊎◌, ℕ, ◌+◌, ◌^◌, List, length, All, Some, IfNone, IfSome}
 use Rattle.std.specs.declared.thread.PromisedHandle.{PromisedHandle}
 use Rattle.shape_core.specs.declared.words.Kinds.{Kinds}
 use Rattle.slot_table.specs.Passes.{IsPassOf}
 use Rattle.job_core.specs.Rule.{IsInStep}
+use Rattle.share_core.specs.declared.faults.HarvestFault.TheVariants as fault
 use Rattle.harvest_core.specs.declared.threads.Bench.{Bench}
 use Rattle.harvest_core.specs.declared.threads.Crew.{Crew}
 use Rattle.harvest_core.specs.declared.threads.Crop.{Crop}
@@ -40,3 +41,7 @@ pub record IsCrop (bytes : List ℕ) (kinds : Kinds) (crop : Crop) : Type 0 wher
   pub worked_is : All (IsWorkOf bytes kinds) crop.worked.items
   pub all : IfNone crop.fault (HasReadAll bytes crop.report)
   pub fault_is : IfSome crop.fault (IsReadFault bytes)
+
+-- as many workers as were asked for have counted, and the thread that reads; or memory was refused
+abbrev pub AreAsked : ℕ → Crop → Type 0
+AreAsked workers crop = (crop.fault ≡ Some fault.Memory) ⊎ (length crop.worked.items ≡ workers + 1)

@@ -1,15 +1,20 @@
 //! What several workers count over one table: the dictionary of an input.
-ghost use Rattle.std.specs.Prelude.{◌≡◌, ◌^◌, [], ℕ, List, All, Contains, IfOk, IfErr};
+ghost use Rattle.std.specs.Prelude.{◌≡◌, ◌^◌, ◌<◌, [], ℕ, List, All, length};
+ghost use Rattle.sgf_core.specs.declared.faults.SgfFault.TheVariants as sgf;
+ghost use Rattle.std.specs.Prelude.{MatchResult, IfOk, IfErr, IfSome};
 ghost use Rattle.shape_core.specs.declared.words.Kinds.{Kinds};
 ghost use Rattle.slot_table.specs.declared.entries.Happened.{Happened};
 ghost use Rattle.slot_table.specs.Passes.{IsPassOf};
 ghost use Rattle.share_core.specs.declared.faults.HarvestFault.TheVariants as fault;
+ghost use Rattle.share_core.specs.GatherFaults.{IsGatherFault};
 ghost use Rattle.crossbeam_queue.specs.Passes.{view};
 ghost use Rattle.crossbeam_queue.specs.Passes.{IsPassOf as IsSeatOf};
 ghost use Rattle.job_core.specs.Games.{HasReadAll};
 ghost use Rattle.job_core.specs.Rule.{blank};
 ghost use Rattle.harvest_core.specs.Working.{IsWorked, IsRefusal};
-ghost use Rattle.harvest_core.specs.Crew.{IsCrop};
+ghost use Rattle.harvest_core.specs.Crew.{IsCrop, AreAsked};
+ghost use Rattle.harvest_core.specs.Parted.{refusals_of};
+ghost use Rattle.harvest_core.specs.Harvest.{IsRead, IsExplained, IsToldOf};
 ghost use Rattle.harvest_core.specs.Harvest.{IsHarvest, IsHarvestFault, IsHarvestRefused};
 
 use crate::gates::Gate;
@@ -34,8 +39,10 @@ fn explain<O: ProbeOrder>(
 ) -> HarvestFault
     requires pass { IsPassOf (2 ^ O.exponent table.now.order) table.now pass.old }
     ensures pass { IsPassOf (2 ^ O.exponent table.now.order) table.now pass.new }
-    ensures why { (bytes : List ℕ) (kinds : Kinds) → All (IsWorked bytes kinds) shares.now
-        → IsRefusal bytes kinds refused
+    ensures explained { IsExplained (2 ^ O.exponent table.now.order) pass.new.seen shares.now
+        refused result }
+    ensures why { (bytes : List ℕ) (kinds : Kinds) → IsRead bytes
+        → All (IsWorked bytes kinds) shares.now → IsRefusal bytes kinds refused
         → IsHarvestFault (2 ^ O.exponent table.now.order) bytes kinds pass.new result }
 {
     match refused {
@@ -58,6 +65,8 @@ fn count_of<O: ProbeOrder>(
     requires read { HasReadAll bytes.now report }
     requires worked { All (IsWorked bytes.now kinds) shares.now }
     ensures pass { IsPassOf (2 ^ O.exponent table.now.order) table.now pass.new }
+    ensures gathered { IfErr result (IsGatherFault (2 ^ O.exponent table.now.order) report.games
+        shares.now pass.old pass.new) }
     ensures harvest { IfOk result (IsHarvest (2 ^ O.exponent table.now.order) pass.new.seen kinds
         bytes.now) }
     ensures fault { IfErr result (IsHarvestFault (2 ^ O.exponent table.now.order) bytes.now kinds
@@ -83,6 +92,10 @@ fn conclude<O: ProbeOrder>(
     requires pass { IsPassOf (2 ^ O.exponent table.now.order) table.now pass.old }
     requires crop { IsCrop bytes.now kinds crop }
     ensures pass { IsPassOf (2 ^ O.exponent table.now.order) table.now pass.new }
+    ensures input { IfSome crop.fault (λ fault. result ≡ Err fault) }
+    ensures refused { crop.fault ≡ None → MatchResult result
+        (λ _. refusals_of crop.worked.items ≡ [])
+        (IsToldOf (2 ^ O.exponent table.now.order) crop pass.old pass.new) }
     ensures harvest { IfOk result (IsHarvest (2 ^ O.exponent table.now.order) pass.new.seen kinds
         bytes.now) }
     ensures fault { IfErr result (IsHarvestFault (2 ^ O.exponent table.now.order) bytes.now kinds
@@ -127,6 +140,7 @@ where
     requires games { (games.bytes ≡ bytes.now) × (games.report.games ≡ 0) }
     ensures pass { pass.new ≡ pass.old }
     ensures crop { IfOk result (IsCrop bytes.now settings.kinds) }
+    ensures workers { IfOk result (AreAsked settings.workers) }
     ensures fault { IfErr result (λ found. found ≡ fault.Memory) }
 {
     let bench = Bench {
@@ -174,6 +188,8 @@ where
     O: Send + Sync,
     requires pass { IsPassOf (2 ^ O.exponent table.now.order) table.now pass.old }
     ensures pass { IsPassOf (2 ^ O.exponent table.now.order) table.now pass.new }
+    ensures large { 2 ^ 28 < length bytes.now
+        → (result ≡ Err (fault.Sgf sgf.TooLarge)) × (pass.new ≡ pass.old) }
     ensures harvest { IfOk result (IsHarvest (2 ^ O.exponent table.now.order) pass.new.seen
         settings.kinds bytes.now) }
     ensures fault { IfErr result (IsHarvestFault (2 ^ O.exponent table.now.order) bytes.now

@@ -1,8 +1,7 @@
 //! What all threads came to, parted into shares and what was refused.
-ghost use Rattle.std.specs.Prelude.{◌≡◌, ◌⊎◌, ℕ, List, All, Some, IfSome, IfOk};
-ghost use Rattle.shape_core.specs.declared.words.Kinds.{Kinds};
-ghost use Rattle.harvest_core.specs.Working.{IsWorkOf, IsRefusal};
-ghost use Rattle.harvest_core.specs.Parted.{IsParted};
+ghost use Rattle.std.specs.Prelude.{◌≡◌, ◌⊎◌, ◌↔◌, [], IsTrue, MatchOption, IfOk};
+ghost use Rattle.harvest_core.specs.Parted.{shares_of, refusals_of};
+ghost use Rattle.harvest_core.specs.Parted.{rank, game_of as game_named, GoesFirst, IsWorst};
 
 use crate::working::Worked;
 use share_core::{HarvestFault, Share};
@@ -16,15 +15,15 @@ pub(crate) struct Parted {
 }
 
 impl Parted {
-    ghost use Rattle.std.specs.Prelude.{ℕ, List, OnOk};
-    ghost use Rattle.shape_core.specs.declared.words.Kinds.{Kinds};
-    ghost use Rattle.harvest_core.specs.Working.{IsWorkOf};
-    ghost use Rattle.harvest_core.specs.Parted.{IsParted};
+    ghost use Rattle.std.specs.Prelude.{◌≡◌, ◌++◌, ◌∷◌, [], OnOk};
+    ghost use Rattle.harvest_core.specs.Parted.{refusals_of};
 
     /// Takes in what one worker hands back.
     fn take(&mut self, worked: Worked) -> Result<(), AllocError>
-        ensures { OnOk result ((bytes : List ℕ) (kinds : Kinds) → IsWorkOf bytes kinds worked
-            → IsParted bytes kinds self.old → IsParted bytes kinds self.new) }
+        ensures shares { OnOk result
+            (self.new.shares.items ≡ self.old.shares.items ++ worked.share ∷ []) }
+        ensures refusals { OnOk result
+            (self.new.refusals.items ≡ self.old.refusals.items ++ refusals_of (worked ∷ [])) }
     {
         let Worked { share, refused } = worked;
         self.shares.push(share)?;
@@ -35,10 +34,10 @@ impl Parted {
     }
 }
 
-/// Takes in what all workers hand back.
+/// Takes in what all workers hand back, in their order.
 pub(crate) fn part(alloc: Global, worked: Vec<Worked>) -> Result<Parted, AllocError>
-    ensures { IfOk result (λ parted. (bytes : List ℕ) (kinds : Kinds)
-        → All (IsWorkOf bytes kinds) worked.items → IsParted bytes kinds parted) }
+    ensures shares { IfOk result (λ parted. parted.shares.items ≡ shares_of worked.items) }
+    ensures refusals { IfOk result (λ parted. parted.refusals.items ≡ refusals_of worked.items) }
 {
     let mut parted = Parted {
         shares: Vec::new(alloc),
@@ -50,24 +49,43 @@ pub(crate) fn part(alloc: Global, worked: Vec<Worked>) -> Result<Parted, AllocEr
     Ok(parted)
 }
 
-/// Whether a fault is told rather than another one: want of memory first, then the least game that found no number, then
-/// the first pattern that is a stranger, and then a count that is too large.
-fn goes_first(one: &HarvestFault, other: &HarvestFault) -> bool {
-    match one {
-        HarvestFault::Memory => true,
-        HarvestFault::Full { game, .. } => match other {
-            HarvestFault::Memory => false,
-            HarvestFault::Full { game: least, .. } => *game < *least,
-            _ => true,
-        },
-        HarvestFault::Stranger { .. } => matches!(other, HarvestFault::Overflow),
-        _ => false,
+/// The place of a fault in the order in which faults of games are told: want of memory, want of a number, strangers, and
+/// then a count that is too large.
+fn place(fault: &HarvestFault) -> u32
+    ensures { result ≡ rank fault.now }
+{
+    match fault {
+        HarvestFault::Memory => 0,
+        HarvestFault::Full { .. } => 1,
+        HarvestFault::Stranger { .. } => 2,
+        HarvestFault::Overflow => 3,
+        _ => 4,
     }
 }
 
-/// Which of two is told.
+/// The game that found no number, and 0 for other faults.
+fn game_of(fault: &HarvestFault) -> u64
+    ensures { result ≡ game_named fault.now }
+{
+    match fault {
+        HarvestFault::Full { game, .. } => *game,
+        _ => 0,
+    }
+}
+
+/// Whether a fault is told rather than another one: it has the lesser place, or the same one and the lesser game.
+fn goes_first(one: &HarvestFault, other: &HarvestFault) -> bool
+    ensures { IsTrue result ↔ GoesFirst one.now other.now }
+{
+    let (first, second) = (place(one), place(other));
+    first < second || (first == second && game_of(one) < game_of(other))
+}
+
+/// Which of two is told: the one that was found, unless the other goes before it.
 fn told(found: Option<HarvestFault>, one: HarvestFault) -> HarvestFault
-    ensures { (result ≡ one) ⊎ (Some result ≡ found) }
+    ensures { MatchOption found (result ≡ one) (λ so_far.
+        ((result ≡ one) × GoesFirst one so_far)
+        ⊎ ((result ≡ so_far) × (GoesFirst one so_far → ⊥))) }
 {
     match found {
         None => one,
@@ -81,10 +99,9 @@ fn told(found: Option<HarvestFault>, one: HarvestFault) -> HarvestFault
     }
 }
 
-/// The fault that is told, or None where there is none.
+/// The fault that is told, or None where there is none: no other one goes before it.
 pub(crate) fn worst(refusals: &[HarvestFault]) -> Option<HarvestFault>
-    ensures { (bytes : List ℕ) (kinds : Kinds) → All (IsRefusal bytes kinds) refusals.now
-        → IfSome result (IsRefusal bytes kinds) }
+    ensures { MatchOption result (refusals.now ≡ []) (IsWorst refusals.now) }
 {
     let mut found = None;
     for one in refusals {

@@ -1,13 +1,15 @@
 //! The thread that reads: it makes a job of each game and puts it into the queue, and counts those that the queue hands
 //! back.
-ghost use Rattle.std.specs.Prelude.{◌≡◌, ◌^◌, ◌⊎◌, ℕ, List, IfSome, IfNone, IfOk, IfErr, OnOk};
+ghost use Rattle.std.specs.Prelude.{◌≡◌, ◌+◌, ◌^◌, ◌⊎◌, ◌↔◌, ℕ, List, IsTrue};
+ghost use Rattle.std.specs.Prelude.{IfSome, IfNone, IfErr, OnOk};
 ghost use Rattle.job_core.specs.declared.jobs.Item.TheVariants as item;
 ghost use Rattle.shape_core.specs.declared.words.Kinds.{Kinds};
 ghost use Rattle.job_core.specs.Games.{HasReadAll};
 ghost use Rattle.job_core.specs.Rule.{IsInStep, MayPut, putting};
 ghost use Rattle.slot_table.specs.Passes.{IsPassOf};
-ghost use Rattle.harvest_core.specs.Working.{IsWorked, IsRefused};
-ghost use Rattle.harvest_core.specs.Reading.{IsReadFault};
+ghost use Rattle.share_core.specs.declared.faults.HarvestFault.TheVariants as fault;
+ghost use Rattle.harvest_core.specs.Working.{IsWorked, IsRefused, IsCounted};
+ghost use Rattle.harvest_core.specs.Reading.{IsReadFault, AreDealt};
 
 use crate::gates::Gate;
 use crate::working::Worked;
@@ -35,7 +37,9 @@ fn offer<'a, R: Wait, O: ProbeOrder, G: Gate>(
     requires pass { IsPassOf (2 ^ O.exponent table.now.order) table.now pass.old }
     requires job { MayPut desk.old (item.Job job) }
     ensures pass { IsPassOf (2 ^ O.exponent table.now.order) table.now pass.new }
-    ensures desk { (desk.new ≡ putting desk.old (item.Job job.entry)) ⊎ (desk.new ≡ desk.old) }
+    ensures offered { ((desk.new ≡ putting desk.old (item.Job job.entry))
+        × (worked.new ≡ worked.old)) ⊎ ((desk.new ≡ desk.old) × IsCounted job.entry.game worked.old worked.new) }
+    ensures alone { IsTrue alone → desk.new ≡ desk.old }
     ensures worked { (kinds : Kinds) → IsWorked job.entry.bytes kinds worked.old.share
         → IsWorked job.entry.bytes kinds worked.new.share }
     ensures refused { (kinds : Kinds) → IsWorked job.entry.bytes kinds worked.old.share
@@ -54,7 +58,9 @@ fn offer<'a, R: Wait, O: ProbeOrder, G: Gate>(
 }
 
 /// Whether memory was refused to a worker.
-fn wants_memory(worked: &Worked) -> bool {
+fn wants_memory(worked: &Worked) -> bool
+    ensures { IsTrue result ↔ (worked.now.refused ≡ Some fault.Memory) }
+{
     matches!(worked.refused, Some(HarvestFault::Memory))
 }
 
@@ -78,6 +84,9 @@ fn read_all<'a, R: Wait, O: ProbeOrder, G: Gate>(
         → IsWorked games.old.bytes kinds worked.new.share
         × IsRefused games.old.bytes kinds worked.new.refused }
     ensures all { OnOk result (HasReadAll games.old.bytes games.new.report) }
+    ensures dealt { OnOk result (AreDealt games.old.report.games games.new.report.games desk.new
+        worked.new) }
+    ensures ends { desk.new.ends_put ≡ desk.old.ends_put }
     ensures fault { IfErr result (IsReadFault games.old.bytes) }
 {
     loop {
@@ -92,15 +101,24 @@ fn read_all<'a, R: Wait, O: ProbeOrder, G: Gate>(
     }
 }
 
-/// Puts an end for each worker, and tries again while the queue is full.
-pub(crate) fn close<R: Wait>(rt: &R, desk: &mut Desk<'_, '_>, workers: usize) {
-    for _ in 0..workers {
-        for _ in rt.forever() {
-            if desk.put(rt, Item::End).is_ok() {
-                break;
-            }
-            thread::yield_now();
+/// Puts an end, and tries again while the queue is full.
+fn put_end<R: Wait>(rt: &R, desk: &mut Desk<'_, '_>)
+    ensures { desk.new ≡ putting desk.old item.End }
+{
+    for _ in rt.forever() {
+        if desk.put(rt, Item::End).is_ok() {
+            break;
         }
+        thread::yield_now();
+    }
+}
+
+/// Puts an end for each worker, and no other item.
+pub(crate) fn close<R: Wait>(rt: &R, desk: &mut Desk<'_, '_>, workers: usize)
+    ensures { desk.new ≡ record desk.old { ends_put = desk.old.ends_put + workers } }
+{
+    for _ in 0..workers {
+        put_end(rt, desk);
     }
 }
 
@@ -117,7 +135,7 @@ pub(crate) fn read_games<'a, R: Wait, O: ProbeOrder, G: Gate>(
     rt: &R,
     alloc: Global,
     games: Games<'a>,
-    desk: Desk<'_, 'a>,
+    desk: &mut Desk<'_, 'a>,
     kinds: Kinds,
     table: &SlotTable<O>,
     pass: &mut Pass<O>,
@@ -125,29 +143,31 @@ pub(crate) fn read_games<'a, R: Wait, O: ProbeOrder, G: Gate>(
     workers: usize,
 ) -> Reading
     requires pass { IsPassOf (2 ^ O.exponent table.now.order) table.now pass.old }
-    requires step { IsInStep games desk }
+    requires step { IsInStep games desk.old }
     ensures pass { IsPassOf (2 ^ O.exponent table.now.order) table.now pass.new }
     ensures worked { IsWorked games.entry.bytes kinds result.worked.share }
     ensures refused { IsRefused games.entry.bytes kinds result.worked.refused }
     ensures all { IfNone result.fault (HasReadAll games.entry.bytes result.report) }
+    ensures dealt { IfNone result.fault (AreDealt games.entry.report.games result.report.games
+        desk.new result.worked) }
+    ensures ends { desk.new.ends_put ≡ desk.old.ends_put + workers }
     ensures fault { IfSome result.fault (IsReadFault games.entry.bytes) }
 {
     let mut games = games;
-    let mut desk = desk;
     let mut worked = Worked::begin(alloc, 0, kinds);
     let alone = workers == 0;
     let outcome = read_all(
         rt,
         alloc,
         &mut games,
-        &mut desk,
+        desk,
         &mut worked,
         table,
         pass,
         gate,
         alone,
     );
-    close(rt, &mut desk, workers);
+    close(rt, desk, workers);
     let fault = match outcome {
         Ok(()) => None,
         Err(fault) => Some(fault),

@@ -1,5 +1,5 @@
 //! The thread that reads and the workers beside it.
-ghost use Rattle.std.specs.Prelude.{◌≡◌, ◌^◌, ◌∷◌, [], All, IfOk, IfSome, IfNone, IfErr};
+ghost use Rattle.std.specs.Prelude.{◌≡◌, ◌+◌, ◌^◌, All, Contains, length, IfOk};
 ghost use Rattle.job_core.specs.Games.{HasReadAll};
 ghost use Rattle.job_core.specs.Rule.{IsInStep};
 ghost use Rattle.slot_table.specs.Passes.{IsPassOf};
@@ -105,8 +105,9 @@ impl<'q, 'a, 't, O: ProbeOrder, G: Gate> Crew<'q, 'a, 't, O, G> {
             kinds,
         } = bench;
         let mut pass = pass;
+        let mut desk = desk;
         read_games(
-            rt, alloc, games, desk, kinds, table, &mut pass, gate, workers,
+            rt, alloc, games, &mut desk, kinds, table, &mut pass, gate, workers,
         )
     }
 }
@@ -139,7 +140,8 @@ fn theirs<'a, R: Threads>(
     handles: Vec<PromisedHandle<Worked, WorkOf<'a>>>,
 ) -> Result<Vec<Worked>, AllocError>
     requires { All (IsHandleOf of.bytes.now of.kinds) handles.items }
-    ensures { IfOk result (λ all. All (IsWorkOf of.entry.bytes.now of.entry.kinds) all.items) }
+    ensures work { IfOk result (λ all. All (IsWorkOf of.entry.bytes.now of.entry.kinds) all.items) }
+    ensures each { IfOk result (λ all. length all.items ≡ length handles.entry.items) }
 {
     Ok(thread::join_promised(rt, handles)?)
 }
@@ -153,7 +155,11 @@ fn joined<'a, R: Threads>(
 ) -> Result<Crop, AllocError>
     requires handles { All (IsHandleOf of.bytes.now of.kinds) handles.items }
     requires own { IsReadingOf of.bytes.now of.kinds own }
-    ensures { IfOk result (IsCrop of.entry.bytes.now of.entry.kinds) }
+    ensures crop { IfOk result (IsCrop of.entry.bytes.now of.entry.kinds) }
+    ensures fault { IfOk result (λ crop. crop.fault ≡ own.fault) }
+    ensures mine { IfOk result (λ crop. Contains crop.worked.items own.worked) }
+    ensures each { IfOk result (λ crop. length crop.worked.items
+        ≡ length handles.entry.items + 1) }
 {
     let mut worked = theirs(rt, of, handles)?;
     let Reading {
@@ -170,16 +176,18 @@ fn joined<'a, R: Threads>(
 }
 
 impl<'q, 'a, 't, O: ProbeOrder, G: Gate> Crew<'q, 'a, 't, O, G> {
-    ghost use Rattle.std.specs.Prelude.{◌≡◌, ◌^◌, IfOk};
+    ghost use Rattle.std.specs.Prelude.{◌≡◌, ◌≢◌, ◌^◌, IfOk};
+    ghost use Rattle.share_core.specs.declared.faults.HarvestFault.TheVariants as fault;
     ghost use Rattle.slot_table.specs.Passes.{IsPassOf};
     ghost use Rattle.harvest_core.specs.Working.{IsWorkOf};
-    ghost use Rattle.harvest_core.specs.Crew.{IsCrew, IsReadingOf, IsCrop};
+    ghost use Rattle.harvest_core.specs.Crew.{IsCrew, IsReadingOf, IsCrop, AreAsked};
 
     /// Reads all games beside the workers that were started. Where these are fewer than were asked for, that is want of
     /// memory, and nothing is read: the workers are told to end.
     fn finish<R: Wait>(self, rt: &R, alloc: Global, started: usize, asked: usize) -> Reading
         requires { IsCrew O.exponent self }
-        ensures { IsReadingOf self.entry.games.bytes self.entry.bench.kinds result }
+        ensures reading { IsReadingOf self.entry.games.bytes self.entry.bench.kinds result }
+        ensures asked { started ≢ asked → result.fault ≡ Some fault.Memory }
     {
         if started == asked {
             return self.read(rt, alloc, started);
@@ -194,7 +202,8 @@ impl<'q, 'a, 't, O: ProbeOrder, G: Gate> Crew<'q, 'a, 't, O, G> {
         }
     }
 
-    /// Starts workers, reads all games, and waits for the workers.
+    /// Starts workers, reads all games, and waits for the workers. All that were asked for have counted, or the fault is
+    /// want of memory.
     pub(crate) fn run<R: Threads + Wait + Sync>(
         self,
         rt: &R,
@@ -206,7 +215,8 @@ impl<'q, 'a, 't, O: ProbeOrder, G: Gate> Crew<'q, 'a, 't, O, G> {
         O: Send + Sync,
         requires crew { IsCrew O.exponent self }
         requires bytes { self.games.bytes ≡ bytes.now }
-        ensures { IfOk result (IsCrop bytes.now self.entry.bench.kinds) }
+        ensures crop { IfOk result (IsCrop bytes.now self.entry.bench.kinds) }
+        ensures workers { IfOk result (AreAsked workers) }
     {
         let crew = self;
         let of = WorkOf {
@@ -219,7 +229,8 @@ impl<'q, 'a, 't, O: ProbeOrder, G: Gate> Crew<'q, 'a, 't, O, G> {
             move |scope| -> Result<Crop, AllocError>
                 requires { IsCrew O.exponent crew × (crew.games.bytes ≡ of.bytes.now)
                     × (crew.bench.kinds ≡ of.kinds) }
-                ensures { IfOk result (IsCrop of.entry.bytes.now of.entry.kinds) }
+                ensures crop { IfOk result (IsCrop of.entry.bytes.now of.entry.kinds) }
+                ensures workers { IfOk result (AreAsked workers) }
             {
                 let mut crew = crew;
                 let mut started = 0;

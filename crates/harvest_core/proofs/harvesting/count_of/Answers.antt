@@ -8,8 +8,8 @@ gather-requires-clause-games g c = games_within c.args.bytes.now c.args.kinds c.
 
 pub returns-in-Err-clause-fault : goal.returns-in-Err-clause-fault
 returns-in-Err-clause-fault g c =
-    ungathered (2 ^ g.O.ProbeOrder.exponent c.args.table.now.order) c.args.bytes.now c.args.kinds c.args.report.games c.args.shares.now c.args.pass.now c.gather.new.pass
-    c.in-Err.fault c.requires.worked c.in-Err.ensures.fault
+    ungathered (2 ^ g.O.ProbeOrder.exponent c.args.table.now.order) c.args.bytes.now c.args.kinds c.args.report c.args.shares.now c.args.pass.now c.gather.new.pass
+    c.in-Err.fault c.requires.read c.requires.worked c.in-Err.ensures.fault
 
 pub returns-in-Ok-clause-harvest : goal.returns-in-Ok-clause-harvest
 returns-in-Ok-clause-harvest g c =

@@ -4,6 +4,6 @@ use Rattle.harvest_core.proofs.Concluded.{explained}
 use Rattle.harvest_core.proofs.harvesting.explain.Goals as goal
 
 pub returns-in-Full-clause-why : goal.returns-in-Full-clause-why
-returns-in-Full-clause-why g c bytes kinds worked pattern =
+returns-in-Full-clause-why g c bytes kinds read worked pattern =
     explained (2 ^ g.O.ProbeOrder.exponent c.args.table.now.order) bytes kinds c.args.shares.now c.confirm_full.new.pass c.in-Full.game c.in-Full.word c.confirm_full.result
-    c.confirm_full.ensures.pass.legal worked (subst (IsRefusal bytes kinds) c.in-Full.is pattern) c.confirm_full.ensures.confirmed
+    c.confirm_full.ensures.pass.legal read worked (subst (IsRefusal bytes kinds) c.in-Full.is pattern) c.confirm_full.ensures.confirmed

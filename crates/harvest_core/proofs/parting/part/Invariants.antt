@@ -1,10 +1,11 @@
-use Rattle.std.proofs.Common.{ℕ, List, All}
-use Rattle.shape_core.specs.declared.words.Kinds.{Kinds}
-use Rattle.harvest_core.specs.Working.{IsWorkOf}
-use Rattle.harvest_core.specs.Parted.{IsParted}
+use Rattle.std.proofs.Common.{◌≡◌, ◌++◌}
+use Rattle.harvest_core.specs.Parted.{shares_of, refusals_of}
 use Rattle.harvest_core.proofs.parting.part.Given as goal
 
--- those so far are parted, and the others are of the input too
+-- those so far are parted, and those of the others follow
 abbrev pub invariant-loop-one : goal.invariant-loop-one
-invariant-loop-one l = (bytes : List ℕ) (kinds : Kinds) → All (IsWorkOf bytes kinds) l.fn.worked.items
-    → IsParted bytes kinds l.parted × All (IsWorkOf bytes kinds) l.one-iterator.rest.items
+invariant-loop-one l =
+    record {
+      shares : l.parted.shares.items ++ shares_of l.one-iterator.rest.items ≡ shares_of l.fn.worked.items;
+      refusals : l.parted.refusals.items ++ refusals_of l.one-iterator.rest.items ≡ refusals_of l.fn.worked.items;
+    }

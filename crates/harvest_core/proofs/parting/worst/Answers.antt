@@ -1,13 +1,11 @@
-use Rattle.std.proofs.Common.{◌≡◌, IfSome, sym, subst, ⊎_elim, arith, slice_index_or}
-use Rattle.harvest_core.specs.Working.{IsRefusal}
+use Rattle.std.proofs.Common.{refl, length, arith}
+use Rattle.std.proofs.lemmas.Option.{slice_get_read}
+use Rattle.harvest_core.proofs.Parted.{worst_more, worst_all}
 use Rattle.harvest_core.proofs.parting.worst.Goals as goal
 
 pub loop-one-preserved : goal.loop-one-preserved
-loop-one-preserved c bytes kinds all =
-    let at = all c.loop-one.one-index c.told.result (omega arith) in
-    ⊎_elim
-    (λ here. let is = c.one-item.is in
-    let same : slice_index_or c.args.refusals.now c.loop-one.one-index c.told.result ≡ c.told.result = cc in
-    subst (IsRefusal bytes kinds) same at)
-    (λ there. subst (λ o. IfSome o (IsRefusal bytes kinds)) (sym there) (c.loop-one.invariant bytes kinds all))
-    c.told.ensures
+loop-one-preserved c = worst_more c.args.refusals.now c.loop-one.one-index c.loop-one.found c.one-item.result c.told.result (omega arith)
+    (slice_get_read c.args.refusals.now (length c.args.refusals.now) c.loop-one.one-index c.one-item.result refl c.loop-one-test.true c.one-item.is) c.loop-one.invariant c.told.ensures
+
+pub returns : goal.returns
+returns c = worst_all c.args.refusals.now c.loop-one.one-index c.loop-one.found (omega arith) c.loop-one.invariant

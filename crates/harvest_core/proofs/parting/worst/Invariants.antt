@@ -1,8 +1,8 @@
-use Rattle.std.proofs.Common.{ℕ, List, All, IfSome}
-use Rattle.shape_core.specs.declared.words.Kinds.{Kinds}
-use Rattle.harvest_core.specs.Working.{IsRefusal}
+use Rattle.std.proofs.Common.{◌≡◌}
+use Rattle.std.specs.Prelude.{MatchOption}
+use Rattle.harvest_core.proofs.Parted.{IsWorstOf}
 use Rattle.harvest_core.proofs.parting.worst.Given as goal
 
--- the fault so far is one of the refusals
+-- the fault so far is one of the refusals, and none of those so far goes before it
 abbrev pub invariant-loop-one : goal.invariant-loop-one
-invariant-loop-one l = (bytes : List ℕ) (kinds : Kinds) → All (IsRefusal bytes kinds) l.refusals → IfSome l.found (IsRefusal bytes kinds)
+invariant-loop-one l = MatchOption l.found (l.one-index ≡ 0) (IsWorstOf l.refusals l.one-index)

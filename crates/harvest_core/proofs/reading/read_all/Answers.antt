@@ -1,9 +1,10 @@
-use Rattle.std.proofs.Common.{◌≡◌, ℕ, List, IfSome, sym, subst, ◌∙◌, ⊎_elim}
+use Rattle.std.proofs.Common.{◌≡◌, ℕ, List, IfSome, IfNone, arith, sym, subst, ◌∙◌, ⊎_elim}
 use Rattle.job_core.specs.declared.jobs.Item.TheVariants.{Job}
-use Rattle.job_core.specs.Reading.{IsNextGame}
+use Rattle.job_core.specs.Reading.{IsNextGame, HasNoGame}
 use Rattle.job_core.specs.Rule.{putting, IsInStep}
 use Rattle.job_core.proofs.Turns.{in_step_put, in_step_back}
-use Rattle.harvest_core.specs.Working.{IsWorked, IsRefused}
+use Rattle.harvest_core.specs.Working.{IsWorked, IsRefused, IsCounted}
+use Rattle.harvest_core.proofs.Dealt.{dealt_more, ends_offered}
 use Rattle.harvest_core.proofs.reading.read_all.Goals as goal
 
 pub loop-job-preserved : goal.loop-job-preserved
@@ -19,9 +20,14 @@ loop-job-preserved g c =
       pass = c.offer.ensures.pass;
       bytes = same ∙ h.bytes;
       step = ⊎_elim
-          (λ (put : c.offer.new.desk ≡ putting c.loop-job.desk (Job job)). in_step_put before after c.loop-job.desk c.offer.new.desk job same h.step next put)
-          (λ (back : c.offer.new.desk ≡ c.loop-job.desk). in_step_back before after c.offer.new.desk job same (subst (IsInStep before) (sym back) h.step) next)
-          c.offer.ensures.desk;
+          (λ (put : (c.offer.new.desk ≡ putting c.loop-job.desk (Job job)) × (c.offer.new.worked ≡ c.loop-job.worked)).
+          in_step_put before after c.loop-job.desk c.offer.new.desk job same h.step next put.0)
+          (λ (back : (c.offer.new.desk ≡ c.loop-job.desk) × IsCounted job.game c.loop-job.worked c.offer.new.worked).
+          in_step_back before after c.offer.new.desk job same (subst (IsInStep before) (sym back.0) h.step) next)
+          c.offer.ensures.offered;
+      dealt = dealt_more job c.loop-job.desk c.loop-job.worked c.offer.new.desk c.offer.new.worked
+          c.args.games.now.report.games before.report.games after.report.games next.game next.counted c.offer.ensures.offered h.dealt;
+      ends = ends_offered job c.loop-job.desk c.loop-job.worked c.offer.new.desk c.offer.new.worked c.offer.ensures.offered ∙ h.ends;
       worked = λ kinds w r.
           let old = h.worked kinds w r in
           let worked = subst (λ (bs : List ℕ). IsWorked bs kinds c.loop-job.worked.share) (sym bytes) old.0 in
@@ -30,3 +36,11 @@ loop-job-preserved g c =
             subst (λ (bs : List ℕ). IsRefused bs kinds c.offer.new.worked.refused) bytes (c.offer.ensures.refused kinds worked refused),
           );
     }
+
+pub returns-in-Ok-None-clause-dealt : goal.returns-in-Ok-None-clause-dealt
+returns-in-Ok-None-clause-dealt g c game from below =
+    let before = c.loop-job.games in
+    let after = c.next_job.new.self in
+    let none : HasNoGame before after = subst (λ o. IfNone o (HasNoGame before after)) c.in-Ok-None.field-0-is c.in-Ok-None.ensures.none in
+    let same = none.games in
+    c.loop-job.invariant.dealt game from (omega arith)

@@ -3,6 +3,7 @@ use Rattle.shape_core.specs.declared.words.Kinds.{Kinds}
 use Rattle.job_core.specs.Rule.{IsInStep}
 use Rattle.slot_table.specs.Passes.{IsPassOf}
 use Rattle.harvest_core.specs.Working.{IsWorked, IsRefused}
+use Rattle.harvest_core.specs.Reading.{AreDealt}
 use Rattle.harvest_core.proofs.reading.read_all.Given as goal
 
 -- the games so far
@@ -12,6 +13,8 @@ invariant-loop-job g l =
       pass : IsPassOf (2 ^ g.O.ProbeOrder.exponent l.table.order) l.table l.pass;
       bytes : l.games.bytes ≡ l.fn.games.bytes;
       step : IsInStep l.games l.desk;
+      dealt : AreDealt l.fn.games.report.games l.games.report.games l.desk l.worked;
+      ends : l.desk.ends_put ≡ l.fn.desk.ends_put;
       worked : (kinds : Kinds) → IsWorked l.fn.games.bytes kinds l.fn.worked.share → IsRefused l.fn.games.bytes kinds l.fn.worked.refused
           → IsWorked l.fn.games.bytes kinds l.worked.share × IsRefused l.fn.games.bytes kinds l.worked.refused;
     }

@@ -1,6 +1,10 @@
-use Rattle.std.proofs.Common.{sym, subst}
+use Rattle.std.proofs.Common.{IfNone, ap, sym, subst}
+use Rattle.tally_core.specs.declared.collections.Report.{Report}
+use Rattle.job_core.specs.declared.hands.Hand.{Hand}
 use Rattle.harvest_core.specs.Working.{IsRefused}
+use Rattle.harvest_core.specs.Reading.{AreDealt}
 use Rattle.harvest_core.proofs.reading.read_games.Goals as goal
+use Rattle.harvest_core.proofs.reading.read_games.Goals.{in-Ok, in-Err}
 
 pub returns-clause-worked : goal.returns-clause-worked
 returns-clause-worked g c =
@@ -11,3 +15,16 @@ pub returns-clause-refused : goal.returns-clause-refused
 returns-clause-refused g c =
     (c.read_all-outcome.ensures.worked c.args.kinds (c.begin-worked.ensures.worked c.args.games.bytes)
     (subst (IsRefused c.args.games.bytes c.args.kinds) (sym c.begin-worked.ensures.refused) tt)).1
+
+pub returns-clause-dealt : goal.returns-clause-dealt
+returns-clause-dealt g c =
+    let low = c.args.games.report.games in
+    let high = c.report.result.games in
+    let worked = c.read_all-outcome.new.worked in
+    elim c.match-outcome.branch [
+      | in-Ok w ↦
+          let same = ap (λ (r : Report). r.games) c.report.ensures.report in
+          subst (λ o. IfNone o (AreDealt low high c.close.new.desk worked)) (sym w.fault-is)
+          (subst (λ (v : Hand). AreDealt low high v worked) (sym c.close.ensures) (subst (λ n. AreDealt low n c.read_all-outcome.new.desk worked) (sym same) w.in-Ok.ensures.dealt))
+      | in-Err w ↦ subst (λ o. IfNone o (AreDealt low high c.close.new.desk worked)) (sym w.fault-is) tt
+    ]

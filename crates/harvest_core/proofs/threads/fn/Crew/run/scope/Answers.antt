@@ -1,7 +1,11 @@
-use Rattle.std.proofs.Common.{◌≡◌, ℕ, List, ap, sym, subst, ◌∙◌, arith}
+use Rattle.std.proofs.Common.{◌≡◌, ℕ, ◌+◌, List, length, ap, sym, subst, ◌∙◌, arith}
 use Rattle.std.specs.Prelude.{All}
+use Rattle.std.proofs.lemmas.List.{length_push}
 use Rattle.std.proofs.lemmas.List.Elements.{All-push}
+use Rattle.std.specs.declared.thread.PromisedHandle.{PromisedHandle}
 use Rattle.shape_core.specs.declared.words.Kinds.{Kinds}
+use Rattle.harvest_core.specs.declared.threads.WorkOf.{WorkOf}
+use Rattle.harvest_core.specs.declared.working.Worked.{Worked}
 use Rattle.harvest_core.specs.declared.reading.Reading.{Reading}
 use Rattle.harvest_core.specs.Crew.{IsHandleOf, IsReadingOf}
 use Rattle.harvest_core.proofs.threads.fn.Crew.run.scope.Goals as goal
@@ -16,6 +20,8 @@ loop-preserved g c =
       bytes = c.another-bench.ensures.same.1 ∙ c.loop.invariant.bytes;
       kinds = c.another-bench.ensures.same.2 ∙ c.loop.invariant.kinds;
       few = (let few = c.loop.invariant.few in omega arith);
+      each = ap (λ (hs : List (PromisedHandle Worked WorkOf)). length hs) c.push_reserved.ensures.items ∙ length_push c.reserve.new.self.items handle
+          ∙ ap (λ n. n + 1) (ap (λ (hs : List (PromisedHandle Worked WorkOf)). length hs) c.reserve.ensures.items ∙ c.loop.invariant.each);
       handles = subst (All P) (sym c.push_reserved.ensures.items)
           (All-push P c.reserve.new.self.items handle (subst (All P) (sym c.reserve.ensures.items) c.loop.invariant.handles) (ap (λ p. p.bytes.now) c.in-Ok.ensures.ok, ap (λ p. p.kinds) c.in-Ok.ensures.ok));
     }
@@ -32,14 +38,14 @@ joined-requires g c =
     elim c.loop-test.branch [
       | else-loop-test w ↦ record {
         handles = subst (λ hs. All P hs.items) (sym w.handles-is) i.handles;
-        own = ours (ap (λ x. x.games.bytes) w.crew-is ∙ i.bytes) (ap (λ x. x.bench.kinds) w.crew-is ∙ i.kinds) c.finish-own.ensures;
+        own = ours (ap (λ x. x.games.bytes) w.crew-is ∙ i.bytes) (ap (λ x. x.bench.kinds) w.crew-is ∙ i.kinds) c.finish-own.ensures.reading;
       }
       | then-loop-test+then-is_err w ↦ record {
         handles = subst (λ hs. All P hs.items) (sym w.handles-is) (subst (All P) (sym w.reserve.ensures.items) i.handles);
-        own = ours (ap (λ x. x.games.bytes) w.crew-is ∙ i.bytes) (ap (λ x. x.bench.kinds) w.crew-is ∙ i.kinds) c.finish-own.ensures;
+        own = ours (ap (λ x. x.games.bytes) w.crew-is ∙ i.bytes) (ap (λ x. x.bench.kinds) w.crew-is ∙ i.kinds) c.finish-own.ensures.reading;
       }
       | then-loop-test+else-is_err+in-Err w ↦ record {
         handles = subst (λ hs. All P hs.items) (sym w.handles-is) (subst (All P) (sym w.reserve.ensures.items) i.handles);
-        own = ours (ap (λ x. x.games.bytes) w.crew-is ∙ (w.another-bench.ensures.same.1 ∙ i.bytes)) (ap (λ x. x.bench.kinds) w.crew-is ∙ (w.another-bench.ensures.same.2 ∙ i.kinds)) c.finish-own.ensures;
+        own = ours (ap (λ x. x.games.bytes) w.crew-is ∙ (w.another-bench.ensures.same.1 ∙ i.bytes)) (ap (λ x. x.bench.kinds) w.crew-is ∙ (w.another-bench.ensures.same.2 ∙ i.kinds)) c.finish-own.ensures.reading;
       }
     ]

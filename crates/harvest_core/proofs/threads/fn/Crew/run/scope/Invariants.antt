@@ -1,4 +1,4 @@
-use Rattle.std.proofs.Common.{◌≡◌, ◌≤◌}
+use Rattle.std.proofs.Common.{◌≡◌, ◌≤◌, length}
 use Rattle.std.specs.Prelude.{All}
 use Rattle.harvest_core.specs.Crew.{IsCrew, IsHandleOf}
 use Rattle.harvest_core.proofs.threads.fn.Crew.run.scope.Given as goal
@@ -10,5 +10,6 @@ invariant-loop g l = record {
   bytes : l.crew.games.bytes ≡ l.of.bytes.now;
   kinds : l.crew.bench.kinds ≡ l.of.kinds;
   few : l.started ≤ l.counter;
+  each : length l.handles.items ≡ l.started;
   handles : All (IsHandleOf l.of.bytes.now l.of.kinds) l.handles.items;
 }

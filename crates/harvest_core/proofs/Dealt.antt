@@ -1,0 +1,70 @@
+-- The games that the thread that reads has dealt out, after one more.
+use Rattle.std.proofs.Common.{◌≡◌, ℕ, ◌+◌, ◌⊎◌, nat_lt, true, false, inl, inr, refl, List, [], ◌∷◌, ◌++◌, Some, None, Contains, ap, sym, subst, ◌∙◌, arith, ⊎_elim}
+use Rattle.std.proofs.lemmas.Bool.Decides.{nat_tests}
+use Rattle.std.proofs.lemmas.List.Elements.{Contains-push, Contains-append_left}
+use Rattle.job_core.specs.declared.hands.Hand.{Hand}
+use Rattle.job_core.specs.declared.jobs.Item.TheVariants.{Job}
+use Rattle.job_core.specs.Games.{WrittenGame}
+use Rattle.job_core.specs.Rule.{putting}
+use Rattle.share_core.specs.declared.faults.HarvestFault.{HarvestFault}
+use Rattle.harvest_core.specs.declared.working.Worked.{Worked}
+use Rattle.harvest_core.specs.Working.{IsCounted}
+use Rattle.harvest_core.specs.Reading.{IsDealt, AreDealt}
+
+-- a job was put, or its game was counted here
+abbrev pub IsOffered : WrittenGame → Hand → Worked → Hand → Worked → Type 0
+IsOffered job desk one after two = ((after ≡ putting desk (Job job)) × (two ≡ one)) ⊎ ((after ≡ desk) × IsCounted job.game one two)
+
+-- what was dealt out stays so where one game more was counted here
+counted_still : (number : ℕ) (desk : Hand) (one two : Worked) (game : ℕ) → IsCounted number one two → IsDealt desk one game → IsDealt desk two game
+counted_still number desk one two game counted dealt = ⊎_elim
+    (λ (put : Contains desk.put game). inl put)
+    (λ (other : Contains one.share.games game ⊎ ((found : HarvestFault) × (one.refused ≡ Some found))). inr (⊎_elim
+    (λ (added : (two.share.games ≡ one.share.games ++ number ∷ []) × (one.refused ≡ None) × (two.refused ≡ None)). ⊎_elim
+    (λ (mine : Contains one.share.games game). inl (subst (λ (games : List ℕ). Contains games game) (sym added.0) (Contains-append_left one.share.games (number ∷ []) game mine)))
+    (λ (was : (found : HarvestFault) × (one.refused ≡ Some found)). absurd (let clash : Some was.0 ≡ None = sym was.1 ∙ added.1 in cc))
+    other)
+    (λ (not : (two.share.games ≡ one.share.games) × ((found : HarvestFault) × (two.refused ≡ Some found))). inr not.1)
+    counted))
+    dealt
+
+-- what was dealt out stays so
+still : (job : WrittenGame) (desk : Hand) (one : Worked) (after : Hand) (two : Worked) (game : ℕ) → IsOffered job desk one after two → IsDealt desk one game → IsDealt after two game
+still job desk one after two game offered dealt = ⊎_elim
+    (λ (put : (after ≡ putting desk (Job job)) × (two ≡ one)).
+    subst (λ (v : Hand). IsDealt v two game) (sym put.0) (subst (λ (w : Worked). IsDealt (putting desk (Job job)) w game) (sym put.1) (⊎_elim
+    (λ (before : Contains desk.put game). inl (Contains-append_left desk.put (job.game ∷ []) game before))
+    (λ rest. inr rest) dealt)))
+    (λ (here : (after ≡ desk) × IsCounted job.game one two).
+    subst (λ (v : Hand). IsDealt v two game) (sym here.0) (counted_still job.game desk one two game here.1 dealt))
+    offered
+
+-- the job that was offered is dealt out
+offered_is : (job : WrittenGame) (desk : Hand) (one : Worked) (after : Hand) (two : Worked) → IsOffered job desk one after two → IsDealt after two job.game
+offered_is job desk one after two offered = ⊎_elim
+    (λ (put : (after ≡ putting desk (Job job)) × (two ≡ one)).
+    subst (λ (v : Hand). IsDealt v two job.game) (sym put.0) (inl (Contains-push desk.put job.game)))
+    (λ (here : (after ≡ desk) × IsCounted job.game one two). ⊎_elim
+    (λ (added : (two.share.games ≡ one.share.games ++ job.game ∷ []) × (one.refused ≡ None) × (two.refused ≡ None)).
+    inr (inl (subst (λ (games : List ℕ). Contains games job.game) (sym added.0) (Contains-push one.share.games job.game))))
+    (λ (not : (two.share.games ≡ one.share.games) × ((found : HarvestFault) × (two.refused ≡ Some found))). inr (inr not.1))
+    here.1)
+    offered
+
+-- one game more was offered
+pub dealt_more : (job : WrittenGame) (desk : Hand) (one : Worked) (after : Hand) (two : Worked) (low high next : ℕ) → job.game ≡ high → next ≡ high + 1 →
+    IsOffered job desk one after two → AreDealt low high desk one → AreDealt low next after two
+dealt_more job desk one after two low high next is up offered dealt game from below =
+    elim (nat_lt game high) as (λ b. nat_lt game high ≡ b → IsDealt after two game) [
+      | true ↦ λ test. still job desk one after two game offered (dealt game from (Prim.grind (arith, nat_tests)))
+      | false ↦ λ test.
+          let same : job.game ≡ game = Prim.grind (arith, nat_tests) in
+          subst (IsDealt after two) same (offered_is job desk one after two offered)
+    ] refl
+
+-- no end was put
+pub ends_offered : (job : WrittenGame) (desk : Hand) (one : Worked) (after : Hand) (two : Worked) → IsOffered job desk one after two → after.ends_put ≡ desk.ends_put
+ends_offered job desk one after two offered = ⊎_elim
+    (λ (put : (after ≡ putting desk (Job job)) × (two ≡ one)). ap (λ (v : Hand). v.ends_put) put.0)
+    (λ (here : (after ≡ desk) × IsCounted job.game one two). ap (λ (v : Hand). v.ends_put) here.0)
+    offered
