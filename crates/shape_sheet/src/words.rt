@@ -1,0 +1,144 @@
+//! The words of the command line, and what they ask for.
+ghost use Rattle.std.specs.Prelude.{◌≡◌, ◌≢◌, codes, map, string_bytes, IfOk, IfErr};
+ghost use Rattle.std.specs.Prelude.{IfSome, IfNone};
+ghost use Rattle.clap.specs.Words.{found_of, rows_of, kind_of as error_kind};
+ghost use Rattle.shape_sheet.specs.Words.{IsNumberOf, IsOrderOf, IsKindOf, IsFormOf, IsTaskOf};
+ghost use Rattle.shape_sheet.specs.Words.{IsAsked, IsHelp, name_of, rows_for};
+ghost use Rattle.shape_sheet.specs.Words.{HasNoNumber, HasNoOrder, HasNoSheet};
+ghost use Rattle.shape_sheet.specs.Words.{IsRefusal, IsWordsFault};
+ghost use Rattle.sheet_core.specs.declared.orders.Order.{Order};
+
+use crate::commands::program;
+use clap::error::ErrorKind;
+use clap::{ArgMatches, Error};
+use engine_core::RunFault;
+use shape_core::Kind;
+use sheet_core::{Asked, Form, Order};
+use std::alloc::Global;
+
+/// What the program is to do.
+#[derive(Debug, Drop)]
+pub enum Task {
+    /// Print this sheet.
+    Sheet(Asked),
+    /// Print this text, which was asked for by help or version.
+    Help(String),
+}
+
+/// How often a pattern is to have been there, where the words say a number.
+fn least_of(matches: &ArgMatches<'_>) -> Option<u64>
+    ensures found { IfSome result (IsNumberOf (codes "least") (rows_of (found_of matches.now))) }
+    ensures none { IfNone result (HasNoNumber 64 (codes "least") (rows_of (found_of matches.now))) }
+{
+    let number = matches.get_one::<u64>("least")?;
+    Some(number)
+}
+
+/// How many patterns are to be shown at most, where the words say a number.
+fn most_of(matches: &ArgMatches<'_>) -> Option<u16>
+    ensures found { IfSome result (IsNumberOf (codes "most") (rows_of (found_of matches.now))) }
+    ensures none { IfNone result (HasNoNumber 16 (codes "most") (rows_of (found_of matches.now))) }
+{
+    let number = matches.get_one::<u16>("most")?;
+    Some(number)
+}
+
+/// The order of this name, where there is one.
+fn order_named(name: &str) -> Option<Order>
+    ensures found { IfSome result (λ order. name.now ≡ name_of order) }
+    ensures none { IfNone result ((order : Order) → name.now ≢ name_of order) }
+{
+    match name {
+        "played" => Some(Order::Played),
+        "urgency" => Some(Order::Urgency),
+        "there" => Some(Order::There),
+        _ => None,
+    }
+}
+
+/// The order, where the words name one.
+fn order_of(matches: &ArgMatches<'_>) -> Option<Order>
+    ensures found { IfSome result (IsOrderOf (rows_of (found_of matches.now))) }
+    ensures none { IfNone result (HasNoOrder (rows_of (found_of matches.now))) }
+{
+    let name = matches.get_str("by")?;
+    let order = order_named(name)?;
+    Some(order)
+}
+
+/// The kind of the patterns.
+fn kind_of(matches: &ArgMatches<'_>) -> Kind
+    ensures { IsKindOf (rows_of (found_of matches.now)) result }
+{
+    if matches.get_flag("diamonds") {
+        Kind::Diamond
+    } else {
+        Kind::Square
+    }
+}
+
+/// What is to be written.
+fn form_of(matches: &ArgMatches<'_>) -> Form
+    ensures { IsFormOf (rows_of (found_of matches.now)) result }
+{
+    if matches.get_flag("plain") {
+        Form::Plain
+    } else {
+        Form::Page
+    }
+}
+
+/// The sheet that was asked for, where the words name an order.
+fn sheet_of(matches: &ArgMatches<'_>) -> Option<Asked>
+    ensures asked { IfSome result (IsAsked (rows_of (found_of matches.now))) }
+    ensures none { IfNone result (HasNoSheet (rows_of (found_of matches.now))) }
+{
+    let order = order_of(matches)?;
+    let least = least_of(matches)?;
+    let most = most_of(matches)?;
+    Some(Asked {
+        order,
+        kind: kind_of(matches),
+        least,
+        most: usize::from(most),
+        form: form_of(matches),
+    })
+}
+
+/// What a refused line asks for: a text of help or version, or nothing that the program knows.
+fn refused(alloc: Global, error: &Error) -> Result<Task, RunFault>
+    ensures task { IfOk result IsHelp }
+    ensures fault { IfErr result (IsRefusal (error_kind error.now)) }
+{
+    match error.kind() {
+        ErrorKind::DisplayHelp | ErrorKind::DisplayVersion => match error.to_string(alloc) {
+            Ok(text) => Ok(Task::Help(text)),
+            Err(_) => Err(RunFault::Memory),
+        },
+        ErrorKind::OutOfMemory => Err(RunFault::Memory),
+        _ => Err(RunFault::Usage),
+    }
+}
+
+/// What the words after the program's name ask for; no word at all asks for a page of the 50 squares that were played
+/// most. It takes memory.
+///
+/// # Errors
+///
+/// `Usage` where the words are none that the program knows, the name of no order among them; `Memory` where memory was
+/// refused.
+pub fn read_words(alloc: Global, words: &[String]) -> Result<Task, RunFault>
+    ensures task { IfOk result (IsTaskOf (rows_for (map string_bytes words.now))) }
+    ensures fault { IfErr result (IsWordsFault (map string_bytes words.now)) }
+{
+    let Ok(command) = program(alloc) else {
+        return Err(RunFault::Memory);
+    };
+    match command.try_get_matches_from(words) {
+        Ok(matches) => match sheet_of(&matches) {
+            Some(asked) => Ok(Task::Sheet(asked)),
+            None => Err(RunFault::Usage),
+        },
+        Err(error) => refused(alloc, &error),
+    }
+}

@@ -1,0 +1,3 @@
+pub mod Ranking
+pub mod Chosen
+pub mod Joined

@@ -1,0 +1,33 @@
+-- The patterns that are chosen from a dictionary.
+use Rattle.std.specs.Prelude.{◌≡◌, ℕ, ◌≤◌, ◌⊎◌, nat_le, ◌&&◌, not, Bool, List, length, All}
+use Rattle.std.specs.List.{AllPairs, Contains}
+use Rattle.shape_core.specs.Word.{kind_of}
+use Rattle.shape_core.specs.declared.words.Kind.{Kind}
+use Rattle.shape_core.specs.declared.words.Kind.TheVariants as kind
+use Rattle.shape_dict.specs.Contents.{is_square}
+use Rattle.shape_dict.specs.declared.entries.Entry.{Entry}
+use Rattle.sheet_core.specs.declared.orders.Order.{Order}
+use Rattle.sheet_core.specs.Orders.{GoesBefore}
+
+-- whether a pattern is of the kind
+abbrev pub is_of : Kind → Entry → Bool
+is_of kind.Square entry = is_square entry
+is_of kind.Diamond entry = not (is_square entry)
+
+-- whether it is of the kind and was there at least this often
+abbrev pub qualifies : Kind → ℕ → Entry → Bool
+qualifies kind least entry = is_of kind entry && nat_le least entry.there
+
+-- a pattern of the kind, that was there at least this often
+pub record Qualifies (kind : Kind) (least : ℕ) (entry : Entry) : Type 0 where
+  pub of_kind : kind_of entry.shape ≡ kind
+  pub often : least ≤ entry.there
+
+-- the first patterns, in the order, of all those that qualify
+pub record IsChoice (order : Order) (kind : Kind) (least most : ℕ) (entries chosen : List Entry) : Type 0 where
+  pub known : All (Contains entries) chosen
+  pub qualified : All (Qualifies kind least) chosen
+  pub ordered : AllPairs (GoesBefore order) chosen
+  pub few : length chosen ≤ most
+  pub others : (entry : Entry) → Contains entries entry → Qualifies kind least entry →
+    Contains chosen entry ⊎ ((length chosen ≡ most) × All (λ (one : Entry). GoesBefore order one entry) chosen)

@@ -1,0 +1,9 @@
+pub mod Orders
+pub mod Choice
+pub mod Pieces
+pub mod Plain
+pub mod Cells
+pub mod Drawing
+pub mod Page
+pub mod Sheets
+pub mod Runs

@@ -1,0 +1,37 @@
+-- Which of two patterns goes before the other.
+use Rattle.std.specs.Prelude.{◌≡◌, ℕ, ◌*◌, ◌<◌, ◌⊎◌, max, Bool, nat_lt, ◌==◌, ◌&&◌, ◌||◌}
+use Rattle.shape_dict.specs.declared.entries.Entry.{Entry}
+use Rattle.sheet_core.specs.declared.orders.Order.{Order}
+use Rattle.sheet_core.specs.declared.orders.Order.TheVariants as order
+
+-- how often a pattern was there, in a denominator: each pattern of a dictionary was there once or more
+abbrev pub occasions_of : Entry → ℕ
+occasions_of entry = max entry.there 1
+
+-- What an order compares is a fraction. Its numerator:
+abbrev pub worth_of : Order → Entry → ℕ
+worth_of order.Played entry = entry.played
+worth_of order.Urgency entry = entry.played
+worth_of order.There entry = entry.there
+
+-- and its denominator:
+abbrev pub scale_of : Order → Entry → ℕ
+scale_of order.Played entry = 1
+scale_of order.Urgency entry = occasions_of entry
+scale_of order.There entry = 1
+
+-- the numerator over both denominators
+abbrev pub share_of : Order → Entry → Entry → ℕ
+share_of order entry other = worth_of order entry * scale_of order other
+
+-- one goes before the other: its fraction is greater, or they are equal and its word is the lesser
+abbrev pub GoesBefore : Order → Entry → Entry → Type 0
+GoesBefore order entry other =
+    (share_of order other entry < share_of order entry other)
+    ⊎ ((share_of order entry other ≡ share_of order other entry) × (entry.shape < other.shape))
+
+-- the same, as a test
+abbrev pub goes_before : Order → Entry → Entry → Bool
+goes_before order entry other =
+    nat_lt (share_of order other entry) (share_of order entry other)
+    || (share_of order entry other == share_of order other entry && nat_lt entry.shape other.shape)

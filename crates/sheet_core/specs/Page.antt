@@ -1,0 +1,84 @@
+-- The page of chosen patterns.
+use Rattle.std.specs.Prelude.{ℕ, List, [], ◌++◌, length, Option, Some, None, codes}
+use Rattle.std.specs.Fmt.{decimal}
+use Rattle.shape_core.specs.declared.words.Kind.{Kind}
+use Rattle.shape_core.specs.declared.words.Kind.TheVariants as kind
+use Rattle.shape_dict.specs.Contents.{Contents}
+use Rattle.shape_dict.specs.Text.{word_text}
+use Rattle.shape_dict.specs.declared.entries.Entry.{Entry}
+use Rattle.sheet_core.specs.declared.asked.Asked.{Asked}
+use Rattle.sheet_core.specs.declared.head.TheConstants.{HEAD}
+use Rattle.sheet_core.specs.declared.orders.Order.{Order}
+use Rattle.sheet_core.specs.declared.orders.Order.TheVariants as order
+use Rattle.sheet_core.specs.Pieces.{hundredths_of, percent_text, ranked}
+use Rattle.sheet_core.specs.Drawing.{drawing_text}
+
+-- a pattern's rank and word
+unfoldable pub name_text : ℕ → Entry → List ℕ
+name_text rank entry = codes "<b>" ++ decimal rank ++ codes "</b> <code>" ++ word_text entry.shape ++ codes "</code>"
+
+-- how often it was there and was played, and its urgency
+unfoldable pub uses_text : Entry → List ℕ
+uses_text entry =
+    codes "<br>there " ++ decimal entry.there ++ codes ", played " ++ decimal entry.played ++ codes "<br>urgency "
+    ++ percent_text (hundredths_of entry)
+
+-- the first game that had it, where that is known
+unfoldable pub game_text : Option ℕ → List ℕ
+game_text None = []
+game_text (Some game) = codes "<br>first in game " ++ decimal game
+
+-- what stands below a drawing
+unfoldable pub caption_text : ℕ → Entry → List ℕ
+caption_text rank entry =
+    codes "<figcaption>" ++ name_text rank entry ++ uses_text entry ++ game_text entry.first ++ codes "</figcaption>"
+
+-- a pattern with its rank
+unfoldable pub figure_text : ℕ → Entry → List ℕ
+figure_text rank entry =
+    codes "<figure>" ++ drawing_text entry.shape ++ caption_text rank entry ++ codes "</figure>\n"
+
+abbrev pub kind_name : Kind → List ℕ
+kind_name kind.Square = codes "Squares"
+kind_name kind.Diamond = codes "Diamonds"
+
+abbrev pub order_name : Order → List ℕ
+order_name order.Played = codes "the most often played"
+order_name order.Urgency = codes "the most urgent"
+order_name order.There = codes "the most often there"
+
+-- the dictionary's games and moves
+unfoldable pub counted_text : Contents → List ℕ
+counted_text contents = codes "<p>Games: " ++ decimal contents.games ++ codes ", moves: " ++ decimal contents.moves ++ codes ". "
+
+-- how many patterns are shown
+unfoldable pub number_text : Kind → ℕ → List ℕ
+number_text kind count = kind_name kind ++ codes " shown: " ++ decimal count
+
+-- what comes first, and which patterns are left out
+unfoldable pub terms_text : Order → ℕ → List ℕ
+terms_text order least =
+    codes ", " ++ order_name order ++ codes " first, each there at least this often: " ++ decimal least
+    ++ codes ".</p>\n"
+
+-- how colours are seen, and where the figures begin
+unfoldable pub colours_text : List ℕ
+colours_text =
+    codes "<p>Colours are seen from the mover, as Black: with colours exchanged it is the same pattern. The dot marks its point.</p>\n<main>\n"
+
+-- what stands above the figures
+unfoldable pub heading_text : Asked → Contents → ℕ → List ℕ
+heading_text asked contents count =
+    counted_text contents ++ number_text asked.kind count ++ terms_text asked.order asked.least ++ colours_text
+
+unfoldable pub end_text : List ℕ
+end_text = codes "</main>\n</body>\n</html>\n"
+
+-- the head of the page, with its style sheet
+unfoldable pub head_text : List ℕ
+head_text = HEAD.now
+
+-- the page: its head with the style sheet, a heading, and the figures of the chosen patterns, the first with rank 1
+unfoldable pub page_text : Asked → Contents → List Entry → List ℕ
+page_text asked contents chosen =
+    head_text ++ heading_text asked contents (length chosen) ++ ranked figure_text 1 chosen ++ end_text

@@ -1,0 +1,27 @@
+//! What a sheet is asked to show.
+use crate::orders::Order;
+use shape_core::Kind;
+
+/// What a sheet is written as.
+#[derive(Clone, Copy, Debug, PartialEq, Eq)]
+pub enum Form {
+    /// One page of HTML.
+    Page,
+    /// Text for a terminal.
+    Plain,
+}
+
+/// What a sheet is asked to show.
+#[derive(Clone, Copy, Debug, PartialEq, Eq)]
+pub struct Asked {
+    /// What comes first.
+    pub order: Order,
+    /// The kind of the patterns.
+    pub kind: Kind,
+    /// How often a pattern was there at least.
+    pub least: u64,
+    /// How many patterns are shown at most.
+    pub most: usize,
+    /// What is written.
+    pub form: Form,
+}

@@ -1,0 +1,117 @@
+//! Where the cells of a pattern are drawn.
+ghost use Rattle.std.specs.Prelude.{◌≡◌};
+ghost use Rattle.sheet_core.specs.Cells.{cells_of, places_of, is_on};
+
+use shape_core::{Kind, Word, glyphs};
+
+/// Where a cell is drawn. The middle of a pattern is at column 3 and row 3.
+#[derive(Clone, Copy)]
+pub(crate) struct Place {
+    pub(crate) column: u8,
+    pub(crate) row: u8,
+}
+
+/// A cell as it is drawn.
+#[derive(Clone, Copy)]
+pub(crate) struct Cell {
+    pub(crate) column: u8,
+    pub(crate) row: u8,
+    pub(crate) glyph: u8,
+}
+
+/// The places of a square's cells.
+const SQUARE_PLACES: [Place; 25] = [
+    Place { column: 1, row: 1 },
+    Place { column: 2, row: 1 },
+    Place { column: 3, row: 1 },
+    Place { column: 4, row: 1 },
+    Place { column: 5, row: 1 },
+    Place { column: 1, row: 2 },
+    Place { column: 2, row: 2 },
+    Place { column: 3, row: 2 },
+    Place { column: 4, row: 2 },
+    Place { column: 5, row: 2 },
+    Place { column: 1, row: 3 },
+    Place { column: 2, row: 3 },
+    Place { column: 3, row: 3 },
+    Place { column: 4, row: 3 },
+    Place { column: 5, row: 3 },
+    Place { column: 1, row: 4 },
+    Place { column: 2, row: 4 },
+    Place { column: 3, row: 4 },
+    Place { column: 4, row: 4 },
+    Place { column: 5, row: 4 },
+    Place { column: 1, row: 5 },
+    Place { column: 2, row: 5 },
+    Place { column: 3, row: 5 },
+    Place { column: 4, row: 5 },
+    Place { column: 5, row: 5 },
+];
+
+/// The places of a diamond's cells.
+const DIAMOND_PLACES: [Place; 25] = [
+    Place { column: 3, row: 0 },
+    Place { column: 2, row: 1 },
+    Place { column: 3, row: 1 },
+    Place { column: 4, row: 1 },
+    Place { column: 1, row: 2 },
+    Place { column: 2, row: 2 },
+    Place { column: 3, row: 2 },
+    Place { column: 4, row: 2 },
+    Place { column: 5, row: 2 },
+    Place { column: 0, row: 3 },
+    Place { column: 1, row: 3 },
+    Place { column: 2, row: 3 },
+    Place { column: 3, row: 3 },
+    Place { column: 4, row: 3 },
+    Place { column: 5, row: 3 },
+    Place { column: 6, row: 3 },
+    Place { column: 1, row: 4 },
+    Place { column: 2, row: 4 },
+    Place { column: 3, row: 4 },
+    Place { column: 4, row: 4 },
+    Place { column: 5, row: 4 },
+    Place { column: 2, row: 5 },
+    Place { column: 3, row: 5 },
+    Place { column: 4, row: 5 },
+    Place { column: 3, row: 6 },
+];
+
+/// The places of the 25 cells of a kind.
+fn places_of(kind: Kind) -> [Place; 25]
+    ensures { result ≡ places_of kind }
+{
+    match kind {
+        Kind::Square => SQUARE_PLACES,
+        Kind::Diamond => DIAMOND_PLACES,
+    }
+}
+
+/// The cells of a word. Takes no memory.
+pub(crate) fn cells_of(word: Word) -> [Cell; 25]
+    ensures { result ≡ cells_of word }
+{
+    let places = places_of(word.kind());
+    let glyphs = glyphs(word);
+    let mut cells = [Cell {
+        column: 0,
+        row: 0,
+        glyph: b'#',
+    }; 25];
+    for k in 0..25 {
+        let place = places[k];
+        cells[k] = Cell {
+            column: place.column,
+            row: place.row,
+            glyph: glyphs[k],
+        };
+    }
+    cells
+}
+
+/// Whether the cell is on the board.
+pub(crate) fn is_on(cell: Cell) -> bool
+    ensures { result ≡ is_on cell }
+{
+    cell.glyph != b'#'
+}

@@ -1,0 +1,67 @@
+//! The first patterns of a dictionary in an order.
+ghost use Rattle.std.specs.Prelude.{◌≡◌, IfOk};
+ghost use Rattle.std.specs.List.{filter};
+ghost use Rattle.std.specs.List.Sorted.{IsPermutation, IsSortedBy};
+ghost use Rattle.sheet_core.specs.Orders.{goes_before};
+ghost use Rattle.sheet_core.specs.Choice.{IsChoice, is_of, qualifies};
+
+use crate::orders::{Order, compare};
+use shape_core::Kind;
+use shape_dict::{Dictionary, Entry};
+use std::alloc::{AllocError, Global};
+
+/// Whether a pattern is of the kind and was there at least this often.
+fn qualifies(kind: Kind, least: u64, entry: &Entry) -> bool
+    ensures { result ≡ qualifies kind least entry.now }
+{
+    entry.shape.word().kind() == kind && least <= entry.there
+}
+
+/// The patterns of the kind that were there at least this often, in the order in which they come.
+fn qualified(
+    alloc: Global,
+    kind: Kind,
+    least: u64,
+    entries: &[Entry],
+) -> Result<Vec<Entry>, AllocError>
+    ensures { IfOk result (λ found. found.items ≡ filter (qualifies kind least) entries.now) }
+{
+    let mut found = Vec::new(alloc);
+    for entry in entries {
+        if qualifies(kind, least, entry) {
+            found.push(*entry)?;
+        }
+    }
+    Ok(found)
+}
+
+/// Sorts patterns. Takes no memory.
+fn sort(order: Order, entries: &mut Vec<Entry>)
+    ensures same { IsPermutation entries.old.items entries.new.items }
+    ensures sorted { IsSortedBy (goes_before order) entries.new.items }
+{
+    entries.sort_unstable_by(|left, right| compare(order, left, right));
+}
+
+/// The first patterns of a dictionary in an order, at most this many, of those of the kind that were there at least this
+/// often. It takes memory for all patterns that qualify.
+///
+/// # Errors
+///
+/// `AllocError` where memory was refused.
+pub fn choose(
+    alloc: Global,
+    order: Order,
+    kind: Kind,
+    least: u64,
+    most: usize,
+    dictionary: &Dictionary,
+) -> Result<Vec<Entry>, AllocError>
+    ensures { IfOk result (λ chosen. IsChoice order kind least most dictionary.now.entries
+        chosen.items) }
+{
+    let mut chosen = qualified(alloc, kind, least, dictionary.entries())?;
+    sort(order, &mut chosen);
+    chosen.truncate(most);
+    Ok(chosen)
+}

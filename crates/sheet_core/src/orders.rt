@@ -1,0 +1,43 @@
+//! The orders in which patterns are chosen.
+ghost use Rattle.std.specs.Prelude.{◌≡◌, ◌<◌, ◌^◌};
+ghost use Rattle.std.specs.Ordering.{is_lt};
+ghost use Rattle.sheet_core.specs.Orders.{worth_of, scale_of, goes_before};
+
+use shape_dict::Entry;
+use std::cmp::Ordering;
+
+/// What the first patterns have most of.
+#[derive(Clone, Copy, Debug, PartialEq, Eq)]
+pub enum Order {
+    /// Plays.
+    Played,
+    /// Plays for each time that the pattern was there.
+    Urgency,
+    /// Times that the pattern was there.
+    There,
+}
+
+/// What is compared in an order, as a numerator and a denominator, which is not 0.
+fn fraction(order: Order, entry: &Entry) -> (u64, u64)
+    ensures worth { result.0 ≡ worth_of order entry.now }
+    ensures scale { result.1 ≡ scale_of order entry.now }
+{
+    match order {
+        Order::Played => (entry.played, 1),
+        Order::Urgency => (entry.played, entry.there.max(1)),
+        Order::There => (entry.there, 1),
+    }
+}
+
+/// `Less` where the left one goes before the right one, which is decided by exact fractions, and by the lesser word where
+/// these are equal. Takes no memory.
+pub(crate) fn compare(order: Order, left: &Entry, right: &Entry) -> Ordering
+    ensures { is_lt result ≡ goes_before order left.now right.now }
+{
+    let (worth, scale) = fraction(order, left);
+    let (other_worth, other_scale) = fraction(order, right);
+    let more = u128::from(worth) * u128::from(other_scale);
+    let other_more = u128::from(other_worth) * u128::from(scale);
+    let (word, other_word) = (left.shape.word().bits(), right.shape.word().bits());
+    other_more.cmp(&more).then(word.cmp(&other_word))
+}

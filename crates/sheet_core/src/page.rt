@@ -1,0 +1,214 @@
+//! The page of chosen patterns.
+ghost use Rattle.std.specs.Prelude.{◌≡◌, ◌++◌, OnOk, IfOk, Option};
+ghost use Rattle.sheet_core.specs.Pieces.{ranked};
+ghost use Rattle.sheet_core.specs.Page.{name_text, uses_text, game_text, caption_text, figure_text};
+ghost use Rattle.sheet_core.specs.Page.{kind_name, order_name, counted_text, number_text, terms_text};
+ghost use Rattle.sheet_core.specs.Page.{page_text};
+ghost use Rattle.sheet_core.specs.Page.{colours_text, heading_text, end_text, head_text};
+
+use crate::asked::Asked;
+use crate::drawing::push_drawing;
+use crate::head::HEAD;
+use crate::orders::Order;
+use crate::pieces::{push_number, push_percent, push_word};
+use shape_core::Kind;
+use shape_dict::{Dictionary, Entry};
+use std::alloc::{AllocError, Global};
+
+/// Appends a pattern's rank and word.
+#[tactic(auto, unfolding(crate::specs::Page::name_text))]
+fn push_name(text: &mut Vec<u8>, rank: u64, entry: &Entry) -> Result<(), AllocError>
+    ensures { OnOk result (text.new.items ≡ text.old.items ++ name_text rank entry.now) }
+{
+    text.extend_from_slice(b"<b>")?;
+    push_number(text, rank)?;
+    text.extend_from_slice(b"</b> <code>")?;
+    push_word(text, entry.shape)?;
+    text.extend_from_slice(b"</code>")
+}
+
+/// Appends how often a pattern was there and was played, and how urgent it is.
+#[tactic(auto, unfolding(crate::specs::Page::uses_text))]
+fn push_uses(text: &mut Vec<u8>, entry: &Entry) -> Result<(), AllocError>
+    ensures { OnOk result (text.new.items ≡ text.old.items ++ uses_text entry.now) }
+{
+    text.extend_from_slice(b"<br>there ")?;
+    push_number(text, entry.there)?;
+    text.extend_from_slice(b", played ")?;
+    push_number(text, entry.played)?;
+    text.extend_from_slice(b"<br>urgency ")?;
+    push_percent(text, entry)
+}
+
+/// Appends the first game that had a pattern, where it is known.
+#[tactic(auto, unfolding(crate::specs::Page::game_text))]
+fn push_game(text: &mut Vec<u8>, first: Option<u64>) -> Result<(), AllocError>
+    ensures { OnOk result (text.new.items ≡ text.old.items ++ game_text first) }
+{
+    match first {
+        None => Ok(()),
+        Some(game) => {
+            text.extend_from_slice(b"<br>first in game ")?;
+            push_number(text, game)
+        }
+    }
+}
+
+/// Appends what stands below a drawing.
+#[tactic(auto, unfolding(crate::specs::Page::caption_text))]
+fn push_caption(text: &mut Vec<u8>, rank: u64, entry: &Entry) -> Result<(), AllocError>
+    ensures { OnOk result (text.new.items ≡ text.old.items ++ caption_text rank entry.now) }
+{
+    text.extend_from_slice(b"<figcaption>")?;
+    push_name(text, rank, entry)?;
+    push_uses(text, entry)?;
+    push_game(text, entry.first)?;
+    text.extend_from_slice(b"</figcaption>")?;
+    Ok(())
+}
+
+/// Appends a pattern with its rank.
+#[tactic(auto, unfolding(crate::specs::Page::figure_text))]
+fn push_figure(text: &mut Vec<u8>, rank: u64, entry: &Entry) -> Result<(), AllocError>
+    ensures { OnOk result (text.new.items ≡ text.old.items ++ figure_text rank entry.now) }
+{
+    text.extend_from_slice(b"<figure>")?;
+    push_drawing(text, entry.shape.word())?;
+    push_caption(text, rank, entry)?;
+    text.extend_from_slice(b"</figure>\n")
+}
+
+/// Appends patterns, the first with rank 1.
+fn push_figures(text: &mut Vec<u8>, chosen: &[Entry]) -> Result<(), AllocError>
+    ensures { OnOk result (text.new.items
+        ≡ text.old.items ++ ranked figure_text 1 chosen.now) }
+{
+    let mut rank = 1;
+    for entry in chosen {
+        push_figure(text, rank, entry)?;
+        rank += 1;
+    }
+    Ok(())
+}
+
+/// The name of a kind, at the beginning of a sentence.
+fn kind_name(kind: Kind) -> &'static [u8]
+    ensures { result.now ≡ kind_name kind }
+{
+    match kind {
+        Kind::Square => b"Squares",
+        Kind::Diamond => b"Diamonds",
+    }
+}
+
+/// What comes first in an order.
+fn order_name(order: Order) -> &'static [u8]
+    ensures { result.now ≡ order_name order }
+{
+    match order {
+        Order::Played => b"the most often played",
+        Order::Urgency => b"the most urgent",
+        Order::There => b"the most often there",
+    }
+}
+
+/// Appends the head of the page.
+#[tactic(auto, unfolding(crate::specs::Page::head_text))]
+fn push_head(text: &mut Vec<u8>) -> Result<(), AllocError>
+    ensures { OnOk result (text.new.items ≡ text.old.items ++ head_text) }
+{
+    text.extend_from_slice(HEAD.as_bytes())
+}
+
+/// Appends the games and moves of a dictionary.
+#[tactic(auto, unfolding(crate::specs::Page::counted_text))]
+fn push_counted(text: &mut Vec<u8>, dictionary: &Dictionary) -> Result<(), AllocError>
+    ensures { OnOk result (text.new.items ≡ text.old.items ++ counted_text dictionary.now) }
+{
+    text.extend_from_slice(b"<p>Games: ")?;
+    push_number(text, dictionary.games())?;
+    text.extend_from_slice(b", moves: ")?;
+    push_number(text, dictionary.moves())?;
+    text.extend_from_slice(b". ")
+}
+
+/// Appends how many patterns are shown.
+#[tactic(auto, unfolding(crate::specs::Page::number_text))]
+fn push_shown(text: &mut Vec<u8>, kind: Kind, count: u64) -> Result<(), AllocError>
+    ensures { OnOk result (text.new.items ≡ text.old.items ++ number_text kind count) }
+{
+    text.extend_from_slice(kind_name(kind))?;
+    text.extend_from_slice(b" shown: ")?;
+    push_number(text, count)
+}
+
+/// Appends what comes first, and which patterns are left out.
+#[tactic(auto, unfolding(crate::specs::Page::terms_text))]
+fn push_terms(text: &mut Vec<u8>, order: Order, least: u64) -> Result<(), AllocError>
+    ensures { OnOk result (text.new.items ≡ text.old.items ++ terms_text order least) }
+{
+    text.extend_from_slice(b", ")?;
+    text.extend_from_slice(order_name(order))?;
+    text.extend_from_slice(b" first, each there at least this often: ")?;
+    push_number(text, least)?;
+    text.extend_from_slice(b".</p>\n")?;
+    Ok(())
+}
+
+/// Appends how colours are seen, and the beginning of the figures.
+#[tactic(auto, unfolding(crate::specs::Page::colours_text))]
+fn push_colours(text: &mut Vec<u8>) -> Result<(), AllocError>
+    ensures { OnOk result (text.new.items ≡ text.old.items ++ colours_text) }
+{
+    text.extend_from_slice(
+        b"<p>Colours are seen from the mover, as Black: with colours exchanged it is the same pattern. The dot marks its point.</p>\n<main>\n",
+    )
+}
+
+/// Appends what stands above the figures.
+#[tactic(auto, unfolding(crate::specs::Page::heading_text))]
+fn push_heading(
+    text: &mut Vec<u8>,
+    asked: Asked,
+    dictionary: &Dictionary,
+    count: u64,
+) -> Result<(), AllocError>
+    ensures { OnOk result (text.new.items
+        ≡ text.old.items ++ heading_text asked dictionary.now count) }
+{
+    push_counted(text, dictionary)?;
+    push_shown(text, asked.kind, count)?;
+    push_terms(text, asked.order, asked.least)?;
+    push_colours(text)
+}
+
+/// Appends the end of the page.
+#[tactic(auto, unfolding(crate::specs::Page::end_text))]
+fn push_end(text: &mut Vec<u8>) -> Result<(), AllocError>
+    ensures { OnOk result (text.new.items ≡ text.old.items ++ end_text) }
+{
+    text.extend_from_slice(b"</main>\n</body>\n</html>\n")
+}
+
+/// The page of chosen patterns of a dictionary. It stands alone: it has its style sheet in itself, no script, and loads
+/// nothing. It takes memory for the text.
+///
+/// # Errors
+///
+/// `AllocError` where memory was refused.
+#[tactic(auto, unfolding(crate::specs::Page::page_text))]
+pub fn page_text(
+    alloc: Global,
+    asked: Asked,
+    dictionary: &Dictionary,
+    chosen: &[Entry],
+) -> Result<Vec<u8>, AllocError>
+    ensures { IfOk result (λ text. text.items ≡ page_text asked dictionary.now chosen.now) }
+{
+    let mut text = Vec::new(alloc);
+    push_head(&mut text)?;
+    push_heading(&mut text, asked, dictionary, chosen.len() as u64)?;
+    push_figures(&mut text, chosen)?;
+    push_end(&mut text)?;
+    Ok(text)
+}

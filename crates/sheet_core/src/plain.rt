@@ -1,0 +1,100 @@
+//! The text for a terminal.
+ghost use Rattle.std.specs.Prelude.{◌≡◌, ◌+◌, ◌≤◌, ◌++◌, length, OnOk, IfOk};
+ghost use Rattle.sheet_core.specs.Plain.{marked_glyphs, row_text, board_text, uses_text};
+ghost use Rattle.sheet_core.specs.Plain.{caption_text, figure_text, plain_text};
+
+use crate::pieces::{push_first, push_number, push_percent, push_word};
+use crate::rows::{Row, rows_of};
+use shape_core::{Word, glyphs};
+use shape_dict::Entry;
+use std::alloc::{AllocError, Global};
+
+/// As many spaces as a row may be indented.
+const SPACES: [u8; 3] = [b' '; 3];
+
+/// The cell of the point itself.
+const MIDDLE: usize = 12;
+
+/// The glyphs of a word's cells, and `*` for the point itself.
+fn marked_glyphs(word: Word) -> [u8; 25]
+    ensures { result ≡ marked_glyphs word }
+{
+    let mut marked = glyphs(word);
+    marked[MIDDLE] = b'*';
+    marked
+}
+
+/// Appends a row of these glyphs.
+fn push_row(text: &mut Vec<u8>, glyphs: &[u8], row: Row) -> Result<(), AllocError>
+    requires indent { row.indent ≤ 3 }
+    requires cells { row.first + row.count ≤ length glyphs.now }
+    ensures { OnOk result (text.new.items ≡ text.old.items ++ row_text glyphs.now row) }
+{
+    text.extend_from_slice(&SPACES[..row.indent])?;
+    text.extend_from_slice(&glyphs[row.first..row.first + row.count])?;
+    text.push(b'\n')?;
+    Ok(())
+}
+
+/// Appends the rows of a word.
+fn push_board(text: &mut Vec<u8>, word: Word) -> Result<(), AllocError>
+    ensures { OnOk result (text.new.items ≡ text.old.items ++ board_text word) }
+{
+    let marked = marked_glyphs(word);
+    for row in rows_of(word.kind()) {
+        push_row(text, &marked, *row)?;
+    }
+    Ok(())
+}
+
+/// Appends how often a pattern was there and was played, and how urgent it is.
+fn push_uses(text: &mut Vec<u8>, entry: &Entry) -> Result<(), AllocError>
+    ensures { OnOk result (text.new.items ≡ text.old.items ++ uses_text entry.now) }
+{
+    text.extend_from_slice(b" there ")?;
+    push_number(text, entry.there)?;
+    text.extend_from_slice(b" played ")?;
+    push_number(text, entry.played)?;
+    text.extend_from_slice(b" urgency ")?;
+    push_percent(text, entry)
+}
+
+/// Appends the line of a pattern.
+fn push_caption(text: &mut Vec<u8>, rank: u64, entry: &Entry) -> Result<(), AllocError>
+    ensures { OnOk result (text.new.items ≡ text.old.items ++ caption_text rank entry.now) }
+{
+    push_number(text, rank)?;
+    text.push(b' ')?;
+    push_word(text, entry.shape)?;
+    push_uses(text, entry)?;
+    push_first(text, entry.first)?;
+    text.push(b'\n')?;
+    Ok(())
+}
+
+/// Appends a pattern with its rank: its line, its board, and an empty line.
+fn push_figure(text: &mut Vec<u8>, rank: u64, entry: &Entry) -> Result<(), AllocError>
+    ensures { OnOk result (text.new.items ≡ text.old.items ++ figure_text rank entry.now) }
+{
+    push_caption(text, rank, entry)?;
+    push_board(text, entry.shape.word())?;
+    text.push(b'\n')?;
+    Ok(())
+}
+
+/// The text of chosen patterns for a terminal, the first with rank 1. It takes memory for the text.
+///
+/// # Errors
+///
+/// `AllocError` where memory was refused.
+pub fn plain_text(alloc: Global, chosen: &[Entry]) -> Result<Vec<u8>, AllocError>
+    ensures { IfOk result (λ text. text.items ≡ plain_text chosen.now) }
+{
+    let mut text = Vec::new(alloc);
+    let mut rank = 1;
+    for entry in chosen {
+        push_figure(&mut text, rank, entry)?;
+        rank += 1;
+    }
+    Ok(text)
+}

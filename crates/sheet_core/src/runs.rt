@@ -1,0 +1,52 @@
+//! From a reader to a writer: a dictionary's sheet.
+ghost use Rattle.std.specs.Prelude.{OnOk, IfOk, IfErr};
+ghost use Rattle.engine_core.specs.Finds.{IsFindFault};
+ghost use Rattle.engine_core.specs.Runs.{Wrote, IsRunFault};
+ghost use Rattle.sheet_core.specs.Runs.{IsSheetText};
+
+use crate::asked::Asked;
+use crate::sheets::sheet_text;
+use engine_core::{RunFault, read_input, write_output};
+use shape_dict::Dictionary;
+use std::alloc::Global;
+use std::io::{Read, Write};
+
+/// The sheet of the dictionary whose text the input is.
+fn sheet_of(alloc: Global, asked: Asked, input: &[u8]) -> Result<Vec<u8>, RunFault>
+    ensures text { IfOk result (λ text. IsSheetText asked input.now text.items) }
+    ensures fault { IfErr result (IsFindFault input.now) }
+{
+    let dictionary = match Dictionary::read(alloc, input) {
+        Ok(dictionary) => dictionary,
+        Err(fault) => return Err(RunFault::Dict { n: 1, fault }),
+    };
+    match sheet_text(alloc, asked, &dictionary) {
+        Ok(text) => Ok(text),
+        Err(_) => Err(RunFault::Memory),
+    }
+}
+
+/// Reads one dictionary, in any of the three texts, and writes its sheet: the patterns that are asked for, as a page or as
+/// text for a terminal. It takes memory for the input, the dictionary, the patterns that qualify, and the sheet.
+///
+/// # Errors
+///
+/// `Dict` with 1 and the first fault of the text (X1 to X6, X8), `Read` where the reader failed, `Memory` where memory for
+/// the input or the sheet was refused: nothing is written then. `Write` where the writer failed: exactly that number of
+/// bytes of the sheet is out.
+pub fn run_sheet<R: Read, W: Write>(
+    alloc: Global,
+    asked: Asked,
+    reader: &mut R,
+    writer: &mut W,
+) -> Result<(), RunFault>
+    ensures done { OnOk result (Wrote (IsSheetText asked) (R.remaining reader.old)
+        (W.contents writer.old) (W.contents writer.new)) }
+    ensures fault { IfErr result (IsRunFault (IsSheetText asked) IsFindFault
+        (R.remaining reader.old) (W.contents writer.old) (W.contents writer.new)) }
+{
+    let input = read_input(alloc, reader)?;
+    let sheet = sheet_of(alloc, asked, &input)?;
+    write_output(writer, &sheet)?;
+    Ok(())
+}
