@@ -1,9 +1,9 @@
 -- Rows by rising numbers.
-use Rattle.std.proofs.Common.{◌≡◌, ℕ, ◌+◌, ◌<◌, ◌≤◌, List, length, get_or, Option, Some, None, refl, ap, sym, subst, ◌∙◌, arith, Contains, ⊎_elim}
+use Rattle.std.proofs.Common.{◌≡◌, ℕ, ◌+◌, ◌<◌, ◌≤◌, List, length, Option, Some, None, refl, ap, sym, ◌∙◌, arith, Contains, ⊎_elim}
 use Rattle.std.proofs.lemmas.Bool.{cases_lt}
 use Rattle.std.proofs.lemmas.List.{get_or_default}
 use Rattle.share_core.specs.declared.rows.Row.{Row}
-use Rattle.share_core.specs.Rows.{row_at, row_of, blank, HasNoRow, AreOfNumbers, IsIndexed}
+use Rattle.share_core.specs.Rows.{row_at, blank, HasNoRow, AreOfNumbers, IsIndexed}
 use Rattle.share_core.specs.Checking.{IsLeastFrom}
 use Rattle.share_core.proofs.Found.{found_row}
 use Rattle.share_core.proofs.Few.{number_within}

@@ -1,5 +1,5 @@
 -- How many rows are still to come.
-use Rattle.std.proofs.Common.{◌≡◌, ℕ, ◌+◌, ◌<◌, ◌≤◌, true, false, cond, zero, suc, List, [], ◌∷◌, length, nat_le, Some, refl, ap, sym, subst, ◌∙◌, arith, Contains, ⊎_elim}
+use Rattle.std.proofs.Common.{◌≡◌, ℕ, ◌+◌, ◌<◌, ◌≤◌, cond, zero, suc, List, [], ◌∷◌, length, nat_le, ap, sym, subst, arith, Contains, ⊎_elim}
 use Rattle.std.specs.Prelude.{count_by}
 use Rattle.std.proofs.lemmas.Bool.{cases_lt, le-leb, lt-leb}
 use Rattle.tally_core.proofs.DoubleCounting.{count-cons}

@@ -1,4 +1,4 @@
-use Rattle.std.proofs.Common.{◌+◌, ◌≤◌, ◌<◌, Some, None, refl, ap, sym, subst}
+use Rattle.std.proofs.Common.{◌+◌, ◌<◌, Some, None, refl, ap, sym, subst}
 use Rattle.share_core.specs.Checking.{IsLeastFrom}
 use Rattle.share_core.specs.ShareRows.{RowsFrom, IsNextRow}
 use Rattle.share_core.proofs.Confirmed.{row_among}
