@@ -25,6 +25,7 @@ pub struct Worked {
 impl Worked {
     /// Nothing was counted yet. It takes no memory.
     pub fn begin(alloc: Global, worker: usize, kinds: Kinds) -> Worked
+        ensures worker { result.share.worker ≡ worker }
         ensures kinds { result.share.kinds ≡ kinds }
         ensures games { result.share.games ≡ [] }
         ensures worked { (bytes : List ℕ) → IsWorked bytes kinds result.share }
@@ -46,6 +47,7 @@ impl Worked {
     )
         requires { IsPassOf (2 ^ O.exponent table.now.order) table.now pass.old }
         ensures pass { IsPassOf (2 ^ O.exponent table.now.order) table.now pass.new }
+        ensures worker { self.new.share.worker ≡ self.old.share.worker }
         ensures worked { (kinds : Kinds) → IsWorked job.now.bytes kinds self.old.share
             → IsWorked job.now.bytes kinds self.new.share }
         ensures refused { (kinds : Kinds) → IsWorked job.now.bytes kinds self.old.share
@@ -78,6 +80,7 @@ pub fn work<R: Wait, O: ProbeOrder, G: Gate>(
 ) -> Worked
     requires { IsPassOf (2 ^ O.exponent table.now.order) table.now pass.old }
     ensures pass { IsPassOf (2 ^ O.exponent table.now.order) table.now pass.new }
+    ensures worker { result.share.worker ≡ worker }
     ensures worked { IsWorked desk.old.bytes kinds result.share }
     ensures refused { IsRefused desk.old.bytes kinds result.refused }
     ensures drawn { HasDrawn desk.old result desk.new }

@@ -18,6 +18,7 @@ loop-preserved-in-Some-Job g c =
     let worked = subst (λ (bs : List ℕ). IsWorked bs c.args.kinds c.loop.worked.share) (sym bytes) h.worked in
     record {
       pass = c.count.ensures.pass;
+      worker = c.count.ensures.worker ∙ h.worker;
       worked = subst (λ (bs : List ℕ). IsWorked bs c.args.kinds c.count.new.self.share) bytes (c.count.ensures.worked c.args.kinds worked);
       refused = subst (λ (bs : List ℕ). IsRefused bs c.args.kinds c.count.new.self.refused) bytes
           (c.count.ensures.refused c.args.kinds worked (subst (λ (bs : List ℕ). IsRefused bs c.args.kinds c.loop.worked.refused) (sym bytes) h.refused));

@@ -8,6 +8,7 @@ abbrev pub invariant-loop : goal.invariant-loop
 invariant-loop g l =
     record {
       pass : IsPassOf (2 ^ g.O.ProbeOrder.exponent l.table.order) l.table l.pass;
+      worker : l.worked.share.worker ≡ l.fn.worker;
       worked : IsWorked l.fn.desk.bytes l.fn.kinds l.worked.share;
       refused : IsRefused l.fn.desk.bytes l.fn.kinds l.worked.refused;
       drawn : HasDrawn l.fn.desk l.worked l.desk;
