@@ -1,11 +1,7 @@
 -- What the words of the command line ask for.
-use Rattle.std.specs.Prelude.{◌≡◌, ◌⊎◌, ◌<◌, ◌^◌, ℕ, List, Some, None, true, codes}
+use Rattle.std.specs.Prelude.{◌≡◌, ℕ, List, Some, None, codes}
 use Rattle.std.specs.Str.Parse.{IsNumeral, digits_value, without_leading_plus}
-use Rattle.clap.specs.Words.{Row, first_of, one_of, matches_of, takes}
-use Rattle.clap.specs.declared.error.kind.ErrorKind.{ErrorKind}
-use Rattle.clap.specs.declared.error.kind.ErrorKind.TheVariants as error
-use Rattle.engine_core.specs.declared.faults.RunFault.{RunFault}
-use Rattle.engine_core.specs.declared.faults.RunFault.TheVariants as fault
+use Rattle.clap.specs.Words.{Row, first_of, one_of, matches_of}
 use Rattle.shape_core.specs.declared.words.Kind.{Kind}
 use Rattle.shape_core.specs.declared.words.Kind.TheVariants as kind
 use Rattle.sheet_core.specs.declared.asked.Asked.{Asked}
@@ -56,30 +52,6 @@ pub record IsAsked (rows : List Row) (asked : Asked) : Type 0 where
   pub least : IsNumberOf (codes "least") rows asked.least
   pub most : IsNumberOf (codes "most") rows asked.most
   pub form : IsFormOf rows asked.form
-
--- the value of this option is no number below 2 ^ bits
-abbrev pub HasNoNumber : ℕ → List ℕ → List Row → Type 0
-HasNoNumber bits id rows = (number : ℕ) → number < 2 ^ bits → IsNumberOf id rows number → ⊥
-
--- the value of `by` is the name of no order
-abbrev pub HasNoOrder : List Row → Type 0
-HasNoOrder rows = (found : Order) → IsOrderOf rows found → ⊥
-
--- the values of the options ask for no sheet
-abbrev pub HasNoSheet : List Row → Type 0
-HasNoSheet rows = HasNoOrder rows ⊎ HasNoNumber 64 (codes "least") rows ⊎ HasNoNumber 16 (codes "most") rows
-
--- a refused line is no want of memory, and a want of memory is called so
-abbrev pub IsRefusal : ErrorKind → RunFault → Type 0
-IsRefusal why fault.Usage = why ≡ error.OutOfMemory → ⊥
-IsRefusal why fault.Memory = Unit {0}
-IsRefusal why _ = ⊥
-
--- what is wrong with the words: where `clap` takes them, their values ask for no sheet, or memory was wanting
-abbrev pub IsWordsFault : List (List ℕ) → RunFault → Type 0
-IsWordsFault words fault.Usage = takes program_app words ≡ true → HasNoSheet (rows_for words)
-IsWordsFault words fault.Memory = Unit {0}
-IsWordsFault words _ = ⊥
 
 -- the task that the values of the options ask for
 abbrev pub IsTaskOf : List Row → Task → Type 0

@@ -1,12 +1,11 @@
 //! The words of the command line, and what they ask for.
-ghost use Rattle.std.specs.Prelude.{◌≡◌, ◌≢◌, codes, map, string_bytes, IfOk, IfErr};
+ghost use Rattle.std.specs.Prelude.{◌≡◌, ◌≢◌, ◌⊎◌, codes, map, string_bytes, IfOk, IfErr};
 ghost use Rattle.std.specs.Prelude.{IfSome, IfNone};
-ghost use Rattle.clap.specs.Words.{found_of, rows_of, kind_of as error_kind};
+ghost use Rattle.clap.specs.Words.{found_of, rows_of};
 ghost use Rattle.shape_sheet.specs.Words.{IsNumberOf, IsOrderOf, IsKindOf, IsFormOf, IsTaskOf};
 ghost use Rattle.shape_sheet.specs.Words.{IsAsked, IsHelp, name_of, rows_for};
-ghost use Rattle.shape_sheet.specs.Words.{HasNoNumber, HasNoOrder, HasNoSheet};
-ghost use Rattle.shape_sheet.specs.Words.{IsRefusal, IsWordsFault};
 ghost use Rattle.sheet_core.specs.declared.orders.Order.{Order};
+ghost use Rattle.engine_core.specs.declared.faults.RunFault.TheVariants as fault;
 
 use crate::commands::program;
 use clap::error::ErrorKind;
@@ -27,8 +26,7 @@ pub enum Task {
 
 /// How often a pattern is to have been there, where the words say a number.
 fn least_of(matches: &ArgMatches<'_>) -> Option<u64>
-    ensures found { IfSome result (IsNumberOf (codes "least") (rows_of (found_of matches.now))) }
-    ensures none { IfNone result (HasNoNumber 64 (codes "least") (rows_of (found_of matches.now))) }
+    ensures { IfSome result (IsNumberOf (codes "least") (rows_of (found_of matches.now))) }
 {
     let number = matches.get_one::<u64>("least")?;
     Some(number)
@@ -36,8 +34,7 @@ fn least_of(matches: &ArgMatches<'_>) -> Option<u64>
 
 /// How many patterns are to be shown at most, where the words say a number.
 fn most_of(matches: &ArgMatches<'_>) -> Option<u16>
-    ensures found { IfSome result (IsNumberOf (codes "most") (rows_of (found_of matches.now))) }
-    ensures none { IfNone result (HasNoNumber 16 (codes "most") (rows_of (found_of matches.now))) }
+    ensures { IfSome result (IsNumberOf (codes "most") (rows_of (found_of matches.now))) }
 {
     let number = matches.get_one::<u16>("most")?;
     Some(number)
@@ -58,12 +55,9 @@ fn order_named(name: &str) -> Option<Order>
 
 /// The order, where the words name one.
 fn order_of(matches: &ArgMatches<'_>) -> Option<Order>
-    ensures found { IfSome result (IsOrderOf (rows_of (found_of matches.now))) }
-    ensures none { IfNone result (HasNoOrder (rows_of (found_of matches.now))) }
+    ensures { IfSome result (IsOrderOf (rows_of (found_of matches.now))) }
 {
-    let name = matches.get_str("by")?;
-    let order = order_named(name)?;
-    Some(order)
+    order_named(matches.get_str("by")?)
 }
 
 /// The kind of the patterns.
@@ -90,8 +84,7 @@ fn form_of(matches: &ArgMatches<'_>) -> Form
 
 /// The sheet that was asked for, where the words name an order.
 fn sheet_of(matches: &ArgMatches<'_>) -> Option<Asked>
-    ensures asked { IfSome result (IsAsked (rows_of (found_of matches.now))) }
-    ensures none { IfNone result (HasNoSheet (rows_of (found_of matches.now))) }
+    ensures { IfSome result (IsAsked (rows_of (found_of matches.now))) }
 {
     let order = order_of(matches)?;
     let least = least_of(matches)?;
@@ -108,7 +101,7 @@ fn sheet_of(matches: &ArgMatches<'_>) -> Option<Asked>
 /// What a refused line asks for: a text of help or version, or nothing that the program knows.
 fn refused(alloc: Global, error: &Error) -> Result<Task, RunFault>
     ensures task { IfOk result IsHelp }
-    ensures fault { IfErr result (IsRefusal (error_kind error.now)) }
+    ensures fault { IfErr result (λ found. (found ≡ fault.Usage) ⊎ (found ≡ fault.Memory)) }
 {
     match error.kind() {
         ErrorKind::DisplayHelp | ErrorKind::DisplayVersion => match error.to_string(alloc) {
@@ -129,7 +122,7 @@ fn refused(alloc: Global, error: &Error) -> Result<Task, RunFault>
 /// refused.
 pub fn read_words(alloc: Global, words: &[String]) -> Result<Task, RunFault>
     ensures task { IfOk result (IsTaskOf (rows_for (map string_bytes words.now))) }
-    ensures fault { IfErr result (IsWordsFault (map string_bytes words.now)) }
+    ensures fault { IfErr result (λ found. (found ≡ fault.Usage) ⊎ (found ≡ fault.Memory)) }
 {
     let Ok(command) = program(alloc) else {
         return Err(RunFault::Memory);

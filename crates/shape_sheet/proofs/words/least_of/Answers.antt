@@ -1,17 +1,11 @@
 use Rattle.std.proofs.Common.{sym, codes}
 use Rattle.clap.specs.Words.{found_of, one_text, rows_of}
 use Rattle.clap.proofs.WalkLemmas.{one_text-rows}
-use Rattle.shape_sheet.proofs.Asked.{number_given, no_number}
+use Rattle.shape_sheet.proofs.Asked.{number_given}
 use Rattle.shape_sheet.proofs.words.least_of.Goals as goal
 
-pub returns-clause-found : goal.returns-clause-found
-returns-clause-found c =
+pub returns : goal.returns
+returns c =
     let found = found_of c.args.matches.now in
     number_given 64 (codes "least") (rows_of found) c.in_ok-number.number (one_text found (codes "least"))
     (sym (one_text-rows found (codes "least"))) c.in_ok-number.ensures.none (λ t is. (c.in_ok-number.ensures.value t is).0)
-
-pub returns-in_err-number-clause-none : goal.returns-in_err-number-clause-none
-returns-in_err-number-clause-none c =
-    let found = found_of c.args.matches.now in
-    no_number 64 (codes "least") (rows_of found) (one_text found (codes "least")) (sym (one_text-rows found (codes "least")))
-    (λ t is. (c.in_err-number.ensures.value t is).1.0)
