@@ -97,16 +97,16 @@ among n sorted e k within is inside = (k, omega (arith, length-take n sorted), g
 beyond : (o : Order) (n : ℕ) (sorted : List Entry) (e : Entry) → AllPairs (GoesBefore o) sorted → Contains sorted e →
     Contains (take n sorted) e ⊎ ((length (take n sorted) ≡ n) × All (λ (one : Entry). GoesBefore o one e) (take n sorted))
 beyond o n sorted e pairs (k, within, is) = elim (cases_lt k n) [
-    | inl inside ↦ inl (among n sorted e k within is inside)
-    | inr after ↦ inr (
-      omega (arith, length-take n sorted),
-      λ i d h.
-      let place : i < n = omega (arith, length-take n sorted) in
-      let kept : get_or (take n sorted) i d ≡ get_or sorted i d = get_or-take n sorted i d place in
-      let pair = pairs i k e (omega arith) within in
-      rw kept (subst (GoesBefore o (get_or sorted i d)) is (subst (λ (x : Entry). GoesBefore o x (get_or sorted k e)) (get_or_default sorted i e d (omega arith)) pair)),
-    )
-  ]
+  | inl inside ↦ inl (among n sorted e k within is inside)
+  | inr after ↦ inr (
+    omega (arith, length-take n sorted),
+    λ i d h.
+        let place : i < n = omega (arith, length-take n sorted) in
+        let kept : get_or (take n sorted) i d ≡ get_or sorted i d = get_or-take n sorted i d place in
+        let pair = pairs i k e (omega arith) within in
+        rw kept (subst (GoesBefore o (get_or sorted i d)) is (subst (λ (x : Entry). GoesBefore o x (get_or sorted k e)) (get_or_default sorted i e d (omega arith)) pair)),
+  )
+]
 
 pub choice_made : (o : Order) (k : Kind) (least most : ℕ) (entries sorted chosen : List Entry) → IsStrictlyIncreasing (map (λ entry. entry.shape) entries) →
     IsPermutation (filter (qualifies k least) entries) sorted → IsSortedBy (goes_before o) sorted → chosen ≡ take most sorted →

@@ -30,4 +30,4 @@ pub record IsChoice (order : Order) (kind : Kind) (least most : ℕ) (entries ch
   pub ordered : AllPairs (GoesBefore order) chosen
   pub few : length chosen ≤ most
   pub others : (entry : Entry) → Contains entries entry → Qualifies kind least entry →
-    Contains chosen entry ⊎ ((length chosen ≡ most) × All (λ (one : Entry). GoesBefore order one entry) chosen)
+      Contains chosen entry ⊎ ((length chosen ≡ most) × All (λ (one : Entry). GoesBefore order one entry) chosen)
