@@ -1,6 +1,7 @@
 //! The parts of a count that are timed.
-ghost use Rattle.std.specs.Prelude.{◌^◌, IfOk};
+ghost use Rattle.std.specs.Prelude.{◌≡◌, ◌^◌, [], IfOk};
 ghost use Rattle.slot_table.specs.Passes.{IsPassOf};
+ghost use Rattle.share_bench.specs.Timed.{AreAllGames, actions_of, HaveMoves, IsShareOfAll};
 
 use crate::faults::BenchFault;
 use go_board::Board;
@@ -13,8 +14,12 @@ use slot_table::{Pass, SlotTable};
 use std::alloc::Global;
 use tally_core::Walk;
 
-/// The games of a collection, in their order.
-pub fn read_all<'a>(alloc: Global, input: &'a [u8]) -> Result<Vec<Job<'a>>, BenchFault> {
+/// The games of a collection, in their order. It takes memory for their records.
+///
+/// `BenchFault::Count` comes with the fault of reading: S1 to S5, or want of memory.
+pub fn read_all<'a>(alloc: Global, input: &'a [u8]) -> Result<Vec<Job<'a>>, BenchFault>
+    ensures { IfOk result (λ jobs. AreAllGames input.now jobs.items) }
+{
     let mut games = Games::new(input)?;
     let mut jobs = Vec::new(alloc);
     while let Some(job) = games.next_job(alloc)? {
@@ -25,29 +30,48 @@ pub fn read_all<'a>(alloc: Global, input: &'a [u8]) -> Result<Vec<Job<'a>>, Benc
     Ok(jobs)
 }
 
-/// Plays all games on boards, without a look at any pattern. The answer is how many actions they have.
-pub fn replay_all(alloc: Global, jobs: &[Job<'_>]) -> Result<usize, BenchFault> {
+/// Plays all games on boards, without a look at any pattern. The answer is how many actions they have. It takes memory
+/// for one board at a time.
+///
+/// `BenchFault::Count` comes with `Memory` where memory was refused, and with `Overflow` where the actions pass 2^64 - 1.
+pub fn replay_all(alloc: Global, jobs: &[Job<'_>]) -> Result<usize, BenchFault>
+    ensures { IfOk result (λ actions. actions ≡ actions_of jobs.now) }
+{
     let mut actions = 0usize;
     for job in jobs {
         let record = job.record();
         let mut board = Board::new(alloc, record.size())?;
         replay(&mut board, record.actions());
-        actions = actions.saturating_add(record.actions().len());
+        let Some(more) = actions.checked_add(record.actions().len()) else {
+            return Err(BenchFault::Count(HarvestFault::Overflow));
+        };
+        actions = more;
     }
     Ok(actions)
 }
 
-/// Walks all games. The answer is how many moves onto empty points they have.
-pub fn walk_all(alloc: Global, kinds: Kinds, jobs: &[Job<'_>]) -> Result<u64, BenchFault> {
+/// Walks all games. The answer is how many moves onto empty points they have. It takes memory for one game's patterns.
+///
+/// `BenchFault::Count` comes with `Memory` where memory was refused, and with `Overflow` where a game has more actions than
+/// any input or the moves pass 2^64 - 1.
+pub fn walk_all(alloc: Global, kinds: Kinds, jobs: &[Job<'_>]) -> Result<u64, BenchFault>
+    ensures { IfOk result (HaveMoves jobs.now) }
+{
     let mut walk = Walk::begin(alloc, kinds);
     let mut moves = 0u64;
     for job in jobs {
-        moves = moves.saturating_add(walk.walk(job.record())?);
+        let of_game = walk.walk(job.record())?;
+        let Some(more) = moves.checked_add(of_game) else {
+            return Err(BenchFault::Count(HarvestFault::Overflow));
+        };
+        moves = more;
     }
     Ok(moves)
 }
 
-/// Counts all games into one share.
+/// Counts all games into one share. It takes memory for the share.
+///
+/// `BenchFault::Count` comes with the fault of adding: F1, F4, F8, or want of memory. The pass must be of the table.
 pub fn share_all<O: ProbeOrder>(
     alloc: Global,
     kinds: Kinds,
@@ -56,6 +80,8 @@ pub fn share_all<O: ProbeOrder>(
     jobs: &[Job<'_>],
 ) -> Result<Share, BenchFault>
     requires { IsPassOf (2 ^ O.exponent table.now.order) table.now pass.old }
+    ensures pass { IsPassOf (2 ^ O.exponent table.now.order) table.now pass.new }
+    ensures share { IfOk result (IsShareOfAll kinds jobs.now) }
 {
     let mut share = Share::begin(alloc, 0, kinds);
     for job in jobs {
@@ -64,12 +90,16 @@ pub fn share_all<O: ProbeOrder>(
     Ok(share)
 }
 
-/// A new table with this order, and its pass.
+/// A new table with this order, and its pass, which has seen nothing. It takes 16 bytes a slot.
+///
+/// `BenchFault::Count` comes with `Memory` where memory was refused.
 pub fn new_table<O: ProbeOrder>(
     alloc: Global,
     order: O,
 ) -> Result<(SlotTable<O>, Pass<O>), BenchFault>
-    ensures { IfOk result (λ new. IsPassOf (2 ^ O.exponent new.0.order) new.0 new.1) }
+    ensures pass { IfOk result (λ new. IsPassOf (2 ^ O.exponent order) new.0 new.1) }
+    ensures order { IfOk result (λ new. new.0.order ≡ order) }
+    ensures seen { IfOk result (λ new. new.1.seen ≡ []) }
 {
     match SlotTable::new(alloc, order) {
         Ok(new) => Ok(new),
