@@ -1,5 +1,5 @@
 -- What a step of a call makes of words and history: whatever it found, both still fit.
-use Rattle.std.proofs.Common.{◌≡◌, ◌≢◌, ℕ, ◌+◌, ◌*◌, ◌^◌, ◌<◌, ◌≤◌, ◌==◌, Bool, true, false, List, [], ◌∷◌, ◌++◌, length, slice_set, slice_index_or, Option, Some, None, refl, sym, ◌∙◌, ap, subst, inl, inr, arith}
+use Rattle.std.proofs.Common.{◌≡◌, ◌≢◌, ℕ, ◌+◌, ◌^◌, ◌<◌, ◌≤◌, ◌==◌, Bool, true, false, List, [], ◌∷◌, ◌++◌, length, slice_set, slice_index_or, Option, Some, None, refl, sym, ◌∙◌, ap, subst, inl, inr, arith}
 use Rattle.std.proofs.lemmas.Bool.{cases_eq, eqb-true, eqb-false}
 use prog.Atomic.{either}
 use Rattle.std.proofs.lemmas.List.{get_or-set_same, get_or-set_other, length-set, set-get_or, append-nil}
@@ -14,20 +14,20 @@ use Rattle.probe_core.specs.Sequential.{Table, Step, IsNumber, IsFree, IsAbsent,
 use Rattle.probe_core.specs.History.{changed, word_of}
 use Rattle.slot_table.specs.declared.entries.Happened.{Happened}
 use Rattle.slot_table.specs.declared.entries.Happened.TheVariants as entry
-use Rattle.slot_table.specs.History.{content_of, least_at, IsLegal, Begins}
+use Rattle.slot_table.specs.History.{content_of, IsLegal, Begins}
 use Rattle.slot_table.specs.Rule.{AreSlotWords, AreKeyWords, IsMarkWord, AreMarkWords}
 use Rattle.slot_table.specs.Telling.{entries_of, PassedOthers, MaySwap}
 use Rattle.slot_table.proofs.Histories.{length-content, content_snoc, legal_snoc, least_from-append, number_stays}
 use Rattle.slot_table.proofs.Placings.{nowhere_at_free, nowhere_at_end, taken_at_end}
 use Rattle.slot_table.proofs.Winning.{placed_by_win}
 
--- what the rule says of the words and the longest history
-pub record Sound (n : ℕ) (place : ℕ → ℕ → ℕ) (words : List ℕ) (log : List Happened) : Type 0 where
+-- what the rule says of the words of slots, those of marks and the longest history
+pub record Sound (n : ℕ) (place : ℕ → ℕ → ℕ) (words games : List ℕ) (log : List Happened) : Type 0 where
   pub legal : IsLegal n log
-  pub whole : length words ≡ 2 * n
+  pub whole : (length words ≡ n) × (length games ≡ n)
   pub slots : AreSlotWords n words (content_of n log)
   pub small : AreKeyWords n words
-  pub marks : AreMarkWords n words log
+  pub marks : AreMarkWords n games log
   pub placed : IsPlaced n place words
 
 -- words and numbers
@@ -105,23 +105,23 @@ passes_one n place log key i inside taken other passed j h =
       | inr apart ↦ passed j (omega (arith, apart, h))
     ]
 
-module _ (n : ℕ) (place : ℕ → ℕ → ℕ) (words : List ℕ) (log : List Happened) (sound : Sound n place words log) where
-  idle : Sound n place words (log ++ [])
-  idle = subst (λ (t : List Happened). Sound n place words t) (sym (append-nil log)) sound
+module _ (n : ℕ) (place : ℕ → ℕ → ℕ) (words games : List ℕ) (log : List Happened) (sound : Sound n place words games log) where
+  idle : Sound n place words games (log ++ [])
+  idle = subst (λ (t : List Happened). Sound n place words games t) (sym (append-nil log)) sound
 
   -- a call whose answer leaves the table as it is
   stays : (c : Call) (a : Answer) → key_of c < 2 ^ 51 → Step (content_of n log) c a (changed (content_of n log) c a) → changed (content_of n log) c a ≡ content_of n log
-      → Sound n place words (log ++ entry.Asked c a ∷ [])
+      → Sound n place words games (log ++ entry.Asked c a ∷ [])
   stays c a small step same = record {
     legal = legal_snoc n log c a small sound.legal step;
     whole = sound.whole;
     slots = subst (λ (t : Table). AreSlotWords n words t) (sym (content_snoc n log c a ∙ same)) sound.slots;
     small = sound.small;
-    marks = λ p h. subst (λ (o : Option ℕ). IsMarkWord o (slice_index_or words (n + p) 0)) (sym (least_from-append None p log (entry.Asked c a ∷ []))) (sound.marks p h);
+    marks = λ p h. subst (λ (o : Option ℕ). IsMarkWord o (slice_index_or games p 0)) (sym (least_from-append None p log (entry.Asked c a ∷ []))) (sound.marks p h);
     placed = sound.placed;
   }
 
-  found : (c : Call) (p : ℕ) → key_of c < 2 ^ 51 → p < n → slice_index_or words p 0 ≡ code_of (key_of c) → Sound n place words (log ++ entry.Asked c (answer.Number p) ∷ [])
+  found : (c : Call) (p : ℕ) → key_of c < 2 ^ 51 → p < n → slice_index_or words p 0 ≡ code_of (key_of c) → Sound n place words games (log ++ entry.Asked c (answer.Number p) ∷ [])
   found (call.Enter key) p small h e =
       let number : IsNumber (content_of n log) key p = is_number n words log sound.slots key p h e
       in let same : slice_set (content_of n log) p (Some key) ≡ content_of n log =
@@ -132,7 +132,7 @@ module _ (n : ℕ) (place : ℕ → ℕ → ℕ) (words : List ℕ) (log : List 
       in stays (call.LookUp key) (answer.Number p) small (number, refl) refl
 
   absent : (key i : ℕ) → key < 2 ^ 51 → IsOrder n (place key) → i < n → PassedOthers (place key) (content_of n log) key i
-      → slice_index_or words (place key i) 0 ≡ 0 → Sound n place words (log ++ entry.Asked (call.LookUp key) answer.Absent ∷ [])
+      → slice_index_or words (place key i) 0 ≡ 0 → Sound n place words games (log ++ entry.Asked (call.LookUp key) answer.Absent ∷ [])
   absent key i small order h passed e =
       let held : HoldOthers (place key) words key i = held_words n words log sound.slots (place key) key i passed
       in let nowhere : IsNowhere n words key = nowhere_at_free n place words key i order sound.placed held e
@@ -140,7 +140,7 @@ module _ (n : ℕ) (place : ℕ → ℕ → ℕ) (words : List ℕ) (log : List 
       (is_absent n words log sound.slots key nowhere, (place key i, is_free n words log sound.slots (place key i) (order.within i h) e), refl) refl
 
   full : (c : Call) → key_of c < 2 ^ 51 → IsOrder n (place (key_of c)) → PassedOthers (place (key_of c)) (content_of n log) (key_of c) n
-      → Sound n place words (log ++ entry.Asked c answer.Full ∷ [])
+      → Sound n place words games (log ++ entry.Asked c answer.Full ∷ [])
   full (call.Enter key) small order passed =
       let held : HoldOthers (place key) words key n = held_words n words log sound.slots (place key) key n passed
       in stays (call.Enter key) answer.Full small
@@ -153,7 +153,7 @@ module _ (n : ℕ) (place : ℕ → ℕ → ℕ) (words : List ℕ) (log : List 
   -- a swap that wins
   won : (key i : ℕ) → IsOrder n (place key) → i < n → key < 2 ^ 51 → PassedOthers (place key) (content_of n log) key i
       → slice_index_or words (place key i) 0 ≡ 0
-      → Sound n place (slice_set words (place key i) (code_of key)) (log ++ entry.Asked (call.Enter key) (answer.Number (place key i)) ∷ [])
+      → Sound n place (slice_set words (place key i) (code_of key)) games (log ++ entry.Asked (call.Enter key) (answer.Number (place key i)) ∷ [])
   won key i order h small passed e =
       let p : ℕ = place key i
       in let table : Table = content_of n log
@@ -161,12 +161,12 @@ module _ (n : ℕ) (place : ℕ → ℕ → ℕ) (words : List ℕ) (log : List 
       in let held : HoldOthers (place key) words key i = held_words n words log sound.slots (place key) key i passed
       in let absent_is : IsAbsent table key = is_absent n words log sound.slots key (nowhere_at_free n place words key i order sound.placed held e)
       in let l : length table ≡ n = length-content n log
-      in let whole : length words ≡ 2 * n = sound.whole
+      in let whole : length words ≡ n = sound.whole.0
       in let there : p < length words = omega (arith, inside, whole)
       in let there' : p < length table = omega (arith, inside, l)
       in record {
         legal = legal_snoc n log (call.Enter key) (answer.Number p) small sound.legal (inr (absent_is, is_free n words log sound.slots p inside e, refl));
-        whole = length-set words p (code_of key) ∙ whole;
+        whole = (length-set words p (code_of key) ∙ whole, sound.whole.1);
         slots = subst (λ (t : Table). AreSlotWords n (slice_set words p (code_of key)) t) (sym (content_snoc n log (call.Enter key) (answer.Number p)))
             (λ q k. elim (cases_eq q p) [
               | inl same ↦
@@ -185,10 +185,7 @@ module _ (n : ℕ) (place : ℕ → ℕ → ℕ) (words : List ℕ) (log : List 
               in omega (arith, is, sound.small q k)
         ];
         marks = λ q k.
-            let apart : n + q ≢ p = λ same. omega (arith, same, inside)
-            in let is : slice_index_or (slice_set words p (code_of key)) (n + q) 0 ≡ slice_index_or words (n + q) 0 = get_or-set_other words p (n + q) (code_of key) 0 apart
-            in subst (λ (o : Option ℕ). IsMarkWord o (slice_index_or (slice_set words p (code_of key)) (n + q) 0)) (sym (least_from-append None q log (entry.Asked (call.Enter key) (answer.Number p) ∷ [])))
-            (subst (λ (x : ℕ). IsMarkWord (least_at q log) x) (sym is) (sound.marks q k));
+            subst (λ (o : Option ℕ). IsMarkWord o (slice_index_or games q 0)) (sym (least_from-append None q log (entry.Asked (call.Enter key) (answer.Number p) ∷ []))) (sound.marks q k);
         placed = placed_by_win n place words key i order sound.placed h (omega (arith, whole)) held e;
       }
 
@@ -206,7 +203,7 @@ module _ (n : ℕ) (place : ℕ → ℕ → ℕ) (words : List ℕ) (log : List 
 
   enter_loads : (key i : ℕ) → key < 2 ^ 51 → IsOrder n (place key) → i < n → PassedOthers (place key) (content_of n log) key i
       → (b c d : Bool) → (slice_index_or words (place key i) 0 == 0) ≡ b → (slice_index_or words (place key i) 0 == code_of key) ≡ c → (i + 1 == n) ≡ d
-      → Sound n place words (log ++ entries_of (call.Enter key) (follows n (record { call = call.Enter key; index = i; swaps = false }) (place key i) (slice_index_or words (place key i) 0)))
+      → Sound n place words games (log ++ entries_of (call.Enter key) (follows n (record { call = call.Enter key; index = i; swaps = false }) (place key i) (slice_index_or words (place key i) 0)))
   enter_loads key i small order h passed true c d e0 e1 e2 = rw e0 idle
   enter_loads key i small order h passed false true d e0 e1 e2 =
       rw (e0, e1) (found (call.Enter key) (place key i) small (order.within i h) (eqb-true _ _ e1))
@@ -216,7 +213,7 @@ module _ (n : ℕ) (place : ℕ → ℕ → ℕ) (words : List ℕ) (log : List 
 
   look_up_loads : (key i : ℕ) → key < 2 ^ 51 → IsOrder n (place key) → i < n → PassedOthers (place key) (content_of n log) key i
       → (b c d : Bool) → (slice_index_or words (place key i) 0 == 0) ≡ b → (slice_index_or words (place key i) 0 == code_of key) ≡ c → (i + 1 == n) ≡ d
-      → Sound n place words (log ++ entries_of (call.LookUp key) (follows n (record { call = call.LookUp key; index = i; swaps = false }) (place key i) (slice_index_or words (place key i) 0)))
+      → Sound n place words games (log ++ entries_of (call.LookUp key) (follows n (record { call = call.LookUp key; index = i; swaps = false }) (place key i) (slice_index_or words (place key i) 0)))
   look_up_loads key i small order h passed true c d e0 e1 e2 = rw e0 (absent key i small order h passed (eqb-true _ _ e0))
   look_up_loads key i small order h passed false true d e0 e1 e2 =
       rw (e0, e1) (found (call.LookUp key) (place key i) small (order.within i h) (eqb-true _ _ e1))
@@ -225,24 +222,24 @@ module _ (n : ℕ) (place : ℕ → ℕ → ℕ) (words : List ℕ) (log : List 
   look_up_loads key i small order h passed false false false e0 e1 e2 = rw (e0, e1, e2) idle
 
   call_loads : (c : Call) (i : ℕ) → key_of c < 2 ^ 51 → IsOrder n (place (key_of c)) → i < n → PassedOthers (place (key_of c)) (content_of n log) (key_of c) i
-      → Sound n place words (log ++ entries_of c (follows n (record { call = c; index = i; swaps = false }) (place (key_of c) i) (slice_index_or words (place (key_of c) i) 0)))
+      → Sound n place words games (log ++ entries_of c (follows n (record { call = c; index = i; swaps = false }) (place (key_of c) i) (slice_index_or words (place (key_of c) i) 0)))
   call_loads (call.Enter key) i small order h passed = enter_loads key i small order h passed _ _ _ refl refl refl
   call_loads (call.LookUp key) i small order h passed = look_up_loads key i small order h passed _ _ _ refl refl refl
 
   -- after a load
   pub loaded : (machine : Machine) → machine.swaps ≡ false → IsOrder n (place (key_of machine.call)) → machine.index < n → key_of machine.call < 2 ^ 51
       → PassedOthers (place (key_of machine.call)) (content_of n log) (key_of machine.call) machine.index
-      → Sound n place words (log ++ entries_of machine.call (follows n machine (place_in place machine) (slice_index_or words (place_in place machine) 0)))
+      → Sound n place words games (log ++ entries_of machine.call (follows n machine (place_in place machine) (slice_index_or words (place_in place machine) 0)))
   loaded machine loads order h small passed =
-      let P : Bool → Type 0 = λ b. Sound n place words (log ++ entries_of machine.call (follows n (record { call = machine.call; index = machine.index; swaps = b }) (place_in place machine) (slice_index_or words (place_in place machine) 0)))
+      let P : Bool → Type 0 = λ b. Sound n place words games (log ++ entries_of machine.call (follows n (record { call = machine.call; index = machine.index; swaps = b }) (place_in place machine) (slice_index_or words (place_in place machine) 0)))
       in subst P (sym loads) (call_loads machine.call machine.index small order h passed)
 
-  unwritten : (p : ℕ) (h : List Happened) → Sound n place words h → Sound n place (slice_set words p (slice_index_or words p 0)) h
-  unwritten p h same = subst (λ (ws : List ℕ). Sound n place ws h) (sym (set-get_or words p 0)) same
+  unwritten : (p : ℕ) (h : List Happened) → Sound n place words games h → Sound n place (slice_set words p (slice_index_or words p 0)) games h
+  unwritten p h same = subst (λ (ws : List ℕ). Sound n place ws games h) (sym (set-get_or words p 0)) same
 
   enter_swaps : (key i : ℕ) → IsOrder n (place key) → i < n → key < 2 ^ 51 → PassedOthers (place key) (content_of n log) key i
       → (b c d : Bool) → (slice_index_or words (place key i) 0 == 0) ≡ b → (slice_index_or words (place key i) 0 == code_of key) ≡ c → (i + 1 == n) ≡ d
-      → Sound n place (slice_set words (place key i) (either (slice_index_or words (place key i) 0 == 0) (code_of key) (slice_index_or words (place key i) 0)))
+      → Sound n place (slice_set words (place key i) (either (slice_index_or words (place key i) 0 == 0) (code_of key) (slice_index_or words (place key i) 0))) games
       (log ++ entries_of (call.Enter key) (follows n (record { call = call.Enter key; index = i; swaps = true }) (place key i) (slice_index_or words (place key i) 0)))
   enter_swaps key i order h small passed true c d e0 e1 e2 = rw e0 (won key i order h small passed (eqb-true _ _ e0))
   enter_swaps key i order h small passed false true d e0 e1 e2 =
@@ -252,7 +249,7 @@ module _ (n : ℕ) (place : ℕ → ℕ → ℕ) (words : List ℕ) (log : List 
   enter_swaps key i order h small passed false false false e0 e1 e2 = rw (e0, e1, e2) (unwritten (place key i) _ idle)
 
   call_swaps : (c : Call) (i : ℕ) → MaySwap c → IsOrder n (place (key_of c)) → i < n → key_of c < 2 ^ 51 → PassedOthers (place (key_of c)) (content_of n log) (key_of c) i
-      → Sound n place (slice_set words (place (key_of c) i) (either (slice_index_or words (place (key_of c) i) 0 == 0) (code_of (key_of c)) (slice_index_or words (place (key_of c) i) 0)))
+      → Sound n place (slice_set words (place (key_of c) i) (either (slice_index_or words (place (key_of c) i) 0 == 0) (code_of (key_of c)) (slice_index_or words (place (key_of c) i) 0))) games
       (log ++ entries_of c (follows n (record { call = c; index = i; swaps = true }) (place (key_of c) i) (slice_index_or words (place (key_of c) i) 0)))
   call_swaps (call.Enter key) i may order h small passed = enter_swaps key i order h small passed _ _ _ refl refl refl
   call_swaps (call.LookUp key) i may order h small passed = absurd may
@@ -260,10 +257,10 @@ module _ (n : ℕ) (place : ℕ → ℕ → ℕ) (words : List ℕ) (log : List 
   -- after a compare-exchange
   pub swapped : (machine : Machine) → machine.swaps ≡ true → MaySwap machine.call → IsOrder n (place (key_of machine.call)) → machine.index < n
       → key_of machine.call < 2 ^ 51 → PassedOthers (place (key_of machine.call)) (content_of n log) (key_of machine.call) machine.index
-      → Sound n place (slice_set words (place_in place machine) (either (slice_index_or words (place_in place machine) 0 == 0) (code_of (key_of machine.call)) (slice_index_or words (place_in place machine) 0)))
+      → Sound n place (slice_set words (place_in place machine) (either (slice_index_or words (place_in place machine) 0 == 0) (code_of (key_of machine.call)) (slice_index_or words (place_in place machine) 0))) games
       (log ++ entries_of machine.call (follows n machine (place_in place machine) (slice_index_or words (place_in place machine) 0)))
   swapped machine swaps may order h small passed =
       let P : Bool → Type 0 = λ b. Sound n place
-      (slice_set words (place_in place machine) (either (slice_index_or words (place_in place machine) 0 == 0) (code_of (key_of machine.call)) (slice_index_or words (place_in place machine) 0)))
+      (slice_set words (place_in place machine) (either (slice_index_or words (place_in place machine) 0 == 0) (code_of (key_of machine.call)) (slice_index_or words (place_in place machine) 0))) games
       (log ++ entries_of machine.call (follows n (record { call = machine.call; index = machine.index; swaps = b }) (place_in place machine) (slice_index_or words (place_in place machine) 0)))
       in subst P (sym swaps) (call_swaps machine.call machine.index may order h small passed)

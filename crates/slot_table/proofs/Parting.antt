@@ -1,5 +1,6 @@
 -- A new table, and a seat that is split off, keep the rule.
 use Rattle.std.proofs.Common.{◌≡◌, ℕ, zero, suc, ◌+◌, ◌*◌, ◌<◌, ◌≤◌, ◌⊎◌, List, [], ◌∷◌, ◌++◌, length, slice_index_or, Some, None, refl, sym, ◌∙◌, ap, subst, inl, inr, arith}
+use Rattle.std.specs.List.{repeat}
 use Rattle.std.proofs.lemmas.List.{get_or-replicate}
 use Rattle.std.proofs.lemmas.Bool.Decides.{nat_tests}
 use mathlib.Core.Option.{some, some-injective, some-ne-none}
@@ -11,8 +12,9 @@ use Rattle.probe_core.specs.History.{word_of}
 use Rattle.slot_table.specs.declared.views.View.{View}
 use Rattle.slot_table.specs.History.{Begins}
 use Rattle.slot_table.specs.Places.{below, IsRising}
-use Rattle.slot_table.specs.Rule.{Kept, IsSpent, newcomer, cut_off, times_owned}
+use Rattle.slot_table.specs.Rule.{slot_words, mark_words, Kept, IsSpent, newcomer, cut_off, times_owned}
 use Rattle.slot_table.proofs.Owning.{owned_snoc}
+use Rattle.slot_table.proofs.Pairs.{slots_repeated, marks_repeated}
 
 nothing_rises : (high : ℕ) → IsRising 0 [] high
 nothing_rises high = let le : 0 ≤ high = omega arith in le
@@ -62,10 +64,15 @@ module _ {O : Type 0} (n : ℕ) (place : ℕ → ℕ → ℕ) (key : O) where
   only_one a b zero e = some-injective a b e
   only_one a b (suc seat) e = absurd (some-ne-none b (sym e))
 
-  pub new_allowed : ((k : ℕ) → IsOrder n (place k)) → (words : List ℕ) → length words ≡ 2 * n → ((p : ℕ) → p < n → slice_index_or words p 0 ≡ 0)
-      → ((p : ℕ) → p < n → slice_index_or words (n + p) 0 ≡ 0xFFFF_FFFF_FFFF_FFFF) → Kept n place key words (newcomer key [] ∷ [])
-  new_allowed order words long is_free no_mark =
-      let first : View O = newcomer key []
+  pub new_allowed : ((k : ℕ) → IsOrder n (place k)) → (words : List ℕ) → length words ≡ 2 * n → words ≡ repeat n (0 ∷ 0xFFFF_FFFF_FFFF_FFFF ∷ [])
+      → Kept n place key words (newcomer key [] ∷ [])
+  new_allowed order words long is =
+      let none : ℕ = 0xFFFF_FFFF_FFFF_FFFF
+      in let is_free : (p : ℕ) → p < n → slice_index_or (slot_words words) p 0 ≡ 0 =
+      λ p h. ap (λ (ws : List ℕ). slice_index_or ws p 0) (ap slot_words is ∙ slots_repeated n 0 none) ∙ get_or-replicate n p 0 0 h
+      in let no_mark : (p : ℕ) → p < n → slice_index_or (mark_words words) p 0 ≡ none =
+      λ p h. ap (λ (ws : List ℕ). slice_index_or ws p 0) (ap mark_words is ∙ marks_repeated n 0 none) ∙ get_or-replicate n p none 0 h
+      in let first : View O = newcomer key []
       in record {
         log = [];
         longest = record {
@@ -77,9 +84,9 @@ module _ {O : Type 0} (n : ℕ) (place : ℕ → ℕ → ℕ) (key : O) where
         legal = record { run = tt; firsts = tt; within = tt };
         whole = long;
         slots = λ p h. is_free p h ∙ ap word_of (sym (get_or-replicate n p None None h));
-        small = λ p h. let e : slice_index_or words p 0 ≡ 0 = is_free p h in omega (arith, e);
+        small = λ p h. let e : slice_index_or (slot_words words) p 0 ≡ 0 = is_free p h in omega (arith, e);
         marks = no_mark;
-        placed = λ k i h e. let none_is : slice_index_or words (place k i) 0 ≡ 0 = is_free (place k i) ((order k).within i h) in let clash : 0 ≡ k + 1 = sym none_is ∙ e in absurd (omega (arith, clash));
+        placed = λ k i h e. let none_is : slice_index_or (slot_words words) (place k i) 0 ≡ 0 = is_free (place k i) ((order k).within i h) in let clash : 0 ≡ k + 1 = sym none_is ∙ e in absurd (omega (arith, clash));
         owned = λ k. nothing_owned k;
         rises = λ seat u there. let P : View O → Type 0 = λ w. IsRising 0 w.mine (length w.seen) in subst P (only_one first u seat there) (nothing_rises 0);
         orders = λ seat u there. let P : View O → Type 0 = λ w. (w.order ≡ Some key) ⊎ IsSpent w in subst P (only_one first u seat there) (inl refl);

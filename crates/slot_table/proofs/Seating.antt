@@ -1,5 +1,6 @@
 -- The views of all seats after a step of one of them.
-use Rattle.std.proofs.Common.{◌≡◌, ℕ, zero, suc, ◌+◌, ◌<◌, ◌≤◌, ◌⊎◌, List, [], ◌∷◌, ◌++◌, length, slice_set, Some, refl, sym, ◌∙◌, ap, subst, inl, inr, arith, length-append}
+use Rattle.std.proofs.Common.{◌≡◌, ℕ, zero, suc, ◌+◌, ◌*◌, ◌<◌, ◌≤◌, ◌⊎◌, List, [], ◌∷◌, ◌++◌, length, slice_set, slice_index_or, Some, refl, sym, ◌∙◌, ap, subst, inl, inr, arith, length-append}
+use Rattle.std.proofs.lemmas.List.{length-set, set-get_or}
 use mathlib.Core.Option.{some, some-ne-none}
 use lib.ListN.{get_elem?}
 use Rattle.atomic_table.proofs.Lists.{at_set, set_here}
@@ -7,10 +8,11 @@ use Rattle.slot_table.specs.declared.entries.Happened.{Happened}
 use Rattle.slot_table.specs.declared.views.View.{View}
 use Rattle.slot_table.specs.History.{IsLegal, Begins}
 use Rattle.slot_table.specs.Places.{times, below, IsRising}
-use Rattle.slot_table.specs.Rule.{Kept, IsSpent, times_owned}
+use Rattle.slot_table.specs.Rule.{slot_words, mark_words, Kept, IsSpent, times_owned}
 use Rattle.slot_table.specs.Telling.{Grown, places_from}
 use Rattle.slot_table.proofs.Histories.{begins_itself, begins_longer, kept_since}
 use Rattle.slot_table.proofs.Deciding.{Sound}
+use Rattle.slot_table.proofs.Pairs.{slots_are_n, marks_are_n, set_slot, set_mark, slots_stay, marks_stay}
 use Rattle.slot_table.proofs.Owning.{times-append, times_places, rising_more, owned_set}
 
 pub at_below : {A : Type 0} (l : List A) (i : ℕ) (a : A) → get_elem? l i ≡ some a → i < length l
@@ -25,8 +27,15 @@ grown_view view log added =
 
 module _ {O : Type 0} (n : ℕ) (place : ℕ → ℕ → ℕ) (key : O) (words : List ℕ) (views : List (View O)) (kept : Kept n place key words views)
     (id : ℕ) (view : View O) (at : get_elem? views id ≡ some view) where
-  pub sound_of : Sound n place words kept.log
-  sound_of = record { legal = kept.legal; whole = kept.whole; slots = kept.slots; small = kept.small; marks = kept.marks; placed = kept.placed }
+  pub sound_of : Sound n place (slot_words words) (mark_words words) kept.log
+  sound_of = record {
+    legal = kept.legal;
+    whole = (slots_are_n words n kept.whole, marks_are_n words n kept.whole);
+    slots = kept.slots;
+    small = kept.small;
+    marks = kept.marks;
+    placed = kept.placed;
+  }
 
   -- what the seat owns, with one more place where its step ended a call
   rises_on : (added : List Happened) → IsRising 0 (view.mine ++ places_from (length kept.log) added) (length (kept.log ++ added))
@@ -47,9 +56,10 @@ module _ {O : Type 0} (n : ℕ) (place : ℕ → ℕ → ℕ) (key : O) (words :
       in let before : times_owned k views ≡ below k (length kept.log) = kept.owned k
       in omega (arith, moved, split, placed, whole, before)
 
-  pub kept_by_step : view.order ≡ Some key → (words' : List ℕ) (added : List Happened) → Sound n place words' (kept.log ++ added)
-      → Kept n place key words' (slice_set views id (grown_view view kept.log added))
-  kept_by_step of words' added sound =
+  -- where a step wrote one word
+  kept_by_step : view.order ≡ Some key → (q w : ℕ) (added : List Happened) → Sound n place (slot_words (slice_set words q w)) (mark_words (slice_set words q w)) (kept.log ++ added)
+      → Kept n place key (slice_set words q w) (slice_set views id (grown_view view kept.log added))
+  kept_by_step of q w added sound =
       let log : List Happened = kept.log ++ added
       in let grown : View O = grown_view view kept.log added
       in record {
@@ -62,7 +72,7 @@ module _ {O : Type 0} (n : ℕ) (place : ℕ → ℕ → ℕ) (key : O) (words :
           ];
         };
         legal = sound.legal;
-        whole = sound.whole;
+        whole = length-set words q w ∙ kept.whole;
         slots = sound.slots;
         small = sound.small;
         marks = sound.marks;
@@ -77,6 +87,21 @@ module _ {O : Type 0} (n : ℕ) (place : ℕ → ℕ → ℕ) (key : O) (words :
           | inr t ↦ kept.orders seat u t.1
         ];
       }
+
+  -- where it wrote none
+  pub kept_by_load : view.order ≡ Some key → (q : ℕ) (added : List Happened) → Sound n place (slot_words words) (mark_words words) (kept.log ++ added)
+      → Kept n place key (slice_set words q (slice_index_or words q 0)) (slice_set views id (grown_view view kept.log added))
+  kept_by_load of q added sound = kept_by_step of q (slice_index_or words q 0) added (rw (set-get_or words q 0) sound)
+
+  -- the word of a slot
+  pub kept_by_slot : view.order ≡ Some key → (p w : ℕ) (added : List Happened) → Sound n place (slice_set (slot_words words) p w) (mark_words words) (kept.log ++ added)
+      → Kept n place key (slice_set words (2 * p) w) (slice_set views id (grown_view view kept.log added))
+  kept_by_slot of p w added sound = kept_by_step of (2 * p) w added (rw (set_slot words p w, marks_stay words p w) sound)
+
+  -- the word of a mark
+  pub kept_by_mark : view.order ≡ Some key → (p w : ℕ) (added : List Happened) → Sound n place (slot_words words) (slice_set (mark_words words) p w) (kept.log ++ added)
+      → Kept n place key (slice_set words (2 * p + 1) w) (slice_set views id (grown_view view kept.log added))
+  kept_by_mark of p w added sound = kept_by_step of (2 * p + 1) w added (rw (slots_stay words p w, set_mark words p w) sound)
 
   pub grown_by_step : (added : List Happened) → IsLegal n (kept.log ++ added) → Grown n view kept.log added (grown_view view kept.log added)
   grown_by_step added legal = record {

@@ -48,7 +48,20 @@ pub record IsLongest {O : Type 0} (views : List (View O)) (log : List Happened) 
   pub is_seen : (view : View O) × IsView views view × (view.seen ≡ log)
   pub begun : (seat : ℕ) (view : View O) → get_elem? views seat ≡ some view → Begins view.seen log × Begins view.met log
 
--- the first n words are those of the table's content: 0 where a number is free, else its key and 1 more
+-- A number has two words, which lie side by side: that of its slot, and then that of its mark.
+
+-- the words of slots: those at even places
+abbrev pub slot_words : List ℕ → List ℕ
+slot_words [] = []
+slot_words (slot ∷ []) = slot ∷ []
+slot_words (slot ∷ mark ∷ words) = slot ∷ slot_words words
+
+-- the words of marks: those at odd places
+abbrev pub mark_words : List ℕ → List ℕ
+mark_words [] = []
+mark_words (slot ∷ words) = slot_words words
+
+-- the words of n slots are those of the table's content: 0 where a number is free, else its key and 1 more
 abbrev pub AreSlotWords : ℕ → List ℕ → Table → Type 0
 AreSlotWords n words table = (p : ℕ) → p < n → slice_index_or words p 0 ≡ word_of (slice_index_or table p None)
 
@@ -61,9 +74,9 @@ abbrev pub IsMarkWord : Option ℕ → ℕ → Type 0
 IsMarkWord None word = word ≡ 0xFFFF_FFFF_FFFF_FFFF
 IsMarkWord (Some game) word = (word ≡ game) × (game < 0xFFFF_FFFF_FFFF_FFFF)
 
--- the n words after the first n are those of the least games that the history marks
+-- the words of n marks are those of the least games that the history marks
 abbrev pub AreMarkWords : ℕ → List ℕ → List Happened → Type 0
-AreMarkWords n words log = (p : ℕ) → p < n → IsMarkWord (least_at p log) (slice_index_or words (n + p) 0)
+AreMarkWords n words log = (p : ℕ) → p < n → IsMarkWord (least_at p log) (slice_index_or words p 0)
 
 -- how often a place stands in what seats call their own, all seats together
 abbrev pub times_owned : {O : Type 0} → ℕ → List (View O) → ℕ
@@ -73,8 +86,8 @@ times_owned k (view ∷ views) = times k view.mine + times_owned k views
 -- The rule of a table of n numbers in this order, over all words and the views of all seats that there ever were, so also
 -- of passes that were dropped. There is one history, `log`, and these hold:
 -- * `longest`: each history that was seen begins it, and it was seen; so of any two that were seen one begins the other;
--- * `legal`, `whole`, `slots`, `small`, `marks`: it is legal, and its content is the words, those of keys and then those of
---   least games;
+-- * `legal`, `whole`, `slots`, `small`, `marks`: it is legal, and its content is the words, of each number that of its key
+--   and beside it that of its least game;
 -- * `placed`: each taken place of a key has all earlier places of the key's order taken by other keys;
 -- * `owned`, `rises`: each place of it stands once in what all seats together call their own, and no other place does; what
 --   a seat calls its own are places of what it has seen, rising;
@@ -84,10 +97,10 @@ pub record Kept {O : Type 0} (n : ℕ) (place : ℕ → ℕ → ℕ) (order : O)
   pub longest : IsLongest views log
   pub legal : IsLegal n log
   pub whole : length words ≡ 2 * n
-  pub slots : AreSlotWords n words (content_of n log)
-  pub small : AreKeyWords n words
-  pub marks : AreMarkWords n words log
-  pub placed : IsPlaced n place words
+  pub slots : AreSlotWords n (slot_words words) (content_of n log)
+  pub small : AreKeyWords n (slot_words words)
+  pub marks : AreMarkWords n (mark_words words) log
+  pub placed : IsPlaced n place (slot_words words)
   pub owned : (k : ℕ) → times_owned k views ≡ below k (length log)
   pub rises : (seat : ℕ) (view : View O) → get_elem? views seat ≡ some view → IsRising 0 view.mine (length view.seen)
   pub orders : (seat : ℕ) (view : View O) → get_elem? views seat ≡ some view → (view.order ≡ Some order) ⊎ IsSpent view

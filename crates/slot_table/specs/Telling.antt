@@ -1,5 +1,5 @@
 -- What a step on the words tells the seat that takes it.
-use Rattle.std.specs.Prelude.{◌≡◌, ◌≢◌, ℕ, ◌+◌, ◌-◌, ◌*◌, ◌^◌, ◌<◌, ◌≤◌, ◌==◌, if◌then◌else◌, true, List, [], ◌∷◌, ◌++◌, length, Option, Some, None, slice_index_or}
+use Rattle.std.specs.Prelude.{◌≡◌, ◌≢◌, ℕ, ◌+◌, ◌*◌, ◌/◌, ◌^◌, ◌<◌, ◌≤◌, ◌==◌, if◌then◌else◌, true, List, [], ◌∷◌, ◌++◌, length, Option, Some, None, slice_index_or}
 use Rattle.atomic_table.specs.Table.{Step, Me}
 use Rattle.atomic_table.specs.Seated.{TableId}
 use Rattle.probe_core.specs.declared.calls.Call.{Call}
@@ -79,20 +79,24 @@ pub record Joined {O : Type 0} (n : ℕ) (old other new : View O) : Type 0 where
   pub apart : (k : ℕ) → times k old.mine + times k other.mine ≤ 1
   pub rises : IsRising 0 new.mine (length new.seen)
 
--- what a step of this machine tells a seat, whose view has the order
+-- A slot word stands at twice its number, and a mark word one place further: half the place is the number in both.
+
+-- what a step of this machine on a slot word tells a seat, whose view has the order
 abbrev pub told : {O S : Type 0} → (O → ℕ) → Machine → Step S → Me S (View O) → ℕ → Me S (View O) → Type 0
 told {O = O} exponent machine st me found me' = (me'.1 ≡ me.1) ×
-    ((order : O) → me.0.order ≡ Some order → Stepped (2 ^ exponent order) machine st.word found me.0 me'.0)
+    ((order : O) → me.0.order ≡ Some order → Stepped (2 ^ exponent order) machine (st.word / 2) found me.0 me'.0)
 
--- what a load that belongs to no call tells it
+-- what a load of a slot word that belongs to no call tells it
 abbrev pub looked : {O S : Type 0} → (O → ℕ) → Step S → Me S (View O) → ℕ → Me S (View O) → Type 0
 looked {O = O} exponent st me found me' = (me'.1 ≡ me.1) ×
-    ((order : O) → me.0.order ≡ Some order → Loaded (2 ^ exponent order) st.word found me.0 me'.0)
+    ((order : O) → me.0.order ≡ Some order → Loaded (2 ^ exponent order) (st.word / 2) found me.0 me'.0)
 
--- a seat, of the table `seated` and with this view, is one of the table `of`, which has n numbers and this order: it holds
--- nothing, and has met no other history since its last step; it has seen a legal history, in which its own places rise
+-- a seat, of the table `seated` and with this view, is one of the table `of`, which has n numbers, at most 2^22, two words
+-- for each, and this order: it holds nothing, and has met no other history since its last step; it has seen a legal
+-- history, in which its own places rise
 pub record IsSeatOf {O : Type 0} (n : ℕ) (of : TableId) (key : O) (seated : TableId) (me : Me (Unit {0}) (View O)) : Type 0 where
   pub words : of.words ≡ 2 * n
+  pub few : n ≤ 2 ^ 22
   pub table : seated ≡ of
   pub held : me.1 ≡ []
   pub order : me.0.order ≡ Some key
@@ -119,9 +123,9 @@ pub record IsSearch (n : ℕ) (place : ℕ → ℕ → ℕ) (machine : Machine) 
 -- what a step that lowers a mark word to a game tells: the step has the game
 abbrev pub marked : {O S : Type 0} → (O → ℕ) → Step S → Me S (View O) → ℕ → Me S (View O) → Type 0
 marked {O = O} exponent st me found me' = (me'.1 ≡ me.1) ×
-    ((order : O) → me.0.order ≡ Some order → Called (2 ^ exponent order) me.0 (entry.Marked (st.word - 2 ^ exponent order) st.first) me'.0)
+    ((order : O) → me.0.order ≡ Some order → Called (2 ^ exponent order) me.0 (entry.Marked (st.word / 2) st.first) me'.0)
 
 -- what a load of a mark word tells
 abbrev pub first_told : {O S : Type 0} → (O → ℕ) → Step S → Me S (View O) → ℕ → Me S (View O) → Type 0
 first_told {O = O} exponent st me found me' = (me'.1 ≡ me.1) ×
-    ((order : O) → me.0.order ≡ Some order → Called (2 ^ exponent order) me.0 (entry.First (st.word - 2 ^ exponent order) (mark_of found)) me'.0)
+    ((order : O) → me.0.order ≡ Some order → Called (2 ^ exponent order) me.0 (entry.First (st.word / 2) (mark_of found)) me'.0)

@@ -25,8 +25,10 @@ fn turn<A: Ask, O: ProbeOrder>(shared: &Shown<O>, seat: &mut Place<O>, probe: Pr
         (left_of (2 ^ O.exponent shared.now.key) probe.machine) result }
 {
     let found = match probe.wants() {
-        Want::Load(place) => shared.load::<Told<A>>(seat, place),
-        Want::Swap { place, value } => { shared.compare_exchange::<Told<A>>(seat, place, 0, value) }
+        Want::Load(place) => shared.load::<Told<A>>(seat, 2 * place),
+        Want::Swap { place, value } => {
+            shared.compare_exchange::<Told<A>>(seat, 2 * place, 0, value)
+        }
     };
     probe.told(found)
 }
@@ -73,7 +75,7 @@ pub(crate) fn word_at<O: ProbeOrder>(
     ensures key { result ≡ slice_index_or (content_of (2 ^ O.exponent shared.now.key)
         seat.new.me.0.seen) number None }
 {
-    let found = shared.load::<Looked>(seat, number);
+    let found = shared.load::<Looked>(seat, 2 * number);
     if found == 0 {
         None
     } else {
@@ -107,18 +109,11 @@ pub(crate) fn meet<O: ProbeOrder>(shared: &Shown<O>, seat: &mut Place<O>, other:
     shared.load::<Looked>(seat, 0);
 }
 
-/// Lowers a number's mark word to a game, in a table of `slots` slots.
-pub(crate) fn mark<O: ProbeOrder>(
-    shared: &Shown<O>,
-    seat: &mut Place<O>,
-    slots: usize,
-    number: usize,
-    game: u64,
-)
+/// Lowers a number's mark word to a game.
+pub(crate) fn mark<O: ProbeOrder>(shared: &Shown<O>, seat: &mut Place<O>, number: usize, game: u64)
     requires seat { IsSeatOf (2 ^ O.exponent shared.now.key) shared.now.table_id shared.now.key
         seat.old.table_id seat.old.me }
-    requires slots { (slots ≡ 2 ^ O.exponent shared.now.key) × (slots < 2 ^ 32) }
-    requires number { number < slots }
+    requires number { number < 2 ^ O.exponent shared.now.key }
     requires game { game < 2 ^ 64 - 1 }
     ensures seat { IsSeatOf (2 ^ O.exponent shared.now.key) shared.now.table_id shared.now.key
         seat.new.table_id seat.new.me }
@@ -126,26 +121,24 @@ pub(crate) fn mark<O: ProbeOrder>(
         (entry.Marked number game) seat.new.me.0 }
     ensures least { IsAtMost (least_at number seat.new.me.0.seen) game }
 {
-    shared.fetch_min::<Marked>(seat, slots + number, game);
+    shared.fetch_min::<Marked>(seat, 2 * number + 1, game);
 }
 
-/// Loads a number's mark word, in a table of `slots` slots.
+/// Loads a number's mark word.
 pub(crate) fn first<O: ProbeOrder>(
     shared: &Shown<O>,
     seat: &mut Place<O>,
-    slots: usize,
     number: usize,
 ) -> Option<u64>
     requires seat { IsSeatOf (2 ^ O.exponent shared.now.key) shared.now.table_id shared.now.key
         seat.old.table_id seat.old.me }
-    requires slots { (slots ≡ 2 ^ O.exponent shared.now.key) × (slots < 2 ^ 32) }
-    requires number { number < slots }
+    requires number { number < 2 ^ O.exponent shared.now.key }
     ensures seat { IsSeatOf (2 ^ O.exponent shared.now.key) shared.now.table_id shared.now.key
         seat.new.table_id seat.new.me }
     ensures called { Called (2 ^ O.exponent shared.now.key) seat.old.me.0
         (entry.First number result) seat.new.me.0 }
     ensures least { result ≡ least_at number seat.new.me.0.seen }
 {
-    let found = shared.load::<First>(seat, slots + number);
+    let found = shared.load::<First>(seat, 2 * number + 1);
     if found == u64::MAX { None } else { Some(found) }
 }

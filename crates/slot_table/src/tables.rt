@@ -1,6 +1,7 @@
 //! Tables of numbers for keys, as threads call them.
-ghost use Rattle.std.specs.Prelude.{◌≡◌, ℕ, ◌+◌, ◌-◌, ◌*◌, ◌^◌, ◌<◌, [], ◌∷◌, IfOk, None, length};
+ghost use Rattle.std.specs.Prelude.{◌≡◌, ◌-◌, ◌*◌, ◌^◌, ◌<◌, [], ◌∷◌, IfOk, None, length};
 ghost use Rattle.std.specs.Prelude.{slice_index_or};
+ghost use Rattle.std.specs.List.{repeat};
 ghost use Rattle.probe_core.specs.declared.calls.Call.TheVariants as call;
 ghost use Rattle.probe_core.specs.Machine.{key_of};
 ghost use Rattle.slot_table.specs.declared.entries.Happened.TheVariants as entry;
@@ -18,8 +19,8 @@ use std::marker::Model;
 
 /// A table of numbers for keys, shared by threads. This is the project's own.
 ///
-/// Each key gets a number when it is entered first, and has it for ever after. Contracts see which table it is, and its
-/// order.
+/// Each key gets a number when it is entered first, and has it for ever after. The word of a number's key and that of its
+/// least game lie side by side, so mostly in one line of memory. Contracts see which table it is, and its order.
 #[derive(Drop)]
 pub struct SlotTable<O: ProbeOrder> {
     words: Words<O>,
@@ -27,7 +28,7 @@ pub struct SlotTable<O: ProbeOrder> {
 }
 
 impl<O: ProbeOrder> Model for SlotTable<O> {
-    ghost use Rattle.std.specs.Prelude.{◌≡◌, ◌*◌, ◌^◌};
+    ghost use Rattle.std.specs.Prelude.{◌≡◌, ◌*◌, ◌^◌, ◌≤◌};
     ghost use Rattle.slot_table.specs.Passes.{Numbers};
 
     ghost Value = { Numbers O };
@@ -35,21 +36,17 @@ impl<O: ProbeOrder> Model for SlotTable<O> {
     ghost view = { λ t. record { table = t.words.shared.table_id; order = t.order } };
 
     ghost invariant = { λ t. (t.words.shared.key ≡ t.order)
-        × (t.words.shared.table_id.words ≡ 2 * 2 ^ O.exponent t.order) };
+        × (t.words.shared.table_id.words ≡ 2 * 2 ^ O.exponent t.order)
+        × (2 ^ O.exponent t.order ≤ 2 ^ 22) };
 }
 
-/// The words of a table of which no number is taken and none is marked.
+/// The words of a table of which no number is taken and none is marked. The words of a number lie side by side: that of
+/// its slot, and then that of its mark.
 fn free_words(alloc: Global, slots: usize) -> Result<Vec<u64>, AllocError>
-    requires { slots < 2 ^ 32 }
     ensures length { IfOk result (λ v. length v.items ≡ 2 * slots) }
-    ensures free { IfOk result (λ v. (p : ℕ) → p < slots → slice_index_or v.items p 0 ≡ 0) }
-    ensures unmarked { IfOk result (λ v.
-        (p : ℕ) → p < slots → slice_index_or v.items (slots + p) 0 ≡ 0xFFFF_FFFF_FFFF_FFFF) }
+    ensures items { IfOk result (λ v. v.items ≡ repeat slots (0 ∷ 0xFFFF_FFFF_FFFF_FFFF ∷ [])) }
 {
-    let mut words = Vec::with_capacity(alloc, 2 * slots)?;
-    words.resize(slots, 0)?;
-    words.resize(2 * slots, u64::MAX)?;
-    Ok(words)
+    [0, u64::MAX].repeat(alloc, slots)
 }
 
 impl<O: ProbeOrder> SlotTable<O> {
@@ -188,13 +185,7 @@ impl<O: ProbeOrder> SlotTable<O> {
             pass.old (entry.Marked number game ∷ []) pass.new }
         ensures least { IsAtMost (least_at number pass.new.seen) game }
     {
-        steps::mark(
-            &self.words.shared,
-            &mut pass.seat,
-            self.capacity().slots(),
-            number,
-            game,
-        );
+        steps::mark(&self.words.shared, &mut pass.seat, number, game);
     }
 
     /// The least game that was marked at the number, or None where none was, by one load. It takes no memory and waits
@@ -211,11 +202,6 @@ impl<O: ProbeOrder> SlotTable<O> {
             pass.old (entry.First number result ∷ []) pass.new }
         ensures least { result ≡ least_at number pass.new.seen }
     {
-        steps::first(
-            &self.words.shared,
-            &mut pass.seat,
-            self.capacity().slots(),
-            number,
-        )
+        steps::first(&self.words.shared, &mut pass.seat, number)
     }
 }

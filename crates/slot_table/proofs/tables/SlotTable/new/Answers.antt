@@ -1,4 +1,5 @@
-use Rattle.std.proofs.Common.{◌≡◌, ◌+◌, ◌*◌, ◌<◌, ◌^◌, ◌∙◌, ap, sym, subst, length, slice_index_or}
+use Rattle.std.proofs.Common.{◌≡◌, ◌*◌, ◌^◌, [], ◌∷◌, ◌∙◌, ap, sym, length}
+use Rattle.std.specs.List.{repeat}
 use Rattle.slot_table.proofs.Parting.{new_allowed}
 use Rattle.slot_table.proofs.tables.SlotTable.new.Goals as goal
 
@@ -11,6 +12,4 @@ of_words-requires g c =
     in let same : c.in_ok-free.free.items ≡ words = sym c.as_slice.ensures.value
     in new_allowed n (g.O.ProbeOrder.place_of order) order (λ k. g.met.O.ProbeOrder.is_order order k) words
     (ap (λ ws. length ws) (sym same) ∙ c.in_ok-free.ensures.length ∙ ap (λ k. 2 * k) slots)
-    (λ p h. ap (λ ws. slice_index_or ws p 0) (sym same) ∙ c.in_ok-free.ensures.free p (subst (λ k. p < k) (sym slots) h))
-    (λ p h. ap (λ ws. slice_index_or ws (n + p) 0) (sym same) ∙ ap (λ k. slice_index_or c.in_ok-free.free.items (k + p) 0) (sym slots)
-    ∙ c.in_ok-free.ensures.unmarked p (subst (λ k. p < k) (sym slots) h))
+    (sym same ∙ c.in_ok-free.ensures.items ∙ ap (λ k. repeat k (0 ∷ 0xFFFF_FFFF_FFFF_FFFF ∷ [])) slots)
