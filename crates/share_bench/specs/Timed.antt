@@ -1,11 +1,17 @@
 -- What the parts of a count make of the games that were read.
-use Rattle.std.specs.Prelude.{◌≡◌, ℕ, List, length, map, sum_by}
+use Rattle.std.specs.Prelude.{◌≡◌, ℕ, ◌⊎◌, List, length, map, sum_by}
 use Rattle.std.specs.List.{AllByRecursion}
 use Rattle.shape_core.specs.declared.words.Kinds.{Kinds}
 use Rattle.tally_core.specs.Occasions.{AreOccasions}
 use Rattle.tally_core.specs.declared.collections.Report.{Report}
 use Rattle.job_core.specs.Games.{WrittenGame, HasReadAll}
+use Rattle.tally_core.specs.declared.faults.HarvestFault.{HarvestFault as TallyFault}
+use Rattle.tally_core.specs.Counted.{IsCountFault}
 use Rattle.share_core.specs.Shares.{Held, Added, IsShareOf}
+use Rattle.share_core.specs.Faults.{same_fault}
+use Rattle.share_core.specs.declared.faults.HarvestFault.TheVariants as count
+use Rattle.share_bench.specs.declared.faults.BenchFault.{BenchFault}
+use Rattle.share_bench.specs.declared.faults.BenchFault.TheVariants as fault
 
 -- all games of an input were read
 abbrev pub AreAllGames : List ℕ → List WrittenGame → Type 0
@@ -33,3 +39,18 @@ pub record IsShareOfAll (kinds : Kinds) (jobs : List WrittenGame) (share : Held)
   pub games : AreGamesOf jobs added
   pub is_of : IsShareOf added share
   pub counts : share.kinds ≡ kinds
+
+-- why the games of an input were not read
+pub record IsReadingFault (bytes : List ℕ) (found : BenchFault) : Type 0 where
+  pub why : TallyFault
+  pub named : found ≡ fault.Count (same_fault why)
+  pub cause : IsCountFault bytes why
+
+-- memory was refused, or a number is too large
+abbrev pub IsWantOrLarge : BenchFault → Type 0
+IsWantOrLarge found = (found ≡ fault.Count count.Memory) ⊎ (found ≡ fault.Count count.Overflow)
+
+-- the fault of a count
+abbrev pub IsOfCount : BenchFault → Type 0
+IsOfCount (fault.Count found) = Unit {0}
+IsOfCount found = ⊥

@@ -1,6 +1,8 @@
 //! Why the program ends without its lines.
 ghost use Rattle.std.specs.Prelude.{◌≡◌};
 ghost use Rattle.share_bench.specs.declared.faults.BenchFault.TheVariants as fault;
+ghost use Rattle.share_core.specs.Faults.{same_fault};
+ghost use Rattle.share_core.specs.declared.faults.HarvestFault.TheVariants as count;
 
 use engine_core::RunFault;
 use go_board::BoardFault;
@@ -61,18 +63,24 @@ impl From<HarvestFault> for BenchFault {
 }
 
 impl From<TallyFault> for BenchFault {
+    ghost from_gives = { λ found result. result ≡ fault.Count (same_fault found) };
+
     fn from(found: TallyFault) -> BenchFault {
         BenchFault::Count(HarvestFault::of_tally(found))
     }
 }
 
 impl From<AllocError> for BenchFault {
+    ghost from_gives = { λ found result. result ≡ fault.Count count.Memory };
+
     fn from(_: AllocError) -> BenchFault {
         BenchFault::Count(HarvestFault::Memory)
     }
 }
 
 impl From<BoardFault> for BenchFault {
+    ghost from_gives = { λ found result. result ≡ fault.Count count.Memory };
+
     fn from(_: BoardFault) -> BenchFault {
         BenchFault::Count(HarvestFault::Memory)
     }

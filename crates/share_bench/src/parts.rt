@@ -1,7 +1,10 @@
 //! The parts of a count that are timed.
-ghost use Rattle.std.specs.Prelude.{◌≡◌, ◌^◌, [], IfOk};
+ghost use Rattle.std.specs.Prelude.{◌≡◌, ◌^◌, [], IfOk, IfErr};
 ghost use Rattle.slot_table.specs.Passes.{IsPassOf};
 ghost use Rattle.share_bench.specs.Timed.{AreAllGames, actions_of, HaveMoves, IsShareOfAll};
+ghost use Rattle.share_bench.specs.Timed.{IsReadingFault, IsWantOrLarge, IsOfCount};
+ghost use Rattle.share_core.specs.declared.faults.HarvestFault.TheVariants as count;
+ghost use Rattle.share_bench.specs.declared.faults.BenchFault.TheVariants as fault;
 
 use crate::faults::BenchFault;
 use go_board::Board;
@@ -18,7 +21,8 @@ use tally_core::Walk;
 ///
 /// `BenchFault::Count` comes with the fault of reading: S1 to S5, or want of memory.
 pub fn read_all<'a>(alloc: Global, input: &'a [u8]) -> Result<Vec<Job<'a>>, BenchFault>
-    ensures { IfOk result (λ jobs. AreAllGames input.now jobs.items) }
+    ensures jobs { IfOk result (λ jobs. AreAllGames input.now jobs.items) }
+    ensures fault { IfErr result (IsReadingFault input.now) }
 {
     let mut games = Games::new(input)?;
     let mut jobs = Vec::new(alloc);
@@ -35,7 +39,8 @@ pub fn read_all<'a>(alloc: Global, input: &'a [u8]) -> Result<Vec<Job<'a>>, Benc
 ///
 /// `BenchFault::Count` comes with `Memory` where memory was refused, and with `Overflow` where the actions pass 2^64 - 1.
 pub fn replay_all(alloc: Global, jobs: &[Job<'_>]) -> Result<usize, BenchFault>
-    ensures { IfOk result (λ actions. actions ≡ actions_of jobs.now) }
+    ensures actions { IfOk result (λ actions. actions ≡ actions_of jobs.now) }
+    ensures fault { IfErr result IsWantOrLarge }
 {
     let mut actions = 0usize;
     for job in jobs {
@@ -55,7 +60,8 @@ pub fn replay_all(alloc: Global, jobs: &[Job<'_>]) -> Result<usize, BenchFault>
 /// `BenchFault::Count` comes with `Memory` where memory was refused, and with `Overflow` where a game has more actions than
 /// any input or the moves pass 2^64 - 1.
 pub fn walk_all(alloc: Global, kinds: Kinds, jobs: &[Job<'_>]) -> Result<u64, BenchFault>
-    ensures { IfOk result (HaveMoves jobs.now) }
+    ensures moves { IfOk result (HaveMoves jobs.now) }
+    ensures fault { IfErr result IsWantOrLarge }
 {
     let mut walk = Walk::begin(alloc, kinds);
     let mut moves = 0u64;
@@ -82,6 +88,7 @@ pub fn share_all<O: ProbeOrder>(
     requires { IsPassOf (2 ^ O.exponent table.now.order) table.now pass.old }
     ensures pass { IsPassOf (2 ^ O.exponent table.now.order) table.now pass.new }
     ensures share { IfOk result (IsShareOfAll kinds jobs.now) }
+    ensures fault { IfErr result IsOfCount }
 {
     let mut share = Share::begin(alloc, 0, kinds);
     for job in jobs {
@@ -100,6 +107,7 @@ pub fn new_table<O: ProbeOrder>(
     ensures pass { IfOk result (λ new. IsPassOf (2 ^ O.exponent order) new.0 new.1) }
     ensures order { IfOk result (λ new. new.0.order ≡ order) }
     ensures seen { IfOk result (λ new. new.1.seen ≡ []) }
+    ensures fault { IfErr result (λ found. found ≡ fault.Count count.Memory) }
 {
     match SlotTable::new(alloc, order) {
         Ok(new) => Ok(new),
