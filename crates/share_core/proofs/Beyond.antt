@@ -76,6 +76,3 @@ least_stays slots rows least row above h = (
       (λ (last : row ≡ other). let same = ap (λ (r : Row). r.number) last in omega arith)
       (Contains-push_cases rows row other among),
 )
-
-pub least_none : (slots : ℕ) → IsLeastFrom slots [] None
-least_none slots row among = let low = among.1 in absurd (omega arith)

@@ -22,5 +22,7 @@ pub mod Numbered
 pub mod Ordered
 pub mod Summed
 pub mod Totalled
+pub mod OfNumber
+pub mod Visits
 pub mod Confirmed
 pub mod Agreed

@@ -1,8 +1,8 @@
--- Rows of several shares, looked at share by share.
-use Rattle.std.proofs.Common.{◌≡◌, ℕ, ◌+◌, ◌<◌, ◌==◌, true, false, not, ◌&&◌, cond, suc, List, [], ◌∷◌, ◌++◌, length, get_or, take, drop, find, Option, Some, None, refl, ap, sym, subst, ◌∙◌, arith, append-nil}
+-- Rows of which one is of another pattern than was asked for.
+use Rattle.std.proofs.Common.{◌≡◌, ℕ, ◌+◌, ◌<◌, ◌==◌, true, false, not, ◌&&◌, cond, suc, List, [], ◌∷◌, ◌++◌, length, get_or, take, find, Option, Some, None, refl, ap, subst, ◌∙◌, arith, append-nil}
 use Rattle.std.specs.Option.{option_map, option_or}
 use Rattle.std.proofs.lemmas.Bool.Decides.{nat_tests}
-use Rattle.std.proofs.lemmas.List.{take_more, take-append-drop}
+use Rattle.std.proofs.lemmas.List.{take_more}
 use Rattle.std.proofs.lemmas.List.Folds.{find-append}
 use Rattle.std.proofs.lemmas.Grind.{flat_map-append}
 use Rattle.share_core.specs.declared.rows.Row.{Row}
@@ -57,20 +57,3 @@ pub stranger_append : (rows more : List Row) (number : ℕ) (found : Option ℕ)
 stranger_append rows more number found =
     ap (option_map (λ (r : Row). r.shape)) (find-append (is_stranger number found) rows more)
     ∙ or_map (find (is_stranger number found) rows) (find (is_stranger number found) more)
-
--- one share more
-pub stranger_more : (shares : List Held) (i : ℕ) (d : Held) (number : ℕ) (found : Option ℕ) → i < length shares →
-    stranger_in (all_rows (take i shares)) number found ≡ None →
-    stranger_in (all_rows (take (i + 1) shares)) number found ≡ stranger_in (get_or shares i d).rows number found
-stranger_more shares i d number found inside none =
-    ap (λ (rs : List Row). stranger_in rs number found) (more_rows shares i d inside)
-    ∙ stranger_append (all_rows (take i shares)) (get_or shares i d).rows number found
-    ∙ ap (λ o. option_or o (stranger_in (get_or shares i d).rows number found)) none
-
--- a stranger among the first shares is the first of all
-pub stranger_whole : (shares : List Held) (i number word : ℕ) (found : Option ℕ) → stranger_in (all_rows (take i shares)) number found ≡ Some word → stranger_in (all_rows shares) number found ≡ Some word
-stranger_whole shares i number word found some =
-    ap (λ (ss : List Held). stranger_in (all_rows ss) number found) (sym (take-append-drop i shares))
-    ∙ ap (λ (rs : List Row). stranger_in rs number found) (flat_map-append (λ (s : Held). s.rows) (take i shares) (drop i shares))
-    ∙ stranger_append (all_rows (take i shares)) (all_rows (drop i shares)) number found
-    ∙ ap (λ o. option_or o (stranger_in (all_rows (drop i shares)) number found)) some

@@ -1,14 +1,10 @@
--- The rows of one number, added up share by share.
-use Rattle.std.proofs.Common.{◌≡◌, ℕ, ◌+◌, ◌<◌, ◌≤◌, ◌^◌, ◌==◌, true, false, cond, zero, suc, List, [], ◌∷◌, ◌++◌, length, take, get_or, Option, Some, None, refl, ap, ap₂, sym, subst, ◌∙◌, arith, zero-add, Contains, ⊎_elim, inl, inr}
+-- The rows of one number, added up.
+use Rattle.std.proofs.Common.{◌≡◌, ℕ, ◌+◌, ◌<◌, ◌≤◌, ◌^◌, ◌==◌, true, false, cond, zero, suc, List, [], ◌∷◌, ◌++◌, length, get_or, Option, Some, None, refl, ap, ap₂, sym, subst, ◌∙◌, arith, zero-add, Contains, ⊎_elim, inl, inr}
 use Rattle.std.specs.Prelude.{sum_by}
 use Rattle.std.proofs.lemmas.Bool.Decides.{nat_tests}
-use Rattle.std.proofs.lemmas.List.{take_more, append-nil}
-use Rattle.std.proofs.lemmas.List.Concat.{flat_map-append}
 use Rattle.std.proofs.lemmas.List.Sums.{sum_by-cons, sum_by-append}
 use Rattle.share_core.specs.declared.rows.Row.{Row}
 use Rattle.share_core.specs.Rows.{row_of, first_at, earlier, AreOfNumbers, HasNoRow}
-use Rattle.share_core.specs.Shares.{Held}
-use Rattle.share_core.specs.Checking.{all_rows}
 use Rattle.share_core.specs.Totals.{there_at, played_at, with_row, IsTooMuch, IsTotalAt, IsLargeAt}
 use Rattle.share_core.proofs.Raised.{earlier_none, earlier_assoc}
 use Rattle.share_core.proofs.Found.{tail_numbers, others_differ, found_none}
@@ -33,7 +29,7 @@ sum_none count (row ∷ rows) number none =
     ∙ ap (λ b. cond b (count row) 0 + at_number count rows number) other
     ∙ zero-add (at_number count rows number) ∙ sum_none count rows number (tail_none row rows number other none)
 
-first_none : (rows : List Row) (number : ℕ) → row_of rows number ≡ None → first_at rows number ≡ None
+pub first_none : (rows : List Row) (number : ℕ) → row_of rows number ≡ None → first_at rows number ≡ None
 first_none [] number none = refl
 first_none (row ∷ rows) number none =
     let other = not_head row rows number none in
@@ -84,7 +80,7 @@ sum_one count (r ∷ rows) number row h is =
       | false ↦ λ other e p. let rest = sum_one count rows number row (tail_numbers r rows h) e in omega arith
     ] refl is parts
 
-first_one : (rows : List Row) (number : ℕ) (row : Row) → AreOfNumbers rows → row_of rows number ≡ Some row → first_at rows number ≡ row.first
+pub first_one : (rows : List Row) (number : ℕ) (row : Row) → AreOfNumbers rows → row_of rows number ≡ Some row → first_at rows number ≡ row.first
 first_one [] number row h is = absurd cc
 first_one (r ∷ rows) number row h is =
     elim (r.number == number) as (λ b. (r.number == number) ≡ b → cond b (Some r) (row_of rows number) ≡ Some row → earlier (cond b r.first None) (first_at rows number) ≡ row.first) [
@@ -107,7 +103,7 @@ found_before (row ∷ rows) more number found is =
     elim (row.number == number) as (λ b. cond b (Some row) (row_of rows number) ≡ Some found → cond b (Some row) (row_of (rows ++ more) number) ≡ Some found)
     [ true ↦ λ e. e | false ↦ λ e. found_before rows more number found e ] is
 
-first_more : (rows more : List Row) (number : ℕ) → first_at (rows ++ more) number ≡ earlier (first_at rows number) (first_at more number)
+pub first_more : (rows more : List Row) (number : ℕ) → first_at (rows ++ more) number ≡ earlier (first_at rows number) (first_at more number)
 first_more [] more number = refl
 first_more (row ∷ rows) more number =
     let one = cond (row.number == number) row.first None in
@@ -189,25 +185,9 @@ large_with rows more number (Some total) row numbers is h large = ⊎_elim
     inr (omega arith))
     large
 
--- ---- share by share
-pub rows_more : (shares : List Held) (i : ℕ) (d : Held) → i < length shares → all_rows (take (i + 1) shares) ≡ all_rows (take i shares) ++ (get_or shares i d).rows
-rows_more shares i d inside =
-    ap all_rows (take_more shares i d inside)
-    ∙ flat_map-append (λ (share : Held). share.rows) (take i shares) (get_or shares i d ∷ [])
-    ∙ ap (λ (rows : List Row). all_rows (take i shares) ++ rows) (append-nil (get_or shares i d).rows)
-
-part : (count : Row → ℕ) (shares : List Held) (n number : ℕ) → at_number count (all_rows (take n shares)) number ≤ at_number count (all_rows shares) number
-part count [] zero number = omega arith
-part count [] (suc n) number = omega arith
-part count (share ∷ shares) zero number = omega arith
-part count (share ∷ shares) (suc n) number =
-    let fewer = part count shares n number in
-    let these = sum_more count share.rows (all_rows (take n shares)) number in
-    let all = sum_more count share.rows (all_rows shares) number in
-    omega arith
-
-pub large_part : (shares : List Held) (n number : ℕ) → IsLargeAt (all_rows (take n shares)) number → IsLargeAt (all_rows shares) number
-large_part shares n number large = ⊎_elim
-    (λ (many : 2 ^ 64 ≤ there_at (all_rows (take n shares)) number). let few = part (λ (r : Row). r.there) shares n number in inl (omega arith))
-    (λ (many : 2 ^ 64 ≤ played_at (all_rows (take n shares)) number). let few = part (λ (r : Row). r.played) shares n number in inr (omega arith))
+-- a sum that is too large still is with more rows
+pub large_more : (rows more : List Row) (number : ℕ) → IsLargeAt rows number → IsLargeAt (rows ++ more) number
+large_more rows more number large = ⊎_elim
+    (λ (many : 2 ^ 64 ≤ there_at rows number). let parts = sum_more (λ (r : Row). r.there) rows more number in inl (omega arith))
+    (λ (many : 2 ^ 64 ≤ played_at rows number). let parts = sum_more (λ (r : Row). r.played) rows more number in inr (omega arith))
     large

@@ -9,8 +9,6 @@ use Rattle.shape_dict.specs.Contents.{Contents, IsDictionary, entry_of}
 use Rattle.tally_core.specs.Counts.{Replayed}
 use Rattle.tally_core.specs.Games.{counts_diamonds}
 use Rattle.share_core.specs.declared.rows.Row.{Row}
-use Rattle.share_core.specs.declared.faults.HarvestFault.{HarvestFault}
-use Rattle.share_core.specs.declared.faults.HarvestFault.TheVariants as fault
 use Rattle.share_core.specs.Rows.{there_of, played_of, first_of}
 use Rattle.share_core.specs.Shares.{Held, Added, replayed_of, IsShareOf}
 use Rattle.share_core.specs.Covering.{all_games, Covers}
@@ -46,12 +44,6 @@ pub record IsGathered (kinds : Kinds) (games : ℕ) (shares : List Held) (conten
 abbrev pub IsLargeSum : List Held → Type 0
 IsLargeSum shares = ((shape : ℕ) × (2 ^ 64 ≤ there_of (all_rows shares) shape))
     ⊎ ((shape : ℕ) × (2 ^ 64 ≤ played_of (all_rows shares) shape)) ⊎ (2 ^ 64 ≤ all_moves shares)
-
--- why shares were not added up: a sum is too large, or memory was refused
-abbrev pub IsSumFault : List Held → HarvestFault → Type 0
-IsSumFault shares fault.Overflow = IsLargeSum shares
-IsSumFault shares fault.Memory = Unit {0}
-IsSumFault shares found = ⊥
 
 -- ---- games
 -- the games of all shares, one share after another

@@ -14,5 +14,7 @@ pub mod Agreeing
 pub mod Faults
 pub mod Gathering
 pub mod Totals
+pub mod Numbers
+pub mod Visiting
 pub mod Confirming
 pub mod GatherFaults

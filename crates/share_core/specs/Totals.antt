@@ -71,3 +71,7 @@ pub record AreEntriesBelow (rows : List Row) (high : ℕ) (entries : List Entry)
   pub of_rows : All (IsOfRow rows high) entries
   pub every : (row : Row) → Contains rows row → row.number < high → 0 < there_of rows row.shape → 1 ≤ entries_with entries row.shape
   pub once : (shape : ℕ) → entries_with entries shape ≤ 1
+
+-- the entries are what rows count, one for each pattern that was there
+abbrev pub AreEntriesOf : List Row → List Entry → Type 0
+AreEntriesOf rows entries = (high : ℕ) × AreEntriesBelow rows high entries × All (λ row. row.number < high) rows

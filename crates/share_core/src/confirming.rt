@@ -9,9 +9,10 @@ ghost use Rattle.share_core.specs.Confirming.{IsConfirmation};
 ghost use Rattle.share_core.specs.declared.faults.HarvestFault.TheVariants as fault;
 
 use crate::faults::HarvestFault;
+use crate::numbers::sums_at;
 use crate::rows::Row;
 use crate::shares::Share;
-use crate::standing::{bits_of, stranger, word_of};
+use crate::standing::{bits_of, word_of};
 use probe_core::ProbeOrder;
 use shape_core::Word;
 use slot_table::{Pass, SlotTable};
@@ -116,7 +117,7 @@ fn stranger_at(shares: &[Share], number: usize, of_table: Option<Word>) -> Harve
 {
     HarvestFault::Stranger {
         number,
-        of_share: stranger(shares, number, None),
+        of_share: sums_at(shares, number, None).stranger,
         of_table,
     }
 }

@@ -1,23 +1,39 @@
 //! Shares put together to a dictionary.
-ghost use Rattle.std.specs.Prelude.{◌≡◌, ◌<◌, ◌^◌, All, OnOk, IfOk, IfErr};
+ghost use Rattle.std.specs.Prelude.{◌≡◌, ◌<◌, ◌^◌, All, None, OnOk, IfOk, IfErr, false};
 ghost use Rattle.slot_table.specs.Passes.{IsPassOf};
 ghost use Rattle.share_core.specs.Agreeing.{AskedAll};
 ghost use Rattle.share_core.specs.Checking.{all_rows, Stand};
 ghost use Rattle.share_core.specs.Covering.{all_games, Covers};
 ghost use Rattle.share_core.specs.Gathering.{IsGathered};
 ghost use Rattle.share_core.specs.GatherFaults.{IsGatherFault};
+ghost use Rattle.share_core.specs.Visiting.{IsNumbersFault};
 
 use crate::adding_up::add_up;
-use crate::agreeing::check_marks;
+use crate::agreeing::{Differs, marks_fault};
 use crate::covering::check_games;
 use crate::faults::HarvestFault;
 use crate::shares::Share;
-use crate::standing::check_rows;
+use crate::standing::check_beyond;
+use crate::visiting::visit_all;
 use probe_core::ProbeOrder;
 use shape_core::Kinds;
 use shape_dict::Dictionary;
 use slot_table::{Pass, SlotTable};
 use std::alloc::Global;
+
+/// What is wrong with the numbers where each row stands in the table: a mark that differs comes before a sum too large.
+fn check_numbers(differs: Option<Differs>, is_large: bool) -> Result<(), HarvestFault>
+    ensures ok { OnOk result ((differs ≡ None) × (is_large ≡ false)) }
+    ensures fault { IfErr result (IsNumbersFault differs is_large) }
+{
+    if let Some(differs) = differs {
+        return Err(marks_fault(differs));
+    }
+    if is_large {
+        return Err(HarvestFault::Overflow);
+    }
+    Ok(())
+}
 
 /// The dictionary of shares that have each number below `games` as a game once together: for each pattern the sums of
 /// all rows, and the least game. A pattern that was never there is left out.
@@ -26,8 +42,8 @@ use std::alloc::Global;
 /// with the least that is in none, `HarvestFault::Stranger` with the least number at which a share has a row and the table
 /// another pattern than the row's, or none, `HarvestFault::Marks` with the least number whose least marked game is not the
 /// least of the shares' rows there, and `HarvestFault::Overflow` where a sum passes 2^64 - 1. `HarvestFault::Memory`
-/// comes where memory was refused. Each number is looked at once and asked once, in rising order; what is marked after
-/// that is not judged.
+/// comes where memory was refused. Each number is looked at once, in rising order, and asked once, until one differs;
+/// what is marked after that is not judged.
 ///
 /// The pass must be of the table, each share of these kinds, and each of its games below `games`.
 pub fn gather<O: ProbeOrder>(
@@ -52,7 +68,8 @@ pub fn gather<O: ProbeOrder>(
         pass.old pass.new) }
 {
     check_games(alloc, games, shares)?;
-    check_rows(table, pass, shares)?;
-    check_marks(table, pass, shares)?;
-    add_up(alloc, kinds, games, table.capacity().slots(), shares)
+    let visited = visit_all(alloc, table, pass, shares)?;
+    check_beyond(shares, table.capacity().slots())?;
+    check_numbers(visited.differs, visited.is_large)?;
+    add_up(kinds, games, visited.entries, shares)
 }

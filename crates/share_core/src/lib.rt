@@ -21,7 +21,9 @@ mod faults;
 pub mod full_laws;
 mod gathering;
 pub mod laws;
+mod numbers;
 mod standing;
+mod visiting;
 
 pub use confirming::confirm_full;
 pub use faults::HarvestFault;

@@ -1,0 +1,85 @@
+-- A table and the rows of shares, number by number.
+use Rattle.std.specs.Prelude.{Result, Ok, Err, OnOk}
+use Rattle.std.proofs.Common.{◌≡◌, ℕ, ◌+◌, ◌<◌, true, false, List, [], ◌∷◌, ◌++◌, Option, Some, None, refl, ap, sym, subst, ◌∙◌, ◌⊎◌, ⊎_elim, All, add-one, append-nil}
+use Rattle.std.specs.Option.{is_some}
+use Rattle.slot_table.specs.declared.entries.Happened.{Happened}
+use Rattle.slot_table.specs.declared.entries.Happened.TheVariants as call
+use Rattle.slot_table.specs.Passes.{Known, IsLater}
+use Rattle.slot_table.specs.History.{Keeps, TellsAt}
+use Rattle.slot_table.proofs.Later.{later_through}
+use Rattle.tally_core.specs.Entries.{IsShape}
+use Rattle.share_core.specs.declared.rows.Row.{Row}
+use Rattle.share_core.specs.declared.agreeing.Differs.{Differs}
+use Rattle.share_core.specs.declared.numbers.NumberSums.{NumberSums}
+use Rattle.share_core.specs.declared.visiting.Visited.{Visited}
+use Rattle.share_core.specs.Rows.{first_at}
+use Rattle.share_core.specs.Agreeing.{agreeing_firsts}
+use Rattle.share_core.specs.Checking.{stranger_in, shape_at, StandBelow, IsStranger}
+use Rattle.share_core.specs.Totals.{entries_of_total, AreEntriesBelow}
+use Rattle.share_core.specs.Numbers.{AreSums}
+use Rattle.share_core.specs.Visiting.{AgreeBelow, AreVisited}
+use Rattle.share_core.proofs.Stood.{stand_more}
+use Rattle.share_core.proofs.Ordered.{entries_more}
+
+-- ---- least games
+-- what was asked up to this number and at it
+asked_next : {O : Type 0} (n : ℕ) (rows : List Row) (number : ℕ) (first old new : Known O) (before : Option Differs) (of_table : Option ℕ) → is_some before ≡ false →
+    IsLater n old (call.First number of_table ∷ []) new → AgreeBelow n rows number first old before → IsLater n first (agreeing_firsts rows number ++ call.First number of_table ∷ []) new
+asked_next n rows number first old new None of_table none later h = later_through n first old new (agreeing_firsts rows number) (call.First number of_table ∷ []) h later
+asked_next n rows number first old new (Some differs) of_table none later h = absurd cc
+
+-- the answer agrees
+pub agree_more : {O : Type 0} (n : ℕ) (rows : List Row) (number : ℕ) (first old new : Known O) (before : Option Differs) (of_table : Option ℕ) → is_some before ≡ false →
+    IsLater n old (call.First number of_table ∷ []) new → of_table ≡ first_at rows number → AgreeBelow n rows number first old before → AgreeBelow n rows (number + 1) first new None
+agree_more n rows number first old new before of_table none later same h =
+    subst (λ k. IsLater n first (agreeing_firsts rows k) new) (sym (add-one number))
+    (subst (λ o. IsLater n first (agreeing_firsts rows number ++ call.First number o ∷ []) new) same
+    (asked_next n rows number first old new before of_table none later h))
+
+-- and where it does not
+pub differs_here : {O : Type 0} (n : ℕ) (rows : List Row) (number high : ℕ) (first old new : Known O) (before : Option Differs) (of_shares of_table : Option ℕ) → is_some before ≡ false →
+    IsLater n old (call.First number of_table ∷ []) new → number < n → of_shares ≡ first_at rows number → (of_shares ≡ of_table → ⊥) → AgreeBelow n rows number first old before →
+    AgreeBelow n rows high first new (Some (record { number = number; of_shares = of_shares; of_table = of_table }))
+differs_here n rows number high first old new before of_shares of_table none later inside shares differ h =
+    (inside, shares, differ, asked_next n rows number first old new before of_table none later h)
+
+-- a look asks nothing
+pub looked : {O : Type 0} (n : ℕ) (rows : List Row) (high : ℕ) (first old new : Known O) (differs : Option Differs) → IsLater n old [] new →
+    AgreeBelow n rows high first old differs → AgreeBelow n rows high first new differs
+looked n rows high first old new None later h =
+    let made = agreeing_firsts rows high in
+    subst (λ (m : List Happened). IsLater n first m new) (append-nil made) (later_through n first old new made [] h later)
+looked n rows high first old new (Some differs) later h =
+    let made = agreeing_firsts rows differs.number ++ call.First differs.number differs.of_table ∷ [] in
+    (h.0, h.1, h.2, subst (λ (m : List Happened). IsLater n first m new) (append-nil made) (later_through n first old new made [] h.3 later))
+
+-- ---- one number
+pub stranger_found : (n : ℕ) (seen history : List Happened) (rows : List Row) (number held : ℕ) (found of_table stranger : Option ℕ) → Keeps n seen history → found ≡ shape_at n history number →
+    of_table ≡ found → stranger ≡ Some held → stranger ≡ stranger_in rows number found → StandBelow n seen rows number → IsStranger n history rows number (Some held) of_table
+stranger_found n seen history rows number held found of_table stranger keeps told same some is stand = record {
+  first = sym some ∙ is ∙ ap (stranger_in rows number) (sym same);
+  some = (held, refl);
+  table = same ∙ told;
+  least = λ row among low. keeps.numbers row.shape row.number (stand row among low);
+}
+
+pub visited_more : {O : Type 0} (n : ℕ) (rows : List Row) (number : ℕ) (first old look new : Known O) (before after : Visited) (found : Option ℕ) (sums : NumberSums) →
+    IsLater n old [] look → TellsAt n look.seen number found → AreSums rows number found sums → sums.stranger ≡ None → Keeps n look.seen new.seen →
+    (AgreeBelow n rows number first look before.differs → AgreeBelow n rows (number + 1) first new after.differs) →
+    (after.is_large ≡ false → (before.is_large ≡ false) × (sums.is_large ≡ false)) → (after.is_large ≡ true → (before.is_large ≡ true) ⊎ (sums.is_large ≡ true)) →
+    after.entries.items ≡ before.entries.items ++ entries_of_total sums.total → All IsShape (entries_of_total sums.total) →
+    AreVisited n rows number first old before → AreVisited n rows (number + 1) first new after
+visited_more n rows number first old look new before after found sums later told are none keeps agree fits large entries shapes h = record {
+  stand =
+      let looked_at = stand_more n old.seen look.seen rows number found later.keeps told (sym are.stranger ∙ none) h.stand in
+      λ row among low. keeps.numbers row.shape row.number (looked_at row among low);
+  agree = agree (looked n rows number first old look before.differs later h.agree);
+  entries = λ each is. subst (AreEntriesBelow rows (number + 1)) (sym entries)
+      (entries_more rows number sums.total before.entries.items each (are.total (fits is).1) shapes (h.entries each (fits is).0));
+  large = λ is. ⊎_elim h.large (λ (here : sums.is_large ≡ true). (number, are.large here)) (large is);
+}
+
+-- what two clauses give where a call answers well
+pub both_ok : {T E : Type 0} {P Q R : Type 0} (r : Result T E) → (P → Q → R) → OnOk r P → OnOk r Q → OnOk r R
+both_ok (Ok x) f p q = f p q
+both_ok (Err e) f p q = tt

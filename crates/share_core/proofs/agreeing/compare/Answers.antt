@@ -1,0 +1,18 @@
+use Rattle.std.proofs.Common.{◌^◌, ◌+◌, sym, ◌∙◌}
+use Rattle.share_core.proofs.Firsts.{games_agree, games_differ}
+use Rattle.share_core.proofs.Visits.{agree_more, differs_here}
+use Rattle.share_core.proofs.agreeing.compare.Goals as goal
+
+pub returns-then-eq-clause-agree : goal.returns-then-eq-clause-agree
+returns-then-eq-clause-agree g c rows first shares h =
+    let n = 2 ^ g.O.ProbeOrder.exponent c.args.table.now.order in
+    let of_table = c.first-of_table.result in
+    agree_more n rows c.args.number first c.args.pass.now c.first-of_table.new.pass c.args.before of_table (sym c.is_some.ensures ∙ c.if-is_some.false) c.first-of_table.ensures.later
+    (sym (games_agree c.args.of_shares of_table c.if-eq.ensures) ∙ shares) h
+
+pub returns-else-eq-clause-agree : goal.returns-else-eq-clause-agree
+returns-else-eq-clause-agree g c rows first shares h =
+    let n = 2 ^ g.O.ProbeOrder.exponent c.args.table.now.order in
+    let of_table = c.first-of_table.result in
+    differs_here n rows c.args.number (c.args.number + 1) first c.args.pass.now c.first-of_table.new.pass c.args.before c.args.of_shares of_table (sym c.is_some.ensures ∙ c.if-is_some.false) c.first-of_table.ensures.later
+    c.requires.number shares (games_differ c.args.of_shares of_table c.if-eq.ensures) h
