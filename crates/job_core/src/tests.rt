@@ -1,9 +1,8 @@
 //! Small collections, and each public call once.
-ghost use Rattle.std.specs.Prelude.{◌≡◌, ◌++◌, ◌∷◌, [], IfOk, OnOk};
-ghost use Rattle.job_core.specs.Rising.{Rising, past};
+ghost use Rattle.std.specs.Prelude.{◌≡◌, OnOk};
 ghost use Rattle.job_core.specs.Rule.{IsInStep, MayPut, putting};
 
-use crate::{Desk, Games, Item, new_queue};
+use crate::{Desk, Games, Item, Job, new_queue};
 use sgf_core::SgfFault;
 use std::alloc::{AllocError, Global};
 use std::process::Abort;
@@ -25,21 +24,37 @@ fn collection(alloc: Global, games: u64) -> Result<Vec<u8>, AllocError> {
     Ok(bytes)
 }
 
+/// What a job says: its number, its place, and of its record the columns of the board and how many actions there are.
+fn said(job: &Job<'_>) -> (u64, usize, usize, u8, usize) {
+    let record = job.record();
+    (
+        job.game(),
+        job.at(),
+        job.end(),
+        record.size().columns(),
+        record.actions().len(),
+    )
+}
+
+/// What the job of the next game says, where there is one.
+fn next_said(
+    alloc: Global,
+    games: &mut Games<'_>,
+) -> Result<Option<(u64, usize, usize, u8, usize)>, HarvestFault> {
+    match games.next_job(alloc)? {
+        Some(job) => Ok(Some(said(&job))),
+        None => Ok(None),
+    }
+}
+
 #[test]
-fn games_are_numbered_in_their_order(rt: HostRuntime) -> Result<(), Fail> {
+fn games_are_numbered_in_their_order(rt: HostRuntime) -> Result<(), HarvestFault> {
     let alloc = rt.alloc();
     let mut games = Games::new(MIXED)?;
-    let first = games.next_job(alloc)?.ok_or("no game")?;
-    assert_eq!(rt; (first.game(), first.at(), first.end()), (0, 0, 14));
-    assert_eq!(rt; first.record().size().columns(), 1);
-    assert_eq!(rt; first.record().actions().len(), 1);
-    let second = games.next_job(alloc)?.ok_or("no second game")?;
-    assert_eq!(rt; (second.game(), second.at(), second.end()), (1, 31, 45));
-    assert_eq!(rt; second.record().size().columns(), 19);
-    assert_eq!(rt; second.record().actions().len(), 2);
-    assert_eq!(rt; second.bytes(), MIXED);
-    assert!(rt; games.next_job(alloc)?.is_none());
-    assert!(rt; games.next_job(alloc)?.is_none());
+    assert!(rt; next_said(alloc, &mut games) == Ok(Some((0, 0, 14, 1, 1))));
+    assert!(rt; next_said(alloc, &mut games) == Ok(Some((1, 31, 45, 19, 2))));
+    assert!(rt; next_said(alloc, &mut games) == Ok(None));
+    assert!(rt; next_said(alloc, &mut games) == Ok(None));
     let report = Report {
         games: 2,
         others: 1,
@@ -49,15 +64,30 @@ fn games_are_numbered_in_their_order(rt: HostRuntime) -> Result<(), Fail> {
     Ok(())
 }
 
+/// Whether the next job borrows this input.
+fn borrows(alloc: Global, bytes: &[u8]) -> Result<bool, HarvestFault> {
+    let mut games = Games::new(bytes)?;
+    match games.next_job(alloc)? {
+        Some(job) => Ok(job.bytes() == bytes),
+        None => Ok(false),
+    }
+}
+
 #[test]
-fn a_fault_comes_after_the_games_before_it(rt: HostRuntime) -> Result<(), Fail> {
+fn a_job_has_the_whole_input(rt: HostRuntime) -> Result<(), HarvestFault> {
+    assert!(rt; borrows(rt.alloc(), MIXED)?);
+    Ok(())
+}
+
+#[test]
+fn a_fault_comes_after_the_games_before_it(rt: HostRuntime) -> Result<(), HarvestFault> {
     let alloc = rt.alloc();
+    let truncated = Err(HarvestFault::Sgf(SgfFault::Truncated(8)));
     let mut games = Games::new(b"(;SZ[1])(;B[aa]")?;
-    assert!(rt; games.next_job(alloc)?.is_some());
-    let truncated = Some(HarvestFault::Sgf(SgfFault::Truncated(8)));
-    assert!(rt; games.next_job(alloc).err() == truncated);
-    assert!(rt; games.next_job(alloc).err() == truncated);
-    assert_eq!(rt; games.report().games, 1);
+    assert!(rt; next_said(alloc, &mut games) == Ok(Some((0, 0, 8, 1, 0))));
+    assert!(rt; next_said(alloc, &mut games) == truncated);
+    assert!(rt; next_said(alloc, &mut games) == truncated);
+    assert!(rt; games.report().games == 1);
     Ok(())
 }
 
@@ -80,44 +110,76 @@ fn put_until_full<'a, R: Wait>(
     Ok(None)
 }
 
-/// Fills a queue and empties it.
-fn fill_and_empty<R: Abort + Wait>(
-    rt: &R,
-    alloc: Global,
-    bytes: &[u8],
-) -> Result<(), HarvestFault> {
-    let mut games = Games::new(bytes)?;
-    let (queue, pass) = new_queue(alloc)?;
-    let mut desk = Desk::open(&queue, pass, bytes);
-    let mut worker = desk.another();
-    assert!(rt; worker.draw(rt).is_none());
-    let back = put_until_full(rt, alloc, &mut desk, &mut games)?;
-    assert!(rt; number(back) == Some(128));
-    assert!(rt; games.report().games == 129);
-    assert!(rt; number(worker.draw(rt)) == Some(0));
-    assert!(rt; desk.put(rt, Item::End).is_ok());
-    assert!(rt; desk.put(rt, Item::End).is_err());
-    for game in 1..128 {
-        assert!(rt; number(worker.draw(rt)) == Some(game));
-    }
-    assert!(rt; matches!(worker.draw(rt), Some(Item::End)));
-    assert!(rt; worker.draw(rt).is_none());
-    Ok(())
-}
-
-#[test]
-fn a_full_queue_hands_the_item_back(rt: HostRuntime) -> Result<(), Fail> {
-    let bytes = collection(rt.alloc(), 200)?;
-    fill_and_empty(&rt, rt.alloc(), bytes.as_slice())?;
-    Ok(())
-}
-
 /// The number of the game, where this is a job.
 fn number(item: Option<Item<'_>>) -> Option<u64> {
     match item {
         Some(Item::Job(job)) => Some(job.game()),
         Some(Item::End) | None => None,
     }
+}
+
+/// Puts an end, and says whether there was room.
+fn puts_an_end<R: Wait>(rt: &R, desk: &mut Desk<'_, '_>) -> bool {
+    desk.put(rt, Item::End).is_ok()
+}
+
+/// Draws the game of the next job, where the next item is one.
+fn draw_game<R: Wait>(rt: &R, desk: &mut Desk<'_, '_>) -> Option<u64> {
+    number(desk.draw(rt))
+}
+
+/// Draws the next item, and says whether it was an end.
+fn draws_an_end<R: Wait>(rt: &R, desk: &mut Desk<'_, '_>) -> bool {
+    matches!(desk.draw(rt), Some(Item::End))
+}
+
+/// Draws, and says whether the queue was empty.
+fn draws_nothing<R: Wait>(rt: &R, desk: &mut Desk<'_, '_>) -> bool {
+    desk.draw(rt).is_none()
+}
+
+/// Draws the jobs of a queue that was full, and the end.
+fn empty<R: Abort + Wait>(rt: &R, desk: &mut Desk<'_, '_>) {
+    assert!(rt; draw_game(rt, desk) == Some(0));
+    assert!(rt; puts_an_end(rt, desk));
+    assert!(rt; !puts_an_end(rt, desk));
+    for game in 1..128 {
+        assert!(rt; draw_game(rt, desk) == Some(game));
+    }
+    assert!(rt; draws_an_end(rt, desk));
+    assert!(rt; draws_nothing(rt, desk));
+}
+
+/// Fills a queue and empties it.
+fn fill_and_empty<'a, R: Abort + Wait>(
+    rt: &R,
+    alloc: Global,
+    desk: &mut Desk<'_, 'a>,
+    games: &mut Games<'a>,
+) -> Result<(), HarvestFault>
+    requires { IsInStep games.old desk.old }
+{
+    assert!(rt; draws_nothing(rt, &mut desk.another()));
+    let back = number(put_until_full(rt, alloc, desk, games)?);
+    assert!(rt; back == Some(128));
+    assert!(rt; games.report().games == 129);
+    empty(rt, &mut desk.another());
+    Ok(())
+}
+
+/// Opens a queue for the games of these bytes, and fills and empties it.
+fn open_and_fill<R: Abort + Wait>(rt: &R, alloc: Global, bytes: &[u8]) -> Result<(), HarvestFault> {
+    let mut games = Games::new(bytes)?;
+    let (queue, pass) = new_queue(alloc)?;
+    let mut desk = Desk::open(&queue, pass, bytes);
+    fill_and_empty(rt, alloc, &mut desk, &mut games)
+}
+
+#[test]
+fn a_full_queue_hands_the_item_back(rt: HostRuntime) -> Result<(), Fail> {
+    let bytes = collection(rt.alloc(), 200)?;
+    open_and_fill(&rt, rt.alloc(), bytes.as_slice())?;
+    Ok(())
 }
 
 /// Puts an item once there is room.
@@ -139,28 +201,25 @@ fn put_at_last<'a, R: Wait>(rt: &R, desk: &mut Desk<'_, 'a>, item: Item<'a>)
 fn put_all<'a, R: Wait>(
     rt: &R,
     alloc: Global,
-    mut desk: Desk<'_, 'a>,
-    mut games: Games<'a>,
-) -> Result<Report, HarvestFault>
-    requires { IsInStep games desk }
+    desk: &mut Desk<'_, 'a>,
+    games: &mut Games<'a>,
+) -> Result<u64, HarvestFault>
+    requires { IsInStep games.old desk.old }
 {
     while let Some(job) = games.next_job(alloc)? {
-        put_at_last(rt, &mut desk, Item::Job(job));
+        put_at_last(rt, desk, Item::Job(job));
     }
-    put_at_last(rt, &mut desk, Item::End);
-    put_at_last(rt, &mut desk, Item::End);
-    Ok(games.report())
+    put_at_last(rt, desk, Item::End);
+    put_at_last(rt, desk, Item::End);
+    Ok(games.report().games)
 }
 
-/// The games of the jobs up to the first end. They rise, whatever the desk drew before.
+/// The games of the jobs up to the first end.
 fn draw_all<R: Wait>(
     rt: &R,
     alloc: Global,
     desk: &mut Desk<'_, '_>,
-) -> Result<Vec<u64>, HarvestFault>
-    ensures drawn { IfOk result (λ games. desk.new.drawn ≡ desk.old.drawn ++ games.items) }
-    ensures rises { IfOk result (λ games. Rising 0 games.items (past games.items)) }
-{
+) -> Result<Vec<u64>, HarvestFault> {
     let mut drawn = Vec::new(alloc);
     for _ in rt.forever() {
         match desk.draw(rt) {
@@ -173,81 +232,122 @@ fn draw_all<R: Wait>(
 }
 
 /// One game more.
-fn keep(games: &mut Vec<u64>, game: u64) -> Result<(), HarvestFault>
-    ensures { OnOk result (games.new.items ≡ games.old.items ++ game ∷ []) }
-{
+fn keep(games: &mut Vec<u64>, game: u64) -> Result<(), HarvestFault> {
     match games.push(game) {
         Ok(()) => Ok(()),
         Err(_) => Err(HarvestFault::Memory),
     }
 }
 
-/// The games that two workers draw, all together, and the report of the reader.
+/// The games of both lists.
+fn all_of(mut left: Vec<u64>, right: &[u64]) -> Result<Vec<u64>, HarvestFault> {
+    for game in right {
+        keep(&mut left, *game)?;
+    }
+    Ok(left)
+}
+
+/// The games that two workers draw, all together.
+fn draw_by_two<R: Threads + Wait + Sync>(
+    rt: &R,
+    alloc: Global,
+    mut one: Desk<'_, '_>,
+    mut other: Desk<'_, '_>,
+) -> Result<Vec<u64>, HarvestFault> {
+    let (left, right) = thread::join(
+        rt,
+        move || draw_all(rt, alloc, &mut one),
+        move || draw_all(rt, alloc, &mut other),
+    );
+    all_of(left?, right?.as_slice())
+}
+
+/// Both answers, or the fault of one.
+fn both(
+    read: Result<u64, HarvestFault>,
+    drawn: Result<Vec<u64>, HarvestFault>,
+) -> Result<(u64, Vec<u64>), HarvestFault> {
+    match (read, drawn) {
+        (Ok(read), Ok(drawn)) => Ok((read, drawn)),
+        (Err(fault), _) | (_, Err(fault)) => Err(fault),
+    }
+}
+
+/// How many games the reader reports, and the games that two workers draw.
+fn put_and_draw<'a, R: Threads + Wait + Sync>(
+    rt: &R,
+    alloc: Global,
+    mut desk: Desk<'_, 'a>,
+    mut games: Games<'a>,
+) -> Result<(u64, Vec<u64>), HarvestFault>
+    requires { IsInStep games desk }
+{
+    let one = desk.another();
+    let other = desk.another();
+    let (read, drawn) = thread::join(
+        rt,
+        move || -> Result<u64, HarvestFault>
+            requires { IsInStep games desk }
+        { put_all(rt, alloc, &mut desk, &mut games) },
+        move || draw_by_two(rt, alloc, one, other),
+    );
+    both(read, drawn)
+}
+
+/// The same for the games of these bytes.
 fn drawn_by_two<R: Threads + Wait + Sync>(
     rt: &R,
     alloc: Global,
     bytes: &[u8],
-) -> Result<(Report, Vec<u64>), HarvestFault> {
+) -> Result<(u64, Vec<u64>), HarvestFault> {
     let games = Games::new(bytes)?;
     let (queue, pass) = new_queue(alloc)?;
-    let mut desk = Desk::open(&queue, pass, bytes);
-    let mut one = desk.another();
-    let mut other = desk.another();
-    let (report, (left, right)) = thread::join(
-        rt,
-        move || -> Result<Report, HarvestFault>
-            requires { IsInStep games desk }
-        { put_all(rt, alloc, desk, games) },
-        move || -> (
-            Result<Vec<u64>, HarvestFault>,
-            Result<Vec<u64>, HarvestFault>,
-        ) {
-            thread::join(
-                rt,
-                move || draw_all(rt, alloc, &mut one),
-                move || draw_all(rt, alloc, &mut other),
-            )
-        },
-    );
-    let mut drawn = left?;
-    for game in &right? {
-        if drawn.push(*game).is_err() {
-            return Err(HarvestFault::Memory);
+    put_and_draw(rt, alloc, Desk::open(&queue, pass, bytes), games)
+}
+
+/// Whether each number is that of its place.
+fn are_in_place(games: &[u64]) -> bool {
+    for game in 0..games.len() {
+        if games[game] != game as u64 {
+            return false;
         }
     }
-    Ok((report?, drawn))
+    true
 }
 
 #[test]
 fn two_workers_draw_each_game_once(rt: HostRuntime) -> Result<(), Fail> {
     let bytes = collection(rt.alloc(), 1000)?;
-    let (report, mut drawn) = drawn_by_two(&rt, rt.alloc(), bytes.as_slice())?;
-    assert_eq!(rt; report.games, 1000);
+    let (read, mut drawn) = drawn_by_two(&rt, rt.alloc(), bytes.as_slice())?;
+    assert!(rt; read == 1000);
+    assert!(rt; drawn.len() == 1000);
     drawn.sort()?;
-    assert_eq!(rt; drawn.len(), 1000);
-    for game in 0..1000 {
-        assert_eq!(rt; drawn[game], game as u64);
-    }
+    assert!(rt; are_in_place(drawn.as_slice()));
     Ok(())
+}
+
+/// The number of the game of the next job.
+fn next_number(alloc: Global, games: &mut Games<'_>) -> Result<Option<u64>, HarvestFault> {
+    match games.next_job(alloc)? {
+        Some(job) => Ok(Some(job.game())),
+        None => Ok(None),
+    }
 }
 
 /// With memory refused at any request the games come as they do, or want of memory is answered, then and later.
 #[test]
-fn memory_is_found_or_named(rt: HostRuntime) -> Result<(), Fail> {
+fn memory_is_found_or_named(rt: HostRuntime) -> Result<(), HarvestFault> {
     let alloc = rt.alloc();
-    let memory = Some(HarvestFault::Memory);
     let mut games = Games::new(MIXED)?;
     for game in 0..2 {
-        match games.next_job(alloc) {
-            Ok(job) => assert_eq!(rt; number(job.map(Item::Job)), Some(game)),
-            Err(fault) => {
-                assert!(rt; Some(fault) == memory);
-                assert!(rt; games.next_job(alloc).err() == memory);
-                return Ok(());
-            }
+        let next = next_number(alloc, &mut games);
+        if next == Err(HarvestFault::Memory) {
+            assert!(rt; next_number(alloc, &mut games) == next);
+            return Ok(());
         }
+        assert!(rt; next == Ok(Some(game)));
     }
-    let full = new_queue(alloc);
-    assert!(rt; full.is_ok() || full.err() == memory);
+    let fault = new_queue(alloc).err();
+    assert!(rt; fault.is_none() || fault == Some(HarvestFault::Memory));
     Ok(())
 }

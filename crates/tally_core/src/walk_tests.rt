@@ -1,17 +1,18 @@
 //! Games on boards from 1 by 1 to 7 by 7, walked, and counted by the plain definition: a look at every point at every
 //! move.
-use crate::{HarvestFault, Walk, tally_plain};
+use crate::tests::{TWO_STONES, game_of};
+use crate::{HarvestFault, Meeting, Walk, tally_plain};
 use go_board::{Board, Colour, Point, Stone};
-use go_record::{Action, Kind, Record, read_record};
-use sgf_core::Trees;
+use go_record::{Action, Record};
 use shape_core::{Kinds, Shape, around, canonical, diamond};
-use std::alloc::Global;
+use shape_dict::Entry;
+use std::alloc::{AllocError, Global};
 use std::collections::BTreeMap;
 use std::process::Abort;
 use std::test::Fail;
 
 /// Numbers that look as if thrown.
-#[derive(Drop)]
+#[derive(Clone, Copy)]
 struct Dice(u64);
 
 impl Dice {
@@ -25,7 +26,7 @@ impl Dice {
 }
 
 /// One node: mostly a move of either colour onto any point, stone or not; else a pass, or stones set or taken off.
-fn push_node(text: &mut Vec<u8>, dice: &mut Dice, columns: u8, rows: u8) -> Result<(), Fail> {
+fn push_node(text: &mut Vec<u8>, dice: &mut Dice, columns: u8, rows: u8) -> Result<(), AllocError> {
     let name: &[u8] = match dice.throw(16) {
         0 => b";AB[",
         1 => b";AW[",
@@ -35,26 +36,31 @@ fn push_node(text: &mut Vec<u8>, dice: &mut Dice, columns: u8, rows: u8) -> Resu
     };
     text.extend_from_slice(name)?;
     if dice.throw(20) > 0 || name.len() == 4 {
-        text.push(b'a'.wrapping_add(dice.throw(columns)))?;
-        text.push(b'a'.wrapping_add(dice.throw(rows)))?;
+        let column = b'a'.wrapping_add(dice.throw(columns));
+        let row = b'a'.wrapping_add(dice.throw(rows));
+        text.extend_from_slice(&[column, row])?;
     }
-    text.push(b']')?;
+    text.extend_from_slice(b"]")?;
     Ok(())
 }
 
-fn made_up(alloc: Global, columns: u8, rows: u8, nodes: u32) -> Result<Vec<u8>, Fail> {
+fn push_game(text: &mut Vec<u8>, columns: u8, rows: u8, nodes: u32) -> Result<(), AllocError> {
     let mut dice = Dice(u64::from(columns) << 8 | u64::from(rows));
-    let mut text = Vec::new(alloc);
-    text.extend_from_slice(b"(;SZ[")?;
-    text.push(b'0'.wrapping_add(columns))?;
-    text.push(b':')?;
-    text.push(b'0'.wrapping_add(rows))?;
-    text.push(b']')?;
+    let (width, height) = (b'0'.wrapping_add(columns), b'0'.wrapping_add(rows));
+    text.extend_from_slice(b"(;SZ")?;
+    text.extend_from_slice(&[b'[', width, b':', height, b']'])?;
     for _ in 0..nodes {
-        push_node(&mut text, &mut dice, columns, rows)?;
+        push_node(text, &mut dice, columns, rows)?;
     }
-    text.push(b')')?;
-    Ok(text)
+    text.extend_from_slice(b")")?;
+    Ok(())
+}
+
+/// A game of 120 nodes on a board of this size.
+fn made_up(alloc: Global, columns: u8, rows: u8) -> Result<Option<Record>, AllocError> {
+    let mut text = Vec::new(alloc);
+    push_game(&mut text, columns, rows, 120)?;
+    Ok(game_of(alloc, text.as_slice()))
 }
 
 /// What the plain definition counts of a game.
@@ -67,17 +73,43 @@ struct Plain {
 }
 
 impl Plain {
-    fn add(&mut self, shape: Shape, played: bool) -> Result<(), Fail> {
+    fn new(alloc: Global) -> Plain {
+        Plain {
+            moves: 0,
+            order: Vec::new(alloc),
+            counts: BTreeMap::new(alloc),
+        }
+    }
+
+    fn add(&mut self, shape: Shape, there: u64, played: u64) -> Result<(), AllocError> {
         let old = self.counts.get(&shape).copied();
         if old.is_none() {
             self.order.push(shape)?;
         }
-        let (there, before) = old.unwrap_or((0, 0));
-        let count = (
-            there.wrapping_add(1),
-            before.wrapping_add(u64::from(played)),
-        );
+        let before = old.unwrap_or((0, 0));
+        let count = (before.0.wrapping_add(there), before.1.wrapping_add(played));
         self.counts.insert(shape, count)?;
+        Ok(())
+    }
+
+    /// Counts the patterns of a point, if it is empty.
+    fn look_at(
+        &mut self,
+        rt: &impl Abort,
+        kinds: Kinds,
+        board: &Board,
+        mover: Colour,
+        point: Point,
+        played: u64,
+    ) -> Result<(), AllocError> {
+        assert!(rt; board.size().has(point));
+        if board.cell(point) != Stone::Empty {
+            return Ok(());
+        }
+        self.add(canonical(around(board, point), mover), 1, played)?;
+        if kinds == Kinds::Both {
+            self.add(canonical(diamond(board, point), mover), 1, played)?;
+        }
         Ok(())
     }
 
@@ -89,7 +121,7 @@ impl Plain {
         board: &Board,
         mover: Colour,
         at: Point,
-    ) -> Result<(), Fail> {
+    ) -> Result<(), AllocError> {
         assert!(rt; board.size().has(at));
         if board.cell(at) != Stone::Empty {
             return Ok(());
@@ -98,14 +130,16 @@ impl Plain {
         for row in 0..board.size().rows() {
             for column in 0..board.size().columns() {
                 let point = Point { column, row };
-                assert!(rt; board.size().has(point));
-                if board.cell(point) == Stone::Empty {
-                    self.add(canonical(around(board, point), mover), point == at)?;
-                    if kinds == Kinds::Both {
-                        self.add(canonical(diamond(board, point), mover), point == at)?;
-                    }
-                }
+                self.look_at(rt, kinds, board, mover, point, u64::from(point == at))?;
             }
+        }
+        Ok(())
+    }
+
+    /// Counts a walk's meetings.
+    fn meet(&mut self, meetings: &[Meeting]) -> Result<(), AllocError> {
+        for meeting in meetings {
+            self.add(meeting.shape, meeting.there, meeting.played)?;
         }
         Ok(())
     }
@@ -131,6 +165,23 @@ fn act(rt: &impl Abort, board: &mut Board, action: Action) {
     }
 }
 
+/// Counts the occasions of these actions, and does them.
+fn follow(
+    rt: &impl Abort,
+    kinds: Kinds,
+    plain: &mut Plain,
+    board: &mut Board,
+    actions: &[Action],
+) -> Result<(), AllocError> {
+    for action in actions {
+        if let Action::Move { colour, at } = action {
+            plain.look(rt, kinds, board, *colour, *at)?;
+        }
+        act(rt, board, *action);
+    }
+    Ok(())
+}
+
 fn count_plainly(
     rt: &impl Abort,
     alloc: Global,
@@ -138,48 +189,74 @@ fn count_plainly(
     game: &Record,
 ) -> Result<Plain, Fail> {
     let mut board = Board::new(alloc, game.size())?;
-    let mut plain = Plain {
-        moves: 0,
-        order: Vec::new(alloc),
-        counts: BTreeMap::new(alloc),
-    };
-    for action in game.actions() {
-        if let Action::Move { colour, at } = action {
-            plain.look(rt, kinds, &board, *colour, *at)?;
-        }
-        act(rt, &mut board, *action);
-    }
+    let mut plain = Plain::new(alloc);
+    follow(rt, kinds, &mut plain, &mut board, game.actions())?;
     Ok(plain)
 }
 
-/// The walk's meetings say what the plain definition does, in the order of first meetings; so does the tally.
-fn compare(rt: &impl Abort, walk: &mut Walk, alloc: Global, game: &Record) -> Result<(), Fail> {
-    let plain = count_plainly(rt, alloc, walk.kinds(), game)?;
-    assert_eq!(rt; walk.walk(game)?, plain.moves);
-    let mut order: Vec<Shape> = Vec::new(alloc);
-    let mut counts: BTreeMap<Shape, (u64, u64)> = BTreeMap::new(alloc);
-    for meeting in walk.meetings() {
-        let old = counts.get(&meeting.shape).copied();
-        if old.is_none() {
-            order.push(meeting.shape)?;
-        }
-        let (there, played) = old.unwrap_or((0, 0));
-        let count = (
-            there.wrapping_add(meeting.there),
-            played.wrapping_add(meeting.played),
-        );
-        counts.insert(meeting.shape, count)?;
-    }
-    assert_eq!(rt; order.as_slice(), plain.order.as_slice());
-    assert!(rt; counts == plain.counts);
-    let tally = tally_plain(alloc, walk.kinds(), game)?;
-    assert_eq!(rt; tally.moves(), plain.moves);
-    assert_eq!(rt; tally.entries().len(), plain.counts.len());
-    for entry in tally.entries() {
+/// Whether the meetings say what the plain definition does, in the order of first meetings.
+fn are_met(alloc: Global, meetings: &[Meeting], plain: &Plain) -> Result<bool, AllocError> {
+    let mut met = Plain::new(alloc);
+    met.meet(meetings)?;
+    Ok(met.order.as_slice() == plain.order.as_slice() && met.counts == plain.counts)
+}
+
+/// Whether the entries say what the plain definition does.
+fn are_entered(entries: &[Entry], plain: &Plain) -> bool {
+    for entry in entries {
         let wanted = plain.counts.get(&entry.shape).copied();
-        assert_eq!(rt; wanted, Some((entry.there, entry.played)));
+        if wanted != Some((entry.there, entry.played)) {
+            return false;
+        }
     }
+    entries.len() == plain.counts.len()
+}
+
+/// Whether the tally says what the plain definition does.
+fn is_tallied(
+    alloc: Global,
+    kinds: Kinds,
+    game: &Record,
+    plain: &Plain,
+) -> Result<bool, HarvestFault> {
+    let tally = tally_plain(alloc, kinds, game)?;
+    Ok(tally.moves() == plain.moves && are_entered(tally.entries(), plain))
+}
+
+/// The walk of a game, and its tally, say what the plain definition does.
+fn compare_with(
+    rt: &impl Abort,
+    alloc: Global,
+    walk: &mut Walk,
+    game: &Record,
+    plain: &Plain,
+) -> Result<(), Fail> {
+    assert!(rt; walk.walk(game)? == plain.moves);
+    assert!(rt; are_met(alloc, walk.meetings(), plain)?);
+    assert!(rt; is_tallied(alloc, walk.kinds(), game, plain)?);
     Ok(())
+}
+
+/// The same, by the plain definition's own count.
+fn compare(rt: &impl Abort, alloc: Global, walk: &mut Walk, game: &Record) -> Result<(), Fail> {
+    let plain = count_plainly(rt, alloc, walk.kinds(), game)?;
+    compare_with(rt, alloc, walk, game, &plain)
+}
+
+/// Compares both walks on a board of this size.
+fn compare_on(
+    rt: &impl Abort,
+    alloc: Global,
+    squares: &mut Walk,
+    both: &mut Walk,
+    columns: u8,
+    rows: u8,
+) -> Result<(), Fail> {
+    let Some(game) = made_up(alloc, columns, rows)? else {
+        return Err(Fail::from("no game"));
+    };
+    compare(rt, alloc, squares, &game)?;
+    compare(rt, alloc, both, &game)
 }
 
 #[test]
@@ -190,38 +267,28 @@ fn walks_count_as_the_plain_definition(rt: HostRuntime) -> Result<(), Fail> {
     assert!(&rt; both.meetings().is_empty());
     for columns in 1..8 {
         for rows in 1..8 {
-            let text = made_up(alloc, columns, rows, 120)?;
-            let mut trees = Trees::new(text.as_slice())?;
-            let tree = trees.next_tree(alloc)?.ok_or("no tree")?;
-            let Kind::Go(game) = read_record(alloc, &tree)? else {
-                return Err(Fail::from("another game"));
-            };
-            compare(&rt, &mut squares, alloc, &game)?;
-            compare(&rt, &mut both, alloc, &game)?;
+            compare_on(&rt, alloc, &mut squares, &mut both, columns, rows)?;
         }
     }
     Ok(())
 }
 
+/// How many moves and meetings the walk of a game has.
+fn walked(walk: &mut Walk, game: &Record) -> Result<(u64, usize), HarvestFault> {
+    let moves = walk.walk(game)?;
+    Ok((moves, walk.meetings().len()))
+}
+
 /// With memory refused at any request a walk says so, or what the game has; after that it can be used again.
 #[test]
-fn a_walk_finds_memory_or_says_so(rt: HostRuntime) -> Result<(), Fail> {
+fn a_walk_finds_memory_or_says_so(rt: HostRuntime) {
     let alloc = rt.alloc();
-    let Ok(mut trees) = Trees::new(b"(;SZ[2:1];B[aa];W[ba])") else {
-        return Err(Fail::from("too large"));
-    };
-    let Ok(Some(tree)) = trees.next_tree(alloc) else {
-        return Ok(());
-    };
-    let Ok(Kind::Go(game)) = read_record(alloc, &tree) else {
-        return Ok(());
+    let Some(game) = game_of(alloc, TWO_STONES) else {
+        return;
     };
     let mut walk = Walk::begin(alloc, Kinds::Both);
     for _ in 0..2 {
-        match walk.walk(&game) {
-            Ok(moves) => assert_eq!(&rt; (moves, walk.meetings().len()), (2, 4)),
-            Err(fault) => assert!(&rt; fault == HarvestFault::Memory),
-        }
+        let found = walked(&mut walk, &game);
+        assert!(rt; found == Ok((2, 4)) || found == Err(HarvestFault::Memory));
     }
-    Ok(())
 }
