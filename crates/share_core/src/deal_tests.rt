@@ -3,15 +3,14 @@ ghost use Rattle.std.specs.Prelude.{◌≡◌, ◌<◌, ◌≤◌, ◌^◌, All,
 ghost use Rattle.shape_core.specs.declared.words.Kinds.TheVariants as kinds;
 ghost use Rattle.slot_table.specs.Passes.{IsPassOf};
 
+use crate::testing::{order_of, record_of};
 use crate::{HarvestFault, Share, gather};
-use go_record::{Kind, Record, read_record};
-use probe_core::{Capacity, OddStep, ProbeOrder};
-use sgf_core::Trees;
+use go_record::Record;
+use probe_core::{OddStep, ProbeOrder};
 use shape_core::Kinds;
 use shape_dict::{Dictionary, Text};
 use slot_table::{Pass, SlotTable};
 use std::alloc::Global;
-use std::process::Abort;
 use std::test::Fail;
 use std::thread;
 use std::thread::Threads;
@@ -36,22 +35,6 @@ const WAYS: [[usize; 6]; 6] = [
     [2, 2, 0, 0, 1, 1],
     [1, 2, 0, 0, 2, 1],
 ];
-
-fn order_of(rt: &impl Abort, k: u32) -> OddStep {
-    let capacity = Capacity::new(k).expect(rt, "an exponent up to 22");
-    OddStep { capacity }
-}
-
-/// One record more: that of the first tree.
-fn read_one(alloc: Global, records: &mut Vec<Record>, bytes: &[u8]) -> Result<(), Fail> {
-    let mut trees = Trees::new(bytes)?;
-    let tree = trees.next_tree(alloc)?.ok_or("no tree")?;
-    let Kind::Go(record) = read_record(alloc, &tree)? else {
-        return Err(Fail::from("another game"));
-    };
-    records.push(record)?;
-    Ok(())
-}
 
 /// Adds a game, where the share has none but of these.
 fn add_one<O: ProbeOrder>(
@@ -103,6 +86,25 @@ fn share_of<O: ProbeOrder>(
 }
 
 /// The dictionary of the games, dealt to three shares.
+fn gather_three<O: ProbeOrder>(
+    alloc: Global,
+    table: &SlotTable<O>,
+    pass: &mut Pass<O>,
+    records: &[Record],
+    dealt: &[usize],
+) -> Result<Dictionary, HarvestFault>
+    requires pass { IsPassOf (2 ^ O.exponent table.now.order) table.now pass.old }
+    requires few { length records.now ≤ 2 ^ 28 }
+    requires dealt { length dealt.now ≡ length records.now }
+{
+    let one = share_of(alloc, table, pass, records, dealt, 0)?;
+    let other = share_of(alloc, table, pass, records, dealt, 1)?;
+    let third = share_of(alloc, table, pass, records, dealt, 2)?;
+    let games = records.len() as u64;
+    gather(alloc, table, pass, Kinds::Both, games, &[one, other, third])
+}
+
+/// The same over a table of its own.
 fn gathered_of(
     alloc: Global,
     order: OddStep,
@@ -115,33 +117,42 @@ fn gathered_of(
     let Ok((table, mut pass)) = SlotTable::new(alloc, order) else {
         return Err(HarvestFault::Memory);
     };
-    let shares = [
-        share_of(alloc, &table, &mut pass, records, dealt, 0)?,
-        share_of(alloc, &table, &mut pass, records, dealt, 1)?,
-        share_of(alloc, &table, &mut pass, records, dealt, 2)?,
-    ];
-    let games = records.len() as u64;
-    gather(alloc, &table, &mut pass, Kinds::Both, games, &shares)
+    gather_three(alloc, &table, &mut pass, records, dealt)
+}
+
+/// The records of these games.
+fn records_of(alloc: Global, games: &[&[u8]]) -> Result<Vec<Record>, Fail> {
+    let mut records = Vec::new(alloc);
+    for bytes in games {
+        records.push(record_of(alloc, bytes).ok_or("no record")?)?;
+    }
+    Ok(records)
+}
+
+/// The dictionary of the six games, counted on one thread.
+fn wanted_of(alloc: Global) -> Result<Dictionary, Fail> {
+    let mut collection = Vec::new(alloc);
+    for bytes in SIX {
+        collection.extend_from_slice(bytes)?;
+    }
+    Ok(count_plain(alloc, Kinds::Both, collection.as_slice())?.dictionary)
+}
+
+/// Whether two dictionaries are of as many games and moves, and have the same entries.
+fn are_alike(one: &Dictionary, other: &Dictionary) -> bool {
+    one.games() == other.games() && one.moves() == other.moves() && one.entries() == other.entries()
 }
 
 #[test]
 fn each_way_gives_the_dictionary_of_one_thread(rt: HostRuntime) -> Result<(), Fail> {
     let alloc = rt.alloc();
-    let mut collection = Vec::new(alloc);
-    let mut records = Vec::new(alloc);
-    for bytes in SIX {
-        collection.extend_from_slice(bytes)?;
-        read_one(alloc, &mut records, bytes)?;
-    }
-    let wanted = count_plain(alloc, Kinds::Both, collection.as_slice())?.dictionary;
+    let records = records_of(alloc, &SIX)?;
+    let wanted = wanted_of(alloc)?;
     assert_eq!(rt; wanted.games(), 6);
+    assert!(&rt; records.len() == 6);
     for way in WAYS {
-        let (games, dealt) = (records.as_slice(), way.as_slice());
-        assert!(&rt; games.len() <= 6);
-        assert!(&rt; dealt.len() == games.len());
-        let gathered = gathered_of(alloc, order_of(&rt, 8), games, dealt)?;
-        assert_eq!(rt; (gathered.games(), gathered.moves()), (6, wanted.moves()));
-        assert!(rt; gathered.entries() == wanted.entries());
+        let gathered = gathered_of(alloc, order_of(&rt, 8), &records, &way)?;
+        assert!(rt; are_alike(&gathered, &wanted));
     }
     Ok(())
 }
@@ -238,27 +249,48 @@ fn two_of<O: ProbeOrder + Send + Sync, R: Threads + Sync>(
     Ok(Two { pass, one, other })
 }
 
-#[test]
-fn threads_meet_and_others_go_on(rt: HostRuntime) -> Result<(), Fail> {
-    let alloc = rt.alloc();
-    let mut records = Vec::new(alloc);
-    for _ in 0..10 {
-        read_one(alloc, &mut records, b"(;SZ[1];B[aa])")?;
-        read_one(alloc, &mut records, b"(;SZ[2:1];B[aa];W[ba])")?;
-    }
-    assert!(&rt; records.len() == 20);
-    let dealt = [0, 1, 2, 3, 1, 2, 3, 0, 2, 3, 0, 1, 3, 0, 1, 2, 0, 1, 2, 3];
-    let (table, pass) = SlotTable::new(alloc, order_of(&rt, 3))?;
-    let first = two_of(&rt, alloc, &table, pass, &records, &dealt, 2)?;
-    let Two { pass, one, other } = first;
-    let second = two_of(&rt, alloc, &table, pass, &records, &dealt, 0)?;
+/// The dictionary of four shares: two are counted at once, and then, by the pass of both, two more.
+fn four_of<O: ProbeOrder + Send + Sync, R: Threads + Sync>(
+    rt: &R,
+    alloc: Global,
+    table: &SlotTable<O>,
+    pass: Pass<O>,
+    records: &[Record],
+    dealt: &[usize],
+) -> Result<Dictionary, HarvestFault>
+    requires pass { IsPassOf (2 ^ O.exponent table.now.order) table.now pass }
+    requires few { length records.now ≤ 2 ^ 28 }
+    requires dealt { length dealt.now ≡ length records.now }
+{
+    let Two { pass, one, other } = two_of(rt, alloc, table, pass, records, dealt, 2)?;
     let Two {
         mut pass,
         one: third,
         other: fourth,
-    } = second;
+    } = two_of(rt, alloc, table, pass, records, dealt, 0)?;
     let shares = [one, other, third, fourth];
-    let gathered = gather(alloc, &table, &mut pass, Kinds::Both, 20, &shares)?;
+    let games = records.len() as u64;
+    gather(alloc, table, &mut pass, Kinds::Both, games, &shares)
+}
+
+/// Ten games of one point and ten of two, in turn.
+fn twenty_of(alloc: Global) -> Result<Vec<Record>, Fail> {
+    let mut records = Vec::new(alloc);
+    for _ in 0..10 {
+        records.push(record_of(alloc, b"(;SZ[1];B[aa])").ok_or("no record")?)?;
+        records.push(record_of(alloc, b"(;SZ[2:1];B[aa];W[ba])").ok_or("no record")?)?;
+    }
+    Ok(records)
+}
+
+#[test]
+fn threads_meet_and_others_go_on(rt: HostRuntime) -> Result<(), Fail> {
+    let alloc = rt.alloc();
+    let records = twenty_of(alloc)?;
+    assert!(&rt; records.len() == 20);
+    let dealt = [0, 1, 2, 3, 1, 2, 3, 0, 2, 3, 0, 1, 3, 0, 1, 2, 0, 1, 2, 3];
+    let (table, pass) = SlotTable::new(alloc, order_of(&rt, 3))?;
+    let gathered = four_of(&rt, alloc, &table, pass, &records, &dealt)?;
     let mut text = Vec::new(alloc);
     gathered.write(Text::Three, &mut text)?;
     let wanted =

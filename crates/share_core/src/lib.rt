@@ -37,4 +37,8 @@ mod deal_tests;
 #[cfg(test)]
 mod memory_tests;
 #[cfg(test)]
+mod row_tests;
+#[cfg(test)]
+mod testing;
+#[cfg(test)]
 mod tests;

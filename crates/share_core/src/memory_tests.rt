@@ -1,14 +1,15 @@
 //! Memory that is refused, whichever request it is: a share has a game or is as before, and a fault says so.
-ghost use Rattle.std.specs.Prelude.{◌≡◌, ◌++◌, ◌∷◌, [], ◌<◌, ◌^◌};
+ghost use Rattle.std.specs.Prelude.{◌≡◌, ◌++◌, ◌∷◌, [], ◌<◌, ◌^◌, IfSome};
 ghost use Rattle.std.specs.Bool.{OnTrue};
+ghost use Rattle.shape_core.specs.declared.words.Kinds.TheVariants as kinds;
 ghost use Rattle.slot_table.specs.Passes.{IsPassOf};
 
+use crate::testing::{entry_of, order_of, record_of};
 use crate::{HarvestFault, Row, Share, gather};
-use go_record::{Kind, Record, read_record};
-use probe_core::{Capacity, OddStep, ProbeOrder};
-use sgf_core::Trees;
-use shape_core::{Kinds, Shape, Word};
-use shape_dict::Entry;
+use go_record::Record;
+use probe_core::ProbeOrder;
+use shape_core::Kinds;
+use shape_dict::{Dictionary, Entry};
 use slot_table::{Pass, SlotTable};
 use std::alloc::Global;
 use std::process::Abort;
@@ -22,16 +23,6 @@ const BLACK_ALONE: &[u8] = b"(;SZ[2:1];B[aa];B[ba])";
 
 /// How many slots the table has.
 const SLOTS: usize = 16;
-
-/// The game that is the first tree, if memory was found for it.
-fn record_of(alloc: Global, bytes: &[u8]) -> Option<Record> {
-    let mut trees = Trees::new(bytes).ok()?;
-    let tree = trees.next_tree(alloc).ok()??;
-    match read_record(alloc, &tree).ok()? {
-        Kind::Go(record) => Some(record),
-        Kind::Other => None,
-    }
-}
 
 /// The row of each number that a share has.
 fn rows_of(share: &Share) -> [Option<Row>; SLOTS] {
@@ -93,14 +84,56 @@ fn add_or_keep<O: ProbeOrder>(
     share.add(table, pass, game, record).is_ok()
 }
 
-fn entry_of(rt: &impl Abort, bits: u64, there: u64, played: u64, first: u64) -> Entry {
-    let word = Word::new(bits).expect(rt, "a pattern's word");
-    Entry {
-        shape: Shape::of_word(word).expect(rt, "the least of its images"),
-        there,
-        played,
-        first: Some(first),
+/// The share of both games, if memory was found for it, at the second time where it was refused at the first.
+fn share_of_both<O: ProbeOrder>(
+    rt: &impl Abort,
+    alloc: Global,
+    table: &SlotTable<O>,
+    pass: &mut Pass<O>,
+) -> Option<Share>
+    requires { IsPassOf (2 ^ O.exponent table.now.order) table.now pass.old }
+    ensures pass { IsPassOf (2 ^ O.exponent table.now.order) table.now pass.new }
+    ensures kinds { IfSome result (λ share. share.kinds ≡ kinds.Both) }
+    ensures games { IfSome result (λ share. share.games ≡ 1 ∷ 0 ∷ []) }
+{
+    let in_turn = record_of(alloc, IN_TURN)?;
+    let alone = record_of(alloc, BLACK_ALONE)?;
+    let mut share = Share::begin(alloc, 0, Kinds::Both);
+    if !add_or_keep(rt, table, pass, &mut share, &[], 1, &in_turn) {
+        return None;
     }
+    if !add_or_keep(rt, table, pass, &mut share, &[1], 0, &alone) {
+        return None;
+    }
+    Some(share)
+}
+
+/// Whether a share has both games, with their moves.
+fn has_both(share: &Share) -> bool {
+    share.games() == [1, 0].as_slice() && share.moves() == 4
+}
+
+/// Gathers a share of both games; where memory is refused, which has to leave the share as it was, once more.
+fn gather_or_keep<O: ProbeOrder>(
+    rt: &impl Abort,
+    alloc: Global,
+    table: &SlotTable<O>,
+    pass: &mut Pass<O>,
+    share: Share,
+) -> Option<Dictionary>
+    requires pass { IsPassOf (2 ^ O.exponent table.now.order) table.now pass.old }
+    requires kinds { share.kinds ≡ kinds.Both }
+    requires games { share.games ≡ 1 ∷ 0 ∷ [] }
+{
+    let rows = rows_of(&share);
+    let shares = [share];
+    let gathered = gather(alloc, table, pass, Kinds::Both, 2, &shares);
+    if let Err(fault) = gathered {
+        assert!(rt; fault == HarvestFault::Memory);
+        assert!(rt; has_both(&shares[0]) && has_kept(&shares[0], &rows));
+        return gather(alloc, table, pass, Kinds::Both, 2, &shares).ok();
+    }
+    gathered.ok()
 }
 
 /// The counts of both games, in which an empty point was next to an empty one twice each, once next to the other colour,
@@ -119,31 +152,14 @@ fn wanted_of(rt: &impl Abort) -> [Entry; 6] {
 #[test]
 fn memory_is_found_or_named(rt: HostRuntime) -> Result<(), Fail> {
     let alloc = rt.alloc();
-    let capacity = Capacity::new(4).ok_or("an exponent up to 22")?;
-    let (Some(in_turn), Some(alone), Ok((table, mut pass))) = (
-        record_of(alloc, IN_TURN),
-        record_of(alloc, BLACK_ALONE),
-        SlotTable::new(alloc, OddStep { capacity }),
-    ) else {
+    let Ok((table, mut pass)) = SlotTable::new(alloc, order_of(&rt, 4)) else {
         return Ok(());
     };
-    let mut share = Share::begin(alloc, 0, Kinds::Both);
-    if !add_or_keep(&rt, &table, &mut pass, &mut share, &[], 1, &in_turn)
-        || !add_or_keep(&rt, &table, &mut pass, &mut share, &[1], 0, &alone)
-    {
+    let Some(share) = share_of_both(&rt, alloc, &table, &mut pass) else {
         return Ok(());
-    }
-    assert!(rt; share.games() == [1, 0].as_slice() && share.moves() == 4);
-    let rows = rows_of(&share);
-    let shares = [share];
-    let mut gathered = gather(alloc, &table, &mut pass, Kinds::Both, 2, &shares);
-    if let Err(fault) = gathered {
-        assert!(rt; fault == HarvestFault::Memory);
-        assert!(rt; shares[0].games() == [1, 0].as_slice() && shares[0].moves() == 4);
-        assert!(rt; has_kept(&shares[0], &rows));
-        gathered = gather(alloc, &table, &mut pass, Kinds::Both, 2, &shares);
-    }
-    let Ok(dictionary) = gathered else {
+    };
+    assert!(rt; has_both(&share));
+    let Some(dictionary) = gather_or_keep(&rt, alloc, &table, &mut pass, share) else {
         return Ok(());
     };
     assert_eq!(rt; (dictionary.games(), dictionary.moves()), (2, 4));

@@ -8,7 +8,7 @@ ghost use Rattle.share_core.specs.Numbers.{AreSums};
 
 use crate::rows::Row;
 use crate::shares::Share;
-use shape_core::{Shape, Word};
+use shape_core::Word;
 
 /// What the rows of a number are together: a row with their sums, if there are any; the least of their games; the pattern
 /// of the first of them that is of another pattern than was asked for; and whether a sum passes 2^64 - 1. The row has no

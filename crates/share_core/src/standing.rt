@@ -8,7 +8,7 @@ use crate::faults::HarvestFault;
 use crate::rows::Row;
 use crate::shares::Share;
 use probe_core::Key;
-use shape_core::{Shape, Word};
+use shape_core::Word;
 
 /// The lesser of two rows by their numbers, the first where these are one. Rows of numbers below `slots` do not count.
 fn lesser(least: Option<Row>, row: Row, slots: usize) -> Option<Row>

@@ -1,83 +1,21 @@
-//! Shares seen from outside: small tables, shares of other tables, and games dealt to several shares.
-ghost use Rattle.std.specs.Prelude.{◌≡◌, ◌<◌, ◌≤◌, ◌^◌, ◌∷◌, [], IfOk};
-ghost use Rattle.shape_core.specs.declared.words.Kinds.TheVariants as kinds;
+//! Shares seen from outside: small tables, and shares of other tables.
+ghost use Rattle.std.specs.Prelude.{◌<◌, ◌≤◌, ◌^◌};
 ghost use Rattle.slot_table.specs.Passes.{IsPassOf};
 
+use crate::testing::{
+    ALONE, EMPTY, ONE_POINT, TAKEN, TWO_POINTS, entry_of, first_share, order_of, record_of,
+    refusal_of, shape_of, share_of, word_of,
+};
 use crate::{HarvestFault, Row, Share, confirm_full, gather};
-use go_record::{Kind, Record, read_record};
-use probe_core::{Capacity, Key, OddStep, ProbeOrder};
-use sgf_core::{SgfFault, Trees};
+use go_record::Record;
+use probe_core::{Key, ProbeOrder};
+use sgf_core::SgfFault;
 use shape_core::{Kinds, Shape, Word};
-use shape_dict::{Dictionary, Entry};
+use shape_dict::Dictionary;
 use slot_table::{Pass, SlotTable};
 use std::alloc::Global;
 use std::process::Abort;
 use std::test::Fail;
-
-/// One move on a board of one point: one pattern.
-const ONE_POINT: &[u8] = b"(;SZ[1];B[aa])";
-
-/// Two moves on a board of two points: two patterns.
-const TWO_POINTS: &[u8] = b"(;SZ[2:1];B[aa];W[ba])";
-
-/// The pattern of `ONE_POINT`.
-const ALONE: u64 = 0x3fffffcffffff;
-
-/// The patterns of `TWO_POINTS`, in the order in which the game meets them.
-const EMPTY: u64 = 0x3fff3fcffffff;
-
-const TAKEN: u64 = 0x3fffbfcffffff;
-
-/// The game that is the first tree.
-fn record_of(alloc: Global, bytes: &[u8]) -> Option<Record> {
-    let mut trees = Trees::new(bytes).ok()?;
-    let tree = trees.next_tree(alloc).ok()??;
-    match read_record(alloc, &tree).ok()? {
-        Kind::Go(record) => Some(record),
-        Kind::Other => None,
-    }
-}
-
-fn order_of(rt: &impl Abort, k: u32) -> OddStep {
-    let capacity = Capacity::new(k).expect(rt, "an exponent up to 22");
-    OddStep { capacity }
-}
-
-fn word_of(rt: &impl Abort, bits: u64) -> Word {
-    Word::new(bits).expect(rt, "a pattern's word")
-}
-
-fn shape_of(rt: &impl Abort, bits: u64) -> Shape {
-    Shape::of_word(word_of(rt, bits)).expect(rt, "the least of its images")
-}
-
-fn entry_of(rt: &impl Abort, bits: u64, there: u64, played: u64, first: u64) -> Entry {
-    Entry {
-        shape: shape_of(rt, bits),
-        there,
-        played,
-        first: Some(first),
-    }
-}
-
-/// A share of this game alone.
-fn share_of<O: ProbeOrder>(
-    alloc: Global,
-    table: &SlotTable<O>,
-    pass: &mut Pass<O>,
-    game: u64,
-    record: &Record,
-) -> Result<Share, HarvestFault>
-    requires pass { IsPassOf (2 ^ O.exponent table.now.order) table.now pass.old }
-    requires game { game < 2 ^ 28 }
-    ensures pass { IsPassOf (2 ^ O.exponent table.now.order) table.now pass.new }
-    ensures kinds { IfOk result (λ share. share.kinds ≡ kinds.Squares) }
-    ensures games { IfOk result (λ share. share.games ≡ game ∷ []) }
-{
-    let mut share = Share::begin(alloc, 0, Kinds::Squares);
-    share.add(table, pass, game, record)?;
-    Ok(share)
-}
 
 /// Gathers two shares, of this game under one number and under another.
 fn gather_two<O: ProbeOrder>(
@@ -95,11 +33,14 @@ fn gather_two<O: ProbeOrder>(
     requires other { other < games }
     ensures { IsPassOf (2 ^ O.exponent table.now.order) table.now pass.new }
 {
-    let shares = [
-        share_of(alloc, table, pass, one, record)?,
-        share_of(alloc, table, pass, other, record)?,
-    ];
-    gather(alloc, table, pass, Kinds::Squares, games, &shares)
+    let one = share_of(alloc, table, pass, one, record)?;
+    let other = share_of(alloc, table, pass, other, record)?;
+    gather(alloc, table, pass, Kinds::Squares, games, &[one, other])
+}
+
+/// Whether a dictionary is of this many games and moves.
+fn is_of(dictionary: &Dictionary, games: u64, moves: u64) -> bool {
+    dictionary.games() == games && dictionary.moves() == moves
 }
 
 #[test]
@@ -107,18 +48,24 @@ fn each_game_is_in_one_share(rt: HostRuntime) -> Result<(), Fail> {
     let alloc = rt.alloc();
     let record = record_of(alloc, ONE_POINT).ok_or("no record")?;
     let (table, mut pass) = SlotTable::new(alloc, order_of(&rt, 0))?;
-    let twice = gather_two(alloc, &table, &mut pass, &record, 0, 0, 3);
-    assert!(rt; twice.err() == Some(HarvestFault::Twice(0)));
-    let missing = gather_two(alloc, &table, &mut pass, &record, 0, 2, 3);
-    assert!(rt; missing.err() == Some(HarvestFault::Missing(1)));
+    let twice = gather_two(alloc, &table, &mut pass, &record, 0, 0, 3).err();
+    let missing = gather_two(alloc, &table, &mut pass, &record, 0, 2, 3).err();
+    assert!(rt; twice == Some(HarvestFault::Twice(0)));
+    assert!(rt; missing == Some(HarvestFault::Missing(1)));
     let both = gather_two(alloc, &table, &mut pass, &record, 0, 1, 2)?;
-    assert_eq!(rt; (both.games(), both.moves()), (2, 2));
+    let wanted = [entry_of(&rt, ALONE, 2, 2, 0)];
+    assert!(rt; is_of(&both, 2, 2) && both.entries() == wanted.as_slice());
     assert!(rt; !both.counts_diamonds());
-    assert!(rt; both.entries() == [entry_of(&rt, ALONE, 2, 2, 0)].as_slice());
+    Ok(())
+}
+
+#[test]
+fn no_share_has_no_pattern(rt: HostRuntime) -> Result<(), Fail> {
+    let alloc = rt.alloc();
     let (table, mut pass) = SlotTable::new(alloc, order_of(&rt, 0))?;
     let none = gather(alloc, &table, &mut pass, Kinds::Both, 0, &[])?;
-    assert_eq!(rt; (none.games(), none.moves()), (0, 0));
-    assert!(rt; none.counts_diamonds() && none.entries().is_empty());
+    assert!(rt; is_of(&none, 0, 0) && none.entries().is_empty());
+    assert!(rt; none.counts_diamonds());
     Ok(())
 }
 
@@ -130,87 +77,115 @@ fn stranger(number: usize, of_share: Option<Word>, of_table: Option<Word>) -> Ha
     }
 }
 
+fn full(game: u64, word: Word) -> HarvestFault {
+    HarvestFault::Full { game, word }
+}
+
+/// Whether a share has the game 0 alone, of this many moves.
+fn has_first_alone(share: &Share, moves: u64) -> bool {
+    share.games() == [0].as_slice() && share.moves() == moves
+}
+
 #[test]
 fn a_share_of_another_table_is_a_stranger(rt: HostRuntime) -> Result<(), Fail> {
     let alloc = rt.alloc();
-    let one = record_of(alloc, ONE_POINT).ok_or("no record")?;
-    let two = record_of(alloc, TWO_POINTS).ok_or("no record")?;
     let (table, mut pass) = SlotTable::new(alloc, order_of(&rt, 0))?;
+    let shares = [first_share(alloc, &table, &mut pass, ONE_POINT)?];
     let (second, mut other) = SlotTable::new(alloc, order_of(&rt, 0))?;
-    let alone = word_of(&rt, ALONE);
+    let free = stranger(0, Some(word_of(&rt, ALONE)), None);
+    let gathered = gather(alloc, &second, &mut other, Kinds::Squares, 1, &shares).err();
+    assert!(rt; gathered == Some(free));
     let empty = word_of(&rt, EMPTY);
-    let mut shares = [share_of(alloc, &table, &mut pass, 0, &one)?];
-    let free = stranger(0, Some(alone), None);
-    let gathered = gather(alloc, &second, &mut other, Kinds::Squares, 1, &shares);
-    assert!(rt; gathered.err() == Some(free));
     assert!(rt; confirm_full(&second, &mut other, &shares, 0, empty) == free);
-    let full = HarvestFault::Full {
-        game: 0,
-        word: empty,
-    };
-    assert!(rt; confirm_full(&table, &mut pass, &shares, 0, empty) == full);
+    Ok(())
+}
+
+#[test]
+fn a_table_is_full_of_patterns_but_not_of_one_it_has(rt: HostRuntime) -> Result<(), Fail> {
+    let alloc = rt.alloc();
+    let (table, mut pass) = SlotTable::new(alloc, order_of(&rt, 0))?;
+    let shares = [first_share(alloc, &table, &mut pass, ONE_POINT)?];
+    let empty = word_of(&rt, EMPTY);
+    assert!(rt; confirm_full(&table, &mut pass, &shares, 0, empty) == full(0, empty));
+    let alone = word_of(&rt, ALONE);
     let same = stranger(0, Some(alone), Some(alone));
     assert!(rt; confirm_full(&table, &mut pass, &shares, 0, alone) == same);
-    let refused = shares[0].add(&second, &mut other, 1, &two);
-    assert!(rt; refused.err() == Some(stranger(0, Some(alone), Some(empty))));
-    assert_eq!(rt; (shares[0].games(), shares[0].moves()), ([0].as_slice(), 1));
+    Ok(())
+}
+
+/// Adds the game that is written here by a table of its own, and answers the fault, if there is one.
+fn refusal_elsewhere(
+    rt: &impl Abort,
+    alloc: Global,
+    share: &mut Share,
+    bytes: &[u8],
+) -> Result<Option<HarvestFault>, Fail> {
+    let (table, mut pass) = SlotTable::new(alloc, order_of(rt, 0))?;
+    refusal_of(alloc, share, &table, &mut pass, 1, bytes)
+}
+
+#[test]
+fn a_share_takes_no_game_of_another_table(rt: HostRuntime) -> Result<(), Fail> {
+    let alloc = rt.alloc();
+    let (table, mut pass) = SlotTable::new(alloc, order_of(&rt, 0))?;
+    let mut share = first_share(alloc, &table, &mut pass, ONE_POINT)?;
+    let refused = refusal_elsewhere(&rt, alloc, &mut share, TWO_POINTS)?;
+    let (alone, empty) = (word_of(&rt, ALONE), word_of(&rt, EMPTY));
+    assert!(rt; refused == Some(stranger(0, Some(alone), Some(empty))));
+    assert!(rt; has_first_alone(&share, 1));
     Ok(())
 }
 
 #[test]
 fn a_table_too_small_by_one_pattern(rt: HostRuntime) -> Result<(), Fail> {
     let alloc = rt.alloc();
-    let two = record_of(alloc, TWO_POINTS).ok_or("no record")?;
-    let one = record_of(alloc, ONE_POINT).ok_or("no record")?;
     let (table, mut pass) = SlotTable::new(alloc, order_of(&rt, 1))?;
-    let mut shares = [share_of(alloc, &table, &mut pass, 0, &two)?];
-    let full = HarvestFault::Full {
-        game: 1,
-        word: word_of(&rt, ALONE),
-    };
-    assert!(rt; shares[0].add(&table, &mut pass, 1, &one).err() == Some(full));
-    assert_eq!(rt; (shares[0].games(), shares[0].moves()), ([0].as_slice(), 2));
-    assert!(rt; confirm_full(&table, &mut pass, &shares, 1, word_of(&rt, ALONE)) == full);
+    let mut share = first_share(alloc, &table, &mut pass, TWO_POINTS)?;
+    let full = full(1, word_of(&rt, ALONE));
+    let refused = refusal_of(alloc, &mut share, &table, &mut pass, 1, ONE_POINT)?;
+    assert!(rt; refused == Some(full) && has_first_alone(&share, 2));
+    let alone = word_of(&rt, ALONE);
+    assert!(rt; confirm_full(&table, &mut pass, &[share], 1, alone) == full);
     Ok(())
+}
+
+/// Whether a share has no game, and a row at the first number alone, which counts nothing.
+fn has_blank_alone(share: &Share, shape: Shape) -> bool {
+    let blank = Row {
+        number: 0,
+        shape,
+        there: 0,
+        played: 0,
+        first: None,
+    };
+    let is_empty = share.games().is_empty() && share.moves() == 0;
+    is_empty && share.row_at(0) == Some(blank) && share.row_at(1) == None
 }
 
 #[test]
 fn a_refused_game_leaves_rows_without_counts(rt: HostRuntime) -> Result<(), Fail> {
     let alloc = rt.alloc();
-    let two = record_of(alloc, TWO_POINTS).ok_or("no record")?;
     let (table, mut pass) = SlotTable::new(alloc, order_of(&rt, 0))?;
-    let mut shares = [Share::begin(alloc, 3, Kinds::Squares)];
-    let full = HarvestFault::Full {
-        game: 0,
-        word: word_of(&rt, TAKEN),
-    };
-    assert!(rt; shares[0].add(&table, &mut pass, 0, &two).err() == Some(full));
-    assert!(rt; shares[0].games().is_empty() && shares[0].moves() == 0);
-    let blank = Row {
-        number: 0,
-        shape: shape_of(&rt, EMPTY),
-        there: 0,
-        played: 0,
-        first: None,
-    };
-    assert!(rt; shares[0].row_at(0) == Some(blank) && shares[0].row_at(1) == None);
-    assert_eq!(rt; shares[0].worker(), 3);
-    assert!(rt; confirm_full(&table, &mut pass, &shares, 0, word_of(&rt, TAKEN)) == full);
+    let mut share = Share::begin(alloc, 3, Kinds::Squares);
+    let taken = word_of(&rt, TAKEN);
+    let refused = refusal_of(alloc, &mut share, &table, &mut pass, 0, TWO_POINTS)?;
+    assert!(rt; refused == Some(full(0, taken)) && share.worker() == 3);
+    assert!(rt; has_blank_alone(&share, shape_of(&rt, EMPTY)));
+    assert!(rt; confirm_full(&table, &mut pass, &[share], 0, taken) == full(0, taken));
     Ok(())
 }
 
 #[test]
 fn a_key_of_no_share_is_a_stranger(rt: HostRuntime) -> Result<(), Fail> {
     let alloc = rt.alloc();
-    let two = record_of(alloc, TWO_POINTS).ok_or("no record")?;
     let (table, mut pass) = SlotTable::new(alloc, order_of(&rt, 1))?;
     let five = Key::new(5).ok_or("no key")?;
     let _ = table.enter(&mut pass, five);
-    let mut shares = [Share::begin(alloc, 0, Kinds::Squares)];
+    let mut share = Share::begin(alloc, 0, Kinds::Squares);
     let word = word_of(&rt, TAKEN);
-    let refused = shares[0].add(&table, &mut pass, 0, &two);
-    assert!(rt; refused.err() == Some(HarvestFault::Full { game: 0, word }));
-    let found = confirm_full(&table, &mut pass, &shares, 0, word);
+    let refused = refusal_of(alloc, &mut share, &table, &mut pass, 0, TWO_POINTS)?;
+    assert!(rt; refused == Some(full(0, word)));
+    let found = confirm_full(&table, &mut pass, &[share], 0, word);
     assert!(rt; found == stranger(0, None, Some(word_of(&rt, 5))));
     Ok(())
 }
@@ -218,76 +193,17 @@ fn a_key_of_no_share_is_a_stranger(rt: HostRuntime) -> Result<(), Fail> {
 #[test]
 fn a_mark_of_another_differs(rt: HostRuntime) -> Result<(), Fail> {
     let alloc = rt.alloc();
-    let setup = record_of(alloc, b"(;SZ[1]AB[aa];W[aa])").ok_or("no record")?;
     let (table, mut pass) = SlotTable::new(alloc, order_of(&rt, 0))?;
-    let shares = [share_of(alloc, &table, &mut pass, 0, &setup)?];
+    let shares = [first_share(alloc, &table, &mut pass, b"(;SZ[1]AB[aa];W[aa])")?];
     assert!(&rt; table.capacity().slots() == 1);
     table.mark(&mut pass, 0, 0);
-    let gathered = gather(alloc, &table, &mut pass, Kinds::Squares, 1, &shares);
+    let gathered = gather(alloc, &table, &mut pass, Kinds::Squares, 1, &shares).err();
     let differs = HarvestFault::Marks {
         number: 0,
         of_shares: None,
         of_table: Some(0),
     };
-    assert!(rt; gathered.err() == Some(differs));
-    Ok(())
-}
-
-/// Whether these rows have one that is this but for its number.
-fn has_row(rows: &[Row], wanted: Row) -> bool {
-    rows.iter().any(|row| {
-        *row == Row {
-            number: row.number,
-            ..wanted
-        }
-    })
-}
-
-fn row_of(rt: &impl Abort, bits: u64, there: u64, played: u64, first: u64) -> Row {
-    Row {
-        number: 0,
-        shape: shape_of(rt, bits),
-        there,
-        played,
-        first: Some(first),
-    }
-}
-
-#[test]
-fn rows_come_by_rising_numbers(rt: HostRuntime) -> Result<(), Fail> {
-    let alloc = rt.alloc();
-    let two = record_of(alloc, TWO_POINTS).ok_or("no record")?;
-    let one = record_of(alloc, ONE_POINT).ok_or("no record")?;
-    let (table, mut pass) = SlotTable::new(alloc, order_of(&rt, 4))?;
-    let mut share = share_of(alloc, &table, &mut pass, 1, &two)?;
-    share.add(&table, &mut pass, 0, &one)?;
-    let mut before = None;
-    let mut rows = Vec::new(alloc);
-    for row in share.rows() {
-        assert!(rt; before < Some(row.number));
-        before = Some(row.number);
-        rows.push(row)?;
-    }
-    assert_eq!(rt; rows.len(), 3);
-    assert!(rt; has_row(&rows, row_of(&rt, EMPTY, 2, 1, 1)));
-    assert!(rt; has_row(&rows, row_of(&rt, TAKEN, 1, 1, 1)));
-    assert!(rt; has_row(&rows, row_of(&rt, ALONE, 1, 1, 0)));
-    Ok(())
-}
-
-#[test]
-fn no_row_comes_after_the_last(rt: HostRuntime) -> Result<(), Fail> {
-    let alloc = rt.alloc();
-    let one = record_of(alloc, ONE_POINT).ok_or("no record")?;
-    let (table, mut pass) = SlotTable::new(alloc, order_of(&rt, 4))?;
-    let none = Share::begin(alloc, 0, Kinds::Squares);
-    assert!(rt; none.rows().next().is_none());
-    let share = share_of(alloc, &table, &mut pass, 0, &one)?;
-    let mut rows = share.rows();
-    let first = rows.next();
-    assert!(rt; first.is_some());
-    assert!(rt; rows.next().is_none());
-    assert!(rt; rows.next().is_none());
+    assert!(rt; gathered == Some(differs));
     Ok(())
 }
 
