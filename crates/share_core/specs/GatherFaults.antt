@@ -10,7 +10,8 @@ use Rattle.share_core.specs.Agreeing.{IsMarksFault}
 use Rattle.share_core.specs.Gathering.{IsLargeSum}
 
 -- a game is there twice, or missing; a row is of another pattern than the table has at its number; a mark differs; a sum is
--- too large; or memory was refused. Each but the last comes only where no earlier one of this order does.
+-- too large; or memory was refused. A stranger comes only where each game is there once, a mark and a sum only where no row
+-- is a stranger besides; that a sum comes only where no mark differs, this does not say.
 abbrev pub IsGatherFault : {O : Type 0} → ℕ → ℕ → List Held → Known O → Known O → HarvestFault → Type 0
 IsGatherFault n games shares old new (fault.Twice game) = IsTwice (all_games shares) game
 IsGatherFault n games shares old new (fault.Missing game) = IsMissing games (all_games shares) game
