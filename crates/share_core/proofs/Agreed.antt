@@ -59,7 +59,7 @@ pub numbers_fault : {O : Type 0} (n games : ℕ) (shares : List Held) (first new
 numbers_fault n games shares first new (Some differs) is_large found covers stand each agree large f =
     subst (IsGatherFault n games shares first new) (sym f) (covers, stand, agree)
 numbers_fault n games shares first new None is_large found covers stand each agree large f =
-    subst (IsGatherFault n games shares first new) (sym f.1) (covers, stand, large_sum shares each (large f.0))
+    subst (IsGatherFault n games shares first new) (sym f.1) (covers, stand, agree, large_sum shares each (large f.0))
 
 -- what holds anyway holds where a call answers well
 pub anyway : {T E : Type 0} {P : Type 0} (r : Result T E) → P → OnOk r P

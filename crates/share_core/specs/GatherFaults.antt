@@ -6,12 +6,11 @@ use Rattle.share_core.specs.declared.faults.HarvestFault.TheVariants as fault
 use Rattle.share_core.specs.Shares.{Held}
 use Rattle.share_core.specs.Covering.{all_games, Covers, IsTwice, IsMissing}
 use Rattle.share_core.specs.Checking.{all_rows, Stand, IsStranger}
-use Rattle.share_core.specs.Agreeing.{IsMarksFault}
+use Rattle.share_core.specs.Agreeing.{AskedAll, IsMarksFault}
 use Rattle.share_core.specs.Gathering.{IsLargeSum}
 
 -- a game is there twice, or missing; a row is of another pattern than the table has at its number; a mark differs; a sum is
--- too large; or memory was refused. A stranger comes only where each game is there once, a mark and a sum only where no row
--- is a stranger besides; that a sum comes only where no mark differs, this does not say.
+-- too large; or memory was refused. Each but the last comes only where no earlier one of this order does.
 abbrev pub IsGatherFault : {O : Type 0} → ℕ → ℕ → List Held → Known O → Known O → HarvestFault → Type 0
 IsGatherFault n games shares old new (fault.Twice game) = IsTwice (all_games shares) game
 IsGatherFault n games shares old new (fault.Missing game) = IsMissing games (all_games shares) game
@@ -21,6 +20,6 @@ IsGatherFault n games shares old new (fault.Marks number of_shares of_table) =
     Covers games (all_games shares) × Stand n new.seen (all_rows shares)
     × IsMarksFault n (all_rows shares) old new (fault.Marks number of_shares of_table)
 IsGatherFault n games shares old new fault.Overflow =
-    Covers games (all_games shares) × Stand n new.seen (all_rows shares) × IsLargeSum shares
+    Covers games (all_games shares) × Stand n new.seen (all_rows shares) × AskedAll n (all_rows shares) old new × IsLargeSum shares
 IsGatherFault n games shares old new fault.Memory = Unit {0}
 IsGatherFault n games shares old new found = ⊥

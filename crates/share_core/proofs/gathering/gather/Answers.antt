@@ -4,6 +4,7 @@ use Rattle.share_core.specs.declared.faults.HarvestFault.TheVariants as fault
 use Rattle.share_core.specs.Checking.{all_rows}
 use Rattle.share_core.specs.Gathering.{all_moves}
 use Rattle.share_core.specs.GatherFaults.{IsGatherFault}
+use Rattle.share_core.specs.Visiting.{AgreeBelow}
 use Rattle.share_core.proofs.Agreed.{all_below, one_each, stand_below, beyond_table, numbers_fault, anyway}
 use Rattle.share_core.proofs.gathering.gather.Goals as goal
 
@@ -52,5 +53,6 @@ returns-clause-fault g c =
     let new = c.visit_all.new.pass in
     let slots = c.slots.ensures.value ∙ ap (λ k. 2 ^ k) c.capacity.ensures in
     let stand = stand_below n c.slots.result new.seen rows slots c.in_ok-check_beyond.ensures.ok c.in_ok-visited.ensures.ok.stand in
+    let asked = subst (AgreeBelow n rows n c.args.pass.now new) c.in_ok-check_numbers.ensures.ok.0 c.in_ok-visited.ensures.ok.agree in
     IfErr-weaker c.add_up.result (λ found. (found ≡ fault.Overflow) × (2 ^ 64 ≤ all_moves shares)) (IsGatherFault n c.args.games shares c.args.pass.now new)
-    (λ found f. subst (IsGatherFault n c.args.games shares c.args.pass.now new) (sym f.0) (c.in_ok-check_games.ensures.ok, stand, inr (inr f.1))) c.add_up.ensures.fault
+    (λ found f. subst (IsGatherFault n c.args.games shares c.args.pass.now new) (sym f.0) (c.in_ok-check_games.ensures.ok, stand, asked, inr (inr f.1))) c.add_up.ensures.fault
