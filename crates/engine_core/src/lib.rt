@@ -25,6 +25,3 @@ pub use input::read_input;
 pub use joins::run_join;
 pub use output::write_output;
 pub use patterns::pattern_of;
-
-#[cfg(test)]
-mod tests;

@@ -15,6 +15,3 @@ pub use faults::BoardFault;
 pub use laws::moves_have_one_result;
 pub use points::{Colour, Point, Size, Stone};
 pub use replays::Replayable;
-
-#[cfg(test)]
-mod tests;

@@ -11,8 +11,3 @@ mod working;
 pub use gates::{FreeGate, Gate};
 pub use harvesting::{harvest, harvest_on};
 pub use working::{Worked, work};
-
-#[cfg(test)]
-mod gate_tests;
-#[cfg(test)]
-mod tests;

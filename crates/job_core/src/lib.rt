@@ -11,6 +11,3 @@ pub use games::Games;
 pub use hands::{Jobs, Seat};
 pub use jobs::{Item, Job};
 pub use queues::{Desk, new_queue};
-
-#[cfg(test)]
-mod tests;

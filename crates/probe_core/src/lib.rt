@@ -11,12 +11,8 @@ mod keys;
 mod laws;
 mod orders;
 mod probes;
-#[cfg(test)]
-mod run_tests;
 mod solo;
 mod steps;
-#[cfg(test)]
-mod tests;
 mod worlds;
 
 pub use calls::{Answer, Call, Want};

@@ -16,6 +16,3 @@ pub use laws::{few_values, one_answer, one_fault, one_next_tree};
 pub use lines::{MainLine, Node, Props};
 pub use marks::{Mark, Prop, Tree, Value};
 pub use reader::Trees;
-
-#[cfg(test)]
-mod tests;

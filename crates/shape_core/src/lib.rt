@@ -11,8 +11,6 @@ mod shapes;
 mod spelling;
 mod surroundings;
 mod symmetries;
-#[cfg(test)]
-mod tests;
 mod words;
 
 pub use fields::Field;

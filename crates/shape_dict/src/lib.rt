@@ -20,6 +20,3 @@ pub use dictionaries::Dictionary;
 pub use entries::{Entry, Text};
 pub use faults::DictFault;
 pub use laws::texts_are_distinct;
-
-#[cfg(test)]
-mod tests;

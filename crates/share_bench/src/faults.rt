@@ -14,7 +14,7 @@ use tally_core::HarvestFault as TallyFault;
 /// What ends the program with status 2.
 #[derive(Debug, Drop)]
 pub enum BenchFault {
-    /// The words are none but `--clock`.
+    /// A word is neither `--clock` nor `--diamonds`.
     Usage,
     /// The input was not read.
     Input(RunFault),
@@ -29,7 +29,7 @@ pub enum BenchFault {
 impl fmt::Display for BenchFault {
     fn fmt<W: fmt::Write>(&self, f: &mut fmt::Formatter<W>) -> fmt::Result {
         match self {
-            BenchFault::Usage => f.write_str("give no word, or --clock"),
+            BenchFault::Usage => f.write_str("give no word but --clock and --diamonds"),
             BenchFault::Input(found) => write!(f, "{found}"),
             BenchFault::Count(found) => write!(f, "{found}"),
             BenchFault::Different => f.write_str("different numbers of moves"),

@@ -1,8 +1,9 @@
 //! How long the parts of a count take on one thread: reading, replaying, walking, counting into one share over a table
 //! of 2^22 slots, and counting by a map.
 //!
-//! It reads a collection on standard input. Without a word it prints how many games, actions, moves and patterns there
-//! are. With `--clock` it prints besides how many nanoseconds each part took a move.
+//! It reads a collection on standard input, counts squares, and prints how many games, actions, moves and patterns there
+//! are. With `--clock` it prints besides how many nanoseconds each part took a move, and with `--diamonds` it counts
+//! diamonds too.
 #![tactic(auto)]
 
 mod faults;
@@ -19,16 +20,27 @@ use std::process::ExitCode;
 use std::time::{Duration, Instant};
 use tally_core::count_plain;
 
-/// Whether the times are asked for.
-fn is_clock_asked(rt: &HostRuntime) -> Result<bool, BenchFault> {
-    let mut words = env::args(rt)?.skip(1);
-    let Some(word) = words.next() else {
-        return Ok(false);
+/// What the words ask for.
+#[derive(Clone, Copy)]
+struct Asked {
+    clock: bool,
+    kinds: Kinds,
+}
+
+/// Reads the words.
+fn read_words(rt: &HostRuntime) -> Result<Asked, BenchFault> {
+    let mut asked = Asked {
+        clock: false,
+        kinds: Kinds::Squares,
     };
-    if word.as_str() != "--clock" || words.next().is_some() {
-        return Err(BenchFault::Usage);
+    for word in env::args(rt)?.skip(1) {
+        match word.as_str() {
+            "--clock" => asked.clock = true,
+            "--diamonds" => asked.kinds = Kinds::Both,
+            _ => return Err(BenchFault::Usage),
+        }
     }
-    Ok(true)
+    Ok(asked)
 }
 
 /// What the parts made.
@@ -100,14 +112,14 @@ fn tell(rt: &HostRuntime, part: &str, time: Duration, moves: u64) -> Result<(), 
 
 /// Measures, and prints the lines.
 fn run(rt: &HostRuntime) -> Result<(), BenchFault> {
-    let is_asked = is_clock_asked(rt)?;
+    let asked = read_words(rt)?;
     let input = read_input(rt.alloc(), &mut rt.stdin())?;
-    let (made, times) = measure(rt, &input, Kinds::Both)?;
+    let (made, times) = measure(rt, &input, asked.kinds)?;
     println!(rt;
         "games {} actions {} moves {} patterns {}",
         made.games, made.actions, made.moves, made.patterns
     )?;
-    if is_asked {
+    if asked.clock {
         tell(rt, "reading", times.reading, made.moves)?;
         tell(rt, "replaying", times.replaying, made.moves)?;
         tell(rt, "walking", times.walking, made.moves)?;

@@ -31,14 +31,3 @@ pub use gathering::gather;
 pub use rows::Row;
 pub use share_rows::ShareRows;
 pub use shares::Share;
-
-#[cfg(test)]
-mod deal_tests;
-#[cfg(test)]
-mod memory_tests;
-#[cfg(test)]
-mod row_tests;
-#[cfg(test)]
-mod testing;
-#[cfg(test)]
-mod tests;

@@ -21,6 +21,3 @@ pub use page::page_text;
 pub use plain::plain_text;
 pub use runs::run_sheet;
 pub use sheets::sheet_text;
-
-#[cfg(test)]
-mod tests;

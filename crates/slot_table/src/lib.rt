@@ -13,6 +13,3 @@ pub use entries::Happened;
 pub use faults::SlotFault;
 pub use passes::Pass;
 pub use tables::SlotTable;
-
-#[cfg(test)]
-mod tests;

@@ -25,8 +25,3 @@ pub use meetings::Meeting;
 pub use settings::Settings;
 pub use tallies::{Tally, tally_plain};
 pub use walks::Walk;
-
-#[cfg(test)]
-mod tests;
-#[cfg(test)]
-mod walk_tests;

@@ -1,0 +1,225 @@
+//! Worked games, and each public call once.
+use go_record::{Kind, Record, read_record};
+use sgf_core::{SgfFault, Tree, Trees};
+use shape_core::Kinds;
+use shape_dict::{Dictionary, Entry, Text};
+use std::alloc::Global;
+use std::test::Fail;
+use tally_core::{HarvestFault, Report, Settings, count_plain, tally_plain};
+
+/// Two stones, on a board of two points.
+pub(crate) const TWO_STONES: &[u8] = b"(;SZ[2:1];B[aa];W[ba])";
+
+/// Inputs, the texts of their dictionaries of squares, and their reports: games, others and refused.
+const COLLECTIONS: [(&[u8], &str, (u64, u64, u64)); 8] = [
+    (
+        b"(;SZ[1];B[aa])",
+        "shapes 1 games 1 moves 1 patterns 1\n3fffffcffffff 1 1\n",
+        (1, 0, 0),
+    ),
+    (
+        b"(;SZ[2:1];B[aa](;W[ba])(;W[]))",
+        "shapes 1 games 1 moves 2 patterns 2\n3fff3fcffffff 2 1\n3fffbfcffffff 1 1\n",
+        (1, 0, 0),
+    ),
+    (
+        b"(;SZ[1]AB[aa];W[aa])",
+        "shapes 1 games 1 moves 0 patterns 0\n",
+        (1, 0, 0),
+    ),
+    (
+        b"(;SZ[20];B[tt])",
+        "shapes 1 games 1 moves 1 patterns 6\n0000000000000 256 0\n00000000003ff 64 0\n00000000fffff 64 0\n00300c0300fff 4 0\n00300c03fffff 8 0\n00f03c0ffffff 4 1\n",
+        (1, 0, 0),
+    ),
+    (
+        b"(;SZ[9];B[jj])(;SZ[1];B[aa])",
+        "shapes 1 games 1 moves 1 patterns 1\n3fffffcffffff 1 1\n",
+        (1, 0, 1),
+    ),
+    (
+        b"(;GM[2];B[aa])",
+        "shapes 1 games 0 moves 0 patterns 0\n",
+        (0, 1, 0),
+    ),
+    (
+        b"(;SZ[2];B[aa];W[bb])",
+        "shapes 1 games 1 moves 2 patterns 3\n3ffc3f0ffffff 4 1\n3ffc3f8ffffff 2 0\n3ffe3f0ffffff 1 1\n",
+        (1, 0, 0),
+    ),
+    (b"", "shapes 1 games 0 moves 0 patterns 0\n", (0, 0, 0)),
+];
+
+/// The game of a tree; None where it is another game, or there was no memory.
+fn record_of(alloc: Global, tree: &Tree<'_>) -> Option<Record> {
+    match read_record(alloc, tree) {
+        Ok(Kind::Go(game)) => Some(game),
+        Ok(Kind::Other) | Err(_) => None,
+    }
+}
+
+/// The first game of an input; None where its first tree is none, or there was no memory.
+pub(crate) fn game_of(alloc: Global, bytes: &[u8]) -> Option<Record> {
+    let mut trees = Trees::new(bytes).ok()?;
+    match trees.next_tree(alloc) {
+        Ok(Some(tree)) => record_of(alloc, &tree),
+        Ok(None) | Err(_) => None,
+    }
+}
+
+/// Whether the entries have these words and counts, and no first games.
+fn are(entries: &[Entry], wanted: &[(u64, u64, u64)]) -> bool {
+    for (entry, wanted) in entries.iter().zip(wanted) {
+        let found = (entry.shape.word().bits(), entry.there, entry.played);
+        if found != *wanted || entry.first.is_some() {
+            return false;
+        }
+    }
+    entries.len() == wanted.len()
+}
+
+/// Whether the tally of a game of two moves has these patterns.
+fn is_tally(
+    alloc: Global,
+    kinds: Kinds,
+    game: &Record,
+    wanted: &[(u64, u64, u64)],
+) -> Result<bool, HarvestFault> {
+    let tally = tally_plain(alloc, kinds, game)?;
+    Ok(tally.moves() == 2 && are(tally.entries(), wanted))
+}
+
+#[test]
+fn two_stones_on_two_points(rt: HostRuntime) -> Result<(), Fail> {
+    let alloc = rt.alloc();
+    let Some(game) = game_of(alloc, TWO_STONES) else {
+        return Err(Fail::from("no game"));
+    };
+    let wanted = [
+        (0x3fff3fcffffff, 2, 1),
+        (0x3fffbfcffffff, 1, 1),
+        (0x7ffcffcffffff, 2, 1),
+        (0x7ffeffcffffff, 1, 1),
+    ];
+    assert!(rt; is_tally(alloc, Kinds::Squares, &game, &wanted[..2])?);
+    assert!(rt; is_tally(alloc, Kinds::Both, &game, &wanted)?);
+    Ok(())
+}
+
+#[test]
+fn settings_have_limits(rt: HostRuntime) -> Result<(), HarvestFault> {
+    let bad = Err(HarvestFault::BadSettings);
+    assert!(rt; Settings::new(0, 20) == bad);
+    assert!(rt; Settings::new(65, 20) == bad);
+    assert!(rt; Settings::new(4, 23) == bad);
+    let settings = Settings::new(4, 20)?.with(Kinds::Both);
+    assert!(rt; (settings.workers(), settings.k()) == (4, 20));
+    assert!(rt; settings.kinds() == Kinds::Both);
+    Ok(())
+}
+
+/// Whether a dictionary is written so.
+fn is_written(
+    alloc: Global,
+    dictionary: &Dictionary,
+    text: Text,
+    wanted: &str,
+) -> Result<bool, Fail> {
+    let mut written = Vec::new(alloc);
+    dictionary.write(text, &mut written)?;
+    Ok(written.as_slice() == wanted.as_bytes())
+}
+
+/// Whether an input counts so: the text of its squares, and its games, others and refused.
+fn counts(
+    alloc: Global,
+    kinds: Kinds,
+    input: &[u8],
+    wanted: &str,
+    trees: (u64, u64, u64),
+) -> Result<bool, Fail> {
+    let counted = count_plain(alloc, kinds, input)?;
+    let Report {
+        games,
+        others,
+        refused,
+    } = counted.report;
+    let has_diamonds = counted.dictionary.counts_diamonds();
+    if (games, others, refused) != trees || has_diamonds != (kinds == Kinds::Both) {
+        return Ok(false);
+    }
+    is_written(alloc, &counted.dictionary, Text::One, wanted)
+}
+
+/// Whether an input counts so with either kinds of pattern.
+fn counts_either_way(
+    alloc: Global,
+    input: &[u8],
+    wanted: &str,
+    trees: (u64, u64, u64),
+) -> Result<bool, Fail> {
+    let squares = counts(alloc, Kinds::Squares, input, wanted, trees)?;
+    let both = counts(alloc, Kinds::Both, input, wanted, trees)?;
+    Ok(squares && both)
+}
+
+#[test]
+fn collections_give_their_dictionaries(rt: HostRuntime) -> Result<(), Fail> {
+    for (input, wanted, trees) in COLLECTIONS {
+        assert!(rt;
+            counts_either_way(rt.alloc(), input, wanted, trees)?,
+            "{wanted}"
+        );
+    }
+    Ok(())
+}
+
+#[test]
+fn first_games_and_diamonds(rt: HostRuntime) -> Result<(), Fail> {
+    let alloc = rt.alloc();
+    let input = b"(;SZ[1];B[aa])(;GM[2])(;SZ[2:1];B[aa];W[ba])";
+    let wanted =
+        "shapes 3 games 2 moves 3 squares 3 diamonds 3\n3fff3fcffffff 2 1 1\n3fffbfcffffff 1 1 1\n3fffffcffffff 1 1 0\n7ffcffcffffff 2 1 1\n7ffeffcffffff 1 1 1\n7fffffcffffff 1 1 0\n";
+    let dictionary = count_plain(alloc, Kinds::Both, input)?.dictionary;
+    assert!(rt; is_written(alloc, &dictionary, Text::Three, wanted)?);
+    Ok(())
+}
+
+#[test]
+fn faults_of_syntax(rt: HostRuntime) {
+    let rows: [(&[u8], SgfFault); 4] = [
+        (b"(;SZ[1];C[a\\]", SgfFault::Truncated(0)),
+        (b"(;SZ[1];B[aa])(;SZ[1", SgfFault::Truncated(14)),
+        (b"(;SZ;B[aa])", SgfFault::NoValue(4)),
+        (b"(;SZ[1](;B[aa]);W[aa])", SgfFault::BadByte(15)),
+    ];
+    for (input, wanted) in rows {
+        let fault = count_plain(rt.alloc(), Kinds::Squares, input).err();
+        assert!(rt; fault == Some(HarvestFault::Sgf(wanted)));
+    }
+}
+
+/// How many moves and patterns the tally of a game has.
+fn tallied(alloc: Global, game: &Record) -> Result<(u64, usize), HarvestFault> {
+    let tally = tally_plain(alloc, Kinds::Both, game)?;
+    Ok((tally.moves(), tally.entries().len()))
+}
+
+/// How many patterns an input has.
+fn patterns(alloc: Global, bytes: &[u8]) -> Result<usize, HarvestFault> {
+    let counted = count_plain(alloc, Kinds::Both, bytes)?;
+    Ok(counted.dictionary.entries().len())
+}
+
+/// With memory refused at any request it still holds: the tally is the game's, or want of memory is answered.
+#[test]
+fn memory_is_found_or_named(rt: HostRuntime) {
+    let alloc = rt.alloc();
+    let Some(game) = game_of(alloc, TWO_STONES) else {
+        return;
+    };
+    let tally = tallied(alloc, &game);
+    assert!(rt; tally == Ok((2, 4)) || tally == Err(HarvestFault::Memory));
+    let counted = patterns(alloc, b"(;SZ[1];B[aa])(;SZ[2:1];B[aa];W[ba])");
+    assert!(rt; counted == Ok(6) || counted == Err(HarvestFault::Memory));
+}

@@ -1,7 +1,0 @@
-use Rattle.std.proofs.Common.{◌^◌}
-use Rattle.slot_table.specs.Passes.{IsPassOf}
-use Rattle.harvest_core.proofs.tests.draw_ends.Given as goal
-
--- the pass is of the table
-abbrev pub invariant-loop-worker : goal.invariant-loop-worker
-invariant-loop-worker g l = IsPassOf (2 ^ g.O.ProbeOrder.exponent l.table.order) l.table l.pass

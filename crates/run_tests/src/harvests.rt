@@ -1,0 +1,327 @@
+//! Small collections, counted by workers: always the dictionary that one thread counts.
+ghost use Rattle.std.specs.Prelude.{◌^◌};
+ghost use Rattle.slot_table.specs.Passes.{IsPassOf};
+
+use crate::jobs::{put_until_full, puts_an_end};
+use harvest_core::{FreeGate, harvest, harvest_on, work};
+use job_core::{Desk, Games, new_queue};
+use probe_core::{Capacity, Linear, OddStep, ProbeOrder};
+use sgf_core::SgfFault;
+use shape_core::{Kinds, Word};
+use shape_dict::{Dictionary, Text};
+use share_core::HarvestFault;
+use slot_table::{Pass, SlotTable};
+use std::alloc::{AllocError, Global};
+use std::process::Abort;
+use std::sync::Wait;
+use std::test::Fail;
+use std::thread::Threads;
+use tally_core::{Counted, Report, Settings, count_plain};
+
+/// One move on a board of one point: one pattern.
+const ONE_POINT: &[u8] = b"(;SZ[1];B[aa])";
+
+/// Two moves on a board of two points: two patterns.
+const TWO_POINTS: &[u8] = b"(;SZ[2:1];B[aa];W[ba])";
+
+/// The pattern of `ONE_POINT`.
+const ALONE: u64 = 0x3fffffcffffff;
+
+/// The patterns of `TWO_POINTS`: an empty board is there at two points, one with a stone at one.
+const EMPTY: u64 = 0x3fff3fcffffff;
+
+const TAKEN: u64 = 0x3fffbfcffffff;
+
+/// How many workers each collection is counted by.
+const CREWS: [u8; 4] = [1, 2, 7, 64];
+
+/// A collection of twice as many games: one of one point and one of two points in turn.
+pub(crate) fn collection(alloc: Global, pairs: u64) -> Result<Vec<u8>, AllocError> {
+    let mut bytes = Vec::new(alloc);
+    for _ in 0..pairs {
+        bytes.extend_from_slice(ONE_POINT)?;
+        bytes.extend_from_slice(TWO_POINTS)?;
+    }
+    Ok(bytes)
+}
+
+/// The text of a dictionary with both counts and the first games.
+pub(crate) fn text_of(alloc: Global, dictionary: &Dictionary) -> Result<Vec<u8>, Fail> {
+    let mut text = Vec::new(alloc);
+    dictionary.write(Text::Three, &mut text)?;
+    Ok(text)
+}
+
+fn capacity_of(rt: &impl Abort, k: u32) -> Capacity {
+    Capacity::new(k).expect(rt, "an exponent up to 22")
+}
+
+fn word_of(rt: &impl Abort, bits: u64) -> Word {
+    Word::new(bits).expect(rt, "a pattern's word")
+}
+
+fn report_of(games: u64, others: u64, refused: u64) -> Report {
+    Report {
+        games,
+        others,
+        refused,
+    }
+}
+
+/// One hundred and fifty games of each of two sorts: two points are there once empty and once taken.
+const OF_300: &str =
+    "shapes 3 games 300 moves 450 squares 3 diamonds 3\n3fff3fcffffff 300 150 1\n3fffbfcffffff 150 150 1\n3fffffcffffff 150 150 0\n7ffcffcffffff 300 150 1\n7ffeffcffffff 150 150 1\n7fffffcffffff 150 150 0\n";
+
+#[test]
+fn any_number_of_workers_counts_the_same(rt: HostRuntime) -> Result<(), Fail> {
+    let alloc = rt.alloc();
+    let bytes = collection(alloc, 150)?;
+    let wanted = count_plain(alloc, Kinds::Both, &bytes)?;
+    for workers in CREWS {
+        let settings = Settings::new(workers, 3)?.with(Kinds::Both);
+        let counted = harvest(&rt, alloc, settings, &bytes, &FreeGate)?;
+        assert!(rt; counted.report == report_of(300, 0, 0), "{workers} workers");
+        assert!(rt; counted.dictionary.entries() == wanted.dictionary.entries());
+        let text = text_of(alloc, &counted.dictionary)?;
+        assert_eq!(rt; text.as_slice(), OF_300.as_bytes());
+    }
+    Ok(())
+}
+
+/// Counts squares over a new table of this order.
+fn counted_on<R: Threads + Wait + Sync, O: ProbeOrder + Send + Sync>(
+    rt: &R,
+    alloc: Global,
+    order: O,
+    settings: Settings,
+    bytes: &[u8],
+) -> Result<Counted, HarvestFault> {
+    let Ok((table, mut pass)) = SlotTable::new(alloc, order) else {
+        return Err(HarvestFault::Memory);
+    };
+    harvest_on(rt, alloc, settings, &table, &mut pass, bytes, &FreeGate)
+}
+
+/// Twenty games: ten empty boards of two points, and ten of one.
+const OF_20: &str =
+    "shapes 3 games 20 moves 30 squares 3 diamonds -\n3fff3fcffffff 20 10 1\n3fffbfcffffff 10 10 1\n3fffffcffffff 10 10 0\n";
+
+/// What was counted of twenty games is what one thread counts.
+fn assert_20(rt: &impl Abort, alloc: Global, bytes: &[u8], counted: &Counted) -> Result<(), Fail> {
+    let plain = count_plain(alloc, Kinds::Squares, bytes)?;
+    assert!(rt; counted.report == report_of(20, 0, 0) && counted.report == plain.report);
+    assert!(rt; counted.dictionary.entries() == plain.dictionary.entries());
+    let text = text_of(alloc, &counted.dictionary)?;
+    assert!(rt; text.as_slice() == OF_20.as_bytes());
+    Ok(())
+}
+
+#[test]
+fn any_order_of_probes_counts_the_same(rt: HostRuntime) -> Result<(), Fail> {
+    let alloc = rt.alloc();
+    let bytes = collection(alloc, 10)?;
+    let capacity = capacity_of(&rt, 2);
+    for workers in CREWS {
+        let settings = Settings::new(workers, 0)?;
+        let odd = counted_on(&rt, alloc, OddStep { capacity }, settings, &bytes)?;
+        assert_20(&rt, alloc, &bytes, &odd)?;
+        let linear = counted_on(&rt, alloc, Linear { capacity }, settings, &bytes)?;
+        assert_20(&rt, alloc, &bytes, &linear)?;
+    }
+    Ok(())
+}
+
+/// A worker draws to its end, and adds these games.
+fn draw_to_the_end<R: Abort + Wait, O: ProbeOrder>(
+    rt: &R,
+    alloc: Global,
+    desk: &mut Desk<'_, '_>,
+    worker: usize,
+    table: &SlotTable<O>,
+    pass: &mut Pass<O>,
+    games: &[u64],
+    moves: u64,
+)
+    requires { IsPassOf (2 ^ O.exponent table.now.order) table.now pass.old }
+    ensures { IsPassOf (2 ^ O.exponent table.now.order) table.now pass.new }
+{
+    let worked = work(
+        rt,
+        alloc,
+        desk,
+        worker,
+        Kinds::Squares,
+        table,
+        pass,
+        &FreeGate,
+    );
+    assert!(rt; worked.refused.is_none() && worked.share.games() == games);
+    assert!(rt; worked.share.worker() == worker && worked.share.moves() == moves);
+}
+
+/// More workers draw to their ends, one after another, and no game is left for them.
+fn draw_ends<R: Abort + Wait, O: ProbeOrder>(
+    rt: &R,
+    alloc: Global,
+    desk: &mut Desk<'_, '_>,
+    table: &SlotTable<O>,
+    pass: &mut Pass<O>,
+    workers: usize,
+)
+    requires { IsPassOf (2 ^ O.exponent table.now.order) table.now pass.old }
+{
+    for worker in 1..workers {
+        let mut own = desk.another();
+        draw_to_the_end(rt, alloc, &mut own, worker, table, pass, &[], 0);
+    }
+}
+
+/// Workers draw to their ends, one after another: the first one has all games.
+fn work_in_turn<R: Abort + Wait>(
+    rt: &R,
+    alloc: Global,
+    bytes: &[u8],
+    workers: usize,
+) -> Result<(), Fail> {
+    let capacity = capacity_of(rt, 2);
+    let (table, mut pass) = SlotTable::new(alloc, OddStep { capacity })?;
+    let mut games = Games::new(bytes)?;
+    let (queue, seat) = new_queue(alloc)?;
+    let mut desk = Desk::open(&queue, seat, bytes);
+    let mut own = desk.another();
+    assert!(rt; put_until_full(rt, alloc, &mut desk, &mut games)?.is_none());
+    for _ in 0..workers {
+        assert!(rt; puts_an_end(rt, &mut desk));
+    }
+    draw_to_the_end(rt, alloc, &mut own, 0, &table, &mut pass, &[0, 1, 2, 3], 6);
+    draw_ends(rt, alloc, &mut desk, &table, &mut pass, workers);
+    assert!(rt; own.draw(rt).is_none());
+    Ok(())
+}
+
+#[test]
+fn a_worker_draws_to_the_first_end(rt: HostRuntime) -> Result<(), Fail> {
+    let alloc = rt.alloc();
+    let bytes = collection(alloc, 2)?;
+    for workers in CREWS {
+        work_in_turn(&rt, alloc, &bytes, usize::from(workers))?;
+    }
+    Ok(())
+}
+
+/// Whether the fault is want of a number for a pattern of the game that it names.
+fn is_full(fault: &HarvestFault) -> bool {
+    match fault {
+        HarvestFault::Full { game, word } if game % 2 == 0 => word.bits() == ALONE,
+        HarvestFault::Full { word, .. } => word.bits() == EMPTY || word.bits() == TAKEN,
+        _ => false,
+    }
+}
+
+#[test]
+fn a_table_too_small_by_one_pattern(rt: HostRuntime) -> Result<(), Fail> {
+    let alloc = rt.alloc();
+    for (workers, pairs) in [(1, 1), (2, 5), (7, 5), (7, 150), (64, 150)] {
+        let bytes = collection(alloc, pairs)?;
+        let settings = Settings::new(workers, 1)?;
+        let counted = harvest(&rt, alloc, settings, &bytes, &FreeGate);
+        let fault = counted.err().ok_or("three patterns of two numbers")?;
+        assert!(rt; is_full(&fault), "{workers} workers");
+    }
+    Ok(())
+}
+
+#[test]
+fn a_fault_of_the_input_is_told_before_a_full_table(rt: HostRuntime) -> Result<(), Fail> {
+    let alloc = rt.alloc();
+    for (workers, pairs) in [(1, 1), (2, 5), (7, 150), (64, 150)] {
+        let mut bytes = collection(alloc, pairs)?;
+        let at = bytes.len();
+        bytes.extend_from_slice(b"(;B[aa]")?;
+        let settings = Settings::new(workers, 1)?;
+        let fault = harvest(&rt, alloc, settings, &bytes, &FreeGate).err();
+        let truncated = HarvestFault::Sgf(SgfFault::Truncated(at));
+        assert!(rt; fault == Some(truncated), "{workers} workers");
+    }
+    Ok(())
+}
+
+#[test]
+fn a_bad_move_refuses_its_game_alone(rt: HostRuntime) -> Result<(), Fail> {
+    let alloc = rt.alloc();
+    let bytes = b"(;SZ[1];B[aa])(;SZ[9];B[jj])(;GM[2])(;SZ[1];B[aa])";
+    for workers in CREWS {
+        let settings = Settings::new(workers, 0)?;
+        let counted = harvest(&rt, alloc, settings, bytes, &FreeGate)?;
+        assert!(rt; counted.report == report_of(2, 1, 1), "{workers} workers");
+        let text = text_of(alloc, &counted.dictionary)?;
+        let wanted = "shapes 3 games 2 moves 2 squares 1 diamonds -\n3fffffcffffff 2 2 0\n";
+        assert_eq!(rt; text.as_slice(), wanted.as_bytes());
+    }
+    Ok(())
+}
+
+#[test]
+fn a_table_of_another_input_disagrees(rt: HostRuntime) -> Result<(), Fail> {
+    let alloc = rt.alloc();
+    let settings = Settings::new(2, 0)?;
+    let capacity = capacity_of(&rt, 0);
+    let (table, mut pass) = SlotTable::new(alloc, OddStep { capacity })?;
+    let first = harvest_on(
+        &rt, alloc, settings, &table, &mut pass, ONE_POINT, &FreeGate,
+    )?;
+    assert_eq!(rt; first.dictionary.entries().len(), 1);
+    let other = harvest_on(
+        &rt, alloc, settings, &table, &mut pass, TWO_POINTS, &FreeGate,
+    );
+    let stranger = HarvestFault::Stranger {
+        number: 0,
+        of_share: None,
+        of_table: Some(word_of(&rt, ALONE)),
+    };
+    assert!(rt; other.err() == Some(stranger));
+    let later = b"(;SZ[1]AB[aa])(;SZ[1];B[aa])";
+    let marked = harvest_on(&rt, alloc, settings, &table, &mut pass, later, &FreeGate);
+    let marks = HarvestFault::Marks {
+        number: 0,
+        of_shares: Some(1),
+        of_table: Some(0),
+    };
+    assert!(rt; marked.err() == Some(marks));
+    Ok(())
+}
+
+/// With memory refused at any request the answer is the dictionary or want of memory, and all threads end.
+#[test]
+fn memory_is_found_or_named(rt: HostRuntime) -> Result<(), Fail> {
+    let alloc = rt.alloc();
+    let settings = Settings::new(2, 4)?;
+    match harvest(
+        &rt,
+        alloc,
+        settings,
+        b"(;SZ[1];B[aa])(;SZ[2:1];B[aa];W[ba])",
+        &FreeGate,
+    ) {
+        Ok(counted) => {
+            let entries = counted.dictionary.entries();
+            assert_eq!(rt;
+                (counted.dictionary.games(), counted.dictionary.moves()),
+                (2, 3)
+            );
+            assert_eq!(rt; entries.len(), 3);
+            for (entry, (bits, there, played, first)) in entries
+                .iter()
+                .zip([(EMPTY, 2, 1, 1), (TAKEN, 1, 1, 1), (ALONE, 1, 1, 0)])
+            {
+                assert_eq!(rt; entry.shape.word().bits(), bits);
+                assert_eq!(rt;
+                    (entry.there, entry.played, entry.first),
+                    (there, played, Some(first))
+                );
+            }
+        }
+        Err(fault) => assert!(rt; fault == HarvestFault::Memory),
+    }
+    Ok(())
+}

@@ -1,0 +1,353 @@
+//! Small collections, and each public call once.
+ghost use Rattle.std.specs.Prelude.{◌≡◌, OnOk};
+ghost use Rattle.job_core.specs.Rule.{IsInStep, MayPut, putting};
+
+use job_core::{Desk, Games, Item, Job, new_queue};
+use sgf_core::SgfFault;
+use std::alloc::{AllocError, Global};
+use std::process::Abort;
+use std::sync::Wait;
+use std::test::Fail;
+use std::thread;
+use std::thread::Threads;
+use tally_core::{HarvestFault, Report};
+
+/// Two games, and between them a tree of another game and one with a board of no column.
+const MIXED: &[u8] = b"(;SZ[1];B[aa])(;GM[2])(;SZ[0])\n(;B[aa];W[bb])";
+
+/// A collection of n games.
+fn collection(alloc: Global, games: u64) -> Result<Vec<u8>, AllocError> {
+    let mut bytes = Vec::new(alloc);
+    for _ in 0..games {
+        bytes.extend_from_slice(b"(;SZ[1])")?;
+    }
+    Ok(bytes)
+}
+
+/// What a job says: its number, its place, and of its record the columns of the board and how many actions there are.
+fn said(job: &Job<'_>) -> (u64, usize, usize, u8, usize) {
+    let record = job.record();
+    (
+        job.game(),
+        job.at(),
+        job.end(),
+        record.size().columns(),
+        record.actions().len(),
+    )
+}
+
+/// What the job of the next game says, where there is one.
+fn next_said(
+    alloc: Global,
+    games: &mut Games<'_>,
+) -> Result<Option<(u64, usize, usize, u8, usize)>, HarvestFault> {
+    match games.next_job(alloc)? {
+        Some(job) => Ok(Some(said(&job))),
+        None => Ok(None),
+    }
+}
+
+#[test]
+fn games_are_numbered_in_their_order(rt: HostRuntime) -> Result<(), HarvestFault> {
+    let alloc = rt.alloc();
+    let mut games = Games::new(MIXED)?;
+    assert!(rt; next_said(alloc, &mut games) == Ok(Some((0, 0, 14, 1, 1))));
+    assert!(rt; next_said(alloc, &mut games) == Ok(Some((1, 31, 45, 19, 2))));
+    assert!(rt; next_said(alloc, &mut games) == Ok(None));
+    assert!(rt; next_said(alloc, &mut games) == Ok(None));
+    let report = Report {
+        games: 2,
+        others: 1,
+        refused: 1,
+    };
+    assert!(rt; games.report() == report);
+    Ok(())
+}
+
+/// Whether the next job borrows this input.
+fn borrows(alloc: Global, bytes: &[u8]) -> Result<bool, HarvestFault> {
+    let mut games = Games::new(bytes)?;
+    match games.next_job(alloc)? {
+        Some(job) => Ok(job.bytes() == bytes),
+        None => Ok(false),
+    }
+}
+
+#[test]
+fn a_job_has_the_whole_input(rt: HostRuntime) -> Result<(), HarvestFault> {
+    assert!(rt; borrows(rt.alloc(), MIXED)?);
+    Ok(())
+}
+
+#[test]
+fn a_fault_comes_after_the_games_before_it(rt: HostRuntime) -> Result<(), HarvestFault> {
+    let alloc = rt.alloc();
+    let truncated = Err(HarvestFault::Sgf(SgfFault::Truncated(8)));
+    let mut games = Games::new(b"(;SZ[1])(;B[aa]")?;
+    assert!(rt; next_said(alloc, &mut games) == Ok(Some((0, 0, 8, 1, 0))));
+    assert!(rt; next_said(alloc, &mut games) == truncated);
+    assert!(rt; next_said(alloc, &mut games) == truncated);
+    assert!(rt; games.report().games == 1);
+    Ok(())
+}
+
+/// Puts the jobs of the next games, up to one that comes back.
+pub(crate) fn put_until_full<'a, R: Wait>(
+    rt: &R,
+    alloc: Global,
+    desk: &mut Desk<'_, 'a>,
+    games: &mut Games<'a>,
+) -> Result<Option<Item<'a>>, HarvestFault>
+    requires { IsInStep games.old desk.old }
+    ensures { OnOk result (IsInStep games.new desk.new) }
+{
+    while let Some(job) = games.next_job(alloc)? {
+        match desk.put(rt, Item::Job(job)) {
+            Ok(()) => (),
+            Err(back) => return Ok(Some(back)),
+        }
+    }
+    Ok(None)
+}
+
+/// The number of the game, where this is a job.
+fn number(item: Option<Item<'_>>) -> Option<u64> {
+    match item {
+        Some(Item::Job(job)) => Some(job.game()),
+        Some(Item::End) | None => None,
+    }
+}
+
+/// Puts an end, and says whether there was room.
+pub(crate) fn puts_an_end<R: Wait>(rt: &R, desk: &mut Desk<'_, '_>) -> bool {
+    desk.put(rt, Item::End).is_ok()
+}
+
+/// Draws the game of the next job, where the next item is one.
+fn draw_game<R: Wait>(rt: &R, desk: &mut Desk<'_, '_>) -> Option<u64> {
+    number(desk.draw(rt))
+}
+
+/// Draws the next item, and says whether it was an end.
+fn draws_an_end<R: Wait>(rt: &R, desk: &mut Desk<'_, '_>) -> bool {
+    matches!(desk.draw(rt), Some(Item::End))
+}
+
+/// Draws, and says whether the queue was empty.
+fn draws_nothing<R: Wait>(rt: &R, desk: &mut Desk<'_, '_>) -> bool {
+    desk.draw(rt).is_none()
+}
+
+/// Draws the jobs of a queue that was full, and the end.
+fn empty<R: Abort + Wait>(rt: &R, desk: &mut Desk<'_, '_>) {
+    assert!(rt; draw_game(rt, desk) == Some(0));
+    assert!(rt; puts_an_end(rt, desk));
+    assert!(rt; !puts_an_end(rt, desk));
+    for game in 1..128 {
+        assert!(rt; draw_game(rt, desk) == Some(game));
+    }
+    assert!(rt; draws_an_end(rt, desk));
+    assert!(rt; draws_nothing(rt, desk));
+}
+
+/// Fills a queue and empties it.
+fn fill_and_empty<'a, R: Abort + Wait>(
+    rt: &R,
+    alloc: Global,
+    desk: &mut Desk<'_, 'a>,
+    games: &mut Games<'a>,
+) -> Result<(), HarvestFault>
+    requires { IsInStep games.old desk.old }
+{
+    assert!(rt; draws_nothing(rt, &mut desk.another()));
+    let back = number(put_until_full(rt, alloc, desk, games)?);
+    assert!(rt; back == Some(128));
+    assert!(rt; games.report().games == 129);
+    empty(rt, &mut desk.another());
+    Ok(())
+}
+
+/// Opens a queue for the games of these bytes, and fills and empties it.
+fn open_and_fill<R: Abort + Wait>(rt: &R, alloc: Global, bytes: &[u8]) -> Result<(), HarvestFault> {
+    let mut games = Games::new(bytes)?;
+    let (queue, pass) = new_queue(alloc)?;
+    let mut desk = Desk::open(&queue, pass, bytes);
+    fill_and_empty(rt, alloc, &mut desk, &mut games)
+}
+
+#[test]
+fn a_full_queue_hands_the_item_back(rt: HostRuntime) -> Result<(), Fail> {
+    let bytes = collection(rt.alloc(), 200)?;
+    open_and_fill(&rt, rt.alloc(), bytes.as_slice())?;
+    Ok(())
+}
+
+/// Puts an item once there is room.
+fn put_at_last<'a, R: Wait>(rt: &R, desk: &mut Desk<'_, 'a>, item: Item<'a>)
+    requires { MayPut desk.old item }
+    ensures { desk.new ≡ putting desk.old item.entry }
+{
+    let mut item = item;
+    for _ in rt.forever() {
+        match desk.put(rt, item) {
+            Ok(()) => break,
+            Err(back) => item = back,
+        }
+        thread::yield_now();
+    }
+}
+
+/// Puts the jobs of all games, and an end for each of two workers.
+fn put_all<'a, R: Wait>(
+    rt: &R,
+    alloc: Global,
+    desk: &mut Desk<'_, 'a>,
+    games: &mut Games<'a>,
+) -> Result<u64, HarvestFault>
+    requires { IsInStep games.old desk.old }
+{
+    while let Some(job) = games.next_job(alloc)? {
+        put_at_last(rt, desk, Item::Job(job));
+    }
+    put_at_last(rt, desk, Item::End);
+    put_at_last(rt, desk, Item::End);
+    Ok(games.report().games)
+}
+
+/// The games of the jobs up to the first end.
+fn draw_all<R: Wait>(
+    rt: &R,
+    alloc: Global,
+    desk: &mut Desk<'_, '_>,
+) -> Result<Vec<u64>, HarvestFault> {
+    let mut drawn = Vec::new(alloc);
+    for _ in rt.forever() {
+        match desk.draw(rt) {
+            Some(Item::Job(job)) => keep(&mut drawn, job.game())?,
+            Some(Item::End) => break,
+            None => thread::yield_now(),
+        }
+    }
+    Ok(drawn)
+}
+
+/// One game more.
+fn keep(games: &mut Vec<u64>, game: u64) -> Result<(), HarvestFault> {
+    match games.push(game) {
+        Ok(()) => Ok(()),
+        Err(_) => Err(HarvestFault::Memory),
+    }
+}
+
+/// The games of both lists.
+fn all_of(mut left: Vec<u64>, right: &[u64]) -> Result<Vec<u64>, HarvestFault> {
+    for game in right {
+        keep(&mut left, *game)?;
+    }
+    Ok(left)
+}
+
+/// The games that two workers draw, all together.
+fn draw_by_two<R: Threads + Wait + Sync>(
+    rt: &R,
+    alloc: Global,
+    mut one: Desk<'_, '_>,
+    mut other: Desk<'_, '_>,
+) -> Result<Vec<u64>, HarvestFault> {
+    let (left, right) = thread::join(
+        rt,
+        move || draw_all(rt, alloc, &mut one),
+        move || draw_all(rt, alloc, &mut other),
+    );
+    all_of(left?, right?.as_slice())
+}
+
+/// Both answers, or the fault of one.
+fn both(
+    read: Result<u64, HarvestFault>,
+    drawn: Result<Vec<u64>, HarvestFault>,
+) -> Result<(u64, Vec<u64>), HarvestFault> {
+    match (read, drawn) {
+        (Ok(read), Ok(drawn)) => Ok((read, drawn)),
+        (Err(fault), _) | (_, Err(fault)) => Err(fault),
+    }
+}
+
+/// How many games the reader reports, and the games that two workers draw.
+fn put_and_draw<'a, R: Threads + Wait + Sync>(
+    rt: &R,
+    alloc: Global,
+    mut desk: Desk<'_, 'a>,
+    mut games: Games<'a>,
+) -> Result<(u64, Vec<u64>), HarvestFault>
+    requires { IsInStep games desk }
+{
+    let one = desk.another();
+    let other = desk.another();
+    let (read, drawn) = thread::join(
+        rt,
+        move || -> Result<u64, HarvestFault>
+            requires { IsInStep games desk }
+        { put_all(rt, alloc, &mut desk, &mut games) },
+        move || draw_by_two(rt, alloc, one, other),
+    );
+    both(read, drawn)
+}
+
+/// The same for the games of these bytes.
+fn drawn_by_two<R: Threads + Wait + Sync>(
+    rt: &R,
+    alloc: Global,
+    bytes: &[u8],
+) -> Result<(u64, Vec<u64>), HarvestFault> {
+    let games = Games::new(bytes)?;
+    let (queue, pass) = new_queue(alloc)?;
+    put_and_draw(rt, alloc, Desk::open(&queue, pass, bytes), games)
+}
+
+/// Whether each number is that of its place.
+fn are_in_place(games: &[u64]) -> bool {
+    for game in 0..games.len() {
+        if games[game] != game as u64 {
+            return false;
+        }
+    }
+    true
+}
+
+#[test]
+fn two_workers_draw_each_game_once(rt: HostRuntime) -> Result<(), Fail> {
+    let bytes = collection(rt.alloc(), 1000)?;
+    let (read, mut drawn) = drawn_by_two(&rt, rt.alloc(), bytes.as_slice())?;
+    assert!(rt; read == 1000);
+    assert!(rt; drawn.len() == 1000);
+    drawn.sort()?;
+    assert!(rt; are_in_place(drawn.as_slice()));
+    Ok(())
+}
+
+/// The number of the game of the next job.
+fn next_number(alloc: Global, games: &mut Games<'_>) -> Result<Option<u64>, HarvestFault> {
+    match games.next_job(alloc)? {
+        Some(job) => Ok(Some(job.game())),
+        None => Ok(None),
+    }
+}
+
+/// With memory refused at any request the games come as they do, or want of memory is answered, then and later.
+#[test]
+fn memory_is_found_or_named(rt: HostRuntime) -> Result<(), HarvestFault> {
+    let alloc = rt.alloc();
+    let mut games = Games::new(MIXED)?;
+    for game in 0..2 {
+        let next = next_number(alloc, &mut games);
+        if next == Err(HarvestFault::Memory) {
+            assert!(rt; next_number(alloc, &mut games) == next);
+            return Ok(());
+        }
+        assert!(rt; next == Ok(Some(game)));
+    }
+    let fault = new_queue(alloc).err();
+    assert!(rt; fault.is_none() || fault == Some(HarvestFault::Memory));
+    Ok(())
+}

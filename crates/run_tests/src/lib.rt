@@ -1,0 +1,13 @@
+//! Jobs, harvests, the engines' faults and sheets, tried from outside.
+#![tactic(auto)]
+
+#[cfg(test)]
+mod faults;
+#[cfg(test)]
+mod gates;
+#[cfg(test)]
+mod harvests;
+#[cfg(test)]
+mod jobs;
+#[cfg(test)]
+mod sheets;

@@ -1,0 +1,168 @@
+//! Memory that is refused, whichever request it is: a share has a game or is as before, and a fault says so.
+ghost use Rattle.std.specs.Prelude.{◌≡◌, ◌++◌, ◌∷◌, [], ◌<◌, ◌^◌, IfSome};
+ghost use Rattle.std.specs.Bool.{OnTrue};
+ghost use Rattle.shape_core.specs.declared.words.Kinds.TheVariants as kinds;
+ghost use Rattle.slot_table.specs.Passes.{IsPassOf};
+
+use crate::testing::{entry_of, order_of, record_of};
+use go_record::Record;
+use probe_core::ProbeOrder;
+use shape_core::Kinds;
+use shape_dict::{Dictionary, Entry};
+use share_core::{HarvestFault, Row, Share, gather};
+use slot_table::{Pass, SlotTable};
+use std::alloc::Global;
+use std::process::Abort;
+use std::test::Fail;
+
+/// Two points: Black plays at one of them, and White at the other.
+const IN_TURN: &[u8] = b"(;SZ[2:1];B[aa];W[ba])";
+
+/// Two points: Black plays at both.
+const BLACK_ALONE: &[u8] = b"(;SZ[2:1];B[aa];B[ba])";
+
+/// How many slots the table has.
+const SLOTS: usize = 16;
+
+/// The row of each number that a share has.
+fn rows_of(share: &Share) -> [Option<Row>; SLOTS] {
+    let mut rows = [None; SLOTS];
+    for row in share.rows() {
+        let number = row.number;
+        if number < SLOTS {
+            rows[number] = Some(row);
+        }
+    }
+    rows
+}
+
+/// Whether a row counts nothing, or there is none.
+fn is_blank(row: Option<Row>) -> bool {
+    match row {
+        Some(row) => row.there == 0 && row.played == 0 && row.first.is_none(),
+        None => true,
+    }
+}
+
+/// Whether a share still has these rows, and all its other rows count nothing.
+fn has_kept(share: &Share, rows: &[Option<Row>; SLOTS]) -> bool {
+    for number in 0..SLOTS {
+        let row = share.row_at(number);
+        if row != rows[number] && !(rows[number].is_none() && is_blank(row)) {
+            return false;
+        }
+    }
+    true
+}
+
+/// Adds a game to a share of these games; where memory is refused, which has to leave the share as it was, once more.
+/// Whether the share has the game.
+fn add_or_keep<O: ProbeOrder>(
+    rt: &impl Abort,
+    table: &SlotTable<O>,
+    pass: &mut Pass<O>,
+    share: &mut Share,
+    games: &[u64],
+    game: u64,
+    record: &Record,
+) -> bool
+    requires pass { IsPassOf (2 ^ O.exponent table.now.order) table.now pass.old }
+    requires game { game < 2 ^ 28 }
+    ensures pass { IsPassOf (2 ^ O.exponent table.now.order) table.now pass.new }
+    ensures kinds { share.new.kinds ≡ share.old.kinds }
+    ensures games { OnTrue result (share.new.games ≡ share.old.games ++ game ∷ []) }
+{
+    let moves = share.moves();
+    let rows = rows_of(share);
+    let added = share.add(table, pass, game, record);
+    if added.is_ok() {
+        return true;
+    }
+    assert!(rt; added.err() == Some(HarvestFault::Memory));
+    assert!(rt; share.games() == games && share.moves() == moves);
+    assert!(rt; has_kept(share, &rows));
+    share.add(table, pass, game, record).is_ok()
+}
+
+/// The share of both games, if memory was found for it, at the second time where it was refused at the first.
+fn share_of_both<O: ProbeOrder>(
+    rt: &impl Abort,
+    alloc: Global,
+    table: &SlotTable<O>,
+    pass: &mut Pass<O>,
+) -> Option<Share>
+    requires { IsPassOf (2 ^ O.exponent table.now.order) table.now pass.old }
+    ensures pass { IsPassOf (2 ^ O.exponent table.now.order) table.now pass.new }
+    ensures kinds { IfSome result (λ share. share.kinds ≡ kinds.Both) }
+    ensures games { IfSome result (λ share. share.games ≡ 1 ∷ 0 ∷ []) }
+{
+    let in_turn = record_of(alloc, IN_TURN)?;
+    let alone = record_of(alloc, BLACK_ALONE)?;
+    let mut share = Share::begin(alloc, 0, Kinds::Both);
+    if !add_or_keep(rt, table, pass, &mut share, &[], 1, &in_turn) {
+        return None;
+    }
+    if !add_or_keep(rt, table, pass, &mut share, &[1], 0, &alone) {
+        return None;
+    }
+    Some(share)
+}
+
+/// Whether a share has both games, with their moves.
+fn has_both(share: &Share) -> bool {
+    share.games() == [1, 0].as_slice() && share.moves() == 4
+}
+
+/// Gathers a share of both games; where memory is refused, which has to leave the share as it was, once more.
+fn gather_or_keep<O: ProbeOrder>(
+    rt: &impl Abort,
+    alloc: Global,
+    table: &SlotTable<O>,
+    pass: &mut Pass<O>,
+    share: Share,
+) -> Option<Dictionary>
+    requires pass { IsPassOf (2 ^ O.exponent table.now.order) table.now pass.old }
+    requires kinds { share.kinds ≡ kinds.Both }
+    requires games { share.games ≡ 1 ∷ 0 ∷ [] }
+{
+    let rows = rows_of(&share);
+    let shares = [share];
+    let gathered = gather(alloc, table, pass, Kinds::Both, 2, &shares);
+    if let Err(fault) = gathered {
+        assert!(rt; fault == HarvestFault::Memory);
+        assert!(rt; has_both(&shares[0]) && has_kept(&shares[0], &rows));
+        return gather(alloc, table, pass, Kinds::Both, 2, &shares).ok();
+    }
+    gathered.ok()
+}
+
+/// The counts of both games, in which an empty point was next to an empty one twice each, once next to the other colour,
+/// and once next to its own; by squares, and by diamonds.
+fn wanted_of(rt: &impl Abort) -> [Entry; 6] {
+    [
+        entry_of(rt, 0x3fff3fcffffff, 4, 2, 0),
+        entry_of(rt, 0x3fff7fcffffff, 1, 1, 0),
+        entry_of(rt, 0x3fffbfcffffff, 1, 1, 1),
+        entry_of(rt, 0x7ffcffcffffff, 4, 2, 0),
+        entry_of(rt, 0x7ffdffcffffff, 1, 1, 0),
+        entry_of(rt, 0x7ffeffcffffff, 1, 1, 1),
+    ]
+}
+
+#[test]
+fn memory_is_found_or_named(rt: HostRuntime) -> Result<(), Fail> {
+    let alloc = rt.alloc();
+    let Ok((table, mut pass)) = SlotTable::new(alloc, order_of(&rt, 4)) else {
+        return Ok(());
+    };
+    let Some(share) = share_of_both(&rt, alloc, &table, &mut pass) else {
+        return Ok(());
+    };
+    assert!(rt; has_both(&share));
+    let Some(dictionary) = gather_or_keep(&rt, alloc, &table, &mut pass, share) else {
+        return Ok(());
+    };
+    assert_eq!(rt; (dictionary.games(), dictionary.moves()), (2, 4));
+    assert!(rt; dictionary.entries() == wanted_of(&rt).as_slice());
+    Ok(())
+}

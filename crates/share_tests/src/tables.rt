@@ -1,0 +1,407 @@
+//! The table seen from outside: rows worked by hand, and threads that number the same keys.
+ghost use Rattle.std.specs.Prelude.{◌^◌, All, IfOk};
+ghost use Rattle.slot_table.specs.Passes.{IsPassOf};
+
+use probe_core::{Answer, Capacity, Key, Linear, OddStep, ProbeOrder};
+use slot_table::{Pass, SlotFault, SlotTable};
+use std::alloc::{AllocError, Global};
+use std::process::Abort;
+use std::test::Fail;
+use std::thread;
+use std::thread::Threads;
+
+/// How many keys each thread enters: a prime, so that any stride below it comes to every key.
+const KEYS: usize = 199;
+
+fn capacity_of(rt: &impl Abort, k: u32) -> Capacity {
+    Capacity::new(k).expect(rt, "an exponent up to 22")
+}
+
+fn key_of(rt: &impl Abort, bits: u64) -> Key {
+    Key::new(bits).expect(rt, "a key below 2^51")
+}
+
+fn number_of(rt: &impl Abort, answer: Answer) -> usize {
+    match answer {
+        Answer::Number(number) => number,
+        Answer::Absent | Answer::Full => panic!(rt; "no number"),
+    }
+}
+
+/// Two numbers, of which the keys 5 and 6 get the first and the second.
+fn assert_two_numbers<O: ProbeOrder>(rt: &impl Abort, table: &SlotTable<O>, pass: &mut Pass<O>)
+    requires { IsPassOf (2 ^ O.exponent table.now.order) table.now pass.old }
+{
+    let (five, six, seven) = (key_of(rt, 5), key_of(rt, 6), key_of(rt, 7));
+    assert!(rt; table.capacity().slots() == 2);
+    assert!(rt; table.look_up(pass, five) == Answer::Absent);
+    assert!(rt; table.word_at(pass, 0) == None);
+    assert!(rt; table.enter(pass, five) == Answer::Number(0));
+    assert!(rt; table.enter(pass, six) == Answer::Number(1));
+    assert!(rt; table.enter(pass, five) == Answer::Number(0));
+    assert!(rt; table.enter(pass, seven) == Answer::Full);
+    assert!(rt; table.look_up(pass, seven) == Answer::Full);
+    assert!(rt; table.look_up(pass, six) == Answer::Number(1));
+    assert!(rt; table.word_at(pass, 0) == Some(five));
+}
+
+#[test]
+fn two_numbers_of_each_order(rt: HostRuntime) -> Result<(), Fail> {
+    let capacity = capacity_of(&rt, 1);
+    let (table, mut pass) = SlotTable::new(rt.alloc(), Linear { capacity })?;
+    assert_two_numbers(&rt, &table, &mut pass);
+    let (table, mut pass) = SlotTable::new(rt.alloc(), OddStep { capacity })?;
+    assert_two_numbers(&rt, &table, &mut pass);
+    Ok(())
+}
+
+#[test]
+fn an_absent_key_takes_no_number(rt: HostRuntime) -> Result<(), Fail> {
+    let capacity = capacity_of(&rt, 1);
+    let (table, mut pass) = SlotTable::new(rt.alloc(), Linear { capacity })?;
+    let (five, six) = (key_of(&rt, 5), key_of(&rt, 6));
+    assert!(&rt; table.look_up(&mut pass, five) == Answer::Absent);
+    assert!(&rt; table.word_at(&mut pass, 0) == None);
+    assert!(&rt; table.enter(&mut pass, six) == Answer::Number(1));
+    assert!(&rt; table.look_up(&mut pass, five) == Answer::Absent);
+    Ok(())
+}
+
+#[test]
+fn the_least_game_is_first(rt: HostRuntime) -> Result<(), Fail> {
+    let capacity = capacity_of(&rt, 1);
+    let (table, mut pass) = SlotTable::new(rt.alloc(), OddStep { capacity })?;
+    assert!(&rt; table.enter(&mut pass, key_of(&rt, 5)) == Answer::Number(0));
+    assert!(&rt; table.capacity().slots() == 2);
+    table.mark(&mut pass, 0, 7);
+    table.mark(&mut pass, 0, 3);
+    table.mark(&mut pass, 0, 5);
+    assert!(&rt; table.first(&mut pass, 0) == Some(3));
+    assert!(&rt; table.first(&mut pass, 1) == None);
+    Ok(())
+}
+
+#[test]
+fn a_mark_is_at_its_number_alone(rt: HostRuntime) -> Result<(), Fail> {
+    let capacity = capacity_of(&rt, 1);
+    let (table, mut pass) = SlotTable::new(rt.alloc(), Linear { capacity })?;
+    assert!(&rt; table.capacity().slots() == 2);
+    assert!(&rt; table.first(&mut pass, 0) == None);
+    table.mark(&mut pass, 1, 4);
+    assert!(&rt; table.first(&mut pass, 0) == None);
+    assert!(&rt; table.first(&mut pass, 1) == Some(4));
+    table.mark(&mut pass, 0, 9);
+    table.mark(&mut pass, 1, 2);
+    assert!(&rt; table.first(&mut pass, 0) == Some(9));
+    assert!(&rt; table.first(&mut pass, 1) == Some(2));
+    Ok(())
+}
+
+#[test]
+fn marks_and_keys_leave_each_other(rt: HostRuntime) -> Result<(), Fail> {
+    let capacity = capacity_of(&rt, 1);
+    let (table, mut pass) = SlotTable::new(rt.alloc(), OddStep { capacity })?;
+    let (five, six) = (key_of(&rt, 5), key_of(&rt, 6));
+    assert!(&rt; table.capacity().slots() == 2);
+    assert!(&rt; table.enter(&mut pass, five) == Answer::Number(0));
+    table.mark(&mut pass, 0, 3);
+    table.mark(&mut pass, 1, 8);
+    assert!(&rt; table.word_at(&mut pass, 0) == Some(five));
+    assert!(&rt; table.word_at(&mut pass, 1) == None);
+    assert!(&rt; table.look_up(&mut pass, six) == Answer::Absent);
+    assert!(&rt; table.first(&mut pass, 1) == Some(8));
+    assert!(&rt; table.look_up(&mut pass, six) == Answer::Absent);
+    assert!(&rt; table.enter(&mut pass, six) == Answer::Number(1));
+    assert!(&rt; table.first(&mut pass, 0) == Some(3));
+    assert!(&rt; table.enter(&mut pass, five) == Answer::Number(0));
+    Ok(())
+}
+
+#[test]
+fn the_largest_table_is_made(rt: HostRuntime) -> Result<(), Fail> {
+    let capacity = capacity_of(&rt, 22);
+    let (table, mut pass) = SlotTable::new(rt.alloc(), Linear { capacity })?;
+    let last = 4_194_303;
+    assert!(&rt; table.capacity().slots() == 4_194_304);
+    assert!(&rt; table.word_at(&mut pass, last) == None);
+    table.mark(&mut pass, last, 6);
+    assert!(&rt; table.first(&mut pass, last) == Some(6));
+    assert!(&rt; table.first(&mut pass, 0) == None);
+    assert!(&rt; table.enter(&mut pass, key_of(&rt, 0)) == Answer::Number(0));
+    assert!(&rt; table.word_at(&mut pass, 0) == Some(key_of(&rt, 0)));
+    Ok(())
+}
+
+/// What one thread does: its pass, and where it begins among the keys.
+#[derive(Drop)]
+struct Job<O> {
+    pass: Pass<O>,
+    first: u8,
+}
+
+/// The pass of a thread that ended, and the number of each key.
+#[derive(Drop)]
+struct Done<O> {
+    pass: Pass<O>,
+    numbers: [usize; KEYS],
+}
+
+/// `count` jobs, each with a pass of its own.
+fn jobs_of<O: ProbeOrder>(
+    alloc: Global,
+    table: &SlotTable<O>,
+    pass: &mut Pass<O>,
+    count: u8,
+) -> Result<Vec<Job<O>>, AllocError>
+    requires { IsPassOf (2 ^ O.exponent table.now.order) table.now pass.old }
+    ensures pass { IsPassOf (2 ^ O.exponent table.now.order) table.now pass.new }
+    ensures jobs { IfOk result (λ v. All (λ job. IsPassOf (2 ^ O.exponent table.now.order)
+        table.now job.pass) v.items) }
+{
+    let mut jobs = Vec::new(alloc);
+    for first in 0..count {
+        let pass = table.split(pass);
+        jobs.push(Job { pass, first })?;
+    }
+    Ok(jobs)
+}
+
+/// Enters all keys, from the job's first one on in strides of its own: every key, every second one, and so on.
+fn enter_all<O: ProbeOrder>(rt: &impl Abort, table: &SlotTable<O>, job: Job<O>) -> Done<O>
+    requires { IsPassOf (2 ^ O.exponent table.now.order) table.now job.pass }
+    ensures { IsPassOf (2 ^ O.exponent table.now.order) table.now result.pass }
+{
+    let Job { mut pass, first } = job;
+    let mut numbers = [0; KEYS];
+    for step in 0..KEYS {
+        let key = (usize::from(first) + (usize::from(first) + 1) * step) % KEYS;
+        numbers[key] = number_of(rt, table.enter(&mut pass, key_of(rt, key as u64)));
+    }
+    Done { pass, numbers }
+}
+
+/// Each job in a thread of its own, to their ends.
+fn run_all<O: ProbeOrder + Send + Sync, R: Threads + Abort + Sync>(
+    rt: &R,
+    table: &SlotTable<O>,
+    jobs: Vec<Job<O>>,
+) -> Result<Vec<Done<O>>, AllocError>
+    requires { All (λ job. IsPassOf (2 ^ O.exponent table.now.order) table.now job.pass)
+        jobs.items }
+    ensures { IfOk result (λ v. All (λ done. IsPassOf (2 ^ O.exponent table.now.order) table.now
+        done.pass) v.items) }
+{
+    thread::map_vec(
+        rt,
+        jobs,
+        &|job: Job<O>| -> Done<O>
+            requires { IsPassOf (2 ^ O.exponent table.now.order) table.now job.pass }
+            ensures { IsPassOf (2 ^ O.exponent table.entry.now.order) table.entry.now result.pass }
+        { enter_all(rt, table, job) },
+    )
+}
+
+/// The pass finds each key at the number that it got, without asking any other pass.
+fn assert_found<O: ProbeOrder>(
+    rt: &impl Abort,
+    table: &SlotTable<O>,
+    pass: &mut Pass<O>,
+    numbers: &[usize; KEYS],
+)
+    requires { IsPassOf (2 ^ O.exponent table.now.order) table.now pass.old }
+    ensures { IsPassOf (2 ^ O.exponent table.now.order) table.now pass.new }
+{
+    for key in 0..KEYS {
+        let bits = key_of(rt, key as u64);
+        let number = numbers[key];
+        assert!(rt; table.look_up(pass, bits) == Answer::Number(number));
+        assert!(rt; number < table.capacity().slots());
+        assert!(rt; table.word_at(pass, number) == Some(bits));
+    }
+}
+
+/// How many numbers are free.
+fn free_of<O: ProbeOrder>(table: &SlotTable<O>, pass: &mut Pass<O>) -> usize
+    requires { IsPassOf (2 ^ O.exponent table.now.order) table.now pass.old }
+{
+    let mut free = 0usize;
+    for number in 0..table.capacity().slots() {
+        if table.word_at(pass, number).is_none() {
+            free += 1;
+        }
+    }
+    free
+}
+
+/// Each thread's pass alone answers as the others did, and so does the one pass of all.
+fn assert_read_back<O: ProbeOrder>(
+    rt: &impl Abort,
+    table: &SlotTable<O>,
+    pass: Pass<O>,
+    agreed: &[usize; KEYS],
+    mut done: Vec<Done<O>>,
+)
+    requires pass { IsPassOf (2 ^ O.exponent table.now.order) table.now pass }
+    requires done { All (λ done. IsPassOf (2 ^ O.exponent table.now.order) table.now done.pass)
+        done.items }
+{
+    let mut all = pass;
+    while let Some(other) = done.pop() {
+        let Done { mut pass, numbers } = other;
+        assert!(rt; numbers == *agreed);
+        assert_found(rt, table, &mut pass, agreed);
+        all = table.meet(all, pass);
+    }
+    assert_found(rt, table, &mut all, agreed);
+    assert!(rt; free_of(table, &mut all) == 57);
+}
+
+/// Eight threads enter the same keys, each in an order of its own.
+fn read_back<O: ProbeOrder + Send + Sync, R: Threads + Abort + Sync>(
+    rt: &R,
+    alloc: Global,
+    order: O,
+) -> Result<(), SlotFault> {
+    let (table, mut pass) = SlotTable::new(alloc, order)?;
+    let jobs = jobs_of(alloc, &table, &mut pass, 8)?;
+    let mut done = run_all(rt, &table, jobs)?;
+    assert!(rt; done.len() == 8);
+    let last = done.pop().expect(rt, "eight passes");
+    let Done {
+        pass: mut other,
+        numbers,
+    } = last;
+    assert_found(rt, &table, &mut other, &numbers);
+    assert_read_back(rt, &table, table.meet(pass, other), &numbers, done);
+    Ok(())
+}
+
+#[test]
+fn all_threads_get_the_same_numbers(rt: HostRuntime) -> Result<(), Fail> {
+    let capacity = capacity_of(&rt, 8);
+    read_back(&rt, rt.alloc(), Linear { capacity })?;
+    read_back(&rt, rt.alloc(), OddStep { capacity })?;
+    Ok(())
+}
+
+/// Each job enters a key of its own, in a thread of its own.
+fn enter_each<O: ProbeOrder + Send + Sync, R: Threads + Abort + Sync>(
+    rt: &R,
+    table: &SlotTable<O>,
+    jobs: Vec<Job<O>>,
+) -> Result<Vec<Answer>, AllocError>
+    requires { All (λ job. IsPassOf (2 ^ O.exponent table.now.order) table.now job.pass)
+        jobs.items }
+{
+    thread::map_vec(
+        rt,
+        jobs,
+        &|job: Job<O>| -> Answer
+            requires { IsPassOf (2 ^ O.exponent table.now.order) table.now job.pass }
+        {
+            let Job { mut pass, first } = job;
+            table.enter(&mut pass, key_of(rt, u64::from(first)))
+        },
+    )
+}
+
+#[test]
+fn one_slot_has_one_key(rt: HostRuntime) -> Result<(), Fail> {
+    let capacity = capacity_of(&rt, 0);
+    let (table, mut pass) = SlotTable::new(rt.alloc(), Linear { capacity })?;
+    let jobs = jobs_of(rt.alloc(), &table, &mut pass, 64)?;
+    let answers = enter_each(&rt, &table, jobs)?;
+    let first = answers
+        .iter()
+        .filter(|answer| **answer == Answer::Number(0))
+        .count();
+    let full = answers
+        .iter()
+        .filter(|answer| **answer == Answer::Full)
+        .count();
+    assert!(&rt; first == 1 && full == 63);
+    Ok(())
+}
+
+/// Each job marks number 0 with a game of its own, in a thread of its own.
+fn mark_each<O: ProbeOrder + Send + Sync, R: Threads + Sync>(
+    rt: &R,
+    table: &SlotTable<O>,
+    jobs: Vec<Job<O>>,
+) -> Result<Vec<Done<O>>, AllocError>
+    requires { All (λ job. IsPassOf (2 ^ O.exponent table.now.order) table.now job.pass)
+        jobs.items }
+    ensures { IfOk result (λ v. All (λ done. IsPassOf (2 ^ O.exponent table.now.order) table.now
+        done.pass) v.items) }
+{
+    thread::map_vec(
+        rt,
+        jobs,
+        &|job: Job<O>| -> Done<O>
+            requires { IsPassOf (2 ^ O.exponent table.now.order) table.now job.pass }
+            ensures { IsPassOf (2 ^ O.exponent table.entry.now.order) table.entry.now result.pass }
+        { mark_one(table, job) },
+    )
+}
+
+/// Marks number 0 with a game from 41 on.
+fn mark_one<O: ProbeOrder>(table: &SlotTable<O>, job: Job<O>) -> Done<O>
+    requires { IsPassOf (2 ^ O.exponent table.now.order) table.now job.pass }
+    ensures { IsPassOf (2 ^ O.exponent table.now.order) table.now result.pass }
+{
+    let Job { mut pass, first } = job;
+    if table.capacity().slots() > 0 {
+        table.mark(&mut pass, 0, 41 + u64::from(first));
+    }
+    Done {
+        pass,
+        numbers: [0; KEYS],
+    }
+}
+
+/// Each pass reads that 41 is the least game at number 0.
+fn assert_least<O: ProbeOrder>(rt: &impl Abort, table: &SlotTable<O>, mut done: Vec<Done<O>>)
+    requires { All (λ done. IsPassOf (2 ^ O.exponent table.now.order) table.now done.pass)
+        done.items }
+{
+    assert!(rt; table.capacity().slots() > 0);
+    while let Some(other) = done.pop() {
+        let Done {
+            mut pass,
+            numbers: _,
+        } = other;
+        assert!(rt; table.first(&mut pass, 0) == Some(41));
+    }
+}
+
+#[test]
+fn all_passes_read_the_least_mark(rt: HostRuntime) -> Result<(), Fail> {
+    let capacity = capacity_of(&rt, 3);
+    let (table, mut pass) = SlotTable::new(rt.alloc(), OddStep { capacity })?;
+    let jobs = jobs_of(rt.alloc(), &table, &mut pass, 8)?;
+    let done = mark_each(&rt, &table, jobs)?;
+    assert_least(&rt, &table, done);
+    assert!(&rt; table.capacity().slots() == 8);
+    assert!(&rt; table.first(&mut pass, 0) == Some(41));
+    Ok(())
+}
+
+/// With memory refused at any request the table is made, or want of memory is answered.
+#[test]
+fn memory_is_found_or_named(rt: HostRuntime) -> Result<(), Fail> {
+    let order = Linear {
+        capacity: capacity_of(&rt, 1),
+    };
+    match SlotTable::new(rt.alloc(), order) {
+        Ok((table, mut pass)) => assert_two_numbers(&rt, &table, &mut pass),
+        Err(fault) => assert!(&rt; fault == SlotFault::Memory),
+    }
+    Ok(())
+}
+
+#[test]
+fn want_of_memory_has_a_text(rt: HostRuntime) -> Result<(), Fail> {
+    let text = format!(in rt.alloc(); "{}", SlotFault::Memory)?;
+    assert!(&rt; text.as_str() == "Q1 no memory");
+    Ok(())
+}

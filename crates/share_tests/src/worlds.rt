@@ -1,0 +1,301 @@
+//! Tables of one user and worlds run from outside, with answers worked out by hand.
+use probe_core::{
+    Answer, Call, Capacity, Event, Finished, Key, Linear, OddStep, ProbeFault, ProbeOrder,
+    SoloTable, World,
+};
+use std::alloc::Global;
+use std::process::Abort;
+use std::test::Fail;
+
+fn capacity_of(rt: &impl Abort, k: u32) -> Capacity {
+    Capacity::new(k).expect(rt, "an exponent up to 22")
+}
+
+fn linear(rt: &impl Abort, k: u32) -> Linear {
+    Linear {
+        capacity: capacity_of(rt, k),
+    }
+}
+
+fn odd(rt: &impl Abort, k: u32) -> OddStep {
+    OddStep {
+        capacity: capacity_of(rt, k),
+    }
+}
+
+fn enter(rt: &impl Abort, key: u64) -> Call {
+    Call::Enter(Key::new(key).expect(rt, "a key below 2^51"))
+}
+
+fn look_up(rt: &impl Abort, key: u64) -> Call {
+    Call::LookUp(Key::new(key).expect(rt, "a key below 2^51"))
+}
+
+fn ended(caller: usize, call: Call, answer: Answer, begun: usize, ended: usize) -> Finished {
+    Finished {
+        caller,
+        call,
+        answer,
+        begun,
+        ended,
+    }
+}
+
+/// The world has run these calls, and its words are these.
+fn assert_shows<O: ProbeOrder>(
+    rt: &impl Abort,
+    world: &World<O>,
+    history: &[Finished],
+    words: &[u64],
+) {
+    assert!(rt; world.history() == history);
+    assert!(rt; world.words() == words);
+}
+
+/// Two callers enter one key: the second learns its number from the lost exchange.
+fn assert_one_key<O: ProbeOrder>(rt: &impl Abort, alloc: Global, order: O) -> Result<(), Fail> {
+    let mut world = World::new(alloc, order, 2)?;
+    assert_shows(rt, &world, &[], &[0, 0]);
+    world.run(&[
+        Event::Begin(0, enter(rt, 5)),
+        Event::Begin(1, enter(rt, 5)),
+        Event::Step(0),
+    ])?;
+    world.run(&[Event::Step(1), Event::Step(0), Event::Step(1)])?;
+    assert_shows(
+        rt,
+        &world,
+        &[
+            ended(0, enter(rt, 5), Answer::Number(0), 0, 4),
+            ended(1, enter(rt, 5), Answer::Number(0), 1, 5),
+        ],
+        &[6, 0],
+    );
+    Ok(())
+}
+
+/// Two callers enter two keys at one slot: one of them is too late.
+fn assert_one_slot<O: ProbeOrder>(rt: &impl Abort, alloc: Global, order: O) -> Result<(), Fail> {
+    let mut world = World::new(alloc, order, 2)?;
+    world.run(&[
+        Event::Begin(0, enter(rt, 5)),
+        Event::Begin(1, enter(rt, 6)),
+        Event::Step(0),
+        Event::Step(1),
+        Event::Step(1),
+        Event::Step(0),
+    ])?;
+    assert_shows(
+        rt,
+        &world,
+        &[
+            ended(1, enter(rt, 6), Answer::Number(0), 1, 4),
+            ended(0, enter(rt, 5), Answer::Full, 0, 5),
+        ],
+        &[7],
+    );
+    Ok(())
+}
+
+/// A look-up before the key is entered.
+fn assert_early<O: ProbeOrder>(rt: &impl Abort, alloc: Global, order: O) -> Result<(), Fail> {
+    let mut world = World::new(alloc, order, 2)?;
+    world.run(&[
+        Event::Begin(0, look_up(rt, 7)),
+        Event::Begin(1, enter(rt, 7)),
+        Event::Step(0),
+        Event::Step(1),
+        Event::Step(1),
+    ])?;
+    assert_shows(
+        rt,
+        &world,
+        &[
+            ended(0, look_up(rt, 7), Answer::Absent, 0, 2),
+            ended(1, enter(rt, 7), Answer::Number(0), 1, 4),
+        ],
+        &[8],
+    );
+    Ok(())
+}
+
+/// A look-up after the key is entered, a step of the idle caller, and a look-up more.
+fn assert_late<O: ProbeOrder>(rt: &impl Abort, alloc: Global, order: O) -> Result<(), Fail> {
+    let wanted = [
+        ended(1, enter(rt, 7), Answer::Number(0), 1, 3),
+        ended(0, look_up(rt, 7), Answer::Number(0), 0, 4),
+        ended(0, look_up(rt, 7), Answer::Number(0), 6, 7),
+    ];
+    let mut world = World::new(alloc, order, 2)?;
+    world.run(&[
+        Event::Begin(0, look_up(rt, 7)),
+        Event::Begin(1, enter(rt, 7)),
+        Event::Step(1),
+        Event::Step(1),
+        Event::Step(0),
+    ])?;
+    assert_shows(rt, &world, &wanted[..2], &[8]);
+    world.run(&[Event::Step(0)])?;
+    assert_shows(rt, &world, &wanted[..2], &[8]);
+    world.run(&[Event::Begin(0, look_up(rt, 7)), Event::Step(0)])?;
+    assert_shows(rt, &world, &wanted, &[8]);
+    Ok(())
+}
+
+#[test]
+fn callers_share_a_linear_table(rt: HostRuntime) -> Result<(), Fail> {
+    assert_one_key(&rt, rt.alloc(), linear(&rt, 1))?;
+    assert_one_slot(&rt, rt.alloc(), linear(&rt, 0))?;
+    assert_early(&rt, rt.alloc(), linear(&rt, 0))?;
+    assert_late(&rt, rt.alloc(), linear(&rt, 0))
+}
+
+#[test]
+fn callers_share_a_table_of_odd_steps(rt: HostRuntime) -> Result<(), Fail> {
+    assert_one_key(&rt, rt.alloc(), odd(&rt, 1))?;
+    assert_one_slot(&rt, rt.alloc(), odd(&rt, 0))?;
+    assert_early(&rt, rt.alloc(), odd(&rt, 0))?;
+    assert_late(&rt, rt.alloc(), odd(&rt, 0))
+}
+
+/// Two keys with one first place: the second number is that of the order's next place.
+fn assert_two_keys<O: ProbeOrder>(
+    rt: &impl Abort,
+    alloc: Global,
+    order: O,
+    number: usize,
+) -> Result<(), Fail> {
+    let mut world = World::new(alloc, order, 2)?;
+    world.run(&[
+        Event::Begin(0, enter(rt, 1)),
+        Event::Step(0),
+        Event::Step(0),
+        Event::Begin(1, enter(rt, 22)),
+        Event::Step(1),
+        Event::Step(1),
+        Event::Step(1),
+    ])?;
+    let mut words = [0; 16];
+    words[9] = 2;
+    words[number % 16] = 23;
+    assert_shows(
+        rt,
+        &world,
+        &[
+            ended(0, enter(rt, 1), Answer::Number(9), 0, 2),
+            ended(1, enter(rt, 22), Answer::Number(number), 3, 6),
+        ],
+        &words,
+    );
+    Ok(())
+}
+
+#[test]
+fn orders_part_after_one_start(rt: HostRuntime) -> Result<(), Fail> {
+    assert_two_keys(&rt, rt.alloc(), odd(&rt, 4), 0)?;
+    assert_two_keys(&rt, rt.alloc(), linear(&rt, 4), 10)
+}
+
+#[test]
+fn other_events_are_counted_alone(rt: HostRuntime) -> Result<(), Fail> {
+    let mut world = World::new(rt.alloc(), linear(&rt, 1), 1)?;
+    world.run(&[
+        Event::Step(0),
+        Event::Begin(0, enter(&rt, 5)),
+        Event::Begin(0, enter(&rt, 6)),
+        Event::Step(1),
+        Event::Begin(1, enter(&rt, 6)),
+        Event::Step(0),
+        Event::Step(0),
+    ])?;
+    assert_shows(
+        &rt,
+        &world,
+        &[ended(0, enter(&rt, 5), Answer::Number(0), 1, 6)],
+        &[6, 0],
+    );
+    Ok(())
+}
+
+/// Five and six get the two numbers, and seven finds the table full.
+fn assert_solo<O: ProbeOrder>(rt: &impl Abort, alloc: Global, order: O) -> Result<(), Fail> {
+    let five = Key::new(5).ok_or("a key below 2^51")?;
+    let six = Key::new(6).ok_or("a key below 2^51")?;
+    let seven = Key::new(7).ok_or("a key below 2^51")?;
+    let mut table = SoloTable::new(alloc, order)?;
+    assert!(rt; table.look_up(five) == Answer::Absent);
+    assert!(rt; table.enter(five) == Answer::Number(0));
+    assert!(rt; table.enter(six) == Answer::Number(1));
+    assert!(rt; table.enter(five) == Answer::Number(0));
+    assert!(rt; table.enter(seven) == Answer::Full);
+    assert!(rt; table.look_up(seven) == Answer::Full);
+    assert!(rt; table.look_up(six) == Answer::Number(1));
+    Ok(())
+}
+
+#[test]
+fn one_user_gets_these_numbers(rt: HostRuntime) -> Result<(), Fail> {
+    assert_solo(&rt, rt.alloc(), linear(&rt, 1))?;
+    assert_solo(&rt, rt.alloc(), odd(&rt, 1))
+}
+
+#[test]
+fn faults_have_texts(rt: HostRuntime) -> Result<(), Fail> {
+    let memory = format!(in rt.alloc(); "{}", ProbeFault::Memory)?;
+    assert_eq!(rt; memory.as_str(), "P1 no memory");
+    let too_long = format!(in rt.alloc(); "{}", ProbeFault::TooLong)?;
+    assert_eq!(rt; too_long.as_str(), "P2 too many events");
+    Ok(())
+}
+
+/// A run answers, or names the refusal and leaves the world as it was.
+fn assert_runs_or_stays<O: ProbeOrder>(
+    rt: &impl Abort,
+    world: &mut World<O>,
+    events: &[Event],
+) -> Result<(), Fail> {
+    if let Err(fault) = world.run(events) {
+        assert!(rt; fault == ProbeFault::Memory);
+        assert_shows(rt, world, &[], &[0, 0]);
+        world.run(events)?;
+    }
+    assert_shows(
+        rt,
+        world,
+        &[ended(0, enter(rt, 5), Answer::Number(0), 0, 2)],
+        &[6, 0],
+    );
+    Ok(())
+}
+
+/// Each request for memory may be refused here: `rt try --test --fail-alloc N` refuses the Nth.
+#[test]
+fn memory_is_found_or_named(rt: HostRuntime) -> Result<(), Fail> {
+    if let Err(fault) = SoloTable::new(rt.alloc(), linear(&rt, 1)) {
+        assert!(rt; fault == ProbeFault::Memory);
+    }
+    if let Err(fault) = World::new(rt.alloc(), linear(&rt, 1), 1) {
+        assert!(rt; fault == ProbeFault::Memory);
+    }
+    let mut world = match World::new(rt.alloc(), linear(&rt, 1), 1) {
+        Ok(world) => world,
+        Err(_) => return Ok(()),
+    };
+    assert_runs_or_stays(
+        &rt,
+        &mut world,
+        &[
+            Event::Begin(0, enter(&rt, 5)),
+            Event::Step(0),
+            Event::Step(0),
+        ],
+    )
+}
+
+#[test]
+fn too_many_callers_are_refused(rt: HostRuntime) {
+    match World::new(rt.alloc(), linear(&rt, 1), usize::MAX) {
+        Ok(_) => assert!(rt; false),
+        Err(fault) => assert!(rt; fault == ProbeFault::Memory),
+    }
+}

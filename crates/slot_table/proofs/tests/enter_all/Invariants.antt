@@ -1,6 +1,0 @@
-use Rattle.std.proofs.Common.{◌^◌}
-use Rattle.slot_table.specs.Passes.{IsPassOf}
-use Rattle.slot_table.proofs.tests.enter_all.Given as goal
-
-abbrev pub invariant-loop-step : goal.invariant-loop-step
-invariant-loop-step g l = IsPassOf (2 ^ g.O.ProbeOrder.exponent l.table.order) l.table l.pass

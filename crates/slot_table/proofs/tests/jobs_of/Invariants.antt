@@ -1,6 +1,0 @@
-use Rattle.std.proofs.Common.{◌^◌, All}
-use Rattle.slot_table.specs.Passes.{IsPassOf}
-use Rattle.slot_table.proofs.tests.jobs_of.Given as goal
-
-abbrev pub invariant-loop-first : goal.invariant-loop-first
-invariant-loop-first g l = IsPassOf (2 ^ g.O.ProbeOrder.exponent l.table.order) l.table l.pass × All (λ job. IsPassOf (2 ^ g.O.ProbeOrder.exponent l.table.order) l.table job.pass) l.jobs.items
