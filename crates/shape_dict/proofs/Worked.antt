@@ -1,9 +1,9 @@
 -- The definitions at worked values: a dictionary of one game of one move, and its texts' parts.
-use Rattle.std.proofs.Common.{◌≡◌, ℕ, List, [], ◌∷◌, ◌++◌, Some, None, true, false, refl, codes}
+use Rattle.std.proofs.Common.{◌≡◌, [], ◌∷◌, Some, None, true, false, refl, codes}
 use Rattle.shape_dict.specs.declared.entries.Entry.{Entry}
 use Rattle.shape_dict.specs.declared.entries.Text.TheVariants as text
 use Rattle.shape_dict.specs.Contents.{is_square, squares_of, diamonds_of, played_in, entry_of}
-use Rattle.shape_dict.specs.Text.{hexadecimal, hexadecimal_digit, counts_text, first_text, optional_number}
+use Rattle.shape_dict.specs.Text.{hexadecimal, first_text}
 use Rattle.shape_dict.specs.Join.{joined_entry}
 
 abbrev square : Entry

@@ -26,12 +26,28 @@ pub(crate) fn push_bytes(out: &mut Vec<u8>, bytes: &[u8]) -> Result<(), DictFaul
     }
 }
 
-/// Appends a number in decimal digits.
+/// Appends one byte.
+fn push_byte(out: &mut Vec<u8>, byte: u8) -> Result<(), DictFault>
+    ensures ok { OnOk result (out.new.items ≡ out.old.items ++ byte ∷ []) }
+    ensures begins { Begins out.old.items out.new.items }
+    ensures fault { IfErr result (λ found. found ≡ fault.Memory) }
+{
+    match out.push(byte) {
+        Ok(()) => Ok(()),
+        Err(_) => Err(DictFault::Memory),
+    }
+}
+
+/// Appends a number in decimal digits. Most numbers of a dictionary have one digit.
+#[tactic(auto, using(std::proofs::lemmas::Fmt::decimal_digit))]
 pub(crate) fn push_number(out: &mut Vec<u8>, number: u64) -> Result<(), DictFault>
     ensures ok { OnOk result (out.new.items ≡ out.old.items ++ decimal number) }
     ensures begins { Begins out.old.items out.new.items }
     ensures fault { IfErr result (λ found. found ≡ fault.Memory) }
 {
+    if number < 10 {
+        return push_byte(out, b'0' + number as u8);
+    }
     let mut buffer = Buffer::new();
     let digits = buffer.format(number);
     push_bytes(out, digits.as_bytes())
@@ -105,9 +121,9 @@ fn push_uses(out: &mut Vec<u8>, entry: &Entry) -> Result<(), DictFault>
     ensures begins { Begins out.old.items out.new.items }
     ensures fault { IfErr result (λ found. found ≡ fault.Memory) }
 {
-    push_bytes(out, b" ")?;
+    push_byte(out, b' ')?;
     push_number(out, entry.there)?;
-    push_bytes(out, b" ")?;
+    push_byte(out, b' ')?;
     push_number(out, entry.played)
 }
 
@@ -120,5 +136,5 @@ pub(crate) fn push_line(out: &mut Vec<u8>, text: Text, entry: &Entry) -> Result<
     push_word(out, entry.shape)?;
     push_uses(out, entry)?;
     push_first(out, text, entry.first)?;
-    push_bytes(out, b"\n")
+    push_byte(out, b'\n')
 }
