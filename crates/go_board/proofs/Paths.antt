@@ -68,14 +68,3 @@ AreJoined-cons size position b a p next on same j = record {
   path = a ∷ j.path;
   leads = (next, on, same, subst (λ stone. Leads size position stone a j.path p) same j.leads);
 }
-
-pub AreJoined-sym : (size : Extent) (position : Position) (p q : Point) → IsOn size p → AreJoined size position p q → AreJoined size position q p
-AreJoined-sym size position p q on j =
-    let back : Back size position p q = along size position p (Back size position p)
-    (λ a b s next b_on same. record {
-      on_board = b_on;
-      same = same;
-      back = AreJoined-cons size position b a p (AreNeighbours-sym a b next) s.on_board (s.same ∙ sym same) s.back;
-    })
-    (record { on_board = on; same = refl; back = AreJoined-refl size position p }) q j in
-    back.back

@@ -8,26 +8,10 @@ use Rattle.go_record.specs.declared.faults.RecordFault.TheVariants as fault
 use Rattle.go_record.specs.Record.{collected, onto}
 use Rattle.go_record.specs.Adding.{behind, Adds}
 
--- nothing more
-pub behind-none : (actions : List Action) → behind actions (collected []) ≡ Ok actions
-behind-none actions = ap Ok (append-nil actions)
-
 behind-onto : (actions : List Action) (action : Action) (rest : Result (List Action) RecordFault) →
     behind actions (onto (Some action) rest) ≡ behind (actions ++ action ∷ []) rest
 behind-onto actions action (Ok more) = ap Ok (sym (append_assoc actions (action ∷ []) more))
 behind-onto actions action (Err found) = refl
-
--- one action more
-pub behind-more : (actions : List Action) (action : Action) (deeds : List (Result (Option Action) RecordFault)) →
-    behind actions (collected (Ok (Some action) ∷ deeds)) ≡ behind (actions ++ action ∷ []) (collected deeds)
-behind-more actions action deeds = behind-onto actions action (collected deeds)
-
--- the deeds of the values from a place on, the first of them apart
-pub deeds-drop : {X : Type 0} (deed : X → Result (Option Action) RecordFault) (values : List X) (i : ℕ) (value : X) → i < length values → value ≡ get_or values i value →
-    map deed (drop i values) ≡ deed value ∷ map deed (drop (i + 1) values)
-deeds-drop deed values i value inside is =
-    let split : drop i values ≡ get_or values i value ∷ drop (i + 1) values = rw (add-one, drop-cons values i value) in
-    ap (map deed) split ∙ ap (λ v. deed v ∷ map deed (drop (i + 1) values)) (sym is)
 
 -- first these, then those
 followed : Result (List Action) RecordFault → Result (List Action) RecordFault → Result (List Action) RecordFault

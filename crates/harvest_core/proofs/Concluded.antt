@@ -112,7 +112,3 @@ pub told_none : {O : Type 0} (n : ℕ) (crop : Crop) (before after : Known O) (r
     MatchResult result (λ (_ : Counted). refusals_of crop.worked.items ≡ []) (IsToldOf n crop before after)
 told_none n crop before after (Ok counted) none h = none
 told_none n crop before after (Err found) none h = inr (inr (none, h))
-
--- all worked shares are of these kinds
-pub all_of_kinds : (bytes : List ℕ) (kinds : Kinds) (shares : List Held) → All (IsWorked bytes kinds) shares → All (λ (share : Held). share.kinds ≡ kinds) shares
-all_of_kinds bytes kinds shares worked = All-weaker (IsWorked bytes kinds) (λ (share : Held). share.kinds ≡ kinds) (λ share h. h.kinds_are) shares worked

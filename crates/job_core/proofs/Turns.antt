@@ -8,9 +8,6 @@ use Rattle.job_core.specs.Rising.{Rising, past}
 use Rattle.job_core.specs.Rule.{putting, MayPut, Draws, IsInStep}
 use Rattle.job_core.proofs.Orders.{past_on, rising_end, rising_down}
 
-pub may_put_next : (before after : Reading) (v : Hand) (job : WrittenGame) → IsInStep before v → IsNextGame before after job → MayPut v (Job job)
-may_put_next before after v job h next = (h.0, next.bytes ∙ h.1, omega (arith, h.2, next.game))
-
 -- the next game was put
 pub in_step_put : (before after : Reading) (v w : Hand) (job : WrittenGame) → after.bytes ≡ before.bytes → IsInStep before v → IsNextGame before after job → w ≡ putting v (Job job) → IsInStep after w
 in_step_put before after v w job same h next is = subst (λ (u : Hand). IsInStep after u) (sym is) (h.0, same ∙ h.1, omega (arith, past_on v.put job.game, next.game, next.counted))

@@ -54,10 +54,6 @@ begins_more whole header es e left rest h more line same shapes = record {
   same = h.same ∙ moved_on header es e left rest same;
 }
 
--- the faults at the next line
-pub bad_line : (whole : List ℕ) (header : Header) (es : List Entry) (left : List ℕ) → BeginsWith whole header es left → length es < lines_after header → HasNoLine header (length es) left → IsBadLine whole (length es + 2)
-bad_line whole header es left h more none = record { header = header; entries = es; left = left; begins = h; more = more; none = none; at = refl }
-
 pub not_rising : (whole : List ℕ) (header : Header) (es : List Entry) (e : Entry) (left rest : List ℕ) → BeginsWith whole header es left → length es < lines_after header → IsLine header (length es) e → left ≡ line_text header.text e ++ rest → 0 < length es → e.shape ≤ get_or (shapes_of es) (length es - 1) 0 → IsNotRising whole (length es + 2)
 not_rising whole header es e left rest h more line same some falls =
     let i = length es - 1 in
@@ -78,14 +74,4 @@ not_canonical whole header es e left rest h more line same above other = record 
   rises = shapes_rise_more es e h.shapes.rises above;
   other = other;
   at = refl;
-}
-
--- before the first line
-pub begins_none : (header : Header) (bytes : List ℕ) → IsHeader header → BeginsWith (header_text header ++ bytes) header [] bytes
-begins_none header bytes h = record {
-  is_header = h;
-  lines = tt;
-  shapes = record { rises = λ k small. absurd (omega arith); canonical = λ k d small. absurd (omega arith) };
-  few = omega arith;
-  same = ap (λ x. x ++ bytes) (sym (append-nil (header_text header)));
 }

@@ -22,16 +22,6 @@ found_here es i e rises small is =
 opened : (es : List Entry) (i : ℕ) (e : Entry) → i < length es → e ≡ get_or es i e → drop i es ≡ e ∷ drop (i + 1) es
 opened es i e small is = drop_more es i e small ∙ ap (λ x. x ∷ drop (i + 1) es) (sym is)
 
-pub join_left : (games : ℕ) (l r : List Entry) (i j : ℕ) (e f : Entry) → i < length l → j < length r → e ≡ get_or l i e → f ≡ get_or r j f → e.shape < f.shape → merged games (drop i l) (drop j r) ≡ e ∷ merged games (drop (i + 1) l) (drop j r)
-join_left games l r i j e f low high at_i at_j h =
-    ap (λ x. merged games x (drop j r)) (opened l i e low at_i) ∙ (ap (merged games (e ∷ drop (i + 1) l)) (opened r j f high at_j)
-    ∙ (placed_left games e f (merged games (drop (i + 1) l)) (drop (j + 1) r) h ∙ ap (λ x. e ∷ merged games (drop (i + 1) l) x) (sym (opened r j f high at_j))))
-
-pub join_right : (games : ℕ) (l r : List Entry) (i j : ℕ) (e f : Entry) → i < length l → j < length r → e ≡ get_or l i e → f ≡ get_or r j f → f.shape < e.shape → merged games (drop i l) (drop j r) ≡ moved_entry games f ∷ merged games (drop i l) (drop (j + 1) r)
-join_right games l r i j e f low high at_i at_j h =
-    ap (λ x. merged games x (drop j r)) (opened l i e low at_i) ∙ (ap (merged games (e ∷ drop (i + 1) l)) (opened r j f high at_j)
-    ∙ (placed_right games e f (merged games (drop (i + 1) l)) (drop (j + 1) r) h ∙ ap (λ x. moved_entry games f ∷ merged games x (drop (j + 1) r)) (sym (opened l i e low at_i))))
-
 pub join_both : (games : ℕ) (l r : List Entry) (i j : ℕ) (e f : Entry) → i < length l → j < length r → e ≡ get_or l i e → f ≡ get_or r j f → e.shape ≡ f.shape → merged games (drop i l) (drop j r) ≡ summed_entry e f ∷ merged games (drop (i + 1) l) (drop (j + 1) r)
 join_both games l r i j e f low high at_i at_j h =
     ap (λ x. merged games x (drop j r)) (opened l i e low at_i) ∙ (ap (merged games (e ∷ drop (i + 1) l)) (opened r j f high at_j)

@@ -183,9 +183,6 @@ front_read bytes left d r =
 pub whole_read : (bytes : List ℕ) (d : Contents) → IsRead bytes d [] → IsTextOf d bytes
 whole_read bytes d r = subst (λ (x : List ℕ). IsTextOf d x) (sym (read_same bytes [] d r ∙ append-nil (text_of r.header.text d))) (text_read bytes [] d r)
 
-pub left_fits : (bytes left : List ℕ) (d : Contents) → IsRead bytes d left → length left ≤ length bytes
-left_fits bytes left d r = let count = ap length (read_same bytes left d r) ∙ length-append (text_of r.header.text d) left in omega arith
-
 -- a fault of a front is one of the whole
 pub fault_of_whole : (bytes : List ℕ) (found : DictFault) → IsFrontFault bytes found → IsTextFault bytes found
 fault_of_whole bytes fault.BadHeader h = h
@@ -197,6 +194,3 @@ fault_of_whole bytes fault.Memory h = h
 fault_of_whole bytes fault.Overflow h = h
 fault_of_whole bytes fault.TooLarge h = h
 fault_of_whole bytes fault.MixedKinds h = h
-
-pub more_after : (bytes left : List ℕ) (d : Contents) → IsRead bytes d left → left ≢ [] → HasMore bytes (length d.entries + 2)
-more_after bytes left d r more = record { header = r.header; entries = d.entries; left = left; lines = r.lines; totals = r.totals; more = more; at = ap (λ n. n + 2) r.lines.all }

@@ -21,20 +21,12 @@ marked-append (call.Asked asked found ∷ made) more = marked-append made more
 marked-append (call.Marked number game ∷ made) more = ap (λ games. game ∷ games) (marked-append made more)
 marked-append (call.First number found ∷ made) more = marked-append made more
 
--- ---- nothing was marked
-pub nothing_self : {O : Type 0} (n : ℕ) (pass : Known O) → MarkedNothing n pass pass
-nothing_self n pass = record { made = []; later = later_self n pass; no_marks = refl }
-
 pub nothing_through : {O : Type 0} (n : ℕ) (first old new : Known O) → MarkedNothing n first old → MarkedNothing n old new → MarkedNothing n first new
 nothing_through n first old new before after = record {
   made = before.made ++ after.made;
   later = later_through n first old new before.made after.made before.later after.later;
   no_marks = marked-append before.made after.made ∙ ap (λ (gs : List ℕ). gs ++ marked_by after.made) before.no_marks ∙ after.no_marks;
 }
-
--- ---- one game was marked
-pub only_self : {O : Type 0} (n game : ℕ) (pass : Known O) → MarkedOnly n game pass pass
-only_self n game pass = record { made = []; later = later_self n pass; marks = All-nil (λ marked. marked ≡ game) }
 
 pub only_through : {O : Type 0} (n game : ℕ) (first old new : Known O) → MarkedOnly n game first old → MarkedOnly n game old new → MarkedOnly n game first new
 only_through n game first old new before after = record {

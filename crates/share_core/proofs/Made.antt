@@ -17,9 +17,6 @@ use Rattle.share_core.specs.declared.faults.HarvestFault.{HarvestFault}
 use Rattle.share_core.specs.declared.faults.HarvestFault.TheVariants as fault
 use Rattle.share_core.specs.Making.{IsMade, Gained, HasRow, IsRowFault, IsMakingFault, AreNumbered, entered_at}
 
-pub gained_none : (meetings : List Meeting) (entered : List Entered) (rows : List Row) → Gained meetings entered rows rows
-gained_none meetings entered rows = record { fresh = []; rows = sym (append-nil rows); each = λ k inside. absurd (omega arith) }
-
 -- one more row
 gained_row : (meetings : List Meeting) (entered : List Entered) (old rows new : List Row) (i : ℕ) → i < length entered →
     new ≡ rows ++ blank (entered_at entered i).number (meeting_at meetings i).shape ∷ [] → Gained meetings entered old rows → Gained meetings entered old new

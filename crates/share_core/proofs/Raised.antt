@@ -99,17 +99,6 @@ met_last game (x ∷ meetings) m shape =
 front_more : (meetings : List Meeting) (i : ℕ) → i < length meetings → take (i + 1) meetings ≡ take i meetings ++ meeting_at meetings i ∷ []
 front_more meetings i within = take_more meetings i (record { shape = 0; there = 0; played = 0 }) within
 
--- no meeting yet
-pub raised_none : (places : List ℕ) (game : ℕ) (rows : List Row) → AreRaised [] places game rows rows
-raised_none places game rows = record {
-  others = λ place. inr refl;
-  numbered = refl;
-  there = λ shape. omega arith;
-  played = λ shape. omega arith;
-  first = λ shape. sym (earlier_none (first_of rows shape));
-  weight = omega arith;
-}
-
 -- the next meeting
 pub raised_more : (meetings : List Meeting) (places : List ℕ) (i game : ℕ) (old rows : List Row) → i < length meetings → slice_index places i < length rows →
     (row_at rows (slice_index places i)).shape ≡ (meeting_at meetings i).shape → AreRaised (take i meetings) places game old rows →

@@ -69,20 +69,8 @@ pub record Went {O : Type 0} (old new : View O) : Type 0 where
   pub later : Begins old.seen new.seen
   pub mine : new.mine ≡ old.mine
 
-pub went_nowhere : {O : Type 0} (view : View O) → Went view view
-went_nowhere view = record { later = begins_itself view.seen; mine = refl }
-
 pub went_through : {O : Type 0} (a b c : View O) → Went a b → Went b c → Went a c
 went_through a b c first then = record { later = begins_through a.seen b.seen c.seen first.later then.later; mine = then.mine ∙ first.mine }
-
--- a call before its first step
-pub search_begins : (n : ℕ) (place : ℕ → ℕ → ℕ) (c : Call) (seen : List Happened) → 0 < n → key_of c < 2 ^ 51 → IsSearch n place (begun c) seen
-search_begins n place c seen some small = record {
-  within = some;
-  small = small;
-  enters = λ e. cc;
-  passed = λ j h. absurd (omega (arith, h));
-}
 
 module _ {O : Type 0} (n : ℕ) (place : ℕ → ℕ → ℕ) (machine : Machine) (found : ℕ) (old new : View O)
     (stepped : Stepped n machine (place_in place machine) found old new) where

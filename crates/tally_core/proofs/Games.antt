@@ -30,9 +30,6 @@ counted-none there played first h =
     let test : nat_lt 0 there ≡ false = Prim.grind (arith, nat_tests) in
     ap (λ b. cond b (Some (record { there = there; played = played; first = first })) None) test
 
-some_lt : (n : ℕ) → nat_lt 0 (suc n) ≡ true
-some_lt n = leb-suc-suc 0 n ∙ leb-zero n
-
 -- the place of the first thing of which some is there
 unfoldable pub first_of : {X : Type 0} → (X → ℕ) → List X → ℕ
 first_of amount xs = position_or_len (λ x. nat_lt 0 (amount x)) xs

@@ -13,9 +13,6 @@ use Rattle.tally_core.specs.declared.meetings.Meeting.{Meeting}
 use Rattle.tally_core.specs.declared.stays.Stay.{Stay}
 use Rattle.tally_core.specs.declared.stays.Stays.{Stays}
 
-pub none-of : (only shape : ℕ) → one_pattern only 0 shape ≡ 0
-none-of only shape = elim (only == shape) as (λ t. ◌≡◌ {A = ℕ} (cond t 0 0) 0) [ true ↦ refl | false ↦ refl ]
-
 pub all-of : (only times : ℕ) → one_pattern only times only ≡ times
 all-of only times =
     let same : (only == only) ≡ true = Prim.grind (arith, nat_tests) in
@@ -141,9 +138,3 @@ waiting-longer shapes met occasions (stays ∷ points) shape h =
 stay-longer : (met occasions : ℕ) (stay : Option Stay) → IsStay met occasions stay → IsStay met (occasions + 1) stay
 stay-longer met occasions None h = h
 stay-longer met occasions (Some stay) h = (h.0, omega (arith, h.1))
-
-pub stays-longer : (met occasions : ℕ) (stays : Stays) → AreStays met occasions stays → AreStays met (occasions + 1) stays
-stays-longer met occasions stays h = record {
-  square = stay-longer met occasions stays.square h.square;
-  diamond = stay-longer met occasions stays.diamond h.diamond;
-}

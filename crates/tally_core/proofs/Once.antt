@@ -112,9 +112,6 @@ meets_on a ps b qs c h k = record {
 pub meets_met : (shapes : List ℕ) (shape at : ℕ) → IsMet shapes shape at → Meets shapes (shape ∷ []) shapes
 meets_met shapes shape at met = record { extends = extends_itself shapes; order = sym (once_in shape shapes (in-met shapes shape at met)) }
 
-pub meets_new : (shapes : List ℕ) (shape : ℕ) → Meets shapes (shape ∷ []) (shapes ++ shape ∷ [])
-meets_new shapes shape = record { extends = record { more = shape ∷ []; is = refl }; order = refl }
-
 -- patterns that were met before
 pub data AreIn (shapes : List ℕ) : List ℕ → Type 0 where
   none : AreIn shapes []

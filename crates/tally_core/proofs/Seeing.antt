@@ -43,13 +43,6 @@ same-point size p q on_p on_q e =
     let at : ℕ → ℕ → Point = λ c r. record { column = c; row = r } in
     ap₂ at parts.1 parts.0
 
--- what stays at one of the points is within what stays at all
-pub within-all : (meetings : List Meeting) (occasions : ℕ) (points : List Stays) (i : ℕ) (stays : Stays) (shape : ℕ) → i < length points →
-    there_among meetings shape + waits_at (shapes_of meetings) occasions (get_or points i stays) shape
-    ≤ there_among meetings shape + waiting (shapes_of meetings) occasions points shape
-within-all meetings occasions points i stays shape inside =
-    omega (arith, get_or-le-sum_by (λ s. waits_at (shapes_of meetings) occasions s shape) points i stays inside)
-
 -- one of the points was looked at again, and no shape was there more often
 pub there-step : (meetings new : List Meeting) (occasions : ℕ) (points : List Stays) (i : ℕ) (stays default : Stays) (shape : ℕ) →
     i < length points → Extends (shapes_of meetings) (shapes_of new) → All (AreStays (length (shapes_of meetings)) occasions) points →
