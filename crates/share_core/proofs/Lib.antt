@@ -23,6 +23,7 @@ pub mod Ordered
 pub mod Summed
 pub mod Totalled
 pub mod OfNumber
+pub mod Looks
 pub mod Visits
 pub mod Confirmed
 pub mod Agreed

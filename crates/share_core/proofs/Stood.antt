@@ -6,12 +6,12 @@ use Rattle.std.proofs.lemmas.Bool.{cases_lt}
 use Rattle.std.proofs.lemmas.Bool.Decides.{nat_tests}
 use Rattle.probe_core.specs.Sequential.{IsNumber}
 use Rattle.slot_table.specs.declared.entries.Happened.{Happened}
-use Rattle.slot_table.specs.History.{content_of, Keeps, TellsAt}
+use Rattle.slot_table.specs.History.{content_of}
 use Rattle.slot_table.proofs.Histories.{length-content}
 use Rattle.share_core.specs.declared.rows.Row.{Row}
 use Rattle.share_core.specs.declared.faults.HarvestFault.{HarvestFault}
 use Rattle.share_core.specs.declared.faults.HarvestFault.TheVariants as fault
-use Rattle.share_core.specs.Checking.{stranger_in, is_stranger, is_shape, shape_at, Stand, StandBelow, IsStandFault, AreBelow, IsBeyondFault}
+use Rattle.share_core.specs.Checking.{stranger_in, is_stranger, is_shape, shape_at, IsFound, Stand, StandBelow, IsStandFault, AreBelow, IsBeyondFault}
 
 -- ---- no stranger is found
 none_found : (p : Row → Bool) (rows : List Row) (k : ℕ) (d : Row) → k < length rows → option_map (λ (r : Row). r.shape) (find p rows) ≡ None → p (get_or rows k d) ≡ false
@@ -45,17 +45,17 @@ like_all rows number found row none among same =
     like_one found row.shape (sym (ap (λ b. b && not (is_shape found row.shape)) test) ∙ here)
 
 -- ---- number by number
-number_told : (n : ℕ) (seen : List Happened) (number : ℕ) (found : Option ℕ) (shape : ℕ) → TellsAt n seen number found → found ≡ Some shape → IsNumber (content_of n seen) shape number
-number_told n seen number found shape told is = subst (TellsAt n seen number) is told
+number_told : (n : ℕ) (seen : List Happened) (number : ℕ) (found : Option ℕ) (shape : ℕ) → IsFound n seen number found → found ≡ Some shape → IsNumber (content_of n seen) shape number
+number_told n seen number found shape told is = subst (IsFound n seen number) is told
 
-pub stand_more : (n : ℕ) (seen history : List Happened) (rows : List Row) (number : ℕ) (found : Option ℕ) → Keeps n seen history → TellsAt n history number found →
-    stranger_in rows number found ≡ None → StandBelow n seen rows number → StandBelow n history rows (number + 1)
-stand_more n seen history rows number found keeps told none h row among low = ⊎_elim
-    (λ (before : row.number < number). keeps.numbers row.shape row.number (h row among before))
+pub stand_more : (n : ℕ) (seen : List Happened) (rows : List Row) (number : ℕ) (found : Option ℕ) → IsFound n seen number found →
+    stranger_in rows number found ≡ None → StandBelow n seen rows number → StandBelow n seen rows (number + 1)
+stand_more n seen rows number found told none h row among low = ⊎_elim
+    (λ (before : row.number < number). h row among before)
     (λ (last : number ≤ row.number).
     let same : row.number ≡ number = omega arith in
-    subst (IsNumber (content_of n history) row.shape) (sym same)
-    (number_told n history number found row.shape told (like_all rows number found row none among same)))
+    subst (IsNumber (content_of n seen) row.shape) (sym same)
+    (number_told n seen number found row.shape told (like_all rows number found row none among same)))
     (cases_lt row.number number)
 
 pub stand_all : (n : ℕ) (seen : List Happened) (rows : List Row) → AreBelow n rows → StandBelow n seen rows n → Stand n seen rows

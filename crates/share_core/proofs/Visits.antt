@@ -5,7 +5,7 @@ use Rattle.std.specs.Option.{is_some}
 use Rattle.slot_table.specs.declared.entries.Happened.{Happened}
 use Rattle.slot_table.specs.declared.entries.Happened.TheVariants as call
 use Rattle.slot_table.specs.Passes.{Known, IsLater}
-use Rattle.slot_table.specs.History.{Keeps, TellsAt}
+use Rattle.slot_table.specs.History.{Keeps}
 use Rattle.slot_table.proofs.Later.{later_through}
 use Rattle.tally_core.specs.Entries.{IsShape}
 use Rattle.share_core.specs.declared.rows.Row.{Row}
@@ -14,7 +14,7 @@ use Rattle.share_core.specs.declared.numbers.NumberSums.{NumberSums}
 use Rattle.share_core.specs.declared.visiting.Visited.{Visited}
 use Rattle.share_core.specs.Rows.{first_at}
 use Rattle.share_core.specs.Agreeing.{agreeing_firsts}
-use Rattle.share_core.specs.Checking.{stranger_in, shape_at, StandBelow, IsStranger}
+use Rattle.share_core.specs.Checking.{stranger_in, shape_at, IsFound, StandBelow, IsStranger}
 use Rattle.share_core.specs.Totals.{entries_of_total, AreEntriesBelow}
 use Rattle.share_core.specs.Numbers.{AreSums}
 use Rattle.share_core.specs.Visiting.{AgreeBelow, AreVisited}
@@ -63,17 +63,27 @@ stranger_found n seen history rows number held found of_table stranger keeps tol
   least = λ row among low. keeps.numbers row.shape row.number (stand row among low);
 }
 
-pub visited_more : {O : Type 0} (n : ℕ) (rows : List Row) (number : ℕ) (first old look new : Known O) (before after : Visited) (found : Option ℕ) (sums : NumberSums) →
-    IsLater n old [] look → TellsAt n look.seen number found → AreSums rows number found sums → sums.stranger ≡ None → Keeps n look.seen new.seen →
+-- a look changes nothing of what is known of lesser numbers
+pub visited_later : {O : Type 0} (n : ℕ) (rows : List Row) (high : ℕ) (first old look : Known O) (visited : Visited) → IsLater n old [] look →
+    AreVisited n rows high first old visited → AreVisited n rows high first look visited
+visited_later n rows high first old look visited later h = record {
+  stand = λ row among low. later.keeps.numbers row.shape row.number (h.stand row among low);
+  agree = looked n rows high first old look visited.differs later h.agree;
+  entries = h.entries;
+  large = h.large;
+}
+
+pub visited_more : {O : Type 0} (n : ℕ) (rows : List Row) (number : ℕ) (first look new : Known O) (before after : Visited) (found : Option ℕ) (sums : NumberSums) →
+    IsFound n look.seen number found → AreSums rows number found sums → sums.stranger ≡ None → Keeps n look.seen new.seen →
     (AgreeBelow n rows number first look before.differs → AgreeBelow n rows (number + 1) first new after.differs) →
     (after.is_large ≡ false → (before.is_large ≡ false) × (sums.is_large ≡ false)) → (after.is_large ≡ true → (before.is_large ≡ true) ⊎ (sums.is_large ≡ true)) →
     after.entries.items ≡ before.entries.items ++ entries_of_total sums.total → All IsShape (entries_of_total sums.total) →
-    AreVisited n rows number first old before → AreVisited n rows (number + 1) first new after
-visited_more n rows number first old look new before after found sums later told are none keeps agree fits large entries shapes h = record {
+    AreVisited n rows number first look before → AreVisited n rows (number + 1) first new after
+visited_more n rows number first look new before after found sums told are none keeps agree fits large entries shapes h = record {
   stand =
-      let looked_at = stand_more n old.seen look.seen rows number found later.keeps told (sym are.stranger ∙ none) h.stand in
-      λ row among low. keeps.numbers row.shape row.number (looked_at row among low);
-  agree = agree (looked n rows number first old look before.differs later h.agree);
+      let here = stand_more n look.seen rows number found told (sym are.stranger ∙ none) h.stand in
+      λ row among low. keeps.numbers row.shape row.number (here row among low);
+  agree = agree h.agree;
   entries = λ each is. subst (AreEntriesBelow rows (number + 1)) (sym entries)
       (entries_more rows number sums.total before.entries.items each (are.total (fits is).1) shapes (h.entries each (fits is).0));
   large = λ is. ⊎_elim h.large (λ (here : sums.is_large ≡ true). (number, are.large here)) (large is);

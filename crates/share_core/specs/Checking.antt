@@ -1,5 +1,5 @@
 -- Rows of several shares against what the table has at their numbers.
-use Rattle.std.specs.Prelude.{◌≡◌, ℕ, ◌<◌, ◌≤◌, ◌==◌, ◌&&◌, not, if◌then◌else◌, Bool, false, List, find, Option, Some, None, slice_index_or, Contains}
+use Rattle.std.specs.Prelude.{◌≡◌, ℕ, ◌<◌, ◌≤◌, ◌==◌, ◌&&◌, not, if◌then◌else◌, Bool, false, List, find, Option, Some, None, IfSome, slice_index_or, Contains}
 use Rattle.std.specs.List.{flat_map}
 use Rattle.std.specs.Option.{option_map}
 use Rattle.probe_core.specs.Sequential.{IsNumber}
@@ -18,6 +18,10 @@ all_rows shares = flat_map (λ share. share.rows) shares
 -- the pattern that a history gives to a number, or none
 abbrev pub shape_at : ℕ → List Happened → ℕ → Option ℕ
 shape_at n seen number = slice_index_or (content_of n seen) number None
+
+-- the pattern that was found at a number, if one was, is the number's, as it then is for ever after
+abbrev pub IsFound : ℕ → List Happened → ℕ → Option ℕ → Type 0
+IsFound n seen number found = IfSome found (λ shape. IsNumber (content_of n seen) shape number)
 
 -- each row of a number below this one is of the pattern that the table has there
 abbrev pub StandBelow : ℕ → List Happened → List Row → ℕ → Type 0

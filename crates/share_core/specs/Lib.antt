@@ -15,6 +15,7 @@ pub mod Faults
 pub mod Gathering
 pub mod Totals
 pub mod Numbers
+pub mod Pieces
 pub mod Visiting
 pub mod Confirming
 pub mod GatherFaults

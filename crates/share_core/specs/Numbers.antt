@@ -1,10 +1,14 @@
 -- What the rows of one number are together, those of all shares.
-use Rattle.std.specs.Prelude.{◌≡◌, ℕ, true, false, List, Option}
+use Rattle.std.specs.Prelude.{◌≡◌, ℕ, true, false, List, Option, None}
 use Rattle.share_core.specs.declared.rows.Row.{Row}
 use Rattle.share_core.specs.declared.numbers.NumberSums.{NumberSums}
 use Rattle.share_core.specs.Rows.{first_at}
 use Rattle.share_core.specs.Checking.{stranger_in}
 use Rattle.share_core.specs.Totals.{IsTotalAt, IsLargeAt}
+
+-- what no rows are together
+abbrev pub none_summed : NumberSums
+none_summed = record { total = None; first = None; stranger = None; is_large = false }
 
 -- the rows of a number have the least of their games, the first row of another pattern than this one, and these sums, unless
 -- one of the sums is too large

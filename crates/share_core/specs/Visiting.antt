@@ -1,5 +1,5 @@
 -- What is known of rows and a table once the numbers up to some one were looked at.
-use Rattle.std.specs.Prelude.{◌≡◌, ℕ, ◌+◌, Bool, true, false, List, Option, Some, None}
+use Rattle.std.specs.Prelude.{◌≡◌, ℕ, Bool, true, false, List, Option, Some, None}
 use Rattle.slot_table.specs.declared.entries.Happened.{Happened}
 use Rattle.slot_table.specs.Passes.{Known}
 use Rattle.share_core.specs.declared.rows.Row.{Row}
@@ -36,14 +36,14 @@ abbrev pub IsVisitFault : ℕ → List Happened → List Row → HarvestFault �
 IsVisitFault n seen rows fault.Memory = Unit {0}
 IsVisitFault n seen rows found = IsStandFault n seen rows found
 
--- a number was visited: what was known of those below it is known of it too
-abbrev pub IsVisit : {O : Type 0} → ℕ → List Row → ℕ → Known O → Known O → Visited → Visited → Type 0
-IsVisit {O} n rows number old new before after = (first : Known O) → AreVisited n rows number first old before
-    → AreVisited n rows (number + 1) first new after
+-- numbers from one up to another were visited: what was known of those below the first is known of them too
+abbrev pub IsVisit : {O : Type 0} → ℕ → List Row → ℕ → ℕ → Known O → Known O → Visited → Visited → Type 0
+IsVisit {O} n rows from high old new before after = (first : Known O) → AreVisited n rows from first old before
+    → AreVisited n rows high first new after
 
--- a number ends the visit, where those below it were visited
+-- a number from this one on ends the visit, where those below it were visited
 abbrev pub EndsVisit : {O : Type 0} → ℕ → List Row → ℕ → Known O → Known O → Visited → HarvestFault → Type 0
-EndsVisit {O} n rows number old new before found = (first : Known O) → AreVisited n rows number first old before
+EndsVisit {O} n rows from old new before found = (first : Known O) → AreVisited n rows from first old before
     → IsVisitFault n new.seen rows found
 
 -- what is wrong with numbers that were all visited: the first that differs, or else that a sum is too large

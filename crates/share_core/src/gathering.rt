@@ -42,8 +42,8 @@ fn check_numbers(differs: Option<Differs>, is_large: bool) -> Result<(), Harvest
 /// with the least that is in none, `HarvestFault::Stranger` with the least number at which a share has a row and the table
 /// another pattern than the row's, or none, `HarvestFault::Marks` with the least number whose least marked game is not the
 /// least of the shares' rows there, and `HarvestFault::Overflow` where a sum passes 2^64 - 1. `HarvestFault::Memory`
-/// comes where memory was refused. Each number is looked at once, in rising order, and asked once, until one differs;
-/// what is marked after that is not judged.
+/// comes where memory was refused. Each number is asked once, in rising order, until one differs; what is marked after that
+/// is not judged.
 ///
 /// The pass must be of the table, each share of these kinds, and each of its games below `games`.
 pub fn gather<O: ProbeOrder>(

@@ -22,6 +22,7 @@ pub mod full_laws;
 mod gathering;
 pub mod laws;
 mod numbers;
+mod pieces;
 mod standing;
 mod visiting;
 

@@ -4,7 +4,7 @@ ghost use Rattle.share_core.specs.declared.rows.Row.{Row};
 ghost use Rattle.share_core.specs.Rows.{earlier, row_of, AreOfNumbers};
 ghost use Rattle.share_core.specs.Checking.{all_rows, unlike_of};
 ghost use Rattle.share_core.specs.Totals.{with_row, IsTooMuch};
-ghost use Rattle.share_core.specs.Numbers.{AreSums};
+ghost use Rattle.share_core.specs.Numbers.{none_summed, AreSums};
 
 use crate::rows::Row;
 use crate::shares::Share;
@@ -63,8 +63,20 @@ fn with_row(total: Option<Row>, row: Row) -> Option<Row>
     })
 }
 
+/// What no rows are together.
+pub(crate) fn no_sums() -> NumberSums
+    ensures { result ≡ none_summed }
+{
+    NumberSums {
+        total: None,
+        first: None,
+        stranger: None,
+        is_large: false,
+    }
+}
+
 /// The rows of a number and one more.
-fn add(sums: NumberSums, row: Row, found: Option<u64>) -> NumberSums
+pub(crate) fn add(sums: NumberSums, row: Row, found: Option<u64>) -> NumberSums
     ensures { (rows more : List Row) → (number : ℕ) → AreOfNumbers more
         → row_of more number ≡ Some row → AreSums rows number found sums
         → AreSums (rows ++ more) number found result }
@@ -82,12 +94,7 @@ fn add(sums: NumberSums, row: Row, found: Option<u64>) -> NumberSums
 pub(crate) fn sums_at(shares: &[Share], number: usize, found: Option<u64>) -> NumberSums
     ensures { AreSums (all_rows shares.now) number found result }
 {
-    let mut sums = NumberSums {
-        total: None,
-        first: None,
-        stranger: None,
-        is_large: false,
-    };
+    let mut sums = no_sums();
     for share in shares {
         if let Some(row) = share.row_at(number) {
             sums = add(sums, row, found);

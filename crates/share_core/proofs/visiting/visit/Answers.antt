@@ -1,10 +1,11 @@
-use Rattle.std.proofs.Common.{◌≡◌, ◌^◌, true, false, sym, subst, ◌∙◌, inl, inr}
+use Rattle.std.proofs.Common.{◌^◌, sym, subst, ◌∙◌}
+use Rattle.std.proofs.lemmas.Result.{on_ok_weaker}
 use Rattle.slot_table.specs.History.{TellsAt}
 use Rattle.share_core.specs.Checking.{all_rows}
 use Rattle.share_core.specs.Visiting.{IsVisitFault}
-use Rattle.share_core.proofs.Visits.{stranger_found, visited_more, both_ok}
+use Rattle.share_core.proofs.Looks.{told_found, keeps_through}
+use Rattle.share_core.proofs.Visits.{stranger_found, visited_later}
 use Rattle.share_core.proofs.visiting.visit.Goals as goal
-use Rattle.share_core.proofs.visiting.visit.Goals.{then-visited, else-visited}
 
 pub returns-in-Some-clause-fault : goal.returns-in-Some-clause-fault
 returns-in-Some-clause-fault g c first h =
@@ -20,22 +21,15 @@ returns-clause-ok g c =
     let n = 2 ^ g.O.ProbeOrder.exponent c.args.table.now.order in
     let rows = all_rows c.args.shares.now in
     let number = c.args.number in
-    let before = c.args.visited.now in
-    let sums = c.sums_at-sums.result in
     let look = c.word_at.new.pass in
     let found = c.bits_of-found.result in
-    both_ok c.push.result
-    (λ entries shapes first h.
-    visited_more n rows number first c.args.pass.now look c.compare-visited.new.pass before (record { entries = c.push.new.entries; differs = c.compare-visited.result; is_large = c.if-visited.visited }) found sums
-    c.word_at.ensures.later (subst (TellsAt n look.seen number) (sym c.bits_of-found.ensures.bits) c.word_at.ensures.told) c.sums_at-sums.ensures c.in_default.is
-    c.compare-visited.ensures.keeps (c.compare-visited.ensures.agree rows first c.sums_at-sums.ensures.first)
-    (elim c.if-visited.branch [
-      | then-visited w ↦ λ fits. let clash : true ≡ false = sym w.if-visited.true ∙ sym w.visited-is ∙ fits in absurd cc
-      | else-visited w ↦ λ fits. (w.if-visited.false, sym w.visited-is ∙ fits)
-    ])
-    (elim c.if-visited.branch [
-      | then-visited w ↦ λ large. inl w.if-visited.true
-      | else-visited w ↦ λ large. inr (sym w.visited-is ∙ large)
-    ])
-    entries shapes h)
-    c.push.ensures.ok c.push.ensures.shapes
+    on_ok_weaker c.take.result
+    (λ visits first h.
+    visits rows found (told_found n look.seen number found (subst (TellsAt n look.seen number) (sym c.bits_of-found.ensures.bits) c.word_at.ensures.told)) c.sums_at-sums.ensures
+    first (visited_later n rows number first c.args.pass.now look c.args.visited.now c.word_at.ensures.later h))
+    c.take.ensures.ok
+
+pub returns-clause-keeps : goal.returns-clause-keeps
+returns-clause-keeps g c =
+    let n = 2 ^ g.O.ProbeOrder.exponent c.args.table.now.order in
+    keeps_through n c.args.pass.now.seen c.word_at.new.pass.seen c.take.new.pass.seen c.word_at.ensures.later.keeps c.take.ensures.keeps
