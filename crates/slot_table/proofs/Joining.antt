@@ -1,5 +1,5 @@
 -- Two seats that are joined keep the rule, and the next load tells what both had seen and own.
-use Rattle.std.proofs.Common.{◌≡◌, ◌≢◌, ℕ, ◌+◌, ◌<◌, ◌≤◌, ◌⊎◌, nat_lt, if◌then◌else◌, Bool, true, false, List, [], ◌++◌, length, slice_set, Some, refl, sym, ◌∙◌, ap, subst, inl, inr, arith, length-append}
+use Rattle.std.proofs.Common.{◌≡◌, ◌≢◌, ℕ, ◌+◌, ◌^◌, ◌<◌, ◌≤◌, ◌⊎◌, nat_lt, if◌then◌else◌, Bool, true, false, List, [], ◌++◌, length, slice_set, Some, refl, sym, ◌∙◌, ap, subst, inl, inr, arith, length-append}
 use Rattle.std.proofs.lemmas.Bool.{cases_eq, ltb-true, ltb-false}
 use Rattle.std.proofs.lemmas.List.{append-nil, nil_from_length}
 use mathlib.Core.Option.{some, some-injective}
@@ -10,11 +10,13 @@ use Rattle.slot_table.specs.declared.entries.Happened.{Happened}
 use Rattle.slot_table.specs.declared.views.View.{View}
 use Rattle.slot_table.specs.History.{Begins}
 use Rattle.slot_table.specs.Places.{times, below, IsRising, merged}
-use Rattle.slot_table.specs.Rule.{Kept, IsSpent, IsView, longer, shorter, joined, spent, times_owned}
+use Rattle.slot_table.specs.Stakes.{AreUpTo, weight, IsWhole}
+use Rattle.slot_table.specs.Rule.{Kept, IsSpent, IsView, longer, shorter, joined, spent, times_owned, pieces_of}
 use Rattle.slot_table.specs.Telling.{Loaded, Joined}
 use Rattle.slot_table.proofs.Histories.{kept_since}
 use Rattle.slot_table.proofs.Seating.{at_below}
 use Rattle.slot_table.proofs.Owning.{times-merged, rising_higher, rising_once, rising-merged, owned_set, owned_apart, below_one}
+use Rattle.slot_table.proofs.Staking.{up_to_parts, weight-append, joined_is_some, has_stake, weigh_set, up_to_at, up_to_set}
 
 -- the longer and the shorter of two histories
 
@@ -69,6 +71,9 @@ longer_by a b false is = let le : length b ≤ length a = ltb-false (length a) (
 
 pub longer_than : (a b : List Happened) → (length a ≤ length (longer a b)) × (length b ≤ length (longer a b))
 longer_than a b = longer_by a b (nat_lt (length a) (length b)) refl
+
+spent_is_spent : {O : Type 0} → IsSpent {O = O} spent
+spent_is_spent = record { order = refl; seen = refl; mine = refl; stake = refl }
 
 module _ {O : Type 0} (n : ℕ) (place : ℕ → ℕ → ℕ) (key : O) (words : List ℕ) (views : List (View O)) (kept : Kept n place key words views)
     (id other : ℕ) (v w : View O) (apart : other ≢ id) (at : get_elem? views id ≡ some v) (there : get_elem? views other ≡ some w) where
@@ -142,6 +147,21 @@ module _ {O : Type 0} (n : ℕ) (place : ℕ → ℕ → ℕ) (key : O) (words :
         ]
       ]
 
+  stakes_after : IsWhole (pieces_of after)
+  stakes_after fine up =
+      let both : View O = joined v w
+      in let ups : AreUpTo fine v.stake × AreUpTo fine w.stake = up_to_parts fine v.stake w.stake (up_to_at fine after id both joined_there up)
+      in let still : get_elem? (slice_set views id both) other ≡ some w = set_else views id other both apart ∙ there
+      in let before : AreUpTo fine (pieces_of views) =
+      up_to_set fine views id v both at ups.0 (up_to_set fine (slice_set views id both) other w spent still ups.1 up)
+      in let one : weight fine (pieces_of (slice_set views id both)) + weight fine v.stake ≡ weight fine (pieces_of views) + weight fine (v.stake ++ w.stake) =
+      weigh_set fine views id v both at
+      in let two : weight fine (pieces_of after) + weight fine w.stake ≡ weight fine (pieces_of (slice_set views id both)) + 0 =
+      weigh_set fine (slice_set views id both) other w spent still
+      in let sum : weight fine (v.stake ++ w.stake) ≡ weight fine v.stake + weight fine w.stake = weight-append fine v.stake w.stake
+      in let whole : weight fine (pieces_of views) ≡ 2 ^ fine = kept.stakes fine before
+      in omega (arith, one, two, sum, whole)
+
   pub kept_by_join : v.order ≡ Some key → Kept n place key words after
   kept_by_join of = record {
     log = kept.log;
@@ -160,7 +180,10 @@ module _ {O : Type 0} (n : ℕ) (place : ℕ → ℕ → ℕ) (key : O) (words :
     placed = kept.placed;
     owned = owned_after;
     rises = cases_after (λ u. IsRising 0 u.mine (length u.seen)) (let le : 0 ≤ 0 = omega arith in le) rises_after kept.rises;
-    orders = cases_after (λ u. (u.order ≡ Some key) ⊎ IsSpent u) (inr (record { order = refl; seen = refl; mine = refl })) (inl of) kept.orders;
+    orders = cases_after (λ u. (u.order ≡ Some key) ⊎ IsSpent u) (inr spent_is_spent) (inl of) kept.orders;
+    stakes = stakes_after;
+    staked = cases_after (λ u. (u.stake ≢ []) ⊎ IsSpent u) (inr spent_is_spent)
+        (inl (joined_is_some v.stake w.stake (has_stake v key of (kept.staked id v at)))) kept.staked;
   }
 
 pub join_allowed : {O : Type 0} (n : ℕ) (place : ℕ → ℕ → ℕ) (key : O) (id : ℕ) (v : View O) (other : ℕ) (w : View O) → v.order ≡ Some key
@@ -184,4 +207,6 @@ joined_shows n p found v w new loaded =
       mine = sum;
       apart = λ k. let once : times k new.mine ≤ 1 = rising_once k 0 new.mine (length new.seen) loaded.grown.rises in omega (arith, sum k, once);
       rises = loaded.grown.rises;
+      stake = loaded.grown.stake;
+      lone = loaded.grown.lone;
     }

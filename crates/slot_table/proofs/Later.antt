@@ -20,6 +20,7 @@ later_self n pass = record {
   begins = begins_itself pass.seen;
   keeps = record { numbers = λ key p number. number; marks = λ p game at_most. at_most };
   calls = sym (append-nil (calls_of pass));
+  stake = refl;
 }
 
 -- a pass is later than what it was later than, by the calls of both times
@@ -32,6 +33,7 @@ later_through n first old new made more before after = record {
     marks = λ p game at_most. after.keeps.marks p game (before.keeps.marks p game at_most);
   };
   calls = after.calls ∙ ap (λ (t : List Happened). t ++ more) before.calls ∙ append_assoc (calls_of first) made more;
+  stake = after.stake ∙ before.stake;
 }
 
 -- what is at a place of a history
@@ -55,7 +57,7 @@ calls_stay seen rest low (k ∷ mine) rises =
     ∙ ap (λ (t : List Happened). cons_option (slice_get seen k) t) (calls_stay seen rest (k + 1) mine rises.1)
 
 -- what was added to a history is at the places after it
-calls_added : (seen added : List Happened) → filter_map (slice_get (seen ++ added)) (places_from (length seen) added) ≡ added
+pub calls_added : (seen added : List Happened) → filter_map (slice_get (seen ++ added)) (places_from (length seen) added) ≡ added
 calls_added seen [] = refl
 calls_added seen (e ∷ added) =
     let places : ℕ → List ℕ = λ k. places_from k added
@@ -70,7 +72,7 @@ calls_added seen (e ∷ added) =
 
 -- what a pass shows of the view of its seat
 abbrev pub known_of : {O : Type 0} → TableId → View O → Known O
-known_of table view = record { table = table; order = view.order; seen = view.seen; mine = view.mine }
+known_of table view = record { table = table; order = view.order; seen = view.seen; mine = view.mine; stake = view.stake }
 
 -- a seat whose step made these calls is later by them
 pub grown_later : {O : Type 0} (n : ℕ) (table table' : TableId) (old new : View O) (longest added : List Happened)
@@ -90,6 +92,7 @@ grown_later n table table' old new longest added rises grown =
           ∙ filter_map-append (slice_get new.seen) old.mine (places_from (length longest) added)
           ∙ ap (λ (t : List Happened). t ++ filter_map (slice_get new.seen) (places_from (length longest) added)) own
           ∙ ap (λ (t : List Happened). filter_map (slice_get old.seen) old.mine ++ t) more;
+      stake = grown.stake;
     }
 
 -- the same of the pass, whose table has this order

@@ -8,6 +8,8 @@ pub mod Stepping
 pub mod Searching
 pub mod Parting
 pub mod Owning
+pub mod Staking
+pub mod Portions
 pub mod Joining
 pub mod Marking
 pub mod Contents

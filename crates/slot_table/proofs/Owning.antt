@@ -1,5 +1,5 @@
 -- Lists of places that rise, how often a place stands in them, and what all seats own together.
-use Rattle.std.proofs.Common.{◌≡◌, ◌≢◌, ℕ, zero, suc, ◌+◌, ◌<◌, ◌≤◌, ◌==◌, nat_lt, Bool, true, false, List, [], ◌∷◌, ◌++◌, length, slice_set, refl, sym, ◌∙◌, ap, subst, arith, zero-add, if◌then◌else◌}
+use Rattle.std.proofs.Common.{◌≡◌, ◌≢◌, ℕ, zero, suc, ◌+◌, ◌<◌, ◌≤◌, ◌==◌, nat_lt, Bool, true, false, List, [], ◌∷◌, ◌++◌, length, slice_set, refl, sym, ◌∙◌, ap, subst, inl, inr, arith, zero-add, if◌then◌else◌}
 use Rattle.std.proofs.lemmas.Bool.{eqb-true, eq-eqb, ltb-true, ltb-false}
 use Rattle.std.proofs.lemmas.Bool.Decides.{nat_tests}
 use mathlib.Core.Option.{some, some-injective, some-ne-none}
@@ -9,6 +9,7 @@ use Rattle.slot_table.specs.declared.views.View.{View}
 use Rattle.slot_table.specs.Places.{times, below, IsRising, inserted, merged}
 use Rattle.slot_table.specs.Rule.{times_owned}
 use Rattle.slot_table.specs.Telling.{places_from}
+use Rattle.slot_table.proofs.Placings.{three_ways}
 
 -- how often a place stands
 
@@ -110,6 +111,28 @@ rising-merged low (x ∷ xs) ys high r s apart =
     in rising-inserted 0 x (merged xs ys) high (omega arith) (omega (arith, top)) (omega (arith, once', both))
     (rising-merged (x + 1) xs ys high r.1 s (λ k. let le : times k (x ∷ xs) + times k ys ≤ 1 = apart k in omega (arith, le)))
 
+all_by : (low x : ℕ) (xs : List ℕ) (e : Happened) (seen : List Happened) → low ≡ x → xs ≡ places_from (low + 1) seen → (x ∷ xs) ≡ places_from low (e ∷ seen)
+all_by low x xs e seen same rest = cc
+
+-- places that rise, and of which none is left out, are all that there are
+pub all_places : (low high : ℕ) (seen : List Happened) (mine : List ℕ) → high ≡ low + length seen → IsRising low mine high
+    → ((k : ℕ) → low ≤ k → k < high → times k mine ≡ 1) → mine ≡ places_from low seen
+all_places low high [] [] long rises once = refl
+all_places low high [] (x ∷ xs) long rises once =
+    let from : low ≤ x = rises.0 in let top : x + 1 ≤ high = rising_le (x + 1) xs high rises.1 in absurd (omega (arith, from, top, long))
+all_places low high (e ∷ seen) [] long rises once = let none : 0 ≡ 1 = once low (omega arith) (omega (arith, long)) in absurd (omega (arith, none))
+all_places low high (e ∷ seen) (x ∷ xs) long rises once =
+    let from : low ≤ x = rises.0
+    in let one : times low (x ∷ xs) ≡ 1 = once low (omega arith) (omega (arith, long))
+    in elim (three_ways low x) [
+      | inl before ↦ let none : times low (x ∷ xs) ≡ 0 = below_all low x (x ∷ xs) high before (omega arith, rises.1) in absurd (omega (arith, one, none))
+      | inr (inl same) ↦
+          all_by low x xs e seen same
+          (all_places (low + 1) high seen xs (omega (arith, long)) (subst (λ (y : ℕ). IsRising (y + 1) xs high) (sym same) rises.1)
+          (λ k h top. let is : times k (x ∷ xs) ≡ 1 = once k (omega (arith, h)) top in grind (arith, nat_tests, is, same, h)))
+      | inr (inr behind) ↦ absurd (omega (arith, from, behind))
+    ]
+
 -- all seats together
 
 module _ {O : Type 0} (k : ℕ) where
@@ -155,3 +178,6 @@ module _ {O : Type 0} (k : ℕ) where
 
 pub below_one : (k n : ℕ) → below k n ≤ 1
 below_one k n = grind (arith, nat_tests)
+
+pub one_below : (k n : ℕ) → k < n → below k n ≡ 1
+one_below k n h = grind (arith, nat_tests, h)

@@ -64,13 +64,14 @@ module _ (n i p x : ℕ) (next : Machine) where
   call_on (call.Enter key) false f = enter_loads_on key _ _ _ refl refl refl f
   call_on (call.LookUp key) false f = look_up_on key _ _ _ refl refl refl f
 
--- a seat has seen more, and has made no call
+-- a seat has seen more, has made no call, and has the same stake
 pub record Went {O : Type 0} (old new : View O) : Type 0 where
   pub later : Begins old.seen new.seen
   pub mine : new.mine ≡ old.mine
+  pub stake : new.stake ≡ old.stake
 
 pub went_through : {O : Type 0} (a b c : View O) → Went a b → Went b c → Went a c
-went_through a b c first then = record { later = begins_through a.seen b.seen c.seen first.later then.later; mine = then.mine ∙ first.mine }
+went_through a b c first then = record { later = begins_through a.seen b.seen c.seen first.later then.later; mine = then.mine ∙ first.mine; stake = then.stake ∙ first.stake }
 
 module _ {O : Type 0} (n : ℕ) (place : ℕ → ℕ → ℕ) (machine : Machine) (found : ℕ) (old new : View O)
     (stepped : Stepped n machine (place_in place machine) found old new) where
@@ -83,6 +84,7 @@ module _ {O : Type 0} (n : ℕ) (place : ℕ → ℕ → ℕ) (machine : Machine
     went_on = record {
       later = subst (λ (t : List Happened). Begins old.seen t) (sym seen_is) stepped.grown.later;
       mine = stepped.grown.mine ∙ ap (λ (t : Followed). old.mine ++ places_from (length stepped.longest) (entries_of machine.call t)) f ∙ append-nil old.mine;
+      stake = stepped.grown.stake;
     }
 
     pub search_goes_on : IsOrder n (place (key_of machine.call)) → IsSearch n place machine old.seen → IsSearch n place next new.seen × (next.call ≡ machine.call)
@@ -135,6 +137,8 @@ grown_through n first old new longest added met order went grown = record {
   met = grown.met;
   order = grown.order ∙ sym order;
   rises = grown.rises;
+  stake = grown.stake ∙ went.stake;
+  lone = grown.lone;
 }
 
 -- what the answer of a call tells

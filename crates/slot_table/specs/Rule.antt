@@ -1,5 +1,5 @@
 -- The rule of a shared table: one history, which all passes have seen a part of, is what the words are.
-use Rattle.std.specs.Prelude.{◌≡◌, ℕ, ◌+◌, ◌*◌, ◌^◌, ◌<◌, ◌≤◌, ◌⊎◌, if◌then◌else◌, nat_lt, List, [], ◌∷◌, length, Option, Some, None, slice_index_or}
+use Rattle.std.specs.Prelude.{◌≡◌, ◌≢◌, ℕ, ◌+◌, ◌*◌, ◌^◌, ◌<◌, ◌≤◌, ◌⊎◌, if◌then◌else◌, nat_lt, List, [], ◌∷◌, ◌++◌, length, Option, Some, None, slice_index_or}
 use mathlib.Core.Option.{some}
 use lib.ListN.{get_elem?}
 use Rattle.probe_core.specs.Sequential.{Table}
@@ -9,14 +9,19 @@ use Rattle.slot_table.specs.declared.entries.Happened.{Happened}
 use Rattle.slot_table.specs.declared.views.View.{View}
 use Rattle.slot_table.specs.History.{IsLegal, content_of, least_at, Begins}
 use Rattle.slot_table.specs.Places.{times, below, IsRising, merged}
+use Rattle.slot_table.specs.Stakes.{IsWhole, halved, half_of}
 
--- what a seat knows that has made no call
+-- what the first seat knows: it has made no call, and has the whole stake
 abbrev pub newcomer : {O : Type 0} → O → List Happened → View O
-newcomer order seen = record { order = Some order; seen = seen; mine = []; met = [] }
+newcomer order seen = record { order = Some order; seen = seen; mine = []; met = []; stake = 0 ∷ [] }
 
--- what a seat knows that was split off from one with this view
+-- what a seat knows that was split off from one with this view: as much, and it has a half of that one's first piece
 abbrev pub cut_off : {O : Type 0} → View O → View O
-cut_off view = record { order = view.order; seen = view.seen; mine = []; met = [] }
+cut_off view = record { order = view.order; seen = view.seen; mine = []; met = []; stake = half_of view.stake }
+
+-- what that one knows afterwards: the same, and it has the other half
+abbrev pub parted : {O : Type 0} → View O → View O
+parted view = record view { stake = halved view.stake }
 
 -- the longer and the shorter of two histories
 abbrev pub longer : List Happened → List Happened → List Happened
@@ -25,19 +30,27 @@ longer a b = if nat_lt (length a) (length b) then b else a
 abbrev pub shorter : List Happened → List Happened → List Happened
 shorter a b = if nat_lt (length a) (length b) then a else b
 
--- what a seat knows to which another one was joined: the longer history, and that the shorter one was seen too
+-- what a seat knows to which another one was joined: the longer history, and that the shorter one was seen too. It has the
+-- stakes of both
 abbrev pub joined : {O : Type 0} → View O → View O → View O
 joined view other =
-    record { order = view.order; seen = longer view.seen other.seen; mine = merged view.mine other.mine; met = shorter view.seen other.seen }
+    record {
+      order = view.order;
+      seen = longer view.seen other.seen;
+      mine = merged view.mine other.mine;
+      met = shorter view.seen other.seen;
+      stake = view.stake ++ other.stake;
+    }
 
 -- a view that was joined to another: no pass has it, since a pass has an order, and it has nothing left
 abbrev pub spent : {O : Type 0} → View O
-spent = record { order = None; seen = []; mine = []; met = [] }
+spent = record { order = None; seen = []; mine = []; met = []; stake = [] }
 
 pub record IsSpent {O : Type 0} (view : View O) : Type 0 where
   pub order : view.order ≡ None
   pub seen : view.seen ≡ []
   pub mine : view.mine ≡ []
+  pub stake : view.stake ≡ []
 
 -- some seat has this view
 abbrev pub IsView : {O : Type 0} → List (View O) → View O → Type 0
@@ -83,6 +96,11 @@ abbrev pub times_owned : {O : Type 0} → ℕ → List (View O) → ℕ
 times_owned k [] = 0
 times_owned k (view ∷ views) = times k view.mine + times_owned k views
 
+-- the pieces of the stakes of all seats together
+abbrev pub pieces_of : {O : Type 0} → List (View O) → List ℕ
+pieces_of [] = []
+pieces_of (view ∷ views) = view.stake ++ pieces_of views
+
 -- The rule of a table of n numbers in this order, over all words and the views of all seats that there ever were, so also
 -- of passes that were dropped. There is one history, `log`, and these hold:
 -- * `longest`: each history that was seen begins it, and it was seen; so of any two that were seen one begins the other;
@@ -91,7 +109,8 @@ times_owned k (view ∷ views) = times k view.mine + times_owned k views
 -- * `placed`: each taken place of a key has all earlier places of the key's order taken by other keys;
 -- * `owned`, `rises`: each place of it stands once in what all seats together call their own, and no other place does; what
 --   a seat calls its own are places of what it has seen, rising;
--- * `orders`: each view is of the table's order, but for those that were joined to another, which have nothing left
+-- * `orders`: each view is of the table's order, but for those that were joined to another, which have nothing left;
+-- * `stakes`, `staked`: the stakes of all seats together are the whole, and each seat has one, but for those same views
 pub record Kept {O : Type 0} (n : ℕ) (place : ℕ → ℕ → ℕ) (order : O) (words : List ℕ) (views : List (View O)) : Type 0 where
   pub log : List Happened
   pub longest : IsLongest views log
@@ -104,3 +123,5 @@ pub record Kept {O : Type 0} (n : ℕ) (place : ℕ → ℕ → ℕ) (order : O)
   pub owned : (k : ℕ) → times_owned k views ≡ below k (length log)
   pub rises : (seat : ℕ) (view : View O) → get_elem? views seat ≡ some view → IsRising 0 view.mine (length view.seen)
   pub orders : (seat : ℕ) (view : View O) → get_elem? views seat ≡ some view → (view.order ≡ Some order) ⊎ IsSpent view
+  pub stakes : IsWhole (pieces_of views)
+  pub staked : (seat : ℕ) (view : View O) → get_elem? views seat ≡ some view → (view.stake ≢ []) ⊎ IsSpent view

@@ -1,5 +1,5 @@
 -- What a step on the words tells the seat that takes it.
-use Rattle.std.specs.Prelude.{◌≡◌, ◌≢◌, ℕ, ◌+◌, ◌*◌, ◌/◌, ◌^◌, ◌<◌, ◌≤◌, ◌==◌, if◌then◌else◌, true, List, [], ◌∷◌, ◌++◌, length, Option, Some, None, slice_index_or}
+use Rattle.std.specs.Prelude.{◌≡◌, ◌≢◌, ℕ, ◌+◌, ◌*◌, ◌/◌, ◌^◌, ◌<◌, ◌≤◌, ◌==◌, if◌then◌else◌, true, List, [], ◌∷◌, ◌++◌, length, Option, Some, None, filter_map, slice_get, slice_index_or}
 use Rattle.atomic_table.specs.Table.{Step, Me}
 use Rattle.atomic_table.specs.Seated.{TableId}
 use Rattle.probe_core.specs.declared.calls.Call.{Call}
@@ -14,6 +14,7 @@ use Rattle.slot_table.specs.declared.entries.Happened.TheVariants as entry
 use Rattle.slot_table.specs.declared.views.View.{View}
 use Rattle.slot_table.specs.History.{IsLegal, content_of, Begins, Keeps}
 use Rattle.slot_table.specs.Places.{times, IsRising}
+use Rattle.slot_table.specs.Stakes.{IsWhole}
 
 -- what a step adds to the history: the call with its answer, where it ends the call
 abbrev pub entries_of : Call → Followed → List Happened
@@ -24,6 +25,10 @@ entries_of asked (Answers found) = entry.Asked asked found ∷ []
 abbrev pub places_from : ℕ → List Happened → List ℕ
 places_from k [] = []
 places_from k (e ∷ entries) = k ∷ places_from (k + 1) entries
+
+-- a seat that has the whole stake made all the calls that it has seen
+abbrev pub IsLone : {O : Type 0} → View O → Type 0
+IsLone view = IsWhole view.stake → filter_map (slice_get view.seen) view.mine ≡ view.seen
 
 -- a seat saw the longest history, and its step added these entries to it
 pub record Grown {O : Type 0} (n : ℕ) (old : View O) (longest added : List Happened) (new : View O) : Type 0 where
@@ -36,6 +41,8 @@ pub record Grown {O : Type 0} (n : ℕ) (old : View O) (longest added : List Hap
   pub met : new.met ≡ []
   pub order : new.order ≡ old.order
   pub rises : IsRising 0 new.mine (length new.seen)
+  pub stake : new.stake ≡ old.stake
+  pub lone : IsLone new
 
 -- the word found at p is that of the history's content
 abbrev pub ShowsSlot : ℕ → List Happened → ℕ → ℕ → Type 0
@@ -78,6 +85,8 @@ pub record Joined {O : Type 0} (n : ℕ) (old other new : View O) : Type 0 where
   pub mine : (k : ℕ) → times k new.mine ≡ times k old.mine + times k other.mine
   pub apart : (k : ℕ) → times k old.mine + times k other.mine ≤ 1
   pub rises : IsRising 0 new.mine (length new.seen)
+  pub stake : new.stake ≡ old.stake ++ other.stake
+  pub lone : IsLone new
 
 -- A slot word stands at twice its number, and a mark word one place further: half the place is the number in both.
 

@@ -1,10 +1,11 @@
 //! Laws of tables and their histories, for proofs in the crates above. Each is a function that does nothing, and its
 //! contract is the law, for any number of numbers n and any history.
 ghost use Rattle.std.specs.Prelude.{◌≡◌, ◌≢◌, ℕ, ◌<◌, ◌↔◌, List, None, Some, AllPairs, Contains};
-ghost use Rattle.std.specs.Prelude.{length, slice_index_or};
+ghost use Rattle.std.specs.Prelude.{[], ◌∷◌, ◌++◌, length, slice_index_or};
 ghost use Rattle.probe_core.specs.Sequential.{IsNumber, IsFree, IsFull};
 ghost use Rattle.slot_table.specs.declared.entries.Happened.{Happened};
 ghost use Rattle.slot_table.specs.History.{IsLegal, content_of, keys_of};
+ghost use Rattle.slot_table.specs.Stakes.{IsAsMuch, IsWhole, halved, half_of};
 
 /// The content of a table of n numbers has n places. It takes no memory.
 pub fn contents_have_n_places()
@@ -47,4 +48,25 @@ pub fn a_full_table_has_n_different_keys()
         AllPairs (λ key other. key ≢ other) (keys_of (content_of n history)) }
     ensures full { (n : ℕ) (history : List Happened) → IsFull (content_of n history) →
         length (keys_of (content_of n history)) ≡ n }
+{}
+
+/// A split loses no stake: its two parts together are as much as the stake was. It takes no memory.
+pub fn a_split_loses_no_stake()
+    ensures { (stake : List ℕ) → IsAsMuch (halved stake ++ half_of stake) stake }
+{}
+
+/// Of stakes that are as much as one another: what is as much as one is as much as the other, and so are sums of them, in
+/// any order. It takes no memory.
+pub fn stakes_add_up()
+    ensures through { (stake middle other : List ℕ) → IsAsMuch stake middle →
+        IsAsMuch middle other → IsAsMuch stake other }
+    ensures together { (stake other first next : List ℕ) → IsAsMuch stake first →
+        IsAsMuch other next → IsAsMuch (stake ++ other) (first ++ next) }
+    ensures turned { (stake other : List ℕ) → IsAsMuch (stake ++ other) (other ++ stake) }
+{}
+
+/// The stake of a table's first pass is the whole, and so is whatever is as much as the whole. It takes no memory.
+pub fn as_much_as_the_whole_is_the_whole()
+    ensures first { IsWhole (0 ∷ []) }
+    ensures others { (stake whole : List ℕ) → IsAsMuch stake whole → IsWhole whole → IsWhole stake }
 {}

@@ -4,8 +4,10 @@ use std::marker::Model;
 
 /// The right of one caller to call a table. It takes no memory.
 ///
-/// Contracts see of which table and order it is, a history of the table as far as it has `seen` it, and the places in
-/// it of its own calls, `mine`. Passes come from the table's `new`, `split` and `meet` alone.
+/// Contracts see of which table and order it is, a history of the table as far as it has `seen` it, the places in it of
+/// its own calls, `mine`, and its `stake`, how much of the right to call it has. Passes come from the table's `new`,
+/// `split` and `meet` alone. The stakes of all passes of a table, with those that were dropped, are the whole right: so
+/// all calls are those of whoever has the whole, and a pass that was split has it again only with what it gave away.
 #[derive(Drop)]
 pub struct Pass<O> {
     pub(crate) seat: Place<O>,
@@ -22,6 +24,7 @@ impl<O> Model for Pass<O> {
       order = p.seat.me.0.order;
       seen = p.seat.me.0.seen;
       mine = p.seat.me.0.mine;
+      stake = p.seat.me.0.stake;
     } };
 
     ghost invariant = { λ p. (p.seat.me.1 ≡ []) × (p.seat.me.0.met ≡ [])

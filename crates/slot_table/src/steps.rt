@@ -4,6 +4,8 @@ ghost use Rattle.probe_core.specs.Machine.{key_of, left_of};
 ghost use Rattle.probe_core.specs.Turn.{HasFewer};
 ghost use Rattle.slot_table.specs.declared.entries.Happened.TheVariants as entry;
 ghost use Rattle.slot_table.specs.History.{content_of, least_at, Tells, IsAtMost};
+ghost use Rattle.slot_table.specs.Rule.{parted};
+ghost use Rattle.slot_table.specs.Stakes.{half_of};
 ghost use Rattle.slot_table.specs.Telling.{IsSeatOf, IsSearch, Turned, Grown, Called, Joined};
 
 use crate::views::{Ask, Cut, First, Glue, Looked, Marked, Place, Shown, Told};
@@ -83,14 +85,16 @@ pub(crate) fn word_at<O: ProbeOrder>(
     }
 }
 
-/// A new seat that has seen what this one has.
+/// A new seat that has seen what this one has, with a half of its stake's first piece.
 pub(crate) fn split<O: ProbeOrder>(shared: &Shown<O>, seat: &mut Place<O>) -> Place<O>
     requires { IsSeatOf (2 ^ O.exponent shared.now.key) shared.now.table_id shared.now.key
         seat.old.table_id seat.old.me }
-    ensures same { (seat.new.table_id ≡ seat.old.table_id) × (seat.new.me ≡ seat.old.me) }
+    ensures same { (seat.new.table_id ≡ seat.old.table_id)
+        × (seat.new.me ≡ (parted seat.old.me.0, seat.old.me.1)) }
     ensures seat { IsSeatOf (2 ^ O.exponent shared.now.key) shared.now.table_id shared.now.key
         result.table_id result.me }
     ensures view { (result.me.0.seen ≡ seat.old.me.0.seen) × (result.me.0.mine ≡ []) }
+    ensures stake { result.me.0.stake ≡ half_of seat.old.me.0.stake }
 {
     shared.split_seat::<Cut>(seat)
 }

@@ -6,7 +6,8 @@ ghost use Rattle.probe_core.specs.declared.calls.Call.TheVariants as call;
 ghost use Rattle.probe_core.specs.Machine.{key_of};
 ghost use Rattle.slot_table.specs.declared.entries.Happened.TheVariants as entry;
 ghost use Rattle.slot_table.specs.History.{content_of, least_at, Tells, TellsAt, IsAtMost};
-ghost use Rattle.slot_table.specs.Passes.{IsPassOf, IsLater, calls_of, Saw, Made, Met};
+ghost use Rattle.slot_table.specs.Passes.{IsPassOf, IsLater, IsAlone, calls_of, Saw, Made, Met};
+ghost use Rattle.slot_table.specs.Stakes.{halved, half_of};
 
 use crate::faults::SlotFault;
 use crate::passes::Pass;
@@ -50,7 +51,7 @@ fn free_words(alloc: Global, slots: usize) -> Result<Vec<u64>, AllocError>
 }
 
 impl<O: ProbeOrder> SlotTable<O> {
-    /// A table in this order of which no number is taken, and its first pass.
+    /// A table in this order of which no number is taken, and its first pass, which has the whole stake.
     ///
     /// Refusal: `Memory`, and then nothing is kept. It takes 16 bytes a number, and for a moment twice as much.
     pub fn new(alloc: Global, order: O) -> Result<(SlotTable<O>, Pass<O>), SlotFault>
@@ -59,6 +60,7 @@ impl<O: ProbeOrder> SlotTable<O> {
         ensures seen { IfOk result (λ r. r.1.seen ≡ []) }
         ensures mine { IfOk result (λ r. r.1.mine ≡ []) }
         ensures calls { IfOk result (λ r. calls_of r.1 ≡ []) }
+        ensures stake { IfOk result (λ r. r.1.stake ≡ 0 ∷ []) }
     {
         let slots = order.capacity().slots();
         let free = free_words(alloc, slots)?;
@@ -75,14 +77,19 @@ impl<O: ProbeOrder> SlotTable<O> {
 
     /// A pass that has seen what this one has, and has made no call. It takes no memory.
     ///
+    /// It has a half of the first piece of this one's stake, and this one keeps the rest. The half comes back by `meet`
+    /// alone, and with it the calls that it made.
+    ///
     /// The pass must be of this table.
     pub fn split(&self, pass: &mut Pass<O>) -> Pass<O>
         requires { IsPassOf (2 ^ O.exponent self.now.order) self.now pass.old }
-        ensures same { pass.new ≡ pass.old }
+        ensures same { pass.new ≡ record pass.old { stake = halved pass.old.stake } }
+        ensures still { IsPassOf (2 ^ O.exponent self.now.order) self.now pass.new }
         ensures pass { IsPassOf (2 ^ O.exponent self.now.order) self.now result }
         ensures seen { result.seen ≡ pass.old.seen }
         ensures mine { result.mine ≡ [] }
         ensures calls { calls_of result ≡ [] }
+        ensures stake { result.stake ≡ half_of pass.old.stake }
     {
         Pass {
             seat: steps::split(&self.words.shared, &mut pass.seat),
@@ -98,6 +105,7 @@ impl<O: ProbeOrder> SlotTable<O> {
             pass.old (entry.Asked call result) pass.new }
         ensures later { IsLater (2 ^ O.exponent self.now.order)
             pass.old (entry.Asked call result ∷ []) pass.new }
+        ensures alone { IsAlone pass.new }
         ensures told { Tells (2 ^ O.exponent self.now.order) pass.new.seen call result }
     {
         steps::asked(&self.words.shared, &mut pass.seat, &self.order, call)
@@ -114,6 +122,7 @@ impl<O: ProbeOrder> SlotTable<O> {
             pass.old (entry.Asked (call.Enter key) result) pass.new }
         ensures later { IsLater (2 ^ O.exponent self.now.order)
             pass.old (entry.Asked (call.Enter key) result ∷ []) pass.new }
+        ensures alone { IsAlone pass.new }
         ensures told { Tells (2 ^ O.exponent self.now.order) pass.new.seen (call.Enter key) result }
     {
         self.ask(pass, Call::Enter(key))
@@ -130,6 +139,7 @@ impl<O: ProbeOrder> SlotTable<O> {
             pass.old (entry.Asked (call.LookUp key) result) pass.new }
         ensures later { IsLater (2 ^ O.exponent self.now.order)
             pass.old (entry.Asked (call.LookUp key) result ∷ []) pass.new }
+        ensures alone { IsAlone pass.new }
         ensures told { Tells (2 ^ O.exponent self.now.order)
             pass.new.seen (call.LookUp key) result }
     {
@@ -146,6 +156,7 @@ impl<O: ProbeOrder> SlotTable<O> {
         ensures pass { IsPassOf (2 ^ O.exponent self.now.order) self.now pass.new }
         ensures saw { Saw (2 ^ O.exponent self.now.order) pass.old pass.new }
         ensures later { IsLater (2 ^ O.exponent self.now.order) pass.old [] pass.new }
+        ensures alone { IsAlone pass.new }
         ensures key { result ≡
             slice_index_or (content_of (2 ^ O.exponent self.now.order) pass.new.seen) number None }
         ensures told { TellsAt (2 ^ O.exponent self.now.order) pass.new.seen number result }
@@ -153,8 +164,8 @@ impl<O: ProbeOrder> SlotTable<O> {
         steps::word_at(&self.words.shared, &mut pass.seat, number)
     }
 
-    /// One pass from two: it has seen what both have, and its own calls are those of both. It takes no memory and waits
-    /// for no other thread.
+    /// One pass from two: it has seen what both have, its own calls are those of both, and so is its stake. It takes no
+    /// memory and waits for no other thread.
     ///
     /// The passes must be of this table.
     pub fn meet(&self, one: Pass<O>, other: Pass<O>) -> Pass<O>
@@ -162,6 +173,7 @@ impl<O: ProbeOrder> SlotTable<O> {
         requires other { IsPassOf (2 ^ O.exponent self.now.order) self.now other }
         ensures pass { IsPassOf (2 ^ O.exponent self.now.order) self.now result }
         ensures met { Met (2 ^ O.exponent self.now.order) one other result }
+        ensures alone { IsAlone result }
     {
         let Pass { mut seat } = one;
         let Pass { seat: other } = other;
@@ -183,6 +195,7 @@ impl<O: ProbeOrder> SlotTable<O> {
             pass.old (entry.Marked number game) pass.new }
         ensures later { IsLater (2 ^ O.exponent self.now.order)
             pass.old (entry.Marked number game ∷ []) pass.new }
+        ensures alone { IsAlone pass.new }
         ensures least { IsAtMost (least_at number pass.new.seen) game }
     {
         steps::mark(&self.words.shared, &mut pass.seat, number, game);
@@ -200,6 +213,7 @@ impl<O: ProbeOrder> SlotTable<O> {
             pass.old (entry.First number result) pass.new }
         ensures later { IsLater (2 ^ O.exponent self.now.order)
             pass.old (entry.First number result ∷ []) pass.new }
+        ensures alone { IsAlone pass.new }
         ensures least { result ≡ least_at number pass.new.seen }
     {
         steps::first(&self.words.shared, &mut pass.seat, number)

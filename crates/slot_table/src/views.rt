@@ -16,6 +16,8 @@ pub struct View<O> {
     pub mine: LinkedList<usize>,
     /// A history that a seat had seen that was joined to this one, until the next step.
     pub met: LinkedList<Happened>,
+    /// Its stake: pieces of the whole right to call the table, e for 1/2^e of it.
+    pub stake: LinkedList<usize>,
 }
 
 /// The rule of a table.
@@ -91,13 +93,13 @@ impl<O: ProbeOrder> Play<(), View<O>> for First {
     ghost then = { first_told O.exponent };
 }
 
-/// A view is kept, and a new seat sees as much.
+/// A view is kept but for a half of its stake's first piece, and a new seat sees as much and has that half.
 pub(crate) struct Cut;
 
 impl<O> Split<View<O>> for Cut {
-    ghost use Rattle.slot_table.specs.Rule.{cut_off};
+    ghost use Rattle.slot_table.specs.Rule.{cut_off, parted};
 
-    ghost left = { λ view. view };
+    ghost left = { parted };
 
     ghost right = { cut_off };
 }
