@@ -5,6 +5,7 @@ ghost use Rattle.std.specs.Prelude.{MatchResult, IfOk, IfErr, IfSome};
 ghost use Rattle.shape_core.specs.declared.words.Kinds.{Kinds};
 ghost use Rattle.slot_table.specs.declared.entries.Happened.{Happened};
 ghost use Rattle.slot_table.specs.Passes.{IsPassOf};
+ghost use Rattle.slot_table.specs.Stakes.{halved};
 ghost use Rattle.share_core.specs.declared.faults.HarvestFault.TheVariants as fault;
 ghost use Rattle.share_core.specs.GatherFaults.{IsGatherFault};
 ghost use Rattle.crossbeam_queue.specs.Passes.{view};
@@ -138,7 +139,8 @@ where
     requires pass { IsPassOf (2 ^ O.exponent table.now.order) table.now pass.old }
     requires seat { IsSeatOf queue.now seat × (view seat ≡ blank) }
     requires games { (games.bytes ≡ bytes.now) × (games.report.games ≡ 0) }
-    ensures pass { pass.new ≡ pass.old }
+    ensures pass { IsPassOf (2 ^ O.exponent table.now.order) table.now pass.new }
+    ensures same { pass.new ≡ record pass.old { stake = halved pass.old.stake } }
     ensures crop { IfOk result (IsCrop bytes.now settings.kinds) }
     ensures workers { IfOk result (AreAsked settings.workers) }
     ensures fault { IfErr result (λ found. found ≡ fault.Memory) }
