@@ -3,11 +3,11 @@ use Rattle.std.proofs.Common.{◌≡◌, ℕ, ◌<◌, ◌≤◌, false, List, [
 use Rattle.std.proofs.Math.ListN.{get_or-append}
 use Rattle.std.proofs.Math.Seq.{get_or-append_seam}
 use Rattle.std.proofs.lemmas.Bool.{cases_lt}
-use Rattle.std.proofs.lemmas.List.Elements.{All-append, All-nil}
+use Rattle.std.proofs.lemmas.List.Elements.{All-append}
 use Rattle.slot_table.specs.declared.entries.Happened.{Happened}
 use Rattle.slot_table.specs.declared.entries.Happened.TheVariants as call
 use Rattle.slot_table.specs.History.{Keeps}
-use Rattle.slot_table.specs.Passes.{Known}
+use Rattle.slot_table.specs.Passes.{Known, IsLater}
 use Rattle.slot_table.proofs.Later.{later_self, later_through}
 use Rattle.share_core.specs.declared.making.Entered.{Entered}
 use Rattle.tally_core.specs.declared.meetings.Meeting.{Meeting}
@@ -20,6 +20,14 @@ marked-append [] more = refl
 marked-append (call.Asked asked found ∷ made) more = marked-append made more
 marked-append (call.Marked number game ∷ made) more = ap (λ games. game ∷ games) (marked-append made more)
 marked-append (call.First number found ∷ made) more = marked-append made more
+
+-- ---- nothing was marked
+pub nothing_self : {O : Type 0} (n : ℕ) (pass : Known O) → MarkedNothing n pass pass
+nothing_self n pass = record { made = []; later = later_self n pass; no_marks = refl }
+
+-- what is seen without a call of one's own marks nothing
+pub nothing_seen : {O : Type 0} (n : ℕ) (old new : Known O) → IsLater n old [] new → MarkedNothing n old new
+nothing_seen n old new later = record { made = []; later = later; no_marks = refl }
 
 pub nothing_through : {O : Type 0} (n : ℕ) (first old new : Known O) → MarkedNothing n first old → MarkedNothing n old new → MarkedNothing n first new
 nothing_through n first old new before after = record {

@@ -57,12 +57,6 @@ found_later n seen history number (Some shape) keeps h = keeps.numbers shape num
 pub looked_later : (n : ℕ) (seen history : List Happened) (rows : List Row) (number : ℕ) (looked : Looked) → Keeps n seen history → IsLooked n seen rows number looked → IsLooked n history rows number looked
 looked_later n seen history rows number looked keeps h = record { found = found_later n seen history number looked.found keeps h.found; sums = h.sums }
 
-pub keeps_through : (n : ℕ) (first old new : List Happened) → Keeps n first old → Keeps n old new → Keeps n first new
-keeps_through n first old new before after = record {
-  numbers = λ key p number. after.numbers key p (before.numbers key p number);
-  marks = λ p game at_most. after.marks p game (before.marks p game at_most);
-}
-
 -- no rows have no sums
 pub none_sums : (number : ℕ) (found : Option ℕ) → AreSums [] number found none_summed
 none_sums number found = record {

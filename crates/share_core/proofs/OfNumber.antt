@@ -1,5 +1,5 @@
 -- The rows of one number, share by share: their sums, their least game, and the first one that is a stranger.
-use Rattle.std.proofs.Common.{◌≡◌, ℕ, ◌+◌, ◌<◌, true, false, List, [], ◌++◌, length, get_or, take, Option, Some, None, IfSome, IfNone, refl, ap, sym, subst, ◌∙◌, ◌⊎◌, ⊎_elim}
+use Rattle.std.proofs.Common.{◌≡◌, ℕ, ◌+◌, ◌<◌, true, false, List, ◌++◌, length, get_or, take, Option, Some, None, IfSome, IfNone, refl, ap, sym, subst, ◌∙◌, ◌⊎◌, ⊎_elim}
 use Rattle.std.specs.Option.{option_or, is_some}
 use Rattle.share_core.specs.declared.rows.Row.{Row}
 use Rattle.share_core.specs.declared.numbers.NumberSums.{NumberSums}

@@ -1,11 +1,11 @@
 //! All numbers of a table, each visited once, in rising order, together with the rows that shares have of it.
 ghost use Rattle.std.specs.Prelude.{◌≡◌, ◌+◌, ◌^◌, ◌<◌, ◌≤◌, ℕ, List, Option, None, length};
 ghost use Rattle.std.specs.Prelude.{IfOk, IfErr, OnOk};
-ghost use Rattle.slot_table.specs.History.{Keeps};
 ghost use Rattle.slot_table.specs.Passes.{IsPassOf};
 ghost use Rattle.share_core.specs.declared.rows.Row.{Row};
 ghost use Rattle.share_core.specs.declared.faults.HarvestFault.TheVariants as fault;
 ghost use Rattle.share_core.specs.Checking.{all_rows, IsFound};
+ghost use Rattle.share_core.specs.Entering.{MarkedNothing};
 ghost use Rattle.share_core.specs.Numbers.{AreSums};
 ghost use Rattle.share_core.specs.Pieces.{IsLooked, AreLooked};
 ghost use Rattle.share_core.specs.Visiting.{AreVisited, IsVisit, EndsVisit, IsVisitFault};
@@ -44,7 +44,7 @@ fn take<O: ProbeOrder>(
     requires number { number < 2 ^ O.exponent table.now.order }
     requires like { sums.stranger ≡ None }
     ensures pass { IsPassOf (2 ^ O.exponent table.now.order) table.now pass.new }
-    ensures keeps { Keeps (2 ^ O.exponent table.now.order) pass.old.seen pass.new.seen }
+    ensures later { MarkedNothing (2 ^ O.exponent table.now.order) pass.old pass.new }
     ensures ok { OnOk result ((rows : List Row) → (found : Option ℕ)
         → IsFound (2 ^ O.exponent table.now.order) pass.old.seen number found
         → AreSums rows number found sums
@@ -68,7 +68,7 @@ fn visit<O: ProbeOrder>(
     requires pass { IsPassOf (2 ^ O.exponent table.now.order) table.now pass.old }
     requires number { number < 2 ^ O.exponent table.now.order }
     ensures pass { IsPassOf (2 ^ O.exponent table.now.order) table.now pass.new }
-    ensures keeps { Keeps (2 ^ O.exponent table.now.order) pass.old.seen pass.new.seen }
+    ensures later { MarkedNothing (2 ^ O.exponent table.now.order) pass.old pass.new }
     ensures ok { OnOk result (IsVisit (2 ^ O.exponent table.now.order) (all_rows shares.now)
         number (number + 1) pass.old pass.new visited.old visited.new) }
     ensures fault { IfErr result (EndsVisit (2 ^ O.exponent table.now.order)
@@ -97,7 +97,7 @@ fn visit_looked<O: ProbeOrder>(
     requires looked { IsLooked (2 ^ O.exponent table.now.order) pass.old.seen
         (all_rows shares.now) number looked }
     ensures pass { IsPassOf (2 ^ O.exponent table.now.order) table.now pass.new }
-    ensures keeps { Keeps (2 ^ O.exponent table.now.order) pass.old.seen pass.new.seen }
+    ensures later { MarkedNothing (2 ^ O.exponent table.now.order) pass.old pass.new }
     ensures ok { OnOk result (IsVisit (2 ^ O.exponent table.now.order) (all_rows shares.now)
         number (number + 1) pass.old pass.new visited.old visited.new) }
     ensures fault { IfErr result (EndsVisit (2 ^ O.exponent table.now.order)
@@ -110,6 +110,7 @@ fn visit_looked<O: ProbeOrder>(
 }
 
 /// The same for the numbers from this one on, in rising order.
+#[tactic(auto, using(crate::proofs::Entered::nothing_self))]
 fn visit_piece<O: ProbeOrder>(
     table: &SlotTable<O>,
     pass: &mut Pass<O>,
@@ -124,6 +125,7 @@ fn visit_piece<O: ProbeOrder>(
     requires looked { AreLooked (2 ^ O.exponent table.now.order) pass.old.seen
         (all_rows shares.now) from piece.now }
     ensures pass { IsPassOf (2 ^ O.exponent table.now.order) table.now pass.new }
+    ensures later { MarkedNothing (2 ^ O.exponent table.now.order) pass.old pass.new }
     ensures ok { OnOk result (IsVisit (2 ^ O.exponent table.now.order) (all_rows shares.now)
         from (from + length piece.now) pass.old pass.new visited.old visited.new) }
     ensures fault { IfErr result (EndsVisit (2 ^ O.exponent table.now.order)
@@ -148,6 +150,7 @@ fn visit_next<O: ProbeOrder>(
     requires numbers { from + length piece.old ≤ 2 ^ O.exponent table.now.order }
     requires fits { from + length piece.old < 2 ^ 64 }
     ensures pass { IsPassOf (2 ^ O.exponent table.now.order) table.now pass.new }
+    ensures later { MarkedNothing (2 ^ O.exponent table.now.order) pass.old pass.new }
     ensures ok { OnOk result (IsVisit (2 ^ O.exponent table.now.order) (all_rows shares.now)
         from (from + length piece.old) pass.old pass.new visited.old visited.new) }
     ensures fault { IfErr result (EndsVisit (2 ^ O.exponent table.now.order)
@@ -159,6 +162,7 @@ fn visit_next<O: ProbeOrder>(
 
 /// Looks at each number of the table, a piece of them at a time, and asks each once, in rising order, for its least game,
 /// until one differs from that of the shares' rows. It takes memory for a piece, and for an entry of each pattern.
+#[tactic(auto, using(crate::proofs::Entered::nothing_self))]
 pub(crate) fn visit_all<O: ProbeOrder>(
     alloc: Global,
     table: &SlotTable<O>,
@@ -167,6 +171,7 @@ pub(crate) fn visit_all<O: ProbeOrder>(
 ) -> Result<Visited, HarvestFault>
     requires { IsPassOf (2 ^ O.exponent table.now.order) table.now pass.old }
     ensures pass { IsPassOf (2 ^ O.exponent table.now.order) table.now pass.new }
+    ensures later { MarkedNothing (2 ^ O.exponent table.now.order) pass.old pass.new }
     ensures ok { IfOk result (AreVisited (2 ^ O.exponent table.now.order) (all_rows shares.now)
         (2 ^ O.exponent table.now.order) pass.old pass.new) }
     ensures fault { IfErr result (IsVisitFault (2 ^ O.exponent table.now.order) pass.new.seen

@@ -11,7 +11,7 @@ returns-clause-ok g c =
     both_ok c.push.result
     (λ entries shapes rows found told are first h.
     visited_more n rows c.args.number first c.args.pass.now c.compare-visited.new.pass before (record { entries = c.push.new.entries; differs = c.compare-visited.result; is_large = c.if-visited.visited }) found sums
-    told are c.requires.like c.compare-visited.ensures.keeps (c.compare-visited.ensures.agree rows first are.first)
+    told are c.requires.like c.compare-visited.ensures.later.later.keeps (c.compare-visited.ensures.agree rows first are.first)
     (elim c.if-visited.branch [
       | then-visited w ↦ λ fits. let clash : true ≡ false = sym w.if-visited.true ∙ sym w.visited-is ∙ fits in absurd cc
       | else-visited w ↦ λ fits. (w.if-visited.false, sym w.visited-is ∙ fits)

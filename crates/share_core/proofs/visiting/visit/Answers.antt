@@ -3,7 +3,8 @@ use Rattle.std.proofs.lemmas.Result.{on_ok_weaker}
 use Rattle.slot_table.specs.History.{TellsAt}
 use Rattle.share_core.specs.Checking.{all_rows}
 use Rattle.share_core.specs.Visiting.{IsVisitFault}
-use Rattle.share_core.proofs.Looks.{told_found, keeps_through}
+use Rattle.share_core.proofs.Entered.{nothing_seen, nothing_through}
+use Rattle.share_core.proofs.Looks.{told_found}
 use Rattle.share_core.proofs.Visits.{stranger_found, visited_later}
 use Rattle.share_core.proofs.visiting.visit.Goals as goal
 
@@ -29,7 +30,12 @@ returns-clause-ok g c =
     first (visited_later n rows number first c.args.pass.now look c.args.visited.now c.word_at.ensures.later h))
     c.take.ensures.ok
 
-pub returns-clause-keeps : goal.returns-clause-keeps
-returns-clause-keeps g c =
+pub returns-in-Some-clause-later : goal.returns-in-Some-clause-later
+returns-in-Some-clause-later g c =
+    nothing_seen (2 ^ g.O.ProbeOrder.exponent c.args.table.now.order) c.args.pass.now c.word_at.new.pass c.word_at.ensures.later
+
+pub returns-clause-later : goal.returns-clause-later
+returns-clause-later g c =
     let n = 2 ^ g.O.ProbeOrder.exponent c.args.table.now.order in
-    keeps_through n c.args.pass.now.seen c.word_at.new.pass.seen c.take.new.pass.seen c.word_at.ensures.later.keeps c.take.ensures.keeps
+    let look = c.word_at.new.pass in
+    nothing_through n c.args.pass.now look c.take.new.pass (nothing_seen n c.args.pass.now look c.word_at.ensures.later) c.take.ensures.later

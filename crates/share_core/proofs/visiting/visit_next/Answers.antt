@@ -2,8 +2,15 @@ use Rattle.std.proofs.Common.{◌+◌, ◌^◌, subst}
 use Rattle.std.proofs.lemmas.Result.{on_ok_weaker, IfErr-weaker}
 use Rattle.share_core.specs.Checking.{all_rows}
 use Rattle.share_core.specs.Visiting.{AreVisited, EndsVisit}
+use Rattle.share_core.proofs.Entered.{nothing_seen, nothing_through}
 use Rattle.share_core.proofs.Visits.{visited_later}
 use Rattle.share_core.proofs.visiting.visit_next.Goals as goal
+
+pub returns-clause-later : goal.returns-clause-later
+returns-clause-later g c =
+    let n = 2 ^ g.O.ProbeOrder.exponent c.args.table.now.order in
+    let look = c.look.new.pass in
+    nothing_through n c.args.pass.now look c.visit_piece.new.pass (nothing_seen n c.args.pass.now look c.look.ensures.later) c.visit_piece.ensures.later
 
 pub returns-clause-ok : goal.returns-clause-ok
 returns-clause-ok g c =

@@ -4,7 +4,8 @@ use Rattle.std.proofs.lemmas.Result.{err_from_is_err_and}
 use Rattle.share_core.specs.Checking.{all_rows}
 use Rattle.share_core.specs.Pieces.{unlooked, IsLooked}
 use Rattle.share_core.specs.Visiting.{AreVisited}
-use Rattle.share_core.proofs.Looks.{looked_later, keeps_through}
+use Rattle.share_core.proofs.Entered.{nothing_through}
+use Rattle.share_core.proofs.Looks.{looked_later}
 use Rattle.share_core.proofs.visiting.visit_piece.Goals as goal
 
 pub visit_looked-requires-clause-looked : goal.visit_looked-requires-clause-looked
@@ -17,12 +18,17 @@ visit_looked-requires-clause-looked g c =
     let seen = c.args.pass.now.seen in
     let inside : i < length piece = c.loop-place-test.true in
     let same = c.index-piece-place.is ∙ get_or_default piece i one (unlooked None) inside in
-    looked_later n seen c.loop-place.pass.seen rows (c.args.from + i) one c.loop-place.invariant.keeps (subst (IsLooked n seen rows (c.args.from + i)) (sym same) (c.requires.looked i inside))
+    looked_later n seen c.loop-place.pass.seen rows (c.args.from + i) one c.loop-place.invariant.later.later.keeps (subst (IsLooked n seen rows (c.args.from + i)) (sym same) (c.requires.looked i inside))
 
 pub returns-in_err-visit_looked-clause-fault : goal.returns-in_err-visit_looked-clause-fault
 returns-in_err-visit_looked-clause-fault g c =
     let p = err_from_is_err_and c.from_residual.result c.from_residual.ensures.1 in
     rw (p.1, p.2) (λ first h. c.in_err-visit_looked.ensures.fault first (c.loop-place.invariant.visited first h))
+
+pub returns-in_err-visit_looked-clause-later : goal.returns-in_err-visit_looked-clause-later
+returns-in_err-visit_looked-clause-later g c =
+    nothing_through (2 ^ g.O.ProbeOrder.exponent c.args.table.now.order) c.args.pass.now c.loop-place.pass c.visit_looked.new.pass c.loop-place.invariant.later
+    c.visit_looked.ensures.later
 
 pub loop-place-preserved : goal.loop-place-preserved
 loop-place-preserved g c =
@@ -34,7 +40,7 @@ loop-place-preserved g c =
     let next : (from + i) + 1 ≡ from + (i + 1) = omega arith in
     record {
       pass = c.visit_looked.ensures.pass;
-      keeps = keeps_through n c.args.pass.now.seen c.loop-place.pass.seen new.seen c.loop-place.invariant.keeps c.visit_looked.ensures.keeps;
+      later = nothing_through n c.args.pass.now c.loop-place.pass new c.loop-place.invariant.later c.visit_looked.ensures.later;
       visited = λ first h. subst (λ k. AreVisited n rows k first new c.visit_looked.new.visited) next (c.in_ok-visit_looked.ensures.ok first (c.loop-place.invariant.visited first h));
     }
 

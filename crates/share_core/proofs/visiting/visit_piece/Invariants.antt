@@ -1,7 +1,7 @@
 use Rattle.std.proofs.Common.{◌+◌, ◌^◌}
-use Rattle.slot_table.specs.History.{Keeps}
 use Rattle.slot_table.specs.Passes.{IsPassOf}
 use Rattle.share_core.specs.Checking.{all_rows}
+use Rattle.share_core.specs.Entering.{MarkedNothing}
 use Rattle.share_core.specs.Visiting.{IsVisit}
 use Rattle.share_core.proofs.visiting.visit_piece.Given as goal
 
@@ -11,6 +11,6 @@ invariant-loop-place g l =
     let n = 2 ^ g.O.ProbeOrder.exponent l.table.order in
     record {
       pass : IsPassOf n l.table l.pass;
-      keeps : Keeps n l.fn.pass.seen l.pass.seen;
+      later : MarkedNothing n l.fn.pass l.pass;
       visited : IsVisit n (all_rows l.shares) l.from (l.from + l.place) l.fn.pass l.pass l.fn.visited l.visited;
     }
