@@ -85,11 +85,11 @@ here game v = let test : (game == game) ≡ true = Prim.grind (arith, nat_tests)
 away : (game other v : ℕ) → (game ≡ other → ⊥) → cond (game == other) v 0 ≡ 0
 away game other v differ = let test : (game == other) ≡ false = Prim.grind (arith, nat_tests) in ap (λ b. cond b v 0) test
 
-first_same : (amount more : ℕ → ℕ) (first : Option ℕ) → ((g : ℕ) → more g ≡ amount g) → IsFirst amount first → IsFirst more first
+pub first_same : (amount more : ℕ → ℕ) (first : Option ℕ) → ((g : ℕ) → more g ≡ amount g) → IsFirst amount first → IsFirst more first
 first_same amount more None same h = λ game. same game ∙ h game
 first_same amount more (Some first) same h = (subst (λ n. 0 < n) (sym (same first)) h.0, λ game low. same game ∙ h.1 game low)
 
-first_with : (amount more : ℕ → ℕ) (one v : ℕ) (first : Option ℕ) → 0 < v → ((g : ℕ) → more g ≡ cond (one == g) v 0 + amount g) → IsFirst amount first →
+pub first_with : (amount more : ℕ → ℕ) (one v : ℕ) (first : Option ℕ) → 0 < v → ((g : ℕ) → more g ≡ cond (one == g) v 0 + amount g) → IsFirst amount first →
     IsFirst more (earlier (Some one) first)
 first_with amount more one v None some each h = (
   (let e = each one in let i = here one v in omega arith),

@@ -25,10 +25,10 @@ new_row : (rows : List Row) (row : Row) → row_at (rows ++ row ∷ []) (length 
 new_row rows row = get_or-append_seam rows row [] (blank 0 0)
 
 -- a number that had no row gets one, at the end
-pub appended : (index : List (Option ℕ)) (rows : List Row) (number shape : ℕ) → number < length index → HasNoRow rows number
-    → IsIndexed index rows → IsIndexed (set index number (Some (length rows))) (rows ++ blank number shape ∷ [])
-appended index rows number shape within none h =
-    let row = blank number shape in
+pub appended : (index : List (Option ℕ)) (rows : List Row) (row : Row) → row.number < length index → HasNoRow rows row.number
+    → IsIndexed index rows → IsIndexed (set index row.number (Some (length rows))) (rows ++ row ∷ [])
+appended index rows row within none h =
+    let number = row.number in
     let longer : length (rows ++ row ∷ []) ≡ length rows + 1 = length-append rows (row ∷ []) in
     record {
       found = λ asked place is. ⊎_elim

@@ -1,4 +1,6 @@
 pub mod Indexed
+pub mod Exchanged
+pub mod Reordered
 pub mod Raised
 pub mod Made
 pub mod Entered
@@ -23,7 +25,6 @@ pub mod Ordered
 pub mod Summed
 pub mod Totalled
 pub mod OfNumber
-pub mod Looks
 pub mod Visits
 pub mod Confirmed
 pub mod Agreed

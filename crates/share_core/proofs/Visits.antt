@@ -5,7 +5,7 @@ use Rattle.std.specs.Option.{is_some}
 use Rattle.slot_table.specs.declared.entries.Happened.{Happened}
 use Rattle.slot_table.specs.declared.entries.Happened.TheVariants as call
 use Rattle.slot_table.specs.Passes.{Known, IsLater}
-use Rattle.slot_table.specs.History.{Keeps}
+use Rattle.slot_table.specs.History.{Keeps, TellsAt}
 use Rattle.slot_table.proofs.Later.{later_through}
 use Rattle.tally_core.specs.Entries.{IsShape}
 use Rattle.share_core.specs.declared.rows.Row.{Row}
@@ -20,6 +20,12 @@ use Rattle.share_core.specs.Numbers.{AreSums}
 use Rattle.share_core.specs.Visiting.{AgreeBelow, AreVisited}
 use Rattle.share_core.proofs.Stood.{stand_more}
 use Rattle.share_core.proofs.Ordered.{entries_more}
+
+-- ---- one number
+-- the pattern that a table tells is the number's
+pub told_found : (n : ℕ) (seen : List Happened) (number : ℕ) (found : Option ℕ) → TellsAt n seen number found → IsFound n seen number found
+told_found n seen number None told = tt
+told_found n seen number (Some shape) told = told
 
 -- ---- least games
 -- what was asked up to this number and at it

@@ -15,7 +15,6 @@ pub mod Faults
 pub mod Gathering
 pub mod Totals
 pub mod Numbers
-pub mod Pieces
 pub mod Visiting
 pub mod Confirming
 pub mod GatherFaults

@@ -36,6 +36,7 @@ impl Model for Ledger {
 
 impl Ledger {
     ghost use Rattle.std.specs.Prelude.{◌≡◌, []};
+    ghost use Rattle.std.specs.List.Sorted.{IsPermutation, IsNonDecreasingBy};
     ghost use Rattle.share_core.specs.Rows.{AreOfNumbers};
 
     /// Nothing was counted yet. It takes no memory.
@@ -64,7 +65,7 @@ impl Ledger {
         self.moves
     }
 
-    /// The rows, in the order in which they were made.
+    /// The rows, in their order.
     pub fn rows(&self) -> &Rows
         ensures { result.now ≡ self.now.rows }
     {
@@ -121,5 +122,14 @@ impl Ledger {
         self.moves = moves;
         self.weight = total;
         Ok(())
+    }
+
+    /// Puts the rows in the order of their numbers. It takes no memory.
+    pub fn sort_rows(&mut self)
+        ensures same { self.new ≡ record self.old { rows = self.new.rows } }
+        ensures rows { IsPermutation self.old.rows self.new.rows }
+        ensures rises { IsNonDecreasingBy (λ row. row.number) self.new.rows }
+    {
+        self.rows.sort();
     }
 }

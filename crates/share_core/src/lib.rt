@@ -22,7 +22,6 @@ pub mod full_laws;
 mod gathering;
 pub mod laws;
 mod numbers;
-mod pieces;
 mod standing;
 mod visiting;
 

@@ -64,7 +64,7 @@ fn with_row(total: Option<Row>, row: Row) -> Option<Row>
 }
 
 /// What no rows are together.
-pub(crate) fn no_sums() -> NumberSums
+fn no_sums() -> NumberSums
     ensures { result ≡ none_summed }
 {
     NumberSums {
@@ -76,7 +76,7 @@ pub(crate) fn no_sums() -> NumberSums
 }
 
 /// The rows of a number and one more.
-pub(crate) fn add(sums: NumberSums, row: Row, found: Option<u64>) -> NumberSums
+fn add(sums: NumberSums, row: Row, found: Option<u64>) -> NumberSums
     ensures { (rows more : List Row) → (number : ℕ) → AreOfNumbers more
         → row_of more number ≡ Some row → AreSums rows number found sums
         → AreSums (rows ++ more) number found result }

@@ -46,8 +46,8 @@ fn widen(index: &mut Vec<RowPlace>, slots: usize) -> Result<(), AllocError>
     Ok(())
 }
 
-/// Rows in the order in which they were made, with an index that has the place of each number's row: four bytes for each
-/// slot of the table. Contracts see the rows.
+/// Rows in the order in which they were made or that of their numbers, with an index that has the place of each number's
+/// row: four bytes for each slot of the table. Contracts see the rows.
 #[derive(Drop)]
 pub(crate) struct Rows {
     index: Vec<RowPlace>,
@@ -69,6 +69,8 @@ impl Model for Rows {
 impl Rows {
     ghost use Rattle.std.specs.Prelude.{◌≡◌, ◌+◌, ◌^◌, ◌<◌, ◌≤◌, ◌++◌, ◌∷◌, [], length, IfSome, IfNone};
     ghost use Rattle.std.specs.Prelude.{IfOk, IfErr, OnErr, slice_set};
+    ghost use Rattle.std.specs.List.{SwappedAt};
+    ghost use Rattle.std.specs.List.Sorted.{IsPermutation, IsNonDecreasingBy};
     ghost use Rattle.share_core.specs.Rows.{row_at, blank, HasNoRow, AreOfNumbers};
     ghost use Rattle.share_core.specs.Checking.{IsLeastFrom};
     ghost use Rattle.share_core.specs.Making.{IsMade, IsRowFault};
@@ -84,7 +86,7 @@ impl Rows {
         }
     }
 
-    /// The rows, in the order in which they were made.
+    /// The rows, in their order.
     pub fn as_slice(&self) -> &[Row]
         ensures rows { result.now ≡ self.now }
         ensures numbers { AreOfNumbers self.now }
@@ -181,5 +183,32 @@ impl Rows {
             None => Some(game),
             Some(first) => Some(first.min(game)),
         };
+    }
+
+    /// Exchanges the rows at two places.
+    fn exchange(&mut self, one: usize, other: usize)
+        requires one { one < length self.old }
+        requires other { other < length self.old }
+        ensures same { IsPermutation self.old self.new }
+        ensures places { SwappedAt self.old self.new one other }
+        ensures numbers { AreOfNumbers self.old }
+    {
+        self.rows.swap(one, other);
+        self.index[self.rows[one].number] = RowPlace::of(one);
+        self.index[self.rows[other].number] = RowPlace::of(other);
+    }
+
+    /// Puts the rows in the order of their numbers. It takes no memory.
+    pub fn sort(&mut self)
+        ensures same { IsPermutation self.old self.new }
+        ensures rises { IsNonDecreasingBy (λ row. row.number) self.new }
+    {
+        let mut done = 0;
+        for number in 0..self.index.len() {
+            if let Some(place) = self.place(number) {
+                self.exchange(done, place);
+                done += 1;
+            }
+        }
     }
 }

@@ -114,3 +114,32 @@ fn no_row_comes_after_the_last(rt: HostRuntime) -> Result<(), Fail> {
     assert!(rt; ends_after(&Share::begin(alloc, 0, Kinds::Squares), 0));
     Ok(())
 }
+
+#[test]
+fn sorting_keeps_what_was_counted(rt: HostRuntime) -> Result<(), Fail> {
+    let alloc = rt.alloc();
+    let (table, mut pass) = SlotTable::new(alloc, order_of(&rt, 4))?;
+    let mut share = share_of_both(alloc, &table, &mut pass)?;
+    let before = rows_of(alloc, &share)?;
+    share.sort_rows();
+    let after = rows_of(alloc, &share)?;
+    assert!(rt; after.as_slice() == before.as_slice());
+    assert!(rt; share.games() == [1, 0].as_slice() && share.moves() == 3);
+    for row in before {
+        assert!(rt; share.row_at(row.number) == Some(row));
+    }
+    Ok(())
+}
+
+#[test]
+fn a_game_is_added_to_sorted_rows(rt: HostRuntime) -> Result<(), Fail> {
+    let alloc = rt.alloc();
+    let (table, mut pass) = SlotTable::new(alloc, order_of(&rt, 4))?;
+    let mut share = share_of_both(alloc, &table, &mut pass)?;
+    share.sort_rows();
+    let refused = refusal_of(alloc, &mut share, &table, &mut pass, 2, ONE_POINT)?;
+    let rows = rows_of(alloc, &share)?;
+    assert!(rt; refused.is_none() && rows.len() == 3);
+    assert!(rt; has_row(&rows, row_of(&rt, ALONE, 2, 2, 0)));
+    Ok(())
+}

@@ -3,16 +3,19 @@ use Rattle.tally_core.specs.declared.collections.Report.{Report}
 use Rattle.job_core.specs.declared.hands.Hand.{Hand}
 use Rattle.harvest_core.specs.Working.{IsRefused}
 use Rattle.harvest_core.specs.Reading.{AreDealt}
+use Rattle.harvest_core.proofs.Dealt.{dealt_stays}
 use Rattle.harvest_core.proofs.reading.read_games.Goals as goal
 use Rattle.harvest_core.proofs.reading.read_games.Goals.{in-Ok, in-Err}
 
 pub returns-clause-worked : goal.returns-clause-worked
 returns-clause-worked g c =
+    c.sort_rows.ensures.worked c.args.games.bytes c.args.kinds
     (c.read_all-outcome.ensures.worked c.args.kinds (c.begin-worked.ensures.worked c.args.games.bytes)
     (subst (IsRefused c.args.games.bytes c.args.kinds) (sym c.begin-worked.ensures.refused) tt)).0
 
 pub returns-clause-refused : goal.returns-clause-refused
 returns-clause-refused g c =
+    subst (IsRefused c.args.games.bytes c.args.kinds) (sym c.sort_rows.ensures.refused)
     (c.read_all-outcome.ensures.worked c.args.kinds (c.begin-worked.ensures.worked c.args.games.bytes)
     (subst (IsRefused c.args.games.bytes c.args.kinds) (sym c.begin-worked.ensures.refused) tt)).1
 
@@ -21,10 +24,12 @@ returns-clause-dealt g c =
     let low = c.args.games.report.games in
     let high = c.report.result.games in
     let worked = c.read_all-outcome.new.worked in
+    let sorted = c.sort_rows.new.self in
     elim c.match-outcome.branch [
       | in-Ok w ↦
           let same = ap (λ (r : Report). r.games) c.report.ensures.report in
-          subst (λ o. IfNone o (AreDealt low high c.close.new.desk worked)) (sym w.fault-is)
-          (subst (λ (v : Hand). AreDealt low high v worked) (sym c.close.ensures) (subst (λ n. AreDealt low n c.read_all-outcome.new.desk worked) (sym same) w.in-Ok.ensures.dealt))
-      | in-Err w ↦ subst (λ o. IfNone o (AreDealt low high c.close.new.desk worked)) (sym w.fault-is) tt
+          subst (λ o. IfNone o (AreDealt low high c.close.new.desk sorted)) (sym w.fault-is)
+          (dealt_stays low high c.close.new.desk worked sorted c.sort_rows.ensures.games c.sort_rows.ensures.refused
+          (subst (λ (v : Hand). AreDealt low high v worked) (sym c.close.ensures) (subst (λ n. AreDealt low n c.read_all-outcome.new.desk worked) (sym same) w.in-Ok.ensures.dealt)))
+      | in-Err w ↦ subst (λ o. IfNone o (AreDealt low high c.close.new.desk sorted)) (sym w.fault-is) tt
     ]

@@ -4,8 +4,7 @@ use Rattle.slot_table.specs.History.{TellsAt}
 use Rattle.share_core.specs.Checking.{all_rows}
 use Rattle.share_core.specs.Visiting.{IsVisitFault}
 use Rattle.share_core.proofs.Entered.{nothing_seen, nothing_through}
-use Rattle.share_core.proofs.Looks.{told_found}
-use Rattle.share_core.proofs.Visits.{stranger_found, visited_later}
+use Rattle.share_core.proofs.Visits.{told_found, stranger_found, visited_later}
 use Rattle.share_core.proofs.visiting.visit.Goals as goal
 
 pub returns-in-Some-clause-fault : goal.returns-in-Some-clause-fault
