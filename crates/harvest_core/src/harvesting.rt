@@ -53,7 +53,8 @@ fn explain<O: ProbeOrder>(
 }
 
 /// The dictionary of all shares, of an input that was read.
-fn count_of<O: ProbeOrder>(
+fn count_of<R: Threads + Sync, O: ProbeOrder>(
+    rt: &R,
     alloc: Global,
     kinds: Kinds,
     table: &SlotTable<O>,
@@ -74,7 +75,7 @@ fn count_of<O: ProbeOrder>(
         pass.new) }
 {
     let _ = bytes;
-    match gather(alloc, table, pass, kinds, report.games, shares) {
+    match gather(rt, alloc, table, pass, kinds, report.games, shares) {
         Ok(dictionary) => Ok(Counted { dictionary, report }),
         Err(fault) => Err(fault),
     }
@@ -82,7 +83,8 @@ fn count_of<O: ProbeOrder>(
 
 /// The dictionary of all shares, or the fault that is told: of those of the input, of the games that were refused, and of
 /// the shares together, in this order.
-fn conclude<O: ProbeOrder>(
+fn conclude<R: Threads + Sync, O: ProbeOrder>(
+    rt: &R,
     alloc: Global,
     kinds: Kinds,
     table: &SlotTable<O>,
@@ -117,7 +119,7 @@ fn conclude<O: ProbeOrder>(
     let Parted { shares, refusals } = parted;
     match worst(&refusals) {
         Some(refused) => Err(explain(table, pass, &shares, refused)),
-        None => count_of(alloc, kinds, table, pass, bytes, report, &shares),
+        None => count_of(rt, alloc, kinds, table, pass, bytes, report, &shares),
     }
 }
 
@@ -208,7 +210,7 @@ where
     let crop = count_over(
         rt, alloc, settings, table, pass, bytes, games, &queue, seat, gate,
     )?;
-    conclude(alloc, settings.kinds(), table, pass, bytes, crop)
+    conclude(rt, alloc, settings.kinds(), table, pass, bytes, crop)
 }
 
 /// Counts a whole collection by several workers over a new table of 2^k slots, where the settings have the number of

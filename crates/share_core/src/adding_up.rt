@@ -13,8 +13,10 @@ ghost use Rattle.share_core.specs.Gathering.{AreWithin, all_moves, IsGathered};
 use crate::faults::HarvestFault;
 use crate::rows::Row;
 use crate::shares::Share;
+use rayon::prelude::*;
 use shape_core::{Kinds, kinds_stay};
 use shape_dict::{Dictionary, Entry};
+use std::thread::Threads;
 
 /// Whether diamonds are among these kinds.
 fn has_diamonds(kinds: Kinds) -> bool
@@ -63,12 +65,16 @@ pub(crate) fn push(entries: &mut Vec<Entry>, total: Option<Row>) -> Result<(), H
     }
 }
 
-/// Puts entries in the order of their patterns' words.
-fn sort(entries: &mut Vec<Entry>)
+/// Puts entries in the order of their patterns' words: in several threads where several workers counted.
+fn sort<R: Threads + Sync>(rt: &R, entries: &mut Vec<Entry>, several: bool)
     ensures same { IsPermutation entries.old.items entries.new.items }
     ensures sorted { IsNonDecreasingBy (λ entry. entry.shape) entries.new.items }
 {
-    entries.sort_unstable_by_key(|entry| entry.shape);
+    if several {
+        par_sort_unstable_by_key(rt, entries.as_mut_slice(), |entry| entry.shape);
+    } else {
+        entries.sort_unstable_by_key(|entry| entry.shape);
+    }
 }
 
 /// The moves of all shares together.
@@ -93,7 +99,8 @@ fn moves_of(shares: &[Share]) -> Result<u64, HarvestFault>
 /// games below `games`, each once. It takes no memory.
 ///
 /// `HarvestFault::Overflow` comes where the moves pass 2^64 - 1.
-pub(crate) fn add_up(
+pub(crate) fn add_up<R: Threads + Sync>(
+    rt: &R,
     kinds: Kinds,
     games: u64,
     mut entries: Vec<Entry>,
@@ -109,6 +116,6 @@ pub(crate) fn add_up(
 {
     kinds_stay();
     let moves = moves_of(shares)?;
-    sort(&mut entries);
+    sort(rt, &mut entries, shares.len() > 2);
     Ok(Dictionary::new(games, moves, entries, has_diamonds(kinds)))
 }

@@ -21,6 +21,7 @@ use shape_core::Kinds;
 use shape_dict::Dictionary;
 use slot_table::{Pass, SlotTable};
 use std::alloc::Global;
+use std::thread::Threads;
 
 /// What is wrong with the numbers where each row stands in the table: a mark that differs comes before a sum too large.
 fn check_numbers(differs: Option<Differs>, is_large: bool) -> Result<(), HarvestFault>
@@ -44,11 +45,13 @@ fn check_numbers(differs: Option<Differs>, is_large: bool) -> Result<(), Harvest
 /// another pattern than the row's, or none, `HarvestFault::Marks` with the least number whose least marked game is not the
 /// least of the shares' rows there, and `HarvestFault::Overflow` where a sum passes 2^64 - 1. `HarvestFault::Memory`
 /// comes where memory was refused. Each number is asked once, in rising order, until one differs; what is marked after that
-/// is not judged. Nothing is marked here.
+/// is not judged. Nothing is marked here. Where there are more than two shares, threads sort a large dictionary, as many as
+/// the machine has processors for; the answer is the same.
 ///
 /// The pass must be of the table, each share of these kinds, and each of its games below `games`.
 #[tactic(auto, using(crate::proofs::Entered::nothing_self))]
-pub fn gather<O: ProbeOrder>(
+pub fn gather<R: Threads + Sync, O: ProbeOrder>(
+    rt: &R,
     alloc: Global,
     table: &SlotTable<O>,
     pass: &mut Pass<O>,
@@ -74,5 +77,5 @@ pub fn gather<O: ProbeOrder>(
     let visited = visit_all(alloc, table, pass, shares)?;
     check_beyond(shares, table.capacity().slots())?;
     check_numbers(visited.differs, visited.is_large)?;
-    add_up(kinds, games, visited.entries, shares)
+    add_up(rt, kinds, games, visited.entries, shares)
 }

@@ -86,7 +86,8 @@ fn share_of<O: ProbeOrder>(
 }
 
 /// The dictionary of the games, dealt to three shares.
-fn gather_three<O: ProbeOrder>(
+fn gather_three<R: Threads + Sync, O: ProbeOrder>(
+    rt: &R,
     alloc: Global,
     table: &SlotTable<O>,
     pass: &mut Pass<O>,
@@ -101,11 +102,20 @@ fn gather_three<O: ProbeOrder>(
     let other = share_of(alloc, table, pass, records, dealt, 1)?;
     let third = share_of(alloc, table, pass, records, dealt, 2)?;
     let games = records.len() as u64;
-    gather(alloc, table, pass, Kinds::Both, games, &[one, other, third])
+    gather(
+        rt,
+        alloc,
+        table,
+        pass,
+        Kinds::Both,
+        games,
+        &[one, other, third],
+    )
 }
 
 /// The same over a table of its own.
-fn gathered_of(
+fn gathered_of<R: Threads + Sync>(
+    rt: &R,
     alloc: Global,
     order: OddStep,
     records: &[Record],
@@ -117,7 +127,7 @@ fn gathered_of(
     let Ok((table, mut pass)) = SlotTable::new(alloc, order) else {
         return Err(HarvestFault::Memory);
     };
-    gather_three(alloc, &table, &mut pass, records, dealt)
+    gather_three(rt, alloc, &table, &mut pass, records, dealt)
 }
 
 /// The records of these games.
@@ -151,7 +161,7 @@ fn each_way_gives_the_dictionary_of_one_thread(rt: HostRuntime) -> Result<(), Fa
     assert_eq!(rt; wanted.games(), 6);
     assert!(&rt; records.len() == 6);
     for way in WAYS {
-        let gathered = gathered_of(alloc, order_of(&rt, 8), &records, &way)?;
+        let gathered = gathered_of(&rt, alloc, order_of(&rt, 8), &records, &way)?;
         assert!(rt; are_alike(&gathered, &wanted));
     }
     Ok(())
@@ -270,7 +280,7 @@ fn four_of<O: ProbeOrder + Send + Sync, R: Threads + Sync>(
     } = two_of(rt, alloc, table, pass, records, dealt, 0)?;
     let shares = [one, other, third, fourth];
     let games = records.len() as u64;
-    gather(alloc, table, &mut pass, Kinds::Both, games, &shares)
+    gather(rt, alloc, table, &mut pass, Kinds::Both, games, &shares)
 }
 
 /// Ten games of one point and ten of two, in turn.

@@ -14,6 +14,7 @@ use slot_table::{Pass, SlotTable};
 use std::alloc::Global;
 use std::process::Abort;
 use std::test::Fail;
+use std::thread::Threads;
 
 /// Two points: Black plays at one of them, and White at the other.
 const IN_TURN: &[u8] = b"(;SZ[2:1];B[aa];W[ba])";
@@ -115,7 +116,7 @@ fn has_both(share: &Share) -> bool {
 
 /// Gathers a share of both games; where memory is refused, which has to leave the share as it was, once more.
 fn gather_or_keep<O: ProbeOrder>(
-    rt: &impl Abort,
+    rt: &(impl Abort + Threads + Sync),
     alloc: Global,
     table: &SlotTable<O>,
     pass: &mut Pass<O>,
@@ -127,11 +128,11 @@ fn gather_or_keep<O: ProbeOrder>(
 {
     let rows = rows_of(&share);
     let shares = [share];
-    let gathered = gather(alloc, table, pass, Kinds::Both, 2, &shares);
+    let gathered = gather(rt, alloc, table, pass, Kinds::Both, 2, &shares);
     if let Err(fault) = gathered {
         assert!(rt; fault == HarvestFault::Memory);
         assert!(rt; has_both(&shares[0]) && has_kept(&shares[0], &rows));
-        return gather(alloc, table, pass, Kinds::Both, 2, &shares).ok();
+        return gather(rt, alloc, table, pass, Kinds::Both, 2, &shares).ok();
     }
     gathered.ok()
 }

@@ -16,9 +16,11 @@ use slot_table::{Pass, SlotTable};
 use std::alloc::Global;
 use std::process::Abort;
 use std::test::Fail;
+use std::thread::Threads;
 
 /// Gathers two shares, of this game under one number and under another.
-fn gather_two<O: ProbeOrder>(
+fn gather_two<R: Threads + Sync, O: ProbeOrder>(
+    rt: &R,
     alloc: Global,
     table: &SlotTable<O>,
     pass: &mut Pass<O>,
@@ -35,7 +37,7 @@ fn gather_two<O: ProbeOrder>(
 {
     let one = share_of(alloc, table, pass, one, record)?;
     let other = share_of(alloc, table, pass, other, record)?;
-    gather(alloc, table, pass, Kinds::Squares, games, &[one, other])
+    gather(rt, alloc, table, pass, Kinds::Squares, games, &[one, other])
 }
 
 /// Whether a dictionary is of this many games and moves.
@@ -48,11 +50,11 @@ fn each_game_is_in_one_share(rt: HostRuntime) -> Result<(), Fail> {
     let alloc = rt.alloc();
     let record = record_of(alloc, ONE_POINT).ok_or("no record")?;
     let (table, mut pass) = SlotTable::new(alloc, order_of(&rt, 0))?;
-    let twice = gather_two(alloc, &table, &mut pass, &record, 0, 0, 3).err();
-    let missing = gather_two(alloc, &table, &mut pass, &record, 0, 2, 3).err();
+    let twice = gather_two(&rt, alloc, &table, &mut pass, &record, 0, 0, 3).err();
+    let missing = gather_two(&rt, alloc, &table, &mut pass, &record, 0, 2, 3).err();
     assert!(rt; twice == Some(HarvestFault::Twice(0)));
     assert!(rt; missing == Some(HarvestFault::Missing(1)));
-    let both = gather_two(alloc, &table, &mut pass, &record, 0, 1, 2)?;
+    let both = gather_two(&rt, alloc, &table, &mut pass, &record, 0, 1, 2)?;
     let wanted = [entry_of(&rt, ALONE, 2, 2, 0)];
     assert!(rt; is_of(&both, 2, 2) && both.entries() == wanted.as_slice());
     assert!(rt; !both.counts_diamonds());
@@ -63,7 +65,7 @@ fn each_game_is_in_one_share(rt: HostRuntime) -> Result<(), Fail> {
 fn no_share_has_no_pattern(rt: HostRuntime) -> Result<(), Fail> {
     let alloc = rt.alloc();
     let (table, mut pass) = SlotTable::new(alloc, order_of(&rt, 0))?;
-    let none = gather(alloc, &table, &mut pass, Kinds::Both, 0, &[])?;
+    let none = gather(&rt, alloc, &table, &mut pass, Kinds::Both, 0, &[])?;
     assert!(rt; is_of(&none, 0, 0) && none.entries().is_empty());
     assert!(rt; none.counts_diamonds());
     Ok(())
@@ -93,7 +95,7 @@ fn a_share_of_another_table_is_a_stranger(rt: HostRuntime) -> Result<(), Fail> {
     let shares = [first_share(alloc, &table, &mut pass, ONE_POINT)?];
     let (second, mut other) = SlotTable::new(alloc, order_of(&rt, 0))?;
     let free = stranger(0, Some(word_of(&rt, ALONE)), None);
-    let gathered = gather(alloc, &second, &mut other, Kinds::Squares, 1, &shares).err();
+    let gathered = gather(&rt, alloc, &second, &mut other, Kinds::Squares, 1, &shares).err();
     assert!(rt; gathered == Some(free));
     let empty = word_of(&rt, EMPTY);
     assert!(rt; confirm_full(&second, &mut other, &shares, 0, empty) == free);
@@ -197,7 +199,7 @@ fn a_mark_of_another_differs(rt: HostRuntime) -> Result<(), Fail> {
     let shares = [first_share(alloc, &table, &mut pass, b"(;SZ[1]AB[aa];W[aa])")?];
     assert!(&rt; table.capacity().slots() == 1);
     table.mark(&mut pass, 0, 0);
-    let gathered = gather(alloc, &table, &mut pass, Kinds::Squares, 1, &shares).err();
+    let gathered = gather(&rt, alloc, &table, &mut pass, Kinds::Squares, 1, &shares).err();
     let differs = HarvestFault::Marks {
         number: 0,
         of_shares: None,

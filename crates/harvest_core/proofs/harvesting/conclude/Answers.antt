@@ -25,8 +25,8 @@ pub count_of-requires-clause-worked : goal.count_of-requires-clause-worked
 count_of-requires-clause-worked g c =
     let bytes = c.args.bytes.now in
     let kinds = c.args.kinds in
-    subst (λ ss. All (IsWorked bytes kinds) ss) (sym (c.deref-in-None-worst.ensures.value ∙ c.in-Ok.ensures.shares))
-    (shares_worked bytes kinds c.args.crop.worked.items c.requires.crop.worked_is)
+    let all = shares_worked bytes kinds c.args.crop.worked.items c.requires.crop.worked_is in
+    λ κs lives. subst (λ ss. All (IsWorked bytes kinds) ss) (sym (c.deref-in-None-worst.ensures.value ∙ c.in-Ok.ensures.shares)) all
 
 pub returns-in-Some-worst-clause-refused : goal.returns-in-Some-worst-clause-refused
 returns-in-Some-worst-clause-refused g c none =

@@ -4,7 +4,7 @@ use Rattle.harvest_core.proofs.Harvested.{games_within, harvested, numbered}
 use Rattle.harvest_core.proofs.harvesting.count_of.Goals as goal
 
 pub gather-requires-clause-games : goal.gather-requires-clause-games
-gather-requires-clause-games g c = games_within c.args.bytes.now c.args.kinds c.args.shares.now c.args.report c.requires.worked c.requires.read
+gather-requires-clause-games g c = λ κs lives. games_within c.args.bytes.now c.args.kinds c.args.shares.now c.args.report c.requires.worked c.requires.read
 
 pub returns-in-Err-clause-fault : goal.returns-in-Err-clause-fault
 returns-in-Err-clause-fault g c =

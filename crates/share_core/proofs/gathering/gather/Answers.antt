@@ -3,6 +3,7 @@ use Rattle.std.proofs.lemmas.Result.{err_from_is_err_and, IfErr-weaker}
 use Rattle.share_core.specs.declared.faults.HarvestFault.TheVariants as fault
 use Rattle.share_core.specs.Checking.{all_rows}
 use Rattle.share_core.specs.Gathering.{all_moves}
+use Rattle.share_core.specs.Totals.{AreEntriesOf}
 use Rattle.share_core.specs.GatherFaults.{IsGatherFault}
 use Rattle.share_core.specs.Visiting.{AgreeBelow}
 use Rattle.share_core.proofs.Agreed.{all_below, one_each, stand_below, beyond_table, numbers_fault, anyway}
@@ -35,7 +36,9 @@ add_up-requires-clause-entries g c =
     let new = c.visit_all.new.pass in
     let slots = c.slots.ensures.value ∙ ap (λ k. 2 ^ k) c.capacity.ensures in
     let stand = stand_below n c.slots.result new.seen rows slots c.in_ok-check_beyond.ensures.ok c.in_ok-visited.ensures.ok.stand in
-    (n, c.in_ok-visited.ensures.ok.entries (one_each n new.seen rows c.visit_all.ensures.pass.legal stand) c.in_ok-check_numbers.ensures.ok.1, all_below n new.seen rows stand)
+    let made : AreEntriesOf rows c.in_ok-visited.visited.entries.items =
+    (n, c.in_ok-visited.ensures.ok.entries (one_each n new.seen rows c.visit_all.ensures.pass.legal stand) c.in_ok-check_numbers.ensures.ok.1, all_below n new.seen rows stand) in
+    λ κs lives. made
 
 pub returns-clause-stand : goal.returns-clause-stand
 returns-clause-stand g c =
