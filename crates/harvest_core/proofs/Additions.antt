@@ -1,5 +1,5 @@
 -- Shares of games of an input, once one more game was added or refused.
-use Rattle.std.proofs.Common.{◌≡◌, ℕ, ◌<◌, List, [], ◌∷◌, ◌++◌, length, ap, sym, subst, ◌∙◌, arith, ⊎_elim, Contains}
+use Rattle.std.proofs.Common.{◌≡◌, ℕ, ◌<◌, ◌≤◌, ◌*◌, ◌^◌, Some, inl, inr, List, [], ◌∷◌, ◌++◌, length, ap, sym, subst, ◌∙◌, arith, ⊎_elim, Contains}
 use Rattle.std.proofs.lemmas.List.{map-append, get_or_default}
 use Rattle.std.proofs.lemmas.List.Elements.{All-push, Contains-append_cases, Contains-get_or}
 use Rattle.std.specs.List.Sorted.{IsPermutation}
@@ -8,14 +8,16 @@ use Rattle.go_record.specs.Actions.{Actions}
 use Rattle.shape_core.specs.declared.words.Kinds.{Kinds}
 use Rattle.slot_table.specs.declared.entries.Happened.{Happened}
 use Rattle.share_core.specs.declared.rows.Row.{Row}
+use Rattle.share_core.specs.declared.faults.HarvestFault.{HarvestFault}
+use Rattle.share_core.specs.declared.faults.HarvestFault.TheVariants as fault
 use Rattle.share_core.specs.Rows.{row_at, blank}
 use Rattle.share_core.specs.Raising.{Numbered, numbered_of}
 use Rattle.share_core.specs.Shares.{Held, Added, IsPatternOf}
-use Rattle.share_core.specs.Adding.{IsAdded, HasGrown, IsKept, AreFresh}
+use Rattle.share_core.specs.Adding.{IsAdded, HasGrown, IsKept, AreFresh, IsAddFault, IsTooLarge}
 use Rattle.share_core.proofs.Raised.{same_shape, same_length}
 use Rattle.share_core.proofs.Added.{still_of, share_of_more}
 use Rattle.share_core.proofs.Reordered.{of_stays}
-use Rattle.harvest_core.specs.Working.{IsGame, IsPatternIn, IsWorked}
+use Rattle.harvest_core.specs.Working.{IsGame, IsPatternOfGame, IsPatternIn, IsWorked, IsRefusal}
 
 -- rows that were made for a game are of its patterns
 fresh_known : (bytes : List ℕ) (n : ℕ) (seen : List Happened) (kinds : Kinds) (game : ℕ) (actions : Actions) (fresh : List Row) (row : Row) → IsGame bytes game actions →
@@ -86,3 +88,18 @@ worked_stays bytes kinds old new is same h = subst (IsWorked bytes kinds) (sym i
   games = h.games;
   known = λ row among. h.known row (Contains-permutation new.rows old.rows row (IsPermutation-sym old.rows new.rows same) among);
 })
+
+-- why a game of an input was not added
+pub refusal_is : (bytes : List ℕ) (n : ℕ) (seen : List Happened) (kinds : Kinds) (game : ℕ) (actions : Actions) (old new : Held) (found : HarvestFault) → IsGame bytes game actions → IsWorked bytes kinds old →
+    IsAddFault n seen game actions old new found → IsRefusal bytes kinds found
+refusal_is bytes n seen kinds game actions old new fault.Memory is h why = tt
+refusal_is bytes n seen kinds game actions old new fault.Overflow is h why = ⊎_elim
+    (λ (large : IsTooLarge actions old). (game, actions, is, inl (old, h, large)))
+    (λ (long : 2 ^ 64 ≤ 5410 * length actions.actions). (game, actions, is, inr long))
+    why
+refusal_is bytes n seen kinds game actions old new (fault.Full at word) is h why =
+    subst (λ g. IsPatternOfGame bytes kinds g word) (sym why.0)
+    (record { actions = actions; is_game = is; pattern = subst (λ k. IsPatternOf k actions word) h.kinds_are why.1 })
+refusal_is bytes n seen kinds game actions old new (fault.Stranger number (Some held) (Some other)) is h why =
+    ((game, record { actions = actions; is_game = is; pattern = subst (λ k. IsPatternOf k actions other) h.kinds_are why.0 }), why.2)
+refusal_is bytes n seen kinds game actions old new _ is h why = absurd why

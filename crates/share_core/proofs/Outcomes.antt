@@ -1,15 +1,13 @@
 -- What stands in a table once a game was added to a share.
-use Rattle.std.proofs.Common.{◌≡◌, ℕ, ◌+◌, ◌<◌, ◌≤◌, ◌^◌, List, ◌++◌, length, ap, sym, subst, ◌∙◌, arith, inl, inr, ⊎_elim, All}
+use Rattle.std.proofs.Common.{◌≡◌, ℕ, ◌+◌, ◌<◌, ◌≤◌, ◌^◌, List, ◌++◌, length, ap, sym, subst, ◌∙◌, arith, inl, inr, ⊎_elim}
 use Rattle.std.specs.Prelude.{slice_index}
 use Rattle.std.proofs.lemmas.List.{map-append}
 use Rattle.std.proofs.lemmas.List.Sums.{sum_by-append}
-use Rattle.std.proofs.lemmas.List.Elements.{All-nil}
 use Rattle.go_record.specs.Actions.{Actions}
 use Rattle.shape_core.specs.declared.words.Kinds.{Kinds}
 use Rattle.probe_core.specs.Sequential.{IsNumber}
 use Rattle.slot_table.specs.declared.entries.Happened.{Happened}
 use Rattle.slot_table.specs.History.{content_of, Keeps}
-use Rattle.slot_table.specs.Passes.{Known}
 use Rattle.tally_core.specs.declared.meetings.Meeting.{Meeting}
 use Rattle.tally_core.specs.Walk.{IsWalk}
 use Rattle.share_core.specs.declared.rows.Row.{Row}
@@ -19,21 +17,13 @@ use Rattle.share_core.specs.declared.faults.HarvestFault.TheVariants as fault
 use Rattle.share_core.specs.Rows.{row_at, blank}
 use Rattle.share_core.specs.Raising.{Numbered, AreRaised, AreRowsOf, meeting_at, numbered_of, weight_of, weight_among}
 use Rattle.share_core.specs.Making.{AreNumbered, entered_at}
-use Rattle.share_core.specs.Entering.{AreEntered, AreMarked, MarkedNothing, MarkedOnly}
+use Rattle.share_core.specs.Entering.{AreEntered, AreMarked}
 use Rattle.share_core.specs.Ledgers.{Totals, IsCountFault}
 use Rattle.share_core.specs.Shares.{Held}
 use Rattle.share_core.specs.Adding.{AreFresh, HasFresh, HasGrown, IsKept, IsMarked, IsPrepareFault, IsAddFault}
 use Rattle.share_core.proofs.Raised.{same_shape, same_number}
 use Rattle.share_core.proofs.Made.{light}
 use Rattle.share_core.proofs.Added.{met_at}
-
--- ---- passes
-pub nothing_only : {O : Type 0} (n game : ℕ) (old new : Known O) → MarkedNothing n old new → MarkedOnly n game old new
-nothing_only n game old new h = record {
-  made = h.made;
-  later = h.later;
-  marks = subst (All (λ marked. marked ≡ game)) (sym h.no_marks) (All-nil (λ marked. marked ≡ game));
-}
 
 -- ---- rows
 fresh_kept : (n : ℕ) (seen history : List Happened) (kinds : Kinds) (actions : Actions) (fresh : List Row) → Keeps n seen history → AreFresh n seen kinds actions fresh → AreFresh n history kinds actions fresh

@@ -6,6 +6,7 @@ use Rattle.shape_core.specs.declared.words.Kinds.{Kinds}
 use Rattle.probe_core.specs.Sequential.{IsNumber}
 use Rattle.slot_table.specs.declared.entries.Happened.{Happened}
 use Rattle.slot_table.specs.History.{content_of}
+use Rattle.slot_table.specs.Passes.{Known}
 use Rattle.tally_core.specs.declared.meetings.Meeting.{Meeting}
 use Rattle.tally_core.specs.Counts.{kinds_of, there_in}
 use Rattle.tally_core.specs.Walk.{IsWalk}
@@ -16,8 +17,9 @@ use Rattle.share_core.specs.declared.faults.HarvestFault.TheVariants as fault
 use Rattle.share_core.specs.Rows.{row_at, blank}
 use Rattle.share_core.specs.Raising.{meeting_at}
 use Rattle.share_core.specs.Making.{Gained, IsMakingFault, entered_at}
-use Rattle.share_core.specs.Entering.{AreEntered, IsRefused}
+use Rattle.share_core.specs.Entering.{AreEntered, IsRefused, EntersOnly, IsMetIn}
 use Rattle.share_core.specs.Shares.{IsPatternOf}
+use Rattle.share_core.proofs.Entered.{calls_weaker}
 use Rattle.share_core.specs.Adding.{HasFresh, IsPrepareFault}
 
 -- what is met in a game is a pattern of it
@@ -29,6 +31,13 @@ met_pattern kinds actions meetings moves i walk inside =
       replayed = walk.replayed;
       was_there = All-get_or (λ (m : Meeting). 0 < there_in (kinds_of kinds) (record { size = actions.size; occasions = walk.occasions }) m.shape) meetings i none inside walk.met;
     }
+
+-- only patterns of a game were entered where only what was met in it was
+pub entered_patterns : {O : Type 0} (n : ℕ) (kinds : Kinds) (actions : Actions) (meetings : List Meeting) (moves : ℕ) (old new : Known O) → IsWalk kinds actions meetings moves →
+    EntersOnly n (IsMetIn meetings) old new → EntersOnly n (IsPatternOf kinds actions) old new
+entered_patterns n kinds actions meetings moves old new walk h =
+    calls_weaker n (IsMetIn meetings) (IsPatternOf kinds actions) (λ _. ⊥) (λ _. ⊥) old new
+    (λ key met. subst (IsPatternOf kinds actions) met.2 (met_pattern kinds actions meetings moves met.0 walk met.1)) (λ game none. none) h
 
 pub fresh_of : (n game : ℕ) (seen : List Happened) (kinds : Kinds) (actions : Actions) (meetings : List Meeting) (entered : List Entered) (moves : ℕ) (old new : List Row) →
     IsWalk kinds actions meetings moves → length entered ≤ length meetings → AreEntered n seen game meetings entered → Gained meetings entered old new → HasFresh n seen kinds actions old new

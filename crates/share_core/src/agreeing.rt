@@ -3,7 +3,7 @@ ghost use Rattle.std.specs.Prelude.{◌≡◌, ◌+◌, ◌^◌, ◌<◌, List};
 ghost use Rattle.slot_table.specs.Passes.{Known, IsPassOf};
 ghost use Rattle.share_core.specs.declared.rows.Row.{Row};
 ghost use Rattle.share_core.specs.declared.faults.HarvestFault.TheVariants as fault;
-ghost use Rattle.share_core.specs.Entering.{MarkedNothing};
+ghost use Rattle.share_core.specs.Entering.{AsksOnly};
 ghost use Rattle.share_core.specs.Rows.{first_at};
 ghost use Rattle.share_core.specs.Visiting.{AgreeBelow};
 
@@ -32,7 +32,7 @@ pub(crate) fn marks_fault(differs: Differs) -> HarvestFault
 
 /// Asks the least game of a number, and compares it with that of the shares' rows. Where the games of a lesser number
 /// differ, nothing is asked.
-#[tactic(auto, using(crate::proofs::Entered::nothing_self))]
+#[tactic(auto, using(crate::proofs::Entered::calls_self))]
 pub(crate) fn compare<O: ProbeOrder>(
     table: &SlotTable<O>,
     pass: &mut Pass<O>,
@@ -43,7 +43,7 @@ pub(crate) fn compare<O: ProbeOrder>(
     requires pass { IsPassOf (2 ^ O.exponent table.now.order) table.now pass.old }
     requires number { number < 2 ^ O.exponent table.now.order }
     ensures pass { IsPassOf (2 ^ O.exponent table.now.order) table.now pass.new }
-    ensures later { MarkedNothing (2 ^ O.exponent table.now.order) pass.old pass.new }
+    ensures later { AsksOnly (2 ^ O.exponent table.now.order) pass.old pass.new }
     ensures agree { (rows : List Row) → (first : Known O) → of_shares ≡ first_at rows number
         → AgreeBelow (2 ^ O.exponent table.now.order) rows number first pass.old before
         → AgreeBelow (2 ^ O.exponent table.now.order) rows (number + 1) first pass.new result }

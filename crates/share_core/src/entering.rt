@@ -5,7 +5,7 @@ ghost use Rattle.probe_core.specs.Sequential.{IsAbsent, IsFull};
 ghost use Rattle.slot_table.specs.History.{content_of, least_at, IsAtMost};
 ghost use Rattle.slot_table.specs.Passes.{IsPassOf};
 ghost use Rattle.share_core.specs.Entering.{IsEntered, AreEntered, IsRefused, AreMarked};
-ghost use Rattle.share_core.specs.Entering.{MarkedNothing, MarkedOnly};
+ghost use Rattle.share_core.specs.Entering.{EntersOnly, MarksOnly, IsMetIn};
 ghost use Rattle.share_core.specs.declared.faults.HarvestFault.TheVariants as fault;
 
 use crate::faults::HarvestFault;
@@ -41,7 +41,8 @@ fn enter_one<O: ProbeOrder>(
 ) -> Option<Entered>
     requires { IsPassOf (2 ^ O.exponent table.now.order) table.now pass.old }
     ensures pass { IsPassOf (2 ^ O.exponent table.now.order) table.now pass.new }
-    ensures later { MarkedNothing (2 ^ O.exponent table.now.order) pass.old pass.new }
+    ensures later { EntersOnly (2 ^ O.exponent table.now.order) (λ key. key ≡ shape)
+        pass.old pass.new }
     ensures some { IfSome result (IsEntered (2 ^ O.exponent table.now.order) pass.new.seen game
         shape) }
     ensures absent { IfNone result (IsAbsent (content_of (2 ^ O.exponent table.now.order)
@@ -69,7 +70,8 @@ pub(crate) fn enter_all<O: ProbeOrder>(
 ) -> Result<Option<Shape>, HarvestFault>
     requires { IsPassOf (2 ^ O.exponent table.now.order) table.now pass.old }
     ensures pass { IsPassOf (2 ^ O.exponent table.now.order) table.now pass.new }
-    ensures later { MarkedNothing (2 ^ O.exponent table.now.order) pass.old pass.new }
+    ensures later { EntersOnly (2 ^ O.exponent table.now.order) (IsMetIn meetings.now)
+        pass.old pass.new }
     ensures few { length entered.new.items ≤ length meetings.now }
     ensures each { AreEntered (2 ^ O.exponent table.now.order) pass.new.seen game meetings.now
         entered.new.items }
@@ -98,7 +100,7 @@ fn mark_one<O: ProbeOrder>(table: &SlotTable<O>, pass: &mut Pass<O>, one: Entere
     requires late { one.late ≡ false → IsAtMost (least_at one.number pass.old.seen) game }
     requires game { game < 2 ^ 64 - 1 }
     ensures pass { IsPassOf (2 ^ O.exponent table.now.order) table.now pass.new }
-    ensures later { MarkedOnly (2 ^ O.exponent table.now.order) game pass.old pass.new }
+    ensures later { MarksOnly (2 ^ O.exponent table.now.order) game pass.old pass.new }
     ensures marked { IsAtMost (least_at one.number pass.new.seen) game }
 {
     if one.late {
@@ -119,7 +121,7 @@ pub(crate) fn mark_all<O: ProbeOrder>(
         entered.now }
     requires game { game < 2 ^ 64 - 1 }
     ensures pass { IsPassOf (2 ^ O.exponent table.now.order) table.now pass.new }
-    ensures later { MarkedOnly (2 ^ O.exponent table.now.order) game pass.old pass.new }
+    ensures later { MarksOnly (2 ^ O.exponent table.now.order) game pass.old pass.new }
     ensures marked { AreMarked pass.new.seen game entered.now }
 {
     for one in entered {

@@ -4,7 +4,7 @@ ghost use Rattle.slot_table.specs.Passes.{IsPassOf};
 ghost use Rattle.share_core.specs.Agreeing.{AskedAll};
 ghost use Rattle.share_core.specs.Checking.{all_rows, Stand};
 ghost use Rattle.share_core.specs.Covering.{all_games, Covers};
-ghost use Rattle.share_core.specs.Entering.{MarkedNothing};
+ghost use Rattle.share_core.specs.Entering.{AsksOnly};
 ghost use Rattle.share_core.specs.Gathering.{IsGathered};
 ghost use Rattle.share_core.specs.GatherFaults.{IsGatherFault};
 ghost use Rattle.share_core.specs.Visiting.{IsNumbersFault};
@@ -45,11 +45,11 @@ fn check_numbers(differs: Option<Differs>, is_large: bool) -> Result<(), Harvest
 /// another pattern than the row's, or none, `HarvestFault::Marks` with the least number whose least marked game is not the
 /// least of the shares' rows there, and `HarvestFault::Overflow` where a sum passes 2^64 - 1. `HarvestFault::Memory`
 /// comes where memory was refused. Each number is asked once, in rising order, until one differs; what is marked after that
-/// is not judged. Nothing is marked here. Where there are more than two shares, threads sort a large dictionary, as many as
+/// is not judged. Nothing is entered or marked here. Where there are more than two shares, threads sort a large dictionary, as many as
 /// the machine has processors for; the answer is the same.
 ///
 /// The pass must be of the table, each share of these kinds, and each of its games below `games`.
-#[tactic(auto, using(crate::proofs::Entered::nothing_self))]
+#[tactic(auto, using(crate::proofs::Entered::calls_self))]
 pub fn gather<R: Threads + Sync, O: ProbeOrder>(
     rt: &R,
     alloc: Global,
@@ -63,7 +63,7 @@ pub fn gather<R: Threads + Sync, O: ProbeOrder>(
     requires kinds { All (λ share. share.kinds ≡ kinds) shares.now }
     requires games { All (λ share. All (λ game. game < games) share.games) shares.now }
     ensures pass { IsPassOf (2 ^ O.exponent table.now.order) table.now pass.new }
-    ensures later { MarkedNothing (2 ^ O.exponent table.now.order) pass.old pass.new }
+    ensures later { AsksOnly (2 ^ O.exponent table.now.order) pass.old pass.new }
     ensures gathered { IfOk result (IsGathered kinds games shares.now) }
     ensures covers { OnOk result (Covers games (all_games shares.now)) }
     ensures stand { OnOk result (Stand (2 ^ O.exponent table.now.order) pass.new.seen

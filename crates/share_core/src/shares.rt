@@ -52,9 +52,9 @@ impl Share {
     ghost use Rattle.std.specs.List.Sorted.{IsPermutation, IsNonDecreasingBy};
     ghost use Rattle.slot_table.specs.Passes.{IsPassOf};
     ghost use Rattle.share_core.specs.Rows.{row_of, AreOfNumbers};
-    ghost use Rattle.share_core.specs.Shares.{IsShare};
+    ghost use Rattle.share_core.specs.Shares.{IsShare, IsPatternOf};
     ghost use Rattle.share_core.specs.Adding.{IsAdded, HasGrown, IsMarked, IsKept, IsAddFault};
-    ghost use Rattle.share_core.specs.Entering.{MarkedNothing, MarkedOnly};
+    ghost use Rattle.share_core.specs.Entering.{CallsOnly, EntersOnly};
 
     /// A share without games, of the worker with this number. It takes no memory.
     pub fn begin(alloc: Global, worker: usize, kinds: Kinds) -> Share
@@ -133,6 +133,7 @@ impl Share {
     /// the share's moves or all its counts together would pass 2^64 - 1, or the game has more actions than any input, and
     /// `HarvestFault::Memory` where memory was refused. After a refusal the share's games, moves and sums are as before and
     /// the game is nowhere marked. Rows without counts may have come, and numbers in the table, of patterns of the game.
+    /// No other pattern is entered, and no other game is marked.
     ///
     /// The pass must be of the table, and the game below 2^28.
     pub fn add<O: ProbeOrder>(
@@ -151,13 +152,13 @@ impl Share {
             self.old self.new) }
         ensures marked { OnOk result (IsMarked (2 ^ O.exponent table.now.order) pass.new.seen game
             self.old.kinds record.now) }
-        ensures marks { OnOk result (MarkedOnly (2 ^ O.exponent table.now.order) game pass.old
-            pass.new) }
+        ensures calls { OnOk result (CallsOnly (2 ^ O.exponent table.now.order)
+            (IsPatternOf self.old.kinds record.now) (λ marked. marked ≡ game) pass.old pass.new) }
         ensures kept { OnErr result (IsKept (2 ^ O.exponent table.now.order) pass.new.seen
             record.now
             self.old self.new) }
-        ensures unmarked { OnErr result (MarkedNothing (2 ^ O.exponent table.now.order) pass.old
-            pass.new) }
+        ensures enters { OnErr result (EntersOnly (2 ^ O.exponent table.now.order)
+            (IsPatternOf self.old.kinds record.now) pass.old pass.new) }
         ensures fault { IfErr result (IsAddFault (2 ^ O.exponent table.now.order) pass.new.seen
             game record.now
             self.old self.new) }

@@ -5,7 +5,7 @@ ghost use Rattle.slot_table.specs.Passes.{IsPassOf};
 ghost use Rattle.share_core.specs.declared.rows.Row.{Row};
 ghost use Rattle.share_core.specs.declared.faults.HarvestFault.TheVariants as fault;
 ghost use Rattle.share_core.specs.Checking.{all_rows, IsFound};
-ghost use Rattle.share_core.specs.Entering.{MarkedNothing};
+ghost use Rattle.share_core.specs.Entering.{AsksOnly};
 ghost use Rattle.share_core.specs.Numbers.{AreSums};
 ghost use Rattle.share_core.specs.Visiting.{AreVisited, IsVisit, EndsVisit, IsVisitFault};
 
@@ -42,7 +42,7 @@ fn take<O: ProbeOrder>(
     requires number { number < 2 ^ O.exponent table.now.order }
     requires like { sums.stranger ≡ None }
     ensures pass { IsPassOf (2 ^ O.exponent table.now.order) table.now pass.new }
-    ensures later { MarkedNothing (2 ^ O.exponent table.now.order) pass.old pass.new }
+    ensures later { AsksOnly (2 ^ O.exponent table.now.order) pass.old pass.new }
     ensures ok { OnOk result ((rows : List Row) → (found : Option ℕ)
         → IsFound (2 ^ O.exponent table.now.order) pass.old.seen number found
         → AreSums rows number found sums
@@ -66,7 +66,7 @@ fn visit<O: ProbeOrder>(
     requires pass { IsPassOf (2 ^ O.exponent table.now.order) table.now pass.old }
     requires number { number < 2 ^ O.exponent table.now.order }
     ensures pass { IsPassOf (2 ^ O.exponent table.now.order) table.now pass.new }
-    ensures later { MarkedNothing (2 ^ O.exponent table.now.order) pass.old pass.new }
+    ensures later { AsksOnly (2 ^ O.exponent table.now.order) pass.old pass.new }
     ensures ok { OnOk result (IsVisit (2 ^ O.exponent table.now.order) (all_rows shares.now)
         number (number + 1) pass.old pass.new visited.old visited.new) }
     ensures fault { IfErr result (EndsVisit (2 ^ O.exponent table.now.order)
@@ -91,7 +91,7 @@ fn most_patterns(shares: &[Share], slots: usize) -> usize {
 
 /// Looks at each number of the table, and asks each once, in rising order, for its least game, until one differs from that
 /// of the shares' rows. It takes memory for an entry of each pattern.
-#[tactic(auto, using(crate::proofs::Entered::nothing_self))]
+#[tactic(auto, using(crate::proofs::Entered::calls_self))]
 pub(crate) fn visit_all<O: ProbeOrder>(
     alloc: Global,
     table: &SlotTable<O>,
@@ -100,7 +100,7 @@ pub(crate) fn visit_all<O: ProbeOrder>(
 ) -> Result<Visited, HarvestFault>
     requires { IsPassOf (2 ^ O.exponent table.now.order) table.now pass.old }
     ensures pass { IsPassOf (2 ^ O.exponent table.now.order) table.now pass.new }
-    ensures later { MarkedNothing (2 ^ O.exponent table.now.order) pass.old pass.new }
+    ensures later { AsksOnly (2 ^ O.exponent table.now.order) pass.old pass.new }
     ensures ok { IfOk result (AreVisited (2 ^ O.exponent table.now.order) (all_rows shares.now)
         (2 ^ O.exponent table.now.order) pass.old pass.new) }
     ensures fault { IfErr result (IsVisitFault (2 ^ O.exponent table.now.order) pass.new.seen

@@ -2,7 +2,8 @@
 ghost use Rattle.std.specs.Prelude.{◌≡◌, ◌^◌, ◌<◌, IfOk, IfErr};
 ghost use Rattle.slot_table.specs.Passes.{IsPassOf};
 ghost use Rattle.share_core.specs.Adding.{HasFresh, IsPrepareFault};
-ghost use Rattle.share_core.specs.Entering.{MarkedNothing};
+ghost use Rattle.share_core.specs.Entering.{EntersOnly};
+ghost use Rattle.share_core.specs.Shares.{IsPatternOf};
 ghost use Rattle.share_core.specs.Preparing.{IsPrepared};
 ghost use Rattle.share_core.specs.declared.faults.HarvestFault.TheVariants as fault;
 
@@ -58,7 +59,8 @@ impl Workings {
     ) -> Result<u64, HarvestFault>
         requires { IsPassOf (2 ^ O.exponent table.now.order) table.now pass.old }
         ensures pass { IsPassOf (2 ^ O.exponent table.now.order) table.now pass.new }
-        ensures later { MarkedNothing (2 ^ O.exponent table.now.order) pass.old pass.new }
+        ensures later { EntersOnly (2 ^ O.exponent table.now.order)
+            (IsPatternOf self.old.walk.kinds record.now) pass.old pass.new }
         ensures kinds { self.new.walk.kinds ≡ self.old.walk.kinds }
         ensures ledger { ledger.new ≡ record ledger.old { rows = ledger.new.rows } }
         ensures fresh { HasFresh (2 ^ O.exponent table.now.order) pass.new.seen self.old.walk.kinds

@@ -1,14 +1,14 @@
-use Rattle.std.proofs.Common.{◌^◌, ◌+◌, ◌∷◌, [], refl, sym, ◌∙◌}
+use Rattle.std.proofs.Common.{◌^◌, ◌+◌, ◌∷◌, [], sym, ◌∙◌}
 use Rattle.slot_table.specs.declared.entries.Happened.TheVariants as call
 use Rattle.share_core.proofs.Firsts.{games_agree, games_differ}
 use Rattle.share_core.proofs.Visits.{agree_more, differs_here}
 use Rattle.share_core.proofs.agreeing.compare.Goals as goal
 
 pub returns-then-eq-clause-later : goal.returns-then-eq-clause-later
-returns-then-eq-clause-later g c = record { made = call.First c.args.number c.first-of_table.result ∷ []; later = c.first-of_table.ensures.later; no_marks = refl }
+returns-then-eq-clause-later g c = record { made = call.First c.args.number c.first-of_table.result ∷ []; later = c.first-of_table.ensures.later; entered = tt; marked = tt }
 
 pub returns-else-eq-clause-later : goal.returns-else-eq-clause-later
-returns-else-eq-clause-later g c = record { made = call.First c.args.number c.first-of_table.result ∷ []; later = c.first-of_table.ensures.later; no_marks = refl }
+returns-else-eq-clause-later g c = record { made = call.First c.args.number c.first-of_table.result ∷ []; later = c.first-of_table.ensures.later; entered = tt; marked = tt }
 
 pub returns-then-eq-clause-agree : goal.returns-then-eq-clause-agree
 returns-then-eq-clause-agree g c rows first shares h =

@@ -1,16 +1,30 @@
-use Rattle.std.proofs.Common.{◌≡◌, ◌^◌, ◌<◌, ℕ, List, ◌∷◌, [], length, get_or, ap, sym, subst, ◌∙◌, arith, length-append}
+use Rattle.std.proofs.Common.{◌≡◌, ◌^◌, ◌<◌, ℕ, List, ◌∷◌, [], length, get_or, refl, ap, sym, subst, ◌∙◌, arith, length-append}
 use Rattle.std.proofs.lemmas.List.{get_or_default}
+use Rattle.slot_table.specs.Passes.{Known}
 use Rattle.share_core.specs.declared.making.Entered.{Entered}
 use Rattle.tally_core.specs.declared.meetings.Meeting.{Meeting}
 use Rattle.share_core.specs.Raising.{meeting_at}
-use Rattle.share_core.specs.Entering.{AreEntered}
-use Rattle.share_core.proofs.Entered.{nothing_through, all_kept, entered_more}
+use Rattle.share_core.specs.Entering.{AreEntered, EntersOnly, IsMetIn}
+use Rattle.share_core.proofs.Entered.{calls_through, calls_weaker, all_kept, entered_more}
 use Rattle.share_core.proofs.entering.enter_all.Goals as goal
+
+-- the meeting that was read is the next one
+shape_read : (meetings : List Meeting) (i count : ℕ) (read : Meeting) → i < length meetings → count ≡ i → (get_or meetings i read).shape ≡ (meeting_at meetings count).shape
+shape_read meetings i count read inside same =
+    ap (λ (m : Meeting). m.shape) (get_or_default meetings i read (record { shape = 0; there = 0; played = 0 }) inside) ∙ ap (λ k. (meeting_at meetings k).shape) (sym same)
+
+-- the pattern that was entered is one of the meetings, and so only such were
+entered_so_far : {O : Type 0} (n : ℕ) (meetings : List Meeting) (i : ℕ) (read : Meeting) (first old new : Known O) → i < length meetings → read ≡ get_or meetings i read →
+    EntersOnly n (IsMetIn meetings) first old → EntersOnly n (λ key. key ≡ read.shape) old new → EntersOnly n (IsMetIn meetings) first new
+entered_so_far n meetings i read first old new inside is before one =
+    calls_through n (IsMetIn meetings) (λ _. ⊥) first old new before
+    (calls_weaker n (λ key. key ≡ read.shape) (IsMetIn meetings) (λ _. ⊥) (λ _. ⊥) old new
+    (λ key same. (i, inside, sym (same ∙ ap (λ (m : Meeting). m.shape) is ∙ shape_read meetings i i read inside refl))) (λ game none. none) one)
 
 pub returns-in_default-clause-later : goal.returns-in_default-clause-later
 returns-in_default-clause-later g c =
-    nothing_through (2 ^ g.O.ProbeOrder.exponent c.args.table.now.order) c.args.pass.now c.loop-meeting.pass c.enter_one.new.pass
-    c.loop-meeting.invariant.later c.enter_one.ensures.later
+    entered_so_far (2 ^ g.O.ProbeOrder.exponent c.args.table.now.order) c.args.meetings.now c.loop-meeting.meeting-index c.meeting-item.result c.args.pass.now c.loop-meeting.pass
+    c.enter_one.new.pass (omega arith) c.meeting-item.is c.loop-meeting.invariant.later c.enter_one.ensures.later
 
 pub returns-in_default-clause-each : goal.returns-in_default-clause-each
 returns-in_default-clause-each g c =
@@ -19,8 +33,8 @@ returns-in_default-clause-each g c =
 
 pub returns-in_default-push-clause-later : goal.returns-in_default-push-clause-later
 returns-in_default-push-clause-later g c =
-    nothing_through (2 ^ g.O.ProbeOrder.exponent c.args.table.now.order) c.args.pass.now c.loop-meeting.pass c.enter_one.new.pass
-    c.loop-meeting.invariant.later c.enter_one.ensures.later
+    entered_so_far (2 ^ g.O.ProbeOrder.exponent c.args.table.now.order) c.args.meetings.now c.loop-meeting.meeting-index c.meeting-item.result c.args.pass.now c.loop-meeting.pass
+    c.enter_one.new.pass (omega arith) c.meeting-item.is c.loop-meeting.invariant.later c.enter_one.ensures.later
 
 pub returns-in_default-push-clause-each : goal.returns-in_default-push-clause-each
 returns-in_default-push-clause-each g c =
@@ -28,11 +42,6 @@ returns-in_default-push-clause-each g c =
     subst (λ (es : List Entered). AreEntered n c.enter_one.new.pass.seen c.args.game c.args.meetings.now es) (sym c.in_default-push.ensures.items)
     (all_kept n c.args.game c.loop-meeting.pass.seen c.enter_one.new.pass.seen c.args.meetings.now c.loop-meeting.entered.items
     c.enter_one.ensures.later.later.keeps c.loop-meeting.invariant.each)
-
--- the meeting that was read is the next one
-shape_read : (meetings : List Meeting) (i count : ℕ) (read : Meeting) → i < length meetings → count ≡ i → (get_or meetings i read).shape ≡ (meeting_at meetings count).shape
-shape_read meetings i count read inside same =
-    ap (λ (m : Meeting). m.shape) (get_or_default meetings i read (record { shape = 0; there = 0; played = 0 }) inside) ∙ ap (λ k. (meeting_at meetings k).shape) (sym same)
 
 pub loop-meeting-preserved : goal.loop-meeting-preserved
 loop-meeting-preserved g c =
@@ -46,7 +55,8 @@ loop-meeting-preserved g c =
     let count = c.loop-meeting.invariant.count in
     record {
       pass = c.enter_one.ensures.pass;
-      later = nothing_through n c.args.pass.now c.loop-meeting.pass c.enter_one.new.pass c.loop-meeting.invariant.later c.enter_one.ensures.later;
+      later = entered_so_far n meetings i c.meeting-item.result c.args.pass.now c.loop-meeting.pass c.enter_one.new.pass (omega arith) c.meeting-item.is c.loop-meeting.invariant.later
+          c.enter_one.ensures.later;
       count = omega arith;
       each = subst (λ (es : List Entered). AreEntered n c.enter_one.new.pass.seen c.args.game meetings es) (sym items)
           (entered_more n c.args.game c.loop-meeting.pass.seen c.enter_one.new.pass.seen meetings before c.in-Some.one c.meeting-item.result.shape c.enter_one.ensures.later.later.keeps

@@ -1,6 +1,6 @@
 use Rattle.std.proofs.Common.{◌≡◌, ◌^◌, length}
 use Rattle.slot_table.specs.Passes.{IsPassOf}
-use Rattle.share_core.specs.Entering.{AreEntered, MarkedNothing}
+use Rattle.share_core.specs.Entering.{AreEntered, EntersOnly, IsMetIn}
 use Rattle.share_core.proofs.entering.enter_all.Given as goal
 
 -- the meetings so far have numbers
@@ -9,7 +9,7 @@ invariant-loop-meeting g l =
     let n = 2 ^ g.O.ProbeOrder.exponent l.table.order in
     record {
       pass : IsPassOf n l.table l.pass;
-      later : MarkedNothing n l.fn.pass l.pass;
+      later : EntersOnly n (IsMetIn l.meetings) l.fn.pass l.pass;
       count : length l.entered.items ≡ l.meeting-index;
       each : AreEntered n l.pass.seen l.game l.meetings l.entered.items;
     }

@@ -2,7 +2,7 @@ use Rattle.std.proofs.Common.{◌≡◌, ◌^◌, ◌<◌, ◌≤◌, length, su
 use Rattle.std.proofs.lemmas.Bool.{cases_lt}
 use Rattle.slot_table.specs.History.{least_at, IsAtMost}
 use Rattle.share_core.specs.Making.{entered_at}
-use Rattle.share_core.proofs.Entered.{only_through}
+use Rattle.share_core.proofs.Entered.{calls_through}
 use Rattle.share_core.proofs.entering.mark_all.Goals as goal
 
 pub loop-one-preserved : goal.loop-one-preserved
@@ -13,7 +13,7 @@ loop-one-preserved g c =
     let inside : i < length c.args.entered.now = omega arith in
     record {
       pass = c.mark_one.ensures.pass;
-      later = only_through n c.args.game c.args.pass.now c.loop-one.pass c.mark_one.new.pass c.loop-one.invariant.later c.mark_one.ensures.later;
+      later = calls_through n (λ _. ⊥) (λ marked. marked ≡ c.args.game) c.args.pass.now c.loop-one.pass c.mark_one.new.pass c.loop-one.invariant.later c.mark_one.ensures.later;
       marked = λ k low. ⊎_elim
           (λ (before : k < i). after.marks (entered_at c.args.entered.now k).number c.args.game (c.loop-one.invariant.marked k before))
           (λ (last : i ≤ k).

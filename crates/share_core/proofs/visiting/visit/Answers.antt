@@ -3,7 +3,7 @@ use Rattle.std.proofs.lemmas.Result.{on_ok_weaker}
 use Rattle.slot_table.specs.History.{TellsAt}
 use Rattle.share_core.specs.Checking.{all_rows}
 use Rattle.share_core.specs.Visiting.{IsVisitFault}
-use Rattle.share_core.proofs.Entered.{nothing_seen, nothing_through}
+use Rattle.share_core.proofs.Entered.{calls_seen, calls_through}
 use Rattle.share_core.proofs.Visits.{told_found, stranger_found, visited_later}
 use Rattle.share_core.proofs.visiting.visit.Goals as goal
 
@@ -31,10 +31,10 @@ returns-clause-ok g c =
 
 pub returns-in-Some-clause-later : goal.returns-in-Some-clause-later
 returns-in-Some-clause-later g c =
-    nothing_seen (2 ^ g.O.ProbeOrder.exponent c.args.table.now.order) c.args.pass.now c.word_at.new.pass c.word_at.ensures.later
+    calls_seen (2 ^ g.O.ProbeOrder.exponent c.args.table.now.order) (λ _. ⊥) (λ _. ⊥) c.args.pass.now c.word_at.new.pass c.word_at.ensures.later
 
 pub returns-clause-later : goal.returns-clause-later
 returns-clause-later g c =
     let n = 2 ^ g.O.ProbeOrder.exponent c.args.table.now.order in
     let look = c.word_at.new.pass in
-    nothing_through n c.args.pass.now look c.take.new.pass (nothing_seen n c.args.pass.now look c.word_at.ensures.later) c.take.ensures.later
+    calls_through n (λ _. ⊥) (λ _. ⊥) c.args.pass.now look c.take.new.pass (calls_seen n (λ _. ⊥) (λ _. ⊥) c.args.pass.now look c.word_at.ensures.later) c.take.ensures.later

@@ -6,13 +6,13 @@ use Rattle.share_core.specs.declared.rows.Row.{Row}
 use Rattle.share_core.specs.declared.making.Entered.{Entered}
 use Rattle.share_core.specs.Raising.{AreRowsOf}
 use Rattle.share_core.specs.Making.{AreNumbered}
-use Rattle.share_core.specs.Entering.{AreEntered}
+use Rattle.share_core.specs.Entering.{AreEntered, EntersOnly}
 use Rattle.share_core.specs.Ledgers.{Totals, CountsIn, IsCountFault}
-use Rattle.share_core.specs.Shares.{Held, IsShare}
+use Rattle.share_core.specs.Shares.{Held, IsShare, IsPatternOf}
 use Rattle.share_core.specs.Adding.{IsAdded, HasGrown, IsMarked, IsKept, IsAddFault}
-use Rattle.share_core.proofs.Entered.{only_through}
+use Rattle.share_core.proofs.Entered.{calls_through, calls_weaker}
 use Rattle.share_core.proofs.Added.{still_share, share_with, counted}
-use Rattle.share_core.proofs.Outcomes.{nothing_only, grown, marked, count_fault, prepared_share, kept}
+use Rattle.share_core.proofs.Outcomes.{grown, marked, count_fault, prepared_share, kept}
 use Rattle.share_core.proofs.shares.Share.add.Goals as goal
 
 pub invariant_of-self : goal.invariant_of-self
@@ -135,7 +135,13 @@ returns-clause-marked g c =
     (ap length (sym value) ∙ ready.all ∙ ap length same)
     c.mark_all.ensures.marked)
 
-pub returns-clause-marks : goal.returns-clause-marks
-returns-clause-marks g c =
+pub returns-clause-calls : goal.returns-clause-calls
+returns-clause-calls g c =
     let n = 2 ^ g.O.ProbeOrder.exponent c.args.table.now.order in
-    only_through n c.args.game c.args.pass.now c.prepare.new.pass c.mark_all.new.pass (nothing_only n c.args.game c.args.pass.now c.prepare.new.pass c.prepare.ensures.later) c.mark_all.ensures.later
+    let pattern = IsPatternOf c.args.self.now.kinds c.args.record.now in
+    let before : EntersOnly n pattern c.args.pass.now c.prepare.new.pass =
+    subst (λ (o : Held). EntersOnly n (IsPatternOf o.kinds c.args.record.now) c.args.pass.now c.prepare.new.pass) c.self.view_is c.prepare.ensures.later in
+    calls_through n pattern (λ marked. marked ≡ c.args.game) c.args.pass.now c.prepare.new.pass c.mark_all.new.pass
+    (calls_weaker n pattern pattern (λ _. ⊥) (λ marked. marked ≡ c.args.game) c.args.pass.now c.prepare.new.pass (λ key is. is) (λ game none. absurd none) before)
+    (calls_weaker n (λ _. ⊥) pattern (λ marked. marked ≡ c.args.game) (λ marked. marked ≡ c.args.game) c.prepare.new.pass c.mark_all.new.pass (λ key none. absurd none) (λ game is. is)
+    c.mark_all.ensures.later)

@@ -9,7 +9,7 @@ use Rattle.share_core.specs.Raising.{AreRowsOf}
 use Rattle.share_core.specs.Making.{AreNumbered}
 use Rattle.share_core.specs.Entering.{AreEntered, IsRefused}
 use Rattle.share_core.specs.Adding.{IsPrepareFault}
-use Rattle.share_core.proofs.Prepared.{fresh_of, stranger_of, full_of}
+use Rattle.share_core.proofs.Prepared.{entered_patterns, fresh_of, stranger_of, full_of}
 use Rattle.share_core.proofs.workings.Workings.prepare.Goals as goal
 
 pub returns-in_err-make_rows-clause-fresh : goal.returns-in_err-make_rows-clause-fresh
@@ -103,3 +103,27 @@ returns-in-None-clause-ok g c =
       rows_are = subst (λ (ms : List Meeting). AreRowsOf ms places rows) (whole ∙ same) c.in_ok-make_rows.ensures.rows;
       numbered = subst (λ (es : List Entered). AreNumbered es places rows) value c.in_ok-make_rows.ensures.numbered;
     }
+
+pub returns-in_err-refused-clause-later : goal.returns-in_err-refused-clause-later
+returns-in_err-refused-clause-later g c =
+    let n = 2 ^ g.O.ProbeOrder.exponent c.args.table.now.order in
+    entered_patterns n c.args.self.now.walk.kinds c.args.record.now c.meetings-meetings.result.now c.in-Ok.moves c.args.pass.now c.enter_all.new.pass
+    (subst (λ (ms : List Meeting). IsWalk c.args.self.now.walk.kinds c.args.record.now ms c.in-Ok.moves) (sym c.meetings-meetings.ensures) c.in-Ok.ensures.walked) c.enter_all.ensures.later
+
+pub returns-in_err-make_rows-clause-later : goal.returns-in_err-make_rows-clause-later
+returns-in_err-make_rows-clause-later g c =
+    let n = 2 ^ g.O.ProbeOrder.exponent c.args.table.now.order in
+    entered_patterns n c.args.self.now.walk.kinds c.args.record.now c.meetings-meetings.result.now c.in-Ok.moves c.args.pass.now c.enter_all.new.pass
+    (subst (λ (ms : List Meeting). IsWalk c.args.self.now.walk.kinds c.args.record.now ms c.in-Ok.moves) (sym c.meetings-meetings.ensures) c.in-Ok.ensures.walked) c.enter_all.ensures.later
+
+pub returns-in-Some-clause-later : goal.returns-in-Some-clause-later
+returns-in-Some-clause-later g c =
+    let n = 2 ^ g.O.ProbeOrder.exponent c.args.table.now.order in
+    entered_patterns n c.args.self.now.walk.kinds c.args.record.now c.meetings-meetings.result.now c.in-Ok.moves c.args.pass.now c.enter_all.new.pass
+    (subst (λ (ms : List Meeting). IsWalk c.args.self.now.walk.kinds c.args.record.now ms c.in-Ok.moves) (sym c.meetings-meetings.ensures) c.in-Ok.ensures.walked) c.enter_all.ensures.later
+
+pub returns-in-None-clause-later : goal.returns-in-None-clause-later
+returns-in-None-clause-later g c =
+    let n = 2 ^ g.O.ProbeOrder.exponent c.args.table.now.order in
+    entered_patterns n c.args.self.now.walk.kinds c.args.record.now c.meetings-meetings.result.now c.in-Ok.moves c.args.pass.now c.enter_all.new.pass
+    (subst (λ (ms : List Meeting). IsWalk c.args.self.now.walk.kinds c.args.record.now ms c.in-Ok.moves) (sym c.meetings-meetings.ensures) c.in-Ok.ensures.walked) c.enter_all.ensures.later
