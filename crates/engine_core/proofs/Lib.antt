@@ -5,3 +5,5 @@ pub mod Runs
 pub mod Found
 pub mod Joined
 pub mod Causes
+pub mod Regrouped
+pub mod Batched

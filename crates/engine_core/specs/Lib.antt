@@ -1,3 +1,4 @@
+pub mod Batches
 pub mod Output
 pub mod Boards
 pub mod Runs

@@ -1,5 +1,6 @@
 //! `join`: dictionaries read one after another, and their join.
-ghost use Rattle.std.specs.Prelude.{◌≡◌, ◌≤◌, ◌^◌, length, IfOk, IfErr};
+ghost use Rattle.std.specs.Prelude.{◌≡◌, ◌<◌, ◌≤◌, ◌^◌, length, IfOk, IfErr, IfSome};
+ghost use Rattle.engine_core.specs.Batches.{IsBatch};
 ghost use Rattle.engine_core.specs.Joins.{IsAdded, IsAddFault, IsJoinedText, IsJoinText};
 ghost use Rattle.engine_core.specs.Joins.{IsJoinRunFault};
 ghost use Rattle.engine_core.specs.Runs.{Wrote, IsRunFault};
@@ -7,6 +8,7 @@ ghost use Rattle.engine_core.specs.declared.boards.Outcome.TheVariants as outcom
 
 use crate::boards::Outcome;
 use crate::faults::RunFault;
+use crate::halves::{Batch, join_front, join_two};
 use crate::input::read_input;
 use crate::output::write_output;
 use shape_dict::{DictFault, Dictionary, Text};
@@ -30,27 +32,86 @@ fn add_next(alloc: Global, sum: &Dictionary, bytes: &[u8]) -> Result<(Dictionary
     }
 }
 
+/// The batch at the front of the input, and the dictionary that follows it.
+///
+/// `RunFault::Dict` has the number of that dictionary, from 1, and why it cannot be read or added, or want of memory.
+fn add_one(alloc: Global, input: &[u8], before: &Batch) -> Result<Batch, RunFault>
+    requires few { length input.now ≤ 2 ^ 28 }
+    requires before { IsBatch input.now before.now }
+    requires more { before.now.length < length input.now }
+    ensures batch { IfOk result (IsBatch input.now) }
+    ensures enough { IfOk result (λ batch. before.now.length < batch.length) }
+    ensures fault { IfErr result (IsJoinRunFault input.now) }
+{
+    let n = before.number + 1;
+    match add_next(alloc, &before.sum, &input[before.length..]) {
+        Ok((sum, length)) => Ok(Batch {
+            sum,
+            number: n,
+            length: before.length + length,
+        }),
+        Err(fault) => Err(RunFault::Dict { n, fault }),
+    }
+}
+
+/// The batch at the front of the input, and the dictionaries that follow it up to the byte of this number at least, which
+/// are joined before they are added. None where one of them cannot be read or joined, or memory was refused.
+fn add_joined(alloc: Global, input: &[u8], before: &Batch, end: usize) -> Option<Batch>
+    requires before { IsBatch input.now before.now }
+    requires more { before.now.length ≤ end }
+    requires within { end ≤ length input.now }
+    ensures batch { IfSome result (IsBatch input.now) }
+    ensures enough { IfSome result (λ batch. end ≤ batch.length) }
+{
+    let next = join_front(alloc, &input[before.length..], end - before.length)?;
+    join_two(alloc, before, &next)
+}
+
+/// The batch at the front of the input, and the dictionaries that follow it up to the byte of this number at least. Where
+/// they cannot be joined before they are added, those of the first half of the bytes are added, and then the others: so the
+/// first fault is met, and each time only half of the bytes are read again.
+fn add_up_to(alloc: Global, input: &[u8], before: Batch, end: usize) -> Result<Batch, RunFault>
+    requires few { length input.now ≤ 2 ^ 28 }
+    requires before { IsBatch input.now before }
+    requires within { end ≤ length input.now }
+    ensures batch { IfOk result (IsBatch input.now) }
+    ensures enough { IfOk result (λ batch. end ≤ batch.length) }
+    ensures fault { IfErr result (IsJoinRunFault input.now) }
+{
+    if before.length >= end {
+        return Ok(before);
+    }
+    let half = (end - before.length) / 2;
+    if half == 0 {
+        return add_one(alloc, input, &before);
+    }
+    match add_joined(alloc, input, &before, end) {
+        Some(all) => Ok(all),
+        None => {
+            let middle = before.length + half;
+            let more = add_up_to(alloc, input, before, middle)?;
+            add_up_to(alloc, input, more, end)
+        }
+    }
+}
+
 /// The join of all dictionaries whose texts the input is, and how many they are.
 fn join_all(alloc: Global, input: &[u8]) -> Result<(Dictionary, usize), RunFault>
     requires { length input.now ≤ 2 ^ 28 }
     ensures joined { IfOk result (λ p. IsJoinedText input.now p.1 p.0) }
     ensures fault { IfErr result (IsJoinRunFault input.now) }
 {
-    let (mut sum, mut at) = match Dictionary::read_front(alloc, input) {
+    let (sum, length) = match Dictionary::read_front(alloc, input) {
         Ok(first) => first,
         Err(fault) => return Err(RunFault::Dict { n: 1, fault }),
     };
-    let mut number = 1;
-    while at < input.len() {
-        number += 1;
-        let (both, length) = match add_next(alloc, &sum, &input[at..]) {
-            Ok(added) => added,
-            Err(fault) => return Err(RunFault::Dict { n: number, fault }),
-        };
-        sum = both;
-        at += length;
-    }
-    Ok((sum, number))
+    let first = Batch {
+        sum,
+        number: 1,
+        length,
+    };
+    let all = add_up_to(alloc, input, first, input.len())?;
+    Ok((all.sum, all.number))
 }
 
 /// The text of the join of all dictionaries whose texts the input is.
@@ -73,8 +134,8 @@ fn joined_text(alloc: Global, kind: Text, input: &[u8]) -> Result<Vec<u8>, RunFa
 }
 
 /// Reads one dictionary or more, one after another, each in any of the three texts, and writes a text of their join:
-/// those before are the left of each join, and the next one is its right. It takes memory for the input, the join so far,
-/// the dictionary that was read, the join that is made of both, and the text.
+/// the earlier ones are the left of each join. It takes memory for the input, the joins of parts that follow one another, of
+/// which there are no more than the input's bytes can be halved, the join that is made of two of them, and the text.
 ///
 /// # Errors
 ///

@@ -8,6 +8,9 @@ mod finds;
 mod joins;
 mod patterns;
 
+// the joins that `join` makes
+mod halves;
+
 // the lines that they write
 mod lines;
 mod text;

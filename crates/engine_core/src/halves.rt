@@ -1,0 +1,69 @@
+//! Dictionaries one after another, joined by halves of their bytes: none is in more joins than they can be halved.
+ghost use Rattle.std.specs.Prelude.{◌≡◌, ℕ, ◌+◌, ◌^◌, ◌<◌, ◌≤◌, List, length, IfSome};
+ghost use Rattle.engine_core.specs.Batches.{IsBatch, AreBatches};
+
+use shape_dict::Dictionary;
+use std::alloc::Global;
+
+/// Dictionaries that were read one after another, at least one, and joined.
+#[derive(Drop)]
+pub(crate) struct Batch {
+    /// Their join.
+    pub(crate) sum: Dictionary,
+    /// How many they are.
+    pub(crate) number: usize,
+    /// How many bytes their texts have.
+    pub(crate) length: usize,
+}
+
+/// The first dictionary alone, or None where it cannot be read, or memory was refused.
+fn read_one(alloc: Global, bytes: &[u8]) -> Option<Batch>
+    ensures batch { IfSome result (IsBatch bytes.now) }
+    ensures some { IfSome result (λ batch. 1 ≤ batch.length) }
+{
+    match Dictionary::read_front(alloc, bytes) {
+        Ok((sum, length)) => Some(Batch {
+            sum,
+            number: 1,
+            length,
+        }),
+        Err(_) => None,
+    }
+}
+
+/// Two batches, of which the second follows the first, as one; or None where they cannot be joined, or memory was refused.
+pub(crate) fn join_two(alloc: Global, first: &Batch, next: &Batch) -> Option<Batch>
+    requires number { first.now.number + next.now.number < 2 ^ 64 }
+    requires length { first.now.length + next.now.length < 2 ^ 64 }
+    ensures both { (bytes : List ℕ) → AreBatches bytes first.now next.now
+        → IfSome result (IsBatch bytes) }
+    ensures length { IfSome result (λ both. both.length ≡ first.now.length + next.now.length) }
+{
+    match Dictionary::join(alloc, &first.sum, &next.sum) {
+        Ok(sum) => Some(Batch {
+            sum,
+            number: first.number + next.number,
+            length: first.length + next.length,
+        }),
+        Err(_) => None,
+    }
+}
+
+/// The dictionaries at the front of the bytes whose texts have `least` bytes or more, and no more of them than that takes:
+/// those of the first half of these bytes, those of what is left of them, and both joined. So each is in no more joins than
+/// `least` can be halved. None where one of them cannot be read or joined, or memory was refused.
+pub(crate) fn join_front(alloc: Global, bytes: &[u8], least: usize) -> Option<Batch>
+    requires { least ≤ length bytes.now }
+    ensures batch { IfSome result (IsBatch bytes.now) }
+    ensures enough { IfSome result (λ batch. least ≤ batch.length) }
+{
+    if least <= 1 {
+        return read_one(alloc, bytes);
+    }
+    let first = join_front(alloc, bytes, least / 2)?;
+    if first.length >= least {
+        return Some(first);
+    }
+    let next = join_front(alloc, &bytes[first.length..], least - first.length)?;
+    join_two(alloc, &first, &next)
+}
