@@ -130,16 +130,3 @@ fn sorting_keeps_what_was_counted(rt: HostRuntime) -> Result<(), Fail> {
     }
     Ok(())
 }
-
-#[test]
-fn a_game_is_added_to_sorted_rows(rt: HostRuntime) -> Result<(), Fail> {
-    let alloc = rt.alloc();
-    let (table, mut pass) = SlotTable::new(alloc, order_of(&rt, 4))?;
-    let mut share = share_of_both(alloc, &table, &mut pass)?;
-    share.sort_rows();
-    let refused = refusal_of(alloc, &mut share, &table, &mut pass, 2, ONE_POINT)?;
-    let rows = rows_of(alloc, &share)?;
-    assert!(rt; refused.is_none() && rows.len() == 3);
-    assert!(rt; has_row(&rows, row_of(&rt, ALONE, 2, 2, 0)));
-    Ok(())
-}
