@@ -12,7 +12,7 @@ use Rattle.tally_core.specs.declared.meetings.Meeting.{Meeting}
 use Rattle.share_core.specs.Raising.{meeting_at}
 use Rattle.share_core.specs.Making.{entered_at}
 
--- the keys that these calls entered, in order
+-- the keys that these calls asked to enter, in order, whether a number was free or not
 abbrev pub entered_by : List Happened → List ℕ
 entered_by [] = []
 entered_by (call.Asked (asked.Enter key) found ∷ calls) = key ∷ entered_by calls
