@@ -60,9 +60,9 @@ impl Board {
         ensures removed { IfOk result (λ board. board.removed ≡ []) }
         ensures board { IfOk result IsBoard }
     {
-        let stones = vec![in alloc; Stone::Empty; size.area()].map_err(|_| BoardFault::Memory)?;
-        let group = PointSet::new(alloc, size).map_err(|_| BoardFault::Memory)?;
-        let removed = PointSet::new(alloc, size).map_err(|_| BoardFault::Memory)?;
+        let stones = vec![in alloc; Stone::Empty; size.area()]?;
+        let group = PointSet::new(alloc, size)?;
+        let removed = PointSet::new(alloc, size)?;
         Ok(Board {
             size,
             stones,

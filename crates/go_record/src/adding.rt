@@ -1,8 +1,7 @@
 //! The values of a setup or a move property, one after another.
-ghost use Rattle.std.specs.Prelude.{◌≡◌, [], ◌∷◌, ◌++◌, map, All, IfErr, OnOk};
+ghost use Rattle.std.specs.Prelude.{map, All, OnOk};
 ghost use Rattle.go_record.specs.Actions.{IsActionOn};
 ghost use Rattle.go_record.specs.Adding.{Adds};
-ghost use Rattle.go_record.specs.declared.faults.RecordFault.TheVariants as fault;
 ghost use Rattle.go_record.specs.Setup.{move_of, setup_of, always};
 
 use crate::actions::Action;
@@ -10,16 +9,6 @@ use crate::deeds::{move_of, setup_of};
 use crate::faults::RecordFault;
 use go_board::{Colour, Size, Stone};
 use sgf_core::Value;
-
-fn push(actions: &mut Vec<Action>, action: Action) -> Result<(), RecordFault>
-    ensures ok { OnOk result (actions.new.items ≡ actions.old.items ++ action ∷ []) }
-    ensures fault { IfErr result (λ found. found ≡ fault.Memory) }
-{
-    match actions.push(action) {
-        Ok(()) => Ok(()),
-        Err(_) => Err(RecordFault::Memory),
-    }
-}
 
 /// Adds the setups of a property's values.
 pub(crate) fn add_setups(
@@ -35,7 +24,7 @@ pub(crate) fn add_setups(
 {
     for value in values {
         if let Some(action) = setup_of(size, stone, value.at, value.bytes)? {
-            push(actions, action)?;
+            actions.push(action)?;
         }
     }
     Ok(())
@@ -56,7 +45,7 @@ pub(crate) fn add_moves(
 {
     for value in values {
         let action = move_of(size, colour, value.at, value.bytes)?;
-        push(actions, action)?;
+        actions.push(action)?;
     }
     Ok(())
 }

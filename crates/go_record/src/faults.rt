@@ -1,4 +1,8 @@
 //! What can be wrong with a record.
+ghost use Rattle.std.specs.Prelude.{◌≡◌};
+ghost use Rattle.go_record.specs.declared.faults.RecordFault.TheVariants.{Memory};
+
+use std::alloc::{AllocError, AllocFailed};
 use thiserror::Error;
 
 /// Why a tree gives no record. A place is the offset in the whole input of the first byte of the value at fault.
@@ -16,4 +20,20 @@ pub enum RecordFault {
     /// Memory was refused.
     #[error("G4 no memory")]
     Memory,
+}
+
+impl From<AllocError> for RecordFault {
+    ghost from_gives = { λ _ fault. fault ≡ Memory };
+
+    fn from(_: AllocError) -> RecordFault {
+        RecordFault::Memory
+    }
+}
+
+impl<T: Drop> From<AllocFailed<T>> for RecordFault {
+    ghost from_gives = { λ _ fault. fault ≡ Memory };
+
+    fn from(_: AllocFailed<T>) -> RecordFault {
+        RecordFault::Memory
+    }
 }
