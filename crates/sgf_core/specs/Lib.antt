@@ -1,3 +1,4 @@
+pub mod Limit
 pub mod Bytes
 pub mod Tree
 pub mod Grammar

@@ -1,5 +1,6 @@
 -- What a reader of trees stands for: the input, the place where it goes on, and the fault that it has met.
-use Rattle.std.specs.Prelude.{◌≡◌, ℕ, ◌^◌, ◌≤◌, List, length, Option, Some, None, IfSome}
+use Rattle.std.specs.Prelude.{◌≡◌, ℕ, ◌≤◌, List, length, Option, Some, None, IfSome}
+use Rattle.sgf_core.specs.Limit.{most_bytes}
 use Rattle.sgf_core.specs.Next.{IsTruncated, IsBadByte, IsNoValue}
 use Rattle.sgf_core.specs.declared.faults.SgfFault.{SgfFault}
 use Rattle.sgf_core.specs.declared.faults.SgfFault.TheVariants as fault
@@ -19,7 +20,7 @@ IsFaultAt bytes from fault.Memory = ⊥
 
 -- the place is within the input, which is not too large, and a fault that was met stands there
 pub record IsReading (reading : Reading) : Type 0 where
-  pub small : length reading.bytes ≤ 2 ^ 28
+  pub small : length reading.bytes ≤ most_bytes
   pub in_input : reading.from ≤ length reading.bytes
   pub met : IfSome reading.fault (IsFaultAt reading.bytes reading.from)
 

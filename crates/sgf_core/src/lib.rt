@@ -15,4 +15,4 @@ pub use faults::SgfFault;
 pub use laws::{few_values, one_answer, one_fault, one_next_tree};
 pub use lines::{MainLine, Node, Props};
 pub use marks::{Mark, Prop, Tree, Value};
-pub use reader::Trees;
+pub use reader::{Trees, MOST_BYTES};

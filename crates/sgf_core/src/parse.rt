@@ -1,5 +1,6 @@
 //! Reads the tree that begins at a place, mark by mark, in one pass and with no recursion.
-ghost use Rattle.std.specs.Prelude.{◌≡◌, ℕ, ◌<◌, ◌≤◌, ◌^◌, IfOk, IfErr, length, drop, slice_range};
+ghost use Rattle.std.specs.Prelude.{◌≡◌, ℕ, ◌<◌, ◌≤◌, IfOk, IfErr, length, drop, slice_range};
+ghost use Rattle.sgf_core.specs.Limit.{most_bytes};
 ghost use Rattle.sgf_core.specs.Tree.{GameTree};
 ghost use Rattle.sgf_core.specs.Grammar.{WritesTree};
 ghost use Rattle.sgf_core.specs.Next.{BeginsTree, IsFirstBegin};
@@ -58,7 +59,7 @@ fn read_mark<'a>(
 
 /// Reads the tree whose first parenthesis stands at `at`.
 pub(crate) fn read_tree<'a>(alloc: Global, bytes: &'a [u8], at: usize) -> Result<Tree<'a>, SgfFault>
-    requires small { length bytes.now ≤ 2 ^ 28 }
+    requires small { length bytes.now ≤ most_bytes }
     requires begins { BeginsTree (drop at bytes.now) }
     ensures bounds { IfOk result (λ read. (read.at ≡ at) × (at < read.end)
         × (read.end ≤ length bytes.now)) }

@@ -1,6 +1,7 @@
 //! The reader of a collection: one tree after the other.
-ghost use Rattle.std.specs.Prelude.{◌≡◌, ◌<◌, ◌≤◌, ◌^◌, Some, None, IfOk, IfErr, IfSome, IfNone};
+ghost use Rattle.std.specs.Prelude.{◌≡◌, ◌<◌, ◌≤◌, Some, None, IfOk, IfErr, IfSome, IfNone};
 ghost use Rattle.std.specs.Prelude.{IsOk, ◌↔◌, MatchOption, length};
+ghost use Rattle.sgf_core.specs.Limit.{most_bytes};
 ghost use Rattle.sgf_core.specs.Tree.{GameTree};
 ghost use Rattle.sgf_core.specs.Next.{IsFirstBegin, HasNoTree, IsNextTree};
 ghost use Rattle.sgf_core.specs.Marks.{marks_of};
@@ -15,8 +16,8 @@ use memchr::memchr;
 use std::alloc::Global;
 use std::marker::Model;
 
-/// The most bytes that an input may have.
-const LIMIT: usize = 1 << 28;
+/// The most bytes that an input may have, a limit of this project's own.
+pub const MOST_BYTES: usize = 1 << 28;
 
 /// Reads the trees of a collection in their order, as SGF FF[4] has them. Bytes outside trees are skipped: a tree begins
 /// where a parenthesis, white bytes and a semicolon stand (this project's own reading).
@@ -76,12 +77,12 @@ impl<'a> Trees<'a> {
     ///
     /// S4 comes where the input has more than 2^28 bytes.
     pub fn new(bytes: &'a [u8]) -> Result<Trees<'a>, SgfFault>
-        ensures small { IsOk result ↔ (length bytes.now ≤ 2 ^ 28) }
+        ensures small { IsOk result ↔ (length bytes.now ≤ most_bytes) }
         ensures begins { IfOk result (λ trees. trees
             ≡ record { bytes = bytes.now; from = 0; fault = None }) }
         ensures large { IfErr result (λ fault. fault ≡ TooLarge) }
     {
-        if bytes.len() > LIMIT {
+        if bytes.len() > MOST_BYTES {
             return Err(SgfFault::TooLarge);
         }
         Ok(Trees {
