@@ -100,21 +100,22 @@ impl Size {
         self.rows
     }
 
-    /// The number of points of a board of this size.
-    pub(crate) fn area(self) -> usize
+    /// The number of points of a board of this size: the length of a list with an item for each point.
+    pub fn area(self) -> usize
         ensures value { result ≡ self.columns * self.rows }
         ensures size { IsExtent self }
     {
         usize::from(self.columns) * usize::from(self.rows)
     }
 
-    /// The place of a point in a list of the points row by row from the top, each row from the left.
-    pub(crate) fn index(self, point: Point) -> usize
+    /// The place of a point in a list with an item for each point, row by row from the top and each row from the left.
+    /// The point is on a board of this size.
+    pub fn index(self, point: Point) -> usize
         requires { IsOn self point }
         ensures value { result ≡ index_of self point }
         ensures below { result < self.columns * self.rows }
     {
-        point.row as usize * self.columns as usize + point.column as usize
+        usize::from(point.row) * usize::from(self.columns) + usize::from(point.column)
     }
 
     /// Whether the point is on a board of this size.

@@ -1,19 +1,12 @@
 //! What one value of a move or a setup property does.
 ghost use Rattle.std.specs.Prelude.{◌≡◌, ◌<◌, ℕ, IfOk, IfSome};
 ghost use Rattle.go_record.specs.Actions.{IsActionOn};
-ghost use Rattle.go_record.specs.Point.{is_on};
 ghost use Rattle.go_record.specs.Setup.{is_pass, move_of, spanned, setup_of};
 
 use crate::actions::Action;
 use crate::faults::RecordFault;
 use crate::spelling::{point, split_colon, trimmed};
 use go_board::{Colour, Point, Size, Stone};
-
-fn is_on(size: Size, point: Point) -> bool
-    ensures { result ≡ is_on size point }
-{
-    point.column < size.columns() && point.row < size.rows()
-}
 
 fn is_pass(size: Size, text: &[u8]) -> bool
     ensures { result ≡ is_pass size text.now }
@@ -44,7 +37,7 @@ pub(crate) fn move_of(
     match point(text) {
         None => Err(RecordFault::BadPoint(at)),
         Some(point) => {
-            if is_on(size, point) {
+            if size.has(point) {
                 Ok(Action::Move { colour, at: point })
             } else {
                 Err(RecordFault::OffBoard(at))
@@ -66,7 +59,7 @@ fn spanned(
 {
     match (p, q) {
         (Some(p), Some(q)) => {
-            if !is_on(size, p) || !is_on(size, q) {
+            if !size.has(p) || !size.has(q) {
                 return Err(RecordFault::OffBoard(at));
             }
             let low = Point {
