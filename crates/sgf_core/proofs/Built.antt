@@ -6,8 +6,8 @@ use Rattle.sgf_core.specs.Grammar.{HasValues, AreComplete, IsComplete}
 use Rattle.sgf_core.specs.Marks.{node_marks, forest_marks}
 use Rattle.sgf_core.specs.declared.marks.Mark.{Mark}
 use Rattle.sgf_core.specs.declared.marks.Mark.TheVariants as mark
-use Rattle.sgf_core.specs.declared.parse.Expects.{Expects}
-use Rattle.sgf_core.specs.declared.parse.Expects.TheVariants as expects
+use Rattle.sgf_core.specs.declared.marks.Expects.{Expects}
+use Rattle.sgf_core.specs.declared.marks.Expects.TheVariants as expects
 use Rattle.sgf_core.proofs.Stages.{Stage, wrong, finished, inside, valued_stage, follow_all, follow_wrong, follow_finished}
 use Rattle.sgf_core.proofs.Building.{Rest, before, build, tree_of, inner_marks, first_of_outer, rest_of_outer}
 

@@ -10,8 +10,8 @@ use Rattle.sgf_core.specs.Marks.{marks_of}
 use Rattle.sgf_core.specs.Pieces.{Wrote, mark_parts, parts_of, IsAllowed}
 use Rattle.sgf_core.specs.declared.marks.Mark.{Mark}
 use Rattle.sgf_core.specs.declared.marks.Mark.TheVariants as mark
-use Rattle.sgf_core.specs.declared.parse.Expects.{Expects}
-use Rattle.sgf_core.specs.declared.parse.Expects.TheVariants as expects
+use Rattle.sgf_core.specs.declared.marks.Expects.{Expects}
+use Rattle.sgf_core.specs.declared.marks.Expects.TheVariants as expects
 use Rattle.sgf_core.proofs.States.{Phase, begun, in_node, valued, after_tree, State, done, live, run, run-append}
 use Rattle.sgf_core.proofs.Stages.{Stage, wrong, finished, inside, follow, follow_all, follow_all-append}
 use Rattle.sgf_core.proofs.Building.{tree_of, inner_marks}

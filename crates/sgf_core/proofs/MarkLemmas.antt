@@ -8,8 +8,8 @@ use Rattle.sgf_core.specs.Grammar.{Part, IsPartText, WritesParts}
 use Rattle.sgf_core.specs.Pieces.{Wrote, mark_parts, IsAllowed, IsWhole, IsMarkText, ReadsMark, EndsInMark, IsNameAlone, MarkFault}
 use Rattle.sgf_core.specs.declared.marks.Mark.{Mark}
 use Rattle.sgf_core.specs.declared.marks.Mark.TheVariants as mark
-use Rattle.sgf_core.specs.declared.parse.Expects.{Expects}
-use Rattle.sgf_core.specs.declared.parse.Expects.TheVariants as expects
+use Rattle.sgf_core.specs.declared.marks.Expects.{Expects}
+use Rattle.sgf_core.specs.declared.marks.Expects.TheVariants as expects
 use Rattle.sgf_core.specs.declared.faults.SgfFault.{SgfFault}
 use Rattle.sgf_core.specs.declared.faults.SgfFault.TheVariants as fault
 use Rattle.sgf_core.proofs.Slices.{slice-drop, slice-join, slice-more, slice-none, length-slice, all-append}

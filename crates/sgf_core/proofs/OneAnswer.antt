@@ -8,7 +8,7 @@ use Rattle.sgf_core.specs.Grammar.{WritesTree, IsGoodFront, WritesParts}
 use Rattle.sgf_core.specs.Next.{IsFirstBegin, IsNextTree, IsUnwritten, IsTruncated, TurnsBad, EndsWithIdentifier, IsNoValue, IsBadByte}
 use Rattle.sgf_core.specs.Pieces.{parts_of}
 use Rattle.sgf_core.specs.Reading.{IsFaultAt}
-use Rattle.sgf_core.specs.declared.parse.Expects.TheVariants as expects
+use Rattle.sgf_core.specs.declared.marks.Expects.TheVariants as expects
 use Rattle.sgf_core.specs.declared.faults.SgfFault.{SgfFault}
 use Rattle.sgf_core.specs.declared.faults.SgfFault.TheVariants as fault
 use Rattle.sgf_core.proofs.Slices.{slice-drop, slice-join, slice-first}

@@ -9,7 +9,7 @@ use Rattle.sgf_core.specs.Grammar.{Part, opens, begins_node, has_value, closes, 
 use Rattle.sgf_core.specs.Pieces.{parts_of}
 use Rattle.sgf_core.specs.declared.marks.Mark.{Mark}
 use Rattle.sgf_core.specs.declared.marks.Mark.TheVariants as mark
-use Rattle.sgf_core.specs.declared.parse.Expects.TheVariants as expects
+use Rattle.sgf_core.specs.declared.marks.Expects.TheVariants as expects
 use Rattle.sgf_core.proofs.StateLemmas.{and-left, and-right}
 use Rattle.sgf_core.proofs.Stages.{Stage, wrong, finished, inside, valued_stage, follow, follow_all, follow_wrong}
 use Rattle.sgf_core.proofs.Begins.{same_white}

@@ -14,8 +14,8 @@ use Rattle.sgf_core.specs.Reading.{IsFaultAt, IsFaultOrMemory}
 use Rattle.sgf_core.specs.Pieces.{Wrote, mark_parts, parts_of, IsAllowed, is_fitting, IsWhole, ReadsMark, EndsInMark, IsMisfit, IsNameAlone, MarkFault}
 use Rattle.sgf_core.specs.declared.marks.Mark.{Mark}
 use Rattle.sgf_core.specs.declared.marks.Mark.TheVariants as mark
-use Rattle.sgf_core.specs.declared.parse.Expects.{Expects}
-use Rattle.sgf_core.specs.declared.parse.Expects.TheVariants as expects
+use Rattle.sgf_core.specs.declared.marks.Expects.{Expects}
+use Rattle.sgf_core.specs.declared.marks.Expects.TheVariants as expects
 use Rattle.sgf_core.specs.declared.faults.SgfFault.{SgfFault}
 use Rattle.sgf_core.specs.declared.faults.SgfFault.TheVariants as fault
 use Rattle.sgf_core.proofs.Slices.{slice-drop, slice-join, slice-first, length-slice}

@@ -11,7 +11,7 @@ use Rattle.sgf_core.specs.Pieces.{Wrote, ReadsMark, EndsInMark, IsNameAlone}
 use Rattle.sgf_core.specs.Values.{value_of}
 use Rattle.sgf_core.specs.declared.marks.Value.{Value}
 use Rattle.sgf_core.specs.declared.marks.Mark.TheVariants as mark
-use Rattle.sgf_core.specs.declared.parse.Expects.TheVariants as expects
+use Rattle.sgf_core.specs.declared.marks.Expects.TheVariants as expects
 use Rattle.sgf_core.proofs.Slices.{slice-drop, slice-join, slice-first, slice-more, length-slice}
 use Rattle.sgf_core.proofs.Writing.{wrote-plain, wrote-white, wrote-then}
 

@@ -8,8 +8,8 @@ use Rattle.sgf_core.specs.Grammar.{Part, opens, begins_node, has_value, closes, 
 use Rattle.sgf_core.specs.Pieces.{mark_parts, parts_of, IsAllowed}
 use Rattle.sgf_core.specs.declared.marks.Mark.{Mark}
 use Rattle.sgf_core.specs.declared.marks.Mark.TheVariants as mark
-use Rattle.sgf_core.specs.declared.parse.Expects.{Expects}
-use Rattle.sgf_core.specs.declared.parse.Expects.TheVariants as expects
+use Rattle.sgf_core.specs.declared.marks.Expects.{Expects}
+use Rattle.sgf_core.specs.declared.marks.Expects.TheVariants as expects
 use Rattle.sgf_core.proofs.States.{Phase, begun, in_node, in_name, named, in_value, valued, after_tree, State, done, live, closed, step, run, run-append, IsBetween}
 use Rattle.sgf_core.proofs.StateLemmas.{and-left, and-right, letter-facts, run-white, run-letters, run-name-white, run-text}
 use Rattle.sgf_core.proofs.Stages.{Stage, wrong, finished, inside, ended, valued_stage, follow, follow_all, follow_wrong}

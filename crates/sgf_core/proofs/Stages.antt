@@ -3,8 +3,8 @@ use Rattle.std.proofs.Common.{◌≡◌, ℕ, zero, suc, List, [], ◌∷◌, �
 use Rattle.sgf_core.specs.Tree.{PropertyValue}
 use Rattle.sgf_core.specs.declared.marks.Mark.{Mark}
 use Rattle.sgf_core.specs.declared.marks.Mark.TheVariants as mark
-use Rattle.sgf_core.specs.declared.parse.Expects.{Expects}
-use Rattle.sgf_core.specs.declared.parse.Expects.TheVariants as expects
+use Rattle.sgf_core.specs.declared.marks.Expects.{Expects}
+use Rattle.sgf_core.specs.declared.marks.Expects.TheVariants as expects
 
 -- no front of a tree; the tree; or less than it, within this many trees beside the innermost
 pub data Stage : Type 0 where

@@ -8,8 +8,8 @@ use Rattle.sgf_core.specs.Marks.{node_marks, forest_marks}
 use Rattle.sgf_core.specs.Pieces.{mark_parts, parts_of}
 use Rattle.sgf_core.specs.declared.marks.Mark.{Mark}
 use Rattle.sgf_core.specs.declared.marks.Mark.TheVariants as mark
-use Rattle.sgf_core.specs.declared.parse.Expects.{Expects}
-use Rattle.sgf_core.specs.declared.parse.Expects.TheVariants as expects
+use Rattle.sgf_core.specs.declared.marks.Expects.{Expects}
+use Rattle.sgf_core.specs.declared.marks.Expects.TheVariants as expects
 use Rattle.sgf_core.proofs.Stages.{Stage, finished, inside, ended, valued_stage, follow, follow_all}
 use Rattle.sgf_core.proofs.Building.{inner_marks}
 

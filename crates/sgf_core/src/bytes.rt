@@ -4,7 +4,7 @@ ghost use Rattle.sgf_core.specs.Bytes.{is_white, is_letter};
 ghost use Rattle.sgf_core.specs.Tree.{name_of};
 
 /// Whether white space may be written by this byte.
-pub(crate) fn is_white(byte: u8) -> bool
+pub fn is_white(byte: u8) -> bool
     ensures { result ≡ is_white byte }
 {
     matches!(byte, 0x09..=0x0d | b' ')

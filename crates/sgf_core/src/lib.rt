@@ -10,9 +10,12 @@ mod parse;
 mod property;
 mod reader;
 mod scan;
+mod written;
 
+pub use bytes::is_white;
 pub use faults::SgfFault;
 pub use laws::{few_values, one_answer, one_fault, one_next_tree};
 pub use lines::{MainLine, Node, Props};
-pub use marks::{Mark, Prop, Tree, Value};
+pub use marks::{Mark, Prop, Value};
 pub use reader::{Trees, MOST_BYTES};
+pub use written::Tree;

@@ -10,21 +10,11 @@ ghost use Rattle.sgf_core.specs.Pieces.{ReadsMark, MarkFault};
 
 use crate::bytes::is_letter;
 use crate::faults::SgfFault;
-use crate::marks::{Mark, Tree};
+use crate::marks::{Expects, Mark};
 use crate::property::read_property;
 use crate::scan::white_end;
+use crate::written::Tree;
 use std::alloc::Global;
-
-/// What may come next within a tree.
-#[derive(Clone, Copy)]
-pub(crate) enum Expects {
-    /// A node: after the tree's first parenthesis.
-    Node,
-    /// Any part: in a node.
-    Any,
-    /// A tree, or the end of this one: after an inner tree.
-    Tree,
-}
 
 /// The next mark from `from` on of the tree that begins at `at`, and the place after it.
 fn read_mark<'a>(

@@ -4,8 +4,7 @@ ghost use Rattle.sgf_core.specs.Bytes.{is_letter};
 ghost use Rattle.sgf_core.specs.Pieces.{ReadsMark, MarkFault};
 
 use crate::faults::SgfFault;
-use crate::marks::{Mark, Prop, Value};
-use crate::parse::Expects;
+use crate::marks::{Expects, Mark, Prop, Value};
 use crate::scan::{letters_end, value_end, white_end};
 use smallvec::SmallVec;
 use std::alloc::Global;

@@ -9,9 +9,9 @@ ghost use Rattle.sgf_core.specs.Reading.{IsFaultOrMemory, IsAfterFault, kept_fau
 ghost use Rattle.sgf_core.specs.declared.faults.SgfFault.TheVariants.{TooLarge};
 
 use crate::faults::SgfFault;
-use crate::marks::Tree;
 use crate::parse::read_tree;
 use crate::scan::white_end;
+use crate::written::Tree;
 use memchr::memchr;
 use std::alloc::Global;
 use std::marker::Model;

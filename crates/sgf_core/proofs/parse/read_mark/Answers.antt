@@ -4,7 +4,7 @@ use Rattle.sgf_core.specs.Bytes.{open_parenthesis, close_parenthesis, semicolon}
 use Rattle.sgf_core.specs.Grammar.{opens, begins_node, closes}
 use Rattle.sgf_core.specs.Pieces.{ReadsMark, MarkFault}
 use Rattle.sgf_core.specs.declared.marks.Mark.TheVariants as mark
-use Rattle.sgf_core.specs.declared.parse.Expects.TheVariants as expects
+use Rattle.sgf_core.specs.declared.marks.Expects.TheVariants as expects
 use Rattle.sgf_core.proofs.MarkLemmas.{reads_behind, fault_behind, reads_sign, writes_sign, ends_here}
 use Rattle.sgf_core.proofs.parse.read_mark.Goals as goal
 

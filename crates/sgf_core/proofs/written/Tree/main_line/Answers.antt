@@ -1,7 +1,7 @@
 use Rattle.std.proofs.Common.{◌∙◌, ap}
 use Rattle.sgf_core.specs.Lines.{line_of}
 use Rattle.sgf_core.proofs.LineLemmas.{line-marks}
-use Rattle.sgf_core.proofs.marks.Tree.main_line.Goals as goal
+use Rattle.sgf_core.proofs.written.Tree.main_line.Goals as goal
 
 pub returns : goal.returns
 returns c tree is = c.new.ensures ∙ (ap line_of (c.marks.ensures ∙ is) ∙ line-marks tree)

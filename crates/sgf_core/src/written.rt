@@ -1,0 +1,56 @@
+//! A tree as it is written: its bounds, and its marks in order.
+ghost use Rattle.std.specs.Prelude.{◌≡◌};
+ghost use Rattle.sgf_core.specs.Tree.{GameTree, main_line_of};
+ghost use Rattle.sgf_core.specs.Marks.{marks_of};
+
+use crate::lines::MainLine;
+use crate::marks::Mark;
+use std::marker::Model;
+
+/// A game tree, as SGF FF[4] has it: its bounds in the whole input, and its marks. It is read whole: a sequence of one
+/// or more nodes, then inner trees.
+#[derive(Drop)]
+pub struct Tree<'a> {
+    pub(crate) at: usize,
+    pub(crate) end: usize,
+    pub(crate) marks: Vec<Mark<'a>>,
+}
+
+impl<'a> Model for Tree<'a> {
+    ghost use Rattle.sgf_core.specs.Written.{WrittenTree};
+
+    ghost Value = { WrittenTree };
+
+    ghost view = { λ tree. record { at = tree.at; end = tree.end; marks = tree.marks.items } };
+}
+
+impl<'a> Tree<'a> {
+    /// The place of the tree's first parenthesis, a byte offset in the whole input, from 0.
+    pub fn at(&self) -> usize
+        ensures { result ≡ self.now.at }
+    {
+        self.at
+    }
+
+    /// The place after the tree's last parenthesis, a byte offset in the whole input, from 0.
+    pub fn end(&self) -> usize
+        ensures { result ≡ self.now.end }
+    {
+        self.end
+    }
+
+    /// The tree's parts, one after the other as the tree is written: its own `Begin` first, its own `End` last.
+    pub fn marks(&self) -> &[Mark<'a>]
+        ensures { result.now ≡ self.now.marks }
+    {
+        self.marks.as_slice()
+    }
+
+    /// The nodes of the main line: the tree's own, then those of its first inner tree, and so on. Nothing is copied,
+    /// and no memory is taken.
+    pub fn main_line(&self) -> MainLine<'_, 'a>
+        ensures { (tree : GameTree) → self.now.marks ≡ marks_of tree → result ≡ main_line_of tree }
+    {
+        MainLine::new(self.marks())
+    }
+}
