@@ -1,51 +1,72 @@
-//! The values of a setup or a move property, one after another.
+//! The actions of a main line, node by node: of each node all setups first, then all moves.
 ghost use Rattle.std.specs.Prelude.{map, All, OnOk};
+ghost use Rattle.std.specs.List.{flat_map};
+ghost use Rattle.sgf_core.specs.Values.{value_of};
 ghost use Rattle.go_record.specs.Actions.{IsActionOn};
-ghost use Rattle.go_record.specs.Adding.{Adds};
-ghost use Rattle.go_record.specs.Setup.{move_of, setup_of, always};
+ghost use Rattle.go_record.specs.Adding.{Adds, action_of, round_deeds};
+ghost use Rattle.go_record.specs.Record.{node_deeds};
 
 use crate::actions::Action;
-use crate::deeds::{move_of, setup_of};
+use crate::deeds::Deed;
 use crate::faults::RecordFault;
-use go_board::{Colour, Size, Stone};
-use sgf_core::Value;
+use crate::names::{Round, deed_in};
+use go_board::Size;
+use sgf_core::{MainLine, Node, Value};
 
-/// Adds the setups of a property's values.
-pub(crate) fn add_setups(
+/// Adds what the values of a property do.
+fn add_values(
     size: Size,
-    stone: Stone,
+    deed: Deed,
     values: &[Value<'_>],
     actions: &mut Vec<Action>,
 ) -> Result<(), RecordFault>
     requires { All (IsActionOn size) actions.old.items }
-    ensures adds { Adds (map (λ v. setup_of size stone (record { at = v.at; bytes = v.bytes.now }))
-        values.now) actions.old.items actions.new.items result }
+    ensures adds { Adds (map (λ v. action_of size deed (value_of v)) values.now) actions.old.items
+        actions.new.items result }
     ensures on_board { OnOk result (All (IsActionOn size) actions.new.items) }
 {
     for value in values {
-        if let Some(action) = setup_of(size, stone, value.at, value.bytes)? {
+        if let Some(action) = deed.action(size, *value)? {
             actions.push(action)?;
         }
     }
     Ok(())
 }
 
-/// Adds the moves of a property's values.
-pub(crate) fn add_moves(
+/// Adds what the properties of a node do in a round.
+fn add_round(
     size: Size,
-    colour: Colour,
-    values: &[Value<'_>],
+    round: Round,
+    node: &Node<'_, '_>,
     actions: &mut Vec<Action>,
 ) -> Result<(), RecordFault>
     requires { All (IsActionOn size) actions.old.items }
-    ensures adds { Adds (map (λ v. always (move_of size colour
-        (record { at = v.at; bytes = v.bytes.now }))) values.now) actions.old.items
+    ensures adds { Adds (flat_map (round_deeds size round) node.now) actions.old.items
         actions.new.items result }
     ensures on_board { OnOk result (All (IsActionOn size) actions.new.items) }
 {
-    for value in values {
-        let action = move_of(size, colour, value.at, value.bytes)?;
-        actions.push(action)?;
+    for prop in node.props() {
+        if let Some(deed) = deed_in(round, prop) {
+            add_values(size, deed, prop.values(), actions)?;
+        }
+    }
+    Ok(())
+}
+
+/// Adds what the nodes of a main line do, in order.
+pub(crate) fn add_nodes(
+    size: Size,
+    line: MainLine<'_, '_>,
+    actions: &mut Vec<Action>,
+) -> Result<(), RecordFault>
+    requires { All (IsActionOn size) actions.old.items }
+    ensures adds { Adds (flat_map (node_deeds size) line.entry) actions.old.items actions.new.items
+        result }
+    ensures on_board { OnOk result (All (IsActionOn size) actions.new.items) }
+{
+    for node in line {
+        add_round(size, Round::Setups, &node, actions)?;
+        add_round(size, Round::Moves, &node, actions)?;
     }
     Ok(())
 }

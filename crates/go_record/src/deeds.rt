@@ -1,5 +1,6 @@
 //! What one value of a move or a setup property does.
 ghost use Rattle.std.specs.Prelude.{◌≡◌, ◌<◌, ℕ, IfOk, IfSome};
+ghost use Rattle.sgf_core.specs.Values.{value_of};
 ghost use Rattle.go_record.specs.Actions.{IsActionOn};
 ghost use Rattle.go_record.specs.Setup.{is_pass, move_of, spanned, setup_of};
 
@@ -7,6 +8,7 @@ use crate::actions::Action;
 use crate::faults::RecordFault;
 use crate::spelling::{point, split_colon, trimmed};
 use go_board::{Colour, Point, Size, Stone};
+use sgf_core::Value;
 
 fn is_pass(size: Size, text: &[u8]) -> bool
     ensures { result ≡ is_pass size text.now }
@@ -20,27 +22,22 @@ fn is_pass(size: Size, text: &[u8]) -> bool
     }
 }
 
-/// The move of a value at a place.
-pub(crate) fn move_of(
-    size: Size,
-    colour: Colour,
-    at: usize,
-    bytes: &[u8],
-) -> Result<Action, RecordFault>
-    ensures value { result ≡ move_of size colour (record { at = at; bytes = bytes.now }) }
+/// The move of a value.
+fn move_of(size: Size, colour: Colour, value: Value<'_>) -> Result<Action, RecordFault>
+    ensures value { result ≡ move_of size colour (value_of value.entry) }
     ensures on_board { IfOk result (IsActionOn size) }
 {
-    let text = trimmed(bytes);
+    let text = trimmed(value.bytes);
     if is_pass(size, text) {
         return Ok(Action::Pass { colour });
     }
     match point(text) {
-        None => Err(RecordFault::BadPoint(at)),
+        None => Err(RecordFault::BadPoint(value.at)),
         Some(point) => {
             if size.has(point) {
                 Ok(Action::Move { colour, at: point })
             } else {
-                Err(RecordFault::OffBoard(at))
+                Err(RecordFault::OffBoard(value.at))
             }
         }
     }
@@ -76,17 +73,12 @@ fn spanned(
     }
 }
 
-/// The setup of a value at a place, or None where it sets nothing.
-pub(crate) fn setup_of(
-    size: Size,
-    stone: Stone,
-    at: usize,
-    bytes: &[u8],
-) -> Result<Option<Action>, RecordFault>
-    ensures value { result ≡ setup_of size stone (record { at = at; bytes = bytes.now }) }
+/// The setup of a value, or None where it sets nothing.
+fn setup_of(size: Size, stone: Stone, value: Value<'_>) -> Result<Option<Action>, RecordFault>
+    ensures value { result ≡ setup_of size stone (value_of value.entry) }
     ensures on_board { IfOk result (λ deed. IfSome deed (IsActionOn size)) }
 {
-    let text = trimmed(bytes);
+    let text = trimmed(value.bytes);
     if text.is_empty() {
         return Ok(None);
     }
@@ -94,6 +86,33 @@ pub(crate) fn setup_of(
         Some((p, q)) => (point(trimmed(p)), point(trimmed(q))),
         None => (point(text), point(text)),
     };
-    let action = spanned(size, stone, at, p, q)?;
+    let action = spanned(size, stone, value.at, p, q)?;
     Ok(Some(action))
+}
+
+/// What a property does with each of its values.
+#[derive(Clone, Copy)]
+pub(crate) enum Deed {
+    /// It puts this stone on points, or empties them.
+    Setup(Stone),
+    /// It plays stones of this colour, or passes.
+    Move(Colour),
+}
+
+impl Deed {
+    ghost use Rattle.go_record.specs.Adding.{action_of};
+
+    /// What it does with a value, or None where that is nothing.
+    pub(crate) fn action(self, size: Size, value: Value<'_>) -> Result<Option<Action>, RecordFault>
+        ensures value { result ≡ action_of size self (value_of value.entry) }
+        ensures on_board { IfOk result (λ action. IfSome action (IsActionOn size)) }
+    {
+        match self {
+            Deed::Setup(stone) => setup_of(size, stone, value),
+            Deed::Move(colour) => {
+                let action = move_of(size, colour, value)?;
+                Ok(Some(action))
+            }
+        }
+    }
 }

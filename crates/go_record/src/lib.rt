@@ -7,7 +7,6 @@ mod deeds;
 mod faults;
 mod laws;
 mod names;
-mod nodes;
 mod reading;
 mod records;
 mod replaying;

@@ -1,9 +1,13 @@
 //! Which properties set stones, which play them, and the first value of a name.
 ghost use Rattle.std.specs.Prelude.{◌≡◌};
 ghost use Rattle.std.specs.Option.{option_map};
+ghost use Rattle.sgf_core.specs.Values.{value_of};
+ghost use Rattle.go_board.specs.Extent.{Extent};
+ghost use Rattle.go_record.specs.Adding.{deeds_of, round_deeds};
 ghost use Rattle.go_record.specs.Record.{is_named, setup_stone, move_colour, front_value};
 ghost use Rattle.go_record.specs.Record.{first_value};
 
+use crate::deeds::Deed;
 use go_board::{Colour, Stone};
 use sgf_core::{Node, Prop, Value};
 
@@ -14,7 +18,7 @@ fn is_named(prop: &Prop<'_>, name: &[u8]) -> bool
 }
 
 /// What a setup property sets.
-pub(crate) fn setup_stone(prop: &Prop<'_>) -> Option<Stone>
+fn setup_stone(prop: &Prop<'_>) -> Option<Stone>
     ensures { result ≡ setup_stone prop.now }
 {
     if is_named(prop, b"AB") {
@@ -29,7 +33,7 @@ pub(crate) fn setup_stone(prop: &Prop<'_>) -> Option<Stone>
 }
 
 /// Whose moves a property has.
-pub(crate) fn move_colour(prop: &Prop<'_>) -> Option<Colour>
+fn move_colour(prop: &Prop<'_>) -> Option<Colour>
     ensures { result ≡ move_colour prop.now }
 {
     if is_named(prop, b"B") {
@@ -42,16 +46,33 @@ pub(crate) fn move_colour(prop: &Prop<'_>) -> Option<Colour>
 }
 
 fn front_value<'a>(prop: &Prop<'a>) -> Option<Value<'a>>
-    ensures { option_map (λ v. record { at = v.at; bytes = v.bytes.now }) result
-        ≡ front_value prop.now.values }
+    ensures { option_map value_of result ≡ front_value prop.now.values }
 {
     prop.values().first().copied()
 }
 
+/// The two rounds through the properties of a node.
+#[derive(Clone, Copy)]
+pub(crate) enum Round {
+    /// That of the setups, which comes first.
+    Setups,
+    /// That of the moves.
+    Moves,
+}
+
+/// What a property does in a round, if anything.
+pub(crate) fn deed_in(round: Round, prop: &Prop<'_>) -> Option<Deed>
+    ensures { (size : Extent) → deeds_of size result prop.now ≡ round_deeds size round prop.now }
+{
+    match round {
+        Round::Setups => setup_stone(prop).map(Deed::Setup),
+        Round::Moves => move_colour(prop).map(Deed::Move),
+    }
+}
+
 /// The first value of the node's first property of this name.
 pub(crate) fn first_value<'a>(node: &Node<'_, 'a>, name: &[u8]) -> Option<Value<'a>>
-    ensures { option_map (λ v. record { at = v.at; bytes = v.bytes.now }) result
-        ≡ first_value name.now node.now }
+    ensures { option_map value_of result ≡ first_value name.now node.now }
 {
     for prop in node.props() {
         if is_named(prop, name) {

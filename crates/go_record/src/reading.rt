@@ -2,6 +2,7 @@
 ghost use Rattle.std.specs.Prelude.{◌≡◌, All, Ok, IfOk, IfErr};
 ghost use Rattle.sgf_core.specs.Tree.{GameTree, main_line_of};
 ghost use Rattle.sgf_core.specs.Marks.{marks_of};
+ghost use Rattle.sgf_core.specs.Values.{value_of};
 ghost use Rattle.go_record.specs.Record.{record_of, is_go, board_of, root_of, first_value};
 ghost use Rattle.go_record.specs.Record.{collected, node_deeds};
 ghost use Rattle.go_record.specs.Actions.{IsActionOn};
@@ -10,9 +11,9 @@ ghost use Rattle.std.specs.Option.{option_map};
 ghost use Rattle.std.specs.List.{flat_map};
 
 use crate::actions::Action;
+use crate::adding::add_nodes;
 use crate::faults::RecordFault;
 use crate::names::first_value;
-use crate::nodes::add_nodes;
 use crate::records::{Kind, Record};
 use crate::spelling::{number, size, trimmed};
 use go_board::Size;
@@ -21,8 +22,7 @@ use std::alloc::Global;
 
 /// The first value of this name in the first node of a main line.
 fn root_value<'a>(mut line: MainLine<'_, 'a>, name: &[u8]) -> Option<Value<'a>>
-    ensures { option_map (λ v. record { at = v.at; bytes = v.bytes.now }) result
-        ≡ first_value name.now (root_of line.entry) }
+    ensures { option_map value_of result ≡ first_value name.now (root_of line.entry) }
 {
     let root = line.next()?;
     first_value(&root, name)
@@ -30,8 +30,7 @@ fn root_value<'a>(mut line: MainLine<'_, 'a>, name: &[u8]) -> Option<Value<'a>>
 
 /// Whether the tree is of Go, by its value of GM.
 fn is_go(value: Option<Value<'_>>) -> bool
-    ensures { result ≡ is_go (option_map (λ v. record { at = v.at; bytes = v.bytes.now })
-        value.entry) }
+    ensures { result ≡ is_go (option_map value_of value.entry) }
 {
     let Some(value) = value else {
         return true;
@@ -42,8 +41,7 @@ fn is_go(value: Option<Value<'_>>) -> bool
 
 /// The board's size, by the value of SZ.
 fn board_of(value: Option<Value<'_>>) -> Result<Size, RecordFault>
-    ensures { result ≡ board_of (option_map (λ v. record { at = v.at; bytes = v.bytes.now })
-        value.entry) }
+    ensures { result ≡ board_of (option_map value_of value.entry) }
 {
     match value {
         None => Ok(Size::new(19, 19).unwrap()),

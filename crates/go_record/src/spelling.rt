@@ -3,22 +3,17 @@ ghost use Rattle.std.specs.Prelude.{◌≡◌, ◌<◌, ℕ, min, reverse, false
 ghost use Rattle.std.specs.Prelude.{Option, map, position};
 ghost use Rattle.std.specs.Option.{option_map};
 ghost use Rattle.std.specs.List.{list_any, before_first, after_first};
-ghost use Rattle.sgf_core.specs.Bytes.{is_white, is_upper, is_lower};
+ghost use Rattle.sgf_core.specs.Bytes.{is_upper, is_lower};
 ghost use Rattle.go_record.specs.Spelling.{without_white_front, trimmed, is_digit, unsigned_of};
 ghost use Rattle.go_record.specs.Spelling.{number_of, side_of, is_colon, size_of};
 ghost use Rattle.go_record.specs.Point.{coordinate_of, point_of};
 ghost use Rattle.go_record.specs.declared.spelling.TheConstants.{CAP};
 
 use go_board::{Point, Size};
+use sgf_core::is_white;
 
 /// Numbers are read up to this one; a greater one counts as it, which no rule takes for a smaller.
 const CAP: u32 = 100;
-
-fn is_white(byte: u8) -> bool
-    ensures { result ≡ is_white byte }
-{
-    matches!(byte, 0x09..=0x0d | b' ')
-}
 
 fn without_white_front(bytes: &[u8]) -> &[u8]
     ensures { result.now ≡ without_white_front bytes.now }

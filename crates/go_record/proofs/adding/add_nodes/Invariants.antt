@@ -3,7 +3,7 @@ use Rattle.std.specs.List.{flat_map}
 use Rattle.go_record.specs.Actions.{IsActionOn}
 use Rattle.go_record.specs.Adding.{behind}
 use Rattle.go_record.specs.Record.{collected, node_deeds}
-use Rattle.go_record.proofs.nodes.add_nodes.Given as goal
+use Rattle.go_record.proofs.adding.add_nodes.Given as goal
 
 abbrev pub invariant-loop-node : goal.invariant-loop-node
 invariant-loop-node l = record {
