@@ -8,7 +8,7 @@ use Rattle.go_board.specs.Point.{IsOn, AreNeighbours}
 use Rattle.go_board.specs.Position.{Position, AreJoined, IsAlive}
 use Rattle.go_board.specs.Play.{Removes}
 use Rattle.go_board.specs.Groups.{IsDead}
-use Rattle.go_board.proofs.Paths.{AreNeighbours-sym, along, AreJoined-refl, AreJoined-step, AreJoined-trans, joined_on, joined_same}
+use Rattle.go_board.proofs.Paths.{AreNeighbours-sym, along, AreJoined-refl, AreJoined-step, AreJoined-trans, joined_same}
 
 -- q is of a group without a liberty, which one of the points `among` belongs to
 pub record IsTaken (size : Extent) (position : Position) (kind : Stone) (among : Point → Type 0) (q : Point) : Type 0 where
@@ -27,9 +27,6 @@ Removes-same size A B before after to from r = λ q on. elim (r q on) [
 module _ (size : Extent) (before : Position) (kind : Stone) (among : Point → Type 0) where
   taken_same : (q : Point) → IsTaken size before kind among q → before q ≡ kind
   taken_same q t = joined_same size before t.by q t.dead.joined ∙ t.dead.of_kind
-
-  pub taken_on : (q : Point) → IsTaken size before kind among q → IsOn size q
-  taken_on q t = joined_on size before t.by q t.on_board t.dead.joined
 
   pub taken_joined : (q r : Point) → IsTaken size before kind among q → AreJoined size before q r → IsTaken size before kind among r
   taken_joined q r t j = record {

@@ -1,5 +1,5 @@
 -- A move captures at one neighbour after another.
-use Rattle.std.proofs.Common.{◌≡◌, ◌≢◌, ◌∙◌, ◌⊎◌, ◌+◌, ◌<◌, ◌≤◌, ℕ, List, [], ◌∷◌, ◌++◌, Option, Some, None, IfSome, length, take, get_or, subst, sym, ap, inl, inr, refl, arith, All, Contains}
+use Rattle.std.proofs.Common.{◌≡◌, ◌≢◌, ◌∙◌, ◌⊎◌, ◌+◌, ◌<◌, ◌≤◌, ℕ, List, [], ◌∷◌, ◌++◌, Option, Some, None, IfSome, length, take, get_or, subst, sym, ap, inl, inr, All, Contains}
 use Rattle.std.proofs.lemmas.List.{take_all, take_more}
 use Rattle.std.proofs.lemmas.List.Elements.{All-contains, Contains-append_left, Contains-push, Contains-push_cases}
 use Rattle.go_board.specs.declared.points.Point.{Point}
@@ -47,19 +47,7 @@ stone_solid colour.White = λ e. cc
 some_injective : (p q : Point) → Some p ≡ Some q → p ≡ q
 some_injective p q e = cc
 
-none_in : {X : Type 0} (x : X) → Contains [] x → ⊥
-none_in x c = absurd (omega (arith, c.1))
-
 module _ (size : Extent) (before : Position) (kind : Stone) where
-  pub Capturing-start : (around : List (Option Point)) (listed : List Point) → listed ≡ [] → Capturing size before kind (take 0 around) before listed
-  Capturing-start around listed none = record {
-    gone = λ q on. inr ((λ t. none_in (Some t.by) t.is_among), refl);
-    in_list = λ q. (
-      (λ c. absurd (none_in q (subst (λ (l : List Point). Contains l q) none c))),
-      (λ t. absurd (none_in (Some t.by) t.is_among)),
-    );
-  }
-
   Capturing-push : (around : List (Option Point)) (now after : Position) (listed more : List Point) (p : Point) → kind ≢ stone.Empty → IsOn size p →
       Removes size (IsDead size now kind p) now after →
       ((q : Point) → (Contains more q → Contains listed q ⊎ IsDead size now kind p q) × (Contains listed q ⊎ IsDead size now kind p q → Contains more q)) →

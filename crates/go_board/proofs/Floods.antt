@@ -1,14 +1,14 @@
 -- A group is found from one of its points: where each point found has been visited, all joined points are found.
-use Rattle.std.proofs.Common.{◌≡◌, ◌∙◌, ◌⊎◌, ◌+◌, ◌<◌, ◌≤◌, ℕ, List, [], ◌∷◌, ◌++◌, length, take, get_or, subst, sym, ap, inl, inr, arith, All, Contains, length-append}
+use Rattle.std.proofs.Common.{◌≡◌, ◌∙◌, ◌+◌, ◌<◌, ◌≤◌, ℕ, List, ◌++◌, length, take, get_or, subst, sym, ap, arith, All, Contains, length-append}
 use Rattle.std.proofs.lemmas.List.{take_all, take-append-le, get_or_append_left, get_or_default}
-use Rattle.std.proofs.lemmas.List.Elements.{All-nil, All-cons, All-append, All-more, All-weaker, All-contains, Contains-append_left, Contains-push}
+use Rattle.std.proofs.lemmas.List.Elements.{All-append, All-more, All-weaker, All-contains, Contains-append_left}
 use Rattle.go_board.specs.declared.points.Point.{Point}
 use Rattle.go_board.specs.declared.points.Stone.{Stone}
 use Rattle.go_board.specs.Extent.{Extent}
 use Rattle.go_board.specs.Point.{IsOn}
 use Rattle.go_board.specs.Position.{Position, AreJoined, IsAlive}
-use Rattle.go_board.specs.Groups.{Gathers, IsSuchNeighbour, IsSurrounded, HasLiberty}
-use Rattle.go_board.proofs.Paths.{along, AreJoined-refl, AreJoined-step}
+use Rattle.go_board.specs.Groups.{Gathers, IsSuchNeighbour, IsSurrounded}
+use Rattle.go_board.proofs.Paths.{along, AreJoined-step}
 
 -- q is on the board and joined to p
 pub record IsMember (size : Extent) (position : Position) (p q : Point) : Type 0 where
@@ -24,21 +24,6 @@ pub record Flooding (size : Extent) (position : Position) (p : Point) (kind : St
   pub upto : next ≤ length points
 
 module _ (size : Extent) (position : Position) (p : Point) (kind : Stone) where
-  pub Flooding-start : (empty points : List Point) → IsOn size p → position p ≡ kind → empty ≡ [] →
-      ((points ≡ empty) × Contains empty p) ⊎ (points ≡ empty ++ p ∷ []) → Flooding size position p kind points 0
-  Flooding-start empty points on same none added =
-      let one : points ≡ p ∷ [] = elim added [
-        | inl h ↦ absurd (let c = subst (λ (l : List Point). Contains l p) none h.1 in omega (arith, c.1))
-        | inr h ↦ h ∙ ap (λ (l : List Point). l ++ p ∷ []) none
-      ] in
-      subst (λ (l : List Point). Flooding size position p kind l 0) (sym one) (record {
-        of_kind = same;
-        start = Contains-push [] p;
-        members = All-cons (IsMember size position p) p [] (record { on_board = on; joined = AreJoined-refl size position p }) (All-nil (IsMember size position p));
-        visited = All-nil (IsSurrounded size position kind (p ∷ []));
-        upto = omega arith;
-      })
-
   pub member_at : (points : List Point) (next : ℕ) (m : Point) → Flooding size position p kind points next → next < length points →
       m ≡ get_or points next m → IsMember size position p m
   member_at points next m f in' at = subst (IsMember size position p) (sym at) (f.members next m in')
@@ -73,17 +58,6 @@ module _ (size : Extent) (position : Position) (p : Point) (kind : Stone) where
             (subst (λ (l : List Point). IsSurrounded size position kind l m) g.appended s));
         upto = omega (arith, in', length-append points g.more);
       })
-
-  pub Flooding-alive : (points : List Point) (next : ℕ) (m : Point) → Flooding size position p kind points next → next < length points →
-      m ≡ get_or points next m → HasLiberty size position m → IsAlive size position p
-  Flooding-alive points next m f in' at has = record {
-    member = m;
-    liberty = has.liberty;
-    joined = (member_at points next m f in' at).joined;
-    neighbours = has.next_to;
-    on_board = has.on_board;
-    empty = has.empty;
-  }
 
   module _ (points : List Point) (next : ℕ) (f : Flooding size position p kind points next) (past : length points ≤ next) where
     all_visited : All (IsSurrounded size position kind points) points

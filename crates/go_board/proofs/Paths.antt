@@ -56,15 +56,3 @@ pub AreJoined-trans : (size : Extent) (position : Position) (p q r : Point) → 
 AreJoined-trans size position p q r j k =
     along size position q (AreJoined size position p)
     (λ a b s next on same. AreJoined-step size position p a b s next on (same ∙ joined_same size position p q j)) j r k
-
-record Back (size : Extent) (position : Position) (p x : Point) : Type 0 where
-  pub on_board : IsOn size x
-  pub same : position x ≡ position p
-  pub back : AreJoined size position x p
-
-AreJoined-cons : (size : Extent) (position : Position) (b a p : Point) → AreNeighbours b a → IsOn size a → position a ≡ position b →
-    AreJoined size position a p → AreJoined size position b p
-AreJoined-cons size position b a p next on same j = record {
-  path = a ∷ j.path;
-  leads = (next, on, same, subst (λ stone. Leads size position stone a j.path p) same j.leads);
-}

@@ -6,11 +6,6 @@ use Rattle.go_record.specs.declared.faults.RecordFault.TheVariants as fault
 use Rattle.go_record.specs.Record.{collected, onto}
 use Rattle.go_record.specs.Adding.{behind, Adds}
 
-behind-onto : (actions : List Action) (action : Action) (rest : Result (List Action) RecordFault) →
-    behind actions (onto (Some action) rest) ≡ behind (actions ++ action ∷ []) rest
-behind-onto actions action (Ok more) = ap Ok (sym (append_assoc actions (action ∷ []) more))
-behind-onto actions action (Err found) = refl
-
 -- first these, then those
 followed : Result (List Action) RecordFault → Result (List Action) RecordFault → Result (List Action) RecordFault
 followed (Ok more) rest = behind more rest

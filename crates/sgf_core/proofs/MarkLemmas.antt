@@ -3,6 +3,7 @@ use Rattle.std.proofs.Common.{◌≡◌, ◌≢◌, ℕ, ◌+◌, ◌<◌, ◌�
 use Rattle.std.specs.Prelude.{slice_range, slice_index}
 use Rattle.std.specs.List.{list_all}
 use Rattle.std.proofs.lemmas.List.{drop_all}
+use Rattle.std.proofs.lemmas.List.Edits.{between_more, between_none}
 use Rattle.sgf_core.specs.Bytes.{is_white, close_parenthesis, semicolon}
 use Rattle.sgf_core.specs.Grammar.{Part, IsPartText, WritesParts}
 use Rattle.sgf_core.specs.Pieces.{Wrote, mark_parts, IsAllowed, IsWhole, IsMarkText, ReadsMark, EndsInMark, IsNameAlone, MarkFault}
@@ -12,7 +13,7 @@ use Rattle.sgf_core.specs.declared.marks.Expects.{Expects}
 use Rattle.sgf_core.specs.declared.marks.Expects.TheVariants as expects
 use Rattle.sgf_core.specs.declared.faults.SgfFault.{SgfFault}
 use Rattle.sgf_core.specs.declared.faults.SgfFault.TheVariants as fault
-use Rattle.sgf_core.proofs.Slices.{slice-drop, slice-join, slice-more, slice-none, length-slice, all-append}
+use Rattle.sgf_core.proofs.Slices.{slice-drop, slice-join, length-slice, all-append}
 use Rattle.sgf_core.proofs.Writing.{white-front, wrote-plain, mark-first}
 
 -- white bytes in front of a mark
@@ -108,7 +109,7 @@ module _ (bytes : List ℕ) (from place : ℕ) (after : from ≤ place) (within 
   pub reads_byte : (e : Expects) (m : Mark) (byte : ℕ) → place < length bytes → slice_index bytes place ≡ byte → IsAllowed e m → WritesParts place (mark_parts m) (byte ∷ []) → IsWhole bytes (place + 1) m → ReadsMark bytes e from (place + 1) m
   reads_byte e m byte before is allowed writes whole =
       let one : byte ∷ [] ≡ slice_range bytes place (place + 1) =
-      ap (λ (b : ℕ). b ∷ []) (sym is) ∙ (sym (ap (λ (ys : List ℕ). ys ++ slice_index bytes place ∷ []) (slice-none bytes place)) ∙ sym (slice-more bytes place place (omega arith) before)) in
+      ap (λ (b : ℕ). b ∷ []) (sym is) ∙ (sym (ap (λ (ys : List ℕ). ys ++ slice_index bytes place ∷ []) (between_none bytes place)) ∙ sym (between_more bytes place place 0 (omega arith) before)) in
       reads_behind e (place + 1) m (
       record {
         forward = omega arith;

@@ -4,6 +4,7 @@ use Rattle.std.specs.Prelude.{slice_range, slice_index, ◌==◌}
 use Rattle.std.specs.List.{list_all}
 use Rattle.std.proofs.lemmas.List.{append-nil, map_push, drop_more, drop_all, nil_from_length}
 use Rattle.std.proofs.lemmas.Bool.Decides.{Decides-eqb}
+use Rattle.std.proofs.lemmas.List.Edits.{between_more}
 use Rattle.sgf_core.specs.Bytes.{is_white, is_letter, open_bracket, close_bracket}
 use Rattle.sgf_core.specs.Tree.{PropertyValue}
 use Rattle.sgf_core.specs.Grammar.{Part, names, has_value, is_value_text, WritesParts}
@@ -12,7 +13,7 @@ use Rattle.sgf_core.specs.Values.{value_of}
 use Rattle.sgf_core.specs.declared.marks.Value.{Value}
 use Rattle.sgf_core.specs.declared.marks.Mark.TheVariants as mark
 use Rattle.sgf_core.specs.declared.marks.Expects.TheVariants as expects
-use Rattle.sgf_core.proofs.Slices.{slice-drop, slice-join, slice-first, slice-more, length-slice}
+use Rattle.sgf_core.proofs.Slices.{slice-drop, slice-join, slice-first, length-slice}
 use Rattle.sgf_core.proofs.Writing.{wrote-plain, wrote-white, wrote-then}
 
 -- where no value was read, white bytes stand
@@ -127,7 +128,7 @@ reads_more bytes end place close next values h within open_is value behind white
     let e : slice_range bytes place (close + 1) ≡ open_bracket ∷ value_bytes ++ close_bracket ∷ [] =
     slice-first bytes place (close + 1) (omega arith) within
     ∙ (ap (λ (b : ℕ). b ∷ slice_range bytes (place + 1) (close + 1)) open_is
-    ∙ ap (λ (ys : List ℕ). open_bracket ∷ ys) (slice-more bytes (place + 1) close value.0 value.1 ∙ ap (λ (b : ℕ). value_bytes ++ b ∷ []) value.2)) in
+    ∙ ap (λ (ys : List ℕ). open_bracket ∷ ys) (between_more bytes (place + 1) close 0 value.0 value.1 ∙ ap (λ (b : ℕ). value_bytes ++ b ∷ []) value.2)) in
     let one = subst (λ ys. WritesParts place (has_value (record { at = place + 1; bytes = value_bytes }) ∷ []) ys) (sym e) (value_parts place value_bytes value.3) in
     let all = value_more values (record { at = place + 1; bytes = value_bytes }) end text (slice_range bytes place (close + 1)) h.wrote
     (subst (λ n. WritesParts n (has_value (record { at = place + 1; bytes = value_bytes }) ∷ []) (slice_range bytes place (close + 1))) (sym m) one) in

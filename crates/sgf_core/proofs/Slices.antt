@@ -2,16 +2,10 @@
 use Rattle.std.proofs.Common.{◌≡◌, ℕ, ◌+◌, ◌-◌, ◌<◌, ◌≤◌, Bool, true, IsTrue, List, [], ◌∷◌, ◌++◌, length, take, drop, sym, ap, ◌∙◌, arith}
 use Rattle.std.specs.Prelude.{slice_range, slice_index, ◌&&◌}
 use Rattle.std.specs.List.{list_all}
-use Rattle.std.proofs.lemmas.List.{take-append-drop, drop-drop, take_all, length-drop}
+use Rattle.std.proofs.lemmas.List.{take-append-drop, drop-drop}
 use Rattle.std.proofs.lemmas.List.Edits.{between_more, between_none, length-between}
 use Rattle.std.proofs.lemmas.List.Folds.{list_all-append}
 use Rattle.std.proofs.Math.Seq.{take-add}
-
-pub slice-more : (xs : List ℕ) (i j : ℕ) → i ≤ j → j < length xs → slice_range xs i (j + 1) ≡ slice_range xs i j ++ slice_index xs j ∷ []
-slice-more xs i j h k = between_more xs i j 0 h k
-
-pub slice-none : (xs : List ℕ) (i : ℕ) → slice_range xs i i ≡ []
-slice-none xs i = between_none xs i
 
 -- from i on: up to j, and from j on
 pub slice-drop : (xs : List ℕ) (i j : ℕ) → i ≤ j → drop i xs ≡ slice_range xs i j ++ drop j xs
@@ -26,13 +20,10 @@ slice-join xs i j k h l =
     ap (λ (n : ℕ). take n (drop i xs)) e ∙ take-add (j - i) (k - j) (drop i xs)
     ∙ ap (λ (ys : List ℕ). slice_range xs i j ++ take (k - j) ys) (drop-drop (j - i) i xs ∙ ap (λ (n : ℕ). drop n xs) f)
 
-pub slice-all : (xs : List ℕ) (i j : ℕ) → length xs ≤ j → slice_range xs i j ≡ drop i xs
-slice-all xs i j h = take_all (j - i) (drop i xs) (omega (arith, length-drop {A = ℕ}))
-
 -- its first, and the others
 pub slice-first : (xs : List ℕ) (i j : ℕ) → i < j → i < length xs → slice_range xs i j ≡ slice_index xs i ∷ slice_range xs (i + 1) j
 slice-first xs i j h k =
-    slice-join xs i (i + 1) j (omega arith) (omega arith) ∙ ap (λ (ys : List ℕ). ys ++ slice_range xs (i + 1) j) (slice-more xs i i (omega arith) k ∙ ap (λ (ys : List ℕ). ys ++ slice_index xs i ∷ []) (slice-none xs i))
+    slice-join xs i (i + 1) j (omega arith) (omega arith) ∙ ap (λ (ys : List ℕ). ys ++ slice_range xs (i + 1) j) (between_more xs i i 0 (omega arith) k ∙ ap (λ (ys : List ℕ). ys ++ slice_index xs i ∷ []) (between_none xs i))
 
 pub length-slice : (xs : List ℕ) (i j : ℕ) → i ≤ j → j ≤ length xs → i + length (slice_range xs i j) ≡ j
 length-slice xs i j h k = omega (arith, length-between xs i j k)
@@ -43,4 +34,4 @@ all-append p xs ys a b = list_all-append p xs ys ∙ ap (λ (t : Bool). t && lis
 -- one more that passes
 pub all-more : (p : ℕ → Bool) (xs : List ℕ) (i j : ℕ) → i ≤ j → j < length xs → IsTrue (list_all p (slice_range xs i j)) → p (slice_index xs j) ≡ true → IsTrue (list_all p (slice_range xs i (j + 1)))
 all-more p xs i j h k a b =
-    ap (λ (ys : List ℕ). list_all p ys) (slice-more xs i j h k) ∙ all-append p (slice_range xs i j) (slice_index xs j ∷ []) a (ap (λ (t : Bool). t && true) b)
+    ap (λ (ys : List ℕ). list_all p ys) (between_more xs i j 0 h k) ∙ all-append p (slice_range xs i j) (slice_index xs j ∷ []) a (ap (λ (t : Bool). t && true) b)

@@ -3,7 +3,7 @@ use Rattle.std.proofs.Common.{◌≡◌, ◌⊎◌, ℕ, Bool, true, false, IsTr
 use Rattle.std.specs.Prelude.{◌==◌, ◌&&◌}
 use Rattle.std.specs.List.{list_all}
 use Rattle.std.proofs.lemmas.Bool.Decides.{nat_tests}
-use Rattle.sgf_core.specs.Bytes.{is_white, is_letter, open_bracket, close_bracket, backslash, semicolon}
+use Rattle.sgf_core.specs.Bytes.{is_white, is_letter, open_parenthesis, close_parenthesis, open_bracket, close_bracket, backslash, semicolon}
 use Rattle.sgf_core.specs.Grammar.{is_text_after}
 use Rattle.sgf_core.proofs.States.{Phase, begun, in_node, in_name, named, in_value, escaped, valued, after_tree, live, step, run, IsBetween}
 
@@ -16,7 +16,7 @@ and-right true b h = h
 and-right false b h = cc
 
 -- a letter is neither white nor a sign
-pub letter-facts : (byte : ℕ) → IsTrue (is_letter byte) → (is_white byte ≡ false) × ((byte == semicolon) ≡ false) × ((byte == open_bracket) ≡ false)
+pub letter-facts : (byte : ℕ) → IsTrue (is_letter byte) → (is_white byte ≡ false) × ((byte == semicolon) ≡ false) × ((byte == open_bracket) ≡ false) × ((byte == close_bracket) ≡ false) × ((byte == backslash) ≡ false) × ((byte == open_parenthesis) ≡ false) × ((byte == close_parenthesis) ≡ false)
 letter-facts byte h = grind (arith, nat_tests)
 
 white-step : (phase : Phase) (depth byte : ℕ) → IsBetween phase → IsTrue (is_white byte) → step (live phase depth) byte ≡ live phase depth

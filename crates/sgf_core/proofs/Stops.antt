@@ -4,13 +4,14 @@ use Rattle.std.specs.Prelude.{slice_range, slice_index, ◌==◌}
 use Rattle.std.specs.List.{list_all}
 use Rattle.std.proofs.lemmas.List.{take-append-drop, drop_more}
 use Rattle.std.proofs.lemmas.Bool.Decides.{nat_tests}
-use Rattle.sgf_core.specs.Bytes.{is_white, is_letter, open_parenthesis, close_parenthesis, semicolon, open_bracket, close_bracket, backslash}
+use Rattle.std.proofs.lemmas.List.Edits.{between_more}
+use Rattle.sgf_core.specs.Bytes.{is_white, is_letter, open_parenthesis, close_bracket, backslash}
 use Rattle.sgf_core.specs.Tree.{GameTree}
 use Rattle.sgf_core.specs.Grammar.{WritesTree, IsGoodFront}
 use Rattle.sgf_core.specs.Next.{IsFirstBegin, IsTruncated, TurnsBad, EndsWithIdentifier}
-use Rattle.sgf_core.proofs.Slices.{slice-drop, slice-first, slice-more}
+use Rattle.sgf_core.proofs.Slices.{slice-drop, slice-first}
 use Rattle.sgf_core.proofs.States.{Phase, begun, in_node, in_name, named, in_value, escaped, valued, after_tree, State, dead, done, live, step, run, run-append, run-dead}
-use Rattle.sgf_core.proofs.StateLemmas.{and-left, and-right}
+use Rattle.sgf_core.proofs.StateLemmas.{and-left, and-right, letter-facts}
 use Rattle.sgf_core.proofs.Fronts.{tree-run}
 
 -- two fronts of one list
@@ -69,7 +70,7 @@ turns_bad bytes from at bad after within opens_at first alive stops good =
     let x = slice_range bytes (at + 1) bad in
     let b = slice_index bytes bad in
     let front : slice_range bytes at bad ≡ open_parenthesis ∷ x = slice-first bytes at bad after (omega arith) ∙ ap (λ (c : ℕ). c ∷ x) opens_at in
-    let more : slice_range bytes at (bad + 1) ≡ open_parenthesis ∷ (x ++ b ∷ []) = slice-more bytes at bad (omega arith) within ∙ ap (λ (ys : List ℕ). ys ++ b ∷ []) front in
+    let more : slice_range bytes at (bad + 1) ≡ open_parenthesis ∷ (x ++ b ∷ []) = between_more bytes at bad 0 (omega arith) within ∙ ap (λ (ys : List ℕ). ys ++ b ∷ []) front in
     let all : drop (at + 1) bytes ≡ x ++ b ∷ drop (bad + 1) bytes = slice-drop bytes (at + 1) bad (omega arith) ∙ ap (λ (ys : List ℕ). x ++ ys) (drop_more bytes bad 0 within) in
     let kills : (ys : List ℕ) → run (live begun 0) (x ++ b ∷ ys) ≡ dead = λ ys. run-append (live begun 0) x (b ∷ ys) ∙ (ap (λ (s : State). run s ys) stops ∙ run-dead ys) in
     record {
@@ -138,20 +139,17 @@ not_both (live after_tree depth) a b = a
 white-facts : (byte : ℕ) → IsTrue (is_white byte) → (is_letter byte ≡ false) × ((byte == close_bracket) ≡ false) × ((byte == backslash) ≡ false)
 white-facts byte h = grind (arith, nat_tests)
 
-more-letter-facts : (byte : ℕ) → IsTrue (is_letter byte) → (is_white byte ≡ false) × ((byte == semicolon) ≡ false) × ((byte == open_bracket) ≡ false) × ((byte == close_bracket) ≡ false) × ((byte == backslash) ≡ false) × ((byte == open_parenthesis) ≡ false) × ((byte == close_parenthesis) ≡ false)
-more-letter-facts byte h = grind (arith, nat_tests)
-
 letter-elsewhere : (state : State) (byte : ℕ) → IsTrue (is_letter byte) → IsElsewhere (step state byte)
 letter-elsewhere dead byte h = tt
 letter-elsewhere done byte h = tt
-letter-elsewhere (live begun depth) byte h = let f = more-letter-facts byte h in rw (f.0, f.1) tt
-letter-elsewhere (live in_node depth) byte h = let f = more-letter-facts byte h in rw (f.0, f.1, h) tt
+letter-elsewhere (live begun depth) byte h = let f = letter-facts byte h in rw (f.0, f.1) tt
+letter-elsewhere (live in_node depth) byte h = let f = letter-facts byte h in rw (f.0, f.1, h) tt
 letter-elsewhere (live in_name depth) byte h = rw h tt
-letter-elsewhere (live named depth) byte h = let f = more-letter-facts byte h in rw (f.0, f.2) tt
-letter-elsewhere (live in_value depth) byte h = let f = more-letter-facts byte h in rw (f.3, f.4) tt
+letter-elsewhere (live named depth) byte h = let f = letter-facts byte h in rw (f.0, f.2) tt
+letter-elsewhere (live in_value depth) byte h = let f = letter-facts byte h in rw (f.3, f.4) tt
 letter-elsewhere (live escaped depth) byte h = tt
-letter-elsewhere (live valued depth) byte h = let f = more-letter-facts byte h in rw (f.0, f.2, f.1, h) tt
-letter-elsewhere (live after_tree depth) byte h = let f = more-letter-facts byte h in rw (f.0, f.5, f.6) tt
+letter-elsewhere (live valued depth) byte h = let f = letter-facts byte h in rw (f.0, f.2, f.1, h) tt
+letter-elsewhere (live after_tree depth) byte h = let f = letter-facts byte h in rw (f.0, f.5, f.6) tt
 
 white-elsewhere : (state : State) (byte : ℕ) → IsElsewhere state → IsTrue (is_white byte) → IsElsewhere (step state byte)
 white-elsewhere dead byte a h = tt

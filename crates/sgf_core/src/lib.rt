@@ -17,5 +17,5 @@ pub use faults::SgfFault;
 pub use laws::{few_values, one_answer, one_fault, one_next_tree};
 pub use lines::{MainLine, Node, Props};
 pub use marks::{Mark, Prop, Value};
-pub use reader::{Trees, MOST_BYTES};
+pub use reader::{MOST_BYTES, Trees};
 pub use written::Tree;

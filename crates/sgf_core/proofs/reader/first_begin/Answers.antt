@@ -1,7 +1,7 @@
 use Rattle.std.proofs.Common.{◌≢◌, ◌+◌, ◌<◌, length, arith}
 use Rattle.std.specs.Prelude.{slice_range, slice_index}
+use Rattle.std.proofs.lemmas.Slice.{between_to_end}
 use Rattle.sgf_core.specs.Bytes.{semicolon}
-use Rattle.sgf_core.proofs.Slices.{slice-all}
 use Rattle.sgf_core.proofs.Begins.{first_sign, none_left, begins_here, none_up_to}
 use Rattle.sgf_core.proofs.reader.first_begin.Goals as goal
 use Rattle.sgf_core.proofs.reader.first_begin.Goals.{else-place-bytes-via-then-place-bytes+else-bytes-place-eq59, else-place-bytes-via-else-place-bytes}
@@ -10,7 +10,7 @@ pub returns-then-bytes-place-eq59 : goal.returns-then-bytes-place-eq59
 returns-then-bytes-place-eq59 c =
     let bytes = c.args.bytes.now in
     let place = c.loop-offset.place in
-    let sign = first_sign bytes (slice_range bytes place (length bytes)) c.args.from place (slice-all bytes place (length bytes) (omega arith)) c.loop-offset.invariant.none c.in-Some.offset c.in-Some.ensures in
+    let sign = first_sign bytes (slice_range bytes place (length bytes)) c.args.from place (between_to_end bytes place (length bytes) (omega arith)) c.loop-offset.invariant.none c.in-Some.offset c.in-Some.ensures in
     let next = c.white_end-place in
     record {
       after = omega (arith, c.loop-offset.invariant.after);
@@ -22,7 +22,7 @@ pub loop-offset-preserved : goal.loop-offset-preserved
 loop-offset-preserved c =
     let bytes = c.args.bytes.now in
     let place = c.loop-offset.place in
-    let sign = first_sign bytes (slice_range bytes place (length bytes)) c.args.from place (slice-all bytes place (length bytes) (omega arith)) c.loop-offset.invariant.none c.in-Some.offset c.in-Some.ensures in
+    let sign = first_sign bytes (slice_range bytes place (length bytes)) c.args.from place (between_to_end bytes place (length bytes) (omega arith)) c.loop-offset.invariant.none c.in-Some.offset c.in-Some.ensures in
     let next = c.white_end-place in
     let other : next.result < length bytes → slice_index bytes next.result ≢ semicolon =
     elim c.else-place-bytes.branch [
@@ -39,4 +39,4 @@ pub returns : goal.returns
 returns c =
     let bytes = c.args.bytes.now in
     let place = c.loop-offset.place in
-    none_left bytes (slice_range bytes place (length bytes)) c.args.from place (slice-all bytes place (length bytes) (omega arith)) c.loop-offset.invariant.none c.in_default.ensures
+    none_left bytes (slice_range bytes place (length bytes)) c.args.from place (between_to_end bytes place (length bytes) (omega arith)) c.loop-offset.invariant.none c.in_default.ensures

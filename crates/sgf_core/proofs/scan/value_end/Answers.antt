@@ -2,9 +2,10 @@ use Rattle.std.proofs.Common.{◌≡◌, ℕ, ◌+◌, ◌≤◌, ◌<◌, Bool,
 use Rattle.std.specs.Prelude.{slice_range, slice_index, ◌==◌, not, ◌≢◌, ◌⊎◌, IsTrue}
 use Rattle.std.proofs.lemmas.List.{append-nil, append_assoc}
 use Rattle.std.proofs.lemmas.Bool.Decides.{nat_tests}
+use Rattle.std.proofs.lemmas.List.Edits.{between_more}
+use Rattle.std.proofs.lemmas.Slice.{between_to_end}
 use Rattle.sgf_core.specs.Bytes.{close_bracket, backslash}
 use Rattle.sgf_core.specs.Grammar.{is_text_after}
-use Rattle.sgf_core.proofs.Slices.{slice-more, slice-all}
 use Rattle.sgf_core.proofs.scan.value_end.Goals as goal
 use Rattle.sgf_core.proofs.scan.value_end.Goals.{then-byte-eq92, else-byte-eq92}
 
@@ -14,7 +15,7 @@ GoesOn bytes from place escaped = (rest : List ℕ) → is_text_after false (sli
 goes_on : (bytes : List ℕ) (from place : ℕ) (escaped now : Bool) → from ≤ place → place < length bytes → GoesOn bytes from place escaped
     → ((rest : List ℕ) → is_text_after escaped (slice_index bytes place ∷ rest) ≡ is_text_after now rest) → GoesOn bytes from (place + 1) now
 goes_on bytes from place escaped now a b before one rest =
-    ap (λ (ys : List ℕ). is_text_after false (ys ++ rest)) (slice-more bytes from place a b)
+    ap (λ (ys : List ℕ). is_text_after false (ys ++ rest)) (between_more bytes from place 0 a b)
     ∙ (ap (λ (ys : List ℕ). is_text_after false ys) (append_assoc (slice_range bytes from place) (slice_index bytes place ∷ []) rest) ∙ (before (slice_index bytes place ∷ rest) ∙ one rest))
 
 differs : (a b : ℕ) → a ≢ b → (a == b) ≡ false
@@ -59,4 +60,4 @@ ending false = ([], refl)
 pub returns : goal.returns
 returns c =
     let end = ending c.loop-place.escaped in
-    (end.0, ap (λ (ys : List ℕ). is_text_after false (ys ++ end.0)) (sym (slice-all c.args.bytes.now c.args.from c.loop-place.place c.loop-place-test.false)) ∙ (c.loop-place.invariant end.0 ∙ end.1))
+    (end.0, ap (λ (ys : List ℕ). is_text_after false (ys ++ end.0)) (sym (between_to_end c.args.bytes.now c.args.from c.loop-place.place c.loop-place-test.false)) ∙ (c.loop-place.invariant end.0 ∙ end.1))
