@@ -18,7 +18,7 @@ pub struct Played {
 /// A position on a board, and the points that the last move emptied.
 ///
 /// All memory is taken by `new`, for each point of the board.
-#[derive(Drop)]
+#[derive(Debug, Drop)]
 pub struct Board {
     size: Size,
     stones: Vec<Stone>,

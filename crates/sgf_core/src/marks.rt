@@ -17,7 +17,7 @@ pub struct Value<'a> {
 }
 
 /// A property, as SGF FF[4] has it: an identifier and its values, of which there is one at least.
-#[derive(Drop)]
+#[derive(Debug, Drop)]
 pub struct Prop<'a> {
     pub(crate) identifier: &'a [u8],
     pub(crate) values: SmallVec<Value<'a>, 1>,
@@ -55,7 +55,7 @@ impl<'a> Prop<'a> {
 }
 
 /// One part of a tree, as the tree is written.
-#[derive(Drop)]
+#[derive(Debug, Drop)]
 pub enum Mark<'a> {
     /// A parenthesis that begins a tree.
     Begin,

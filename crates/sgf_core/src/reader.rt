@@ -21,7 +21,7 @@ pub const MOST_BYTES: usize = 1 << 28;
 
 /// Reads the trees of a collection in their order, as SGF FF[4] has them. Bytes outside trees are skipped: a tree begins
 /// where a parenthesis, white bytes and a semicolon stand (this project's own reading).
-#[derive(Drop)]
+#[derive(Clone, Debug, Drop)]
 pub struct Trees<'a> {
     bytes: &'a [u8],
     from: usize,
