@@ -22,7 +22,7 @@ pub record Removing (size : Extent) (group : List Point) (i : ℕ) (before now :
 none_in : (q : Point) → Contains [] q → ⊥
 none_in q c = absurd (omega (arith, c.1))
 
--- what is in a list after one more point was put in, unless it was there
+-- what is in a list after one more point was put in, unless the list had it
 pub added_cases : (listed more : List Point) (p q : Point) → ((more ≡ listed) × Contains listed p) ⊎ (more ≡ listed ++ p ∷ []) →
     (Contains more q → Contains listed q ⊎ (p ≡ q)) × (Contains listed q ⊎ (p ≡ q) → Contains more q)
 added_cases listed more p q added = elim added [

@@ -1,4 +1,4 @@
--- What a board stands for: its size, the stones row by row from the top, each row from the left, and the points that
+-- What a board is: its size, the stones row by row from the top, each row from the left, and the points that
 -- the last move emptied.
 use Rattle.std.specs.Prelude.{◌≡◌, ◌*◌, List, length}
 use Rattle.go_board.specs.declared.points.Point.{Point}

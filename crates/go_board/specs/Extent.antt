@@ -1,7 +1,7 @@
 -- The size of a board: its columns and its rows, each from 1 to 52.
 use Rattle.std.specs.Prelude.{ℕ, ◌≤◌}
 
--- how many columns and rows there are
+-- the number of columns, and that of rows
 pub record Extent : Type 0 where
   pub columns : ℕ
   pub rows : ℕ

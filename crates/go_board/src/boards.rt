@@ -18,7 +18,7 @@ pub struct Played {
 /// A position on a board, and the points that the last move emptied.
 ///
 /// All memory is taken by `new`, for each point of the board.
-#[derive(Debug, Drop)]
+#[derive(Clone, Debug, Drop)]
 pub struct Board {
     size: Size,
     stones: Vec<Stone>,
@@ -50,9 +50,11 @@ impl Board {
     ghost use Rattle.go_board.specs.Play.{stone_of, other, count_of, Plays, IsRemoved, ListsOnce};
     ghost use Rattle.go_board.specs.Board.{position_of, IsBoard};
 
-    /// An empty board of this size, from which nothing was removed.
+    /// An empty board of this size, from which nothing was removed. It takes memory for each point of the board.
     ///
-    /// It takes memory for each point of the board. `BoardFault::Memory` comes where memory is refused.
+    /// # Errors
+    ///
+    /// `Memory` where memory was refused. No board is made then.
     pub fn new(alloc: Global, size: Size) -> Result<Board, BoardFault>
         ensures size { IfOk result (λ board. board.size ≡ size) }
         ensures empty { IfOk result (λ board. (q : Point) → IsOn size q

@@ -4,7 +4,7 @@ use std::alloc::{AllocError, Global};
 use std::marker::Model;
 
 /// A set of points, in the order in which they came, with a mark at each of them.
-#[derive(Debug, Drop)]
+#[derive(Clone, Debug, Drop)]
 pub(crate) struct PointSet {
     size: Size,
     marks: Vec<bool>,
@@ -62,7 +62,7 @@ impl PointSet {
         &self.members[..self.count]
     }
 
-    /// Puts a point in, if it is not there.
+    /// Puts a point in, unless the set has it.
     pub fn add(&mut self, point: Point)
         requires { IsOn self.old.size point }
         ensures size { self.new.size ≡ self.old.size }

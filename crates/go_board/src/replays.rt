@@ -11,10 +11,10 @@ use crate::points::{Colour, Point, Stone};
 
 /// A board, or what keeps a board and more: a game can be replayed on it.
 pub trait Replayable {
-    /// The board as it stands.
+    /// The board as it is now.
     ghost board_of: { Self → Stones };
 
-    /// What it keeps beside the board stays as it is: how the first is, the second is too.
+    /// What it keeps beside the board has not changed from the first to the second.
     ghost Stays: { Self → Self → Type 0 };
 
     /// `Stays` is reflexive.

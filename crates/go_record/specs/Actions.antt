@@ -1,4 +1,4 @@
--- What a record stands for: the board's size and its actions in order, every point of which is on the board.
+-- What a record is: the board's size and its actions in order, every point of which is on the board.
 use Rattle.std.specs.Prelude.{◌≤◌, List, All}
 use Rattle.go_board.specs.Extent.{Extent}
 use Rattle.go_board.specs.Point.{IsOn}

@@ -64,15 +64,16 @@ fn actions_of(alloc: Global, size: Size, line: MainLine<'_, '_>) -> Result<Vec<A
 
 /// The record of a tree's main line, or that the tree is of another game.
 ///
-/// GM and SZ count in the first node only, of several there the first, and of its values the first; no GM, an empty
-/// value and the number 1 are Go, no SZ and an empty value are 19 by 19. In each node all setup properties come first,
-/// in their order, and then all moves, in theirs; each value is an action of its own (this project's reading of SGF
-/// FF[4]).
+/// GM and SZ count in the first node only, the first of each, and of its values the first; no GM, an empty value and
+/// the number 1 are Go, no SZ and an empty value are 19 by 19. In each node all setup properties come first, in their
+/// order, and then all moves, in theirs; each value is an action of its own (this project's reading of SGF FF[4]).
 ///
 /// # Errors
 ///
-/// The first fault, of the size, and then of the nodes in order: `BadSize`, `BadPoint`, `OffBoard`, each with the place
-/// of its value. `Memory` where memory for the actions was refused.
+/// `BadSize` where the value of SZ is no size from 1 to 52 by 1 to 52. Otherwise the first of these, in the order of
+/// the actions: `BadPoint` where a value spells no point, rectangle or pass, and `OffBoard` where a point of it is off
+/// the board. Each has the place of its value. `Memory` where memory for the actions was refused. The tree is only
+/// read, so the call may be tried again.
 pub fn read_record(alloc: Global, tree: &Tree<'_>) -> Result<Kind, RecordFault>
     ensures { (game : GameTree) → tree.now.marks ≡ marks_of game
         → IsUnlessMemory result (record_of (main_line_of game)) }

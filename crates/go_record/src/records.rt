@@ -4,7 +4,7 @@ use go_board::Size;
 use std::marker::Model;
 
 /// What a tree's main line gives.
-#[derive(Debug, Drop)]
+#[derive(Clone, Debug, Drop)]
 pub enum Kind {
     /// A game of Go.
     Go(Record),
@@ -13,7 +13,7 @@ pub enum Kind {
 }
 
 /// A game of Go: the size of its board, and what was done on it. Every point of it is on the board.
-#[derive(Debug, Drop)]
+#[derive(Clone, Debug, Drop)]
 pub struct Record {
     size: Size,
     actions: Vec<Action>,

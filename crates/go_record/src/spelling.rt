@@ -12,7 +12,7 @@ ghost use Rattle.go_record.specs.declared.spelling.TheConstants.{CAP};
 use go_board::{Point, Size};
 use sgf_core::is_white;
 
-/// Numbers are read up to this one; a greater one counts as it, which no rule takes for a smaller.
+/// A number above this one is read as this one. No rule tells the two apart: each asks for 1, or for a side up to 52.
 const CAP: u32 = 100;
 
 fn without_white_front(bytes: &[u8]) -> &[u8]
@@ -93,7 +93,7 @@ fn side(text: &[u8]) -> Option<u8>
     }
 }
 
-/// Where the first colon stands.
+/// The place of the first colon.
 fn colon_at(text: &[u8]) -> Option<usize>
     ensures { result ≡ position is_colon text.now }
 {

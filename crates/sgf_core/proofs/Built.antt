@@ -18,7 +18,7 @@ behind_end forest = mark.End ∷ forest_marks forest
 abbrev spell : Rest → List Mark
 spell rest = map mark.Prop rest.properties ++ (flat_map node_marks rest.nodes ++ (forest_marks rest.inner ++ flat_map behind_end rest.outer))
 
--- as many trees are open round the innermost, and nothing comes after the outermost
+-- this many trees are open round the innermost, and nothing comes after the outermost
 abbrev AreOuter : ℕ → List Forest → Type 0
 AreOuter zero outer = outer ≡ no_trees ∷ []
 AreOuter (suc depth) [] = ⊥

@@ -1,4 +1,4 @@
--- At most one tree is next, and at most one fault stands there.
+-- At most one tree is next, and it has at most one fault.
 use Rattle.std.proofs.Common.{◌≡◌, ℕ, ◌+◌, ◌<◌, ◌≤◌, List, [], ◌∷◌, ◌++◌, length, drop, refl, sym, ap, ◌∙◌, subst, inl, inr, arith}
 use Rattle.std.specs.Prelude.{slice_range, slice_index}
 use Rattle.std.proofs.lemmas.Bool.{cases_lt}
@@ -75,7 +75,7 @@ same_next bytes from at end tree other_at other_end other h k =
 
 -- ---- faults
 
--- a byte that turns a front bad stands in no good front
+-- a byte that turns a front bad is in no good front
 bad_not_good : (bytes : List ℕ) (from at bad place : ℕ) → TurnsBad bytes from at bad → bad < place → IsGoodFront at (slice_range bytes at place) → ⊥
 bad_not_good bytes from at bad place h less good =
     h.turns (good_front at (slice_range bytes at (bad + 1)) (slice_range bytes (bad + 1) place) (subst (λ ys. IsGoodFront at ys) (slice-join bytes at (bad + 1) place (omega (arith, h.after)) (omega arith)) good))
@@ -125,7 +125,7 @@ same_fault bytes from (fault.BadByte at) fault.Memory h k = absurd k
 same_fault bytes from (fault.NoValue at) fault.TooLarge h k = absurd k
 same_fault bytes from (fault.NoValue at) fault.Memory h k = absurd k
 
--- where a fault stands, no tree is next
+-- where the next tree has a fault, no tree is next
 unwritten : (bytes : List ℕ) (from at end other : ℕ) (tree : GameTree) → IsNextTree bytes from at end tree → IsUnwritten bytes from other → ⊥
 unwritten bytes from at end other tree h k =
     k.no_tree end tree (subst (λ i. WritesTree i tree (slice_range bytes i end)) (same_begin bytes from at other h.first k.first) h.writes)

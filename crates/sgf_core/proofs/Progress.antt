@@ -130,7 +130,7 @@ before_live done [] some goes = absurd (some refl)
 before_live done (byte ∷ more) some goes = absurd (goes (run-dead more))
 before_live (live phase depth) more some goes = record { phase = phase; depth = depth; is = refl }
 
--- where no value and no white byte stands, and then white bytes do, nothing is passed
+-- after a whole mark, a byte that fits no mark begins no value either
 no_value : (bytes : List ℕ) (e : Expects) (place bad : ℕ) → IsMisfit bytes e place bad → (place < length bytes → (slice_index bytes place ≢ open_bracket) × (is_white (slice_index bytes place) ≡ false)) → slice_index bytes bad ≢ open_bracket
 no_value bytes e place bad k whole =
     elim (cases_lt place bad) [
@@ -250,7 +250,7 @@ module _ (bytes : List ℕ) (from at place : ℕ) (marks : List Mark) (e : Expec
       ∙ ap (λ (ys : List ℕ). open_parenthesis ∷ ys) (sym (append_assoc a (k.before ++ last.0) (last.1 ∷ k.behind))))))) in
       (at, (turns, record { before = before; letter = last.1; white = k.behind; ends = ends; is_letter = last.3; is_white = k.behind_white }))
 
-  -- what stands in place of a mark
+  -- what comes in place of a mark
   pub is_fault : (f : SgfFault) → MarkFault bytes at e place f → IsFaultOrMemory bytes from f
   is_fault (fault.Truncated found) k = subst (λ i. IsFaultAt bytes from (fault.Truncated i)) (sym k.0) (is_truncated k.1)
   is_fault (fault.BadByte bad) k = is_bad bad k

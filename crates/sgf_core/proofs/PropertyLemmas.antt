@@ -16,7 +16,7 @@ use Rattle.sgf_core.specs.declared.marks.Expects.TheVariants as expects
 use Rattle.sgf_core.proofs.Slices.{slice-drop, slice-join, slice-first, length-slice}
 use Rattle.sgf_core.proofs.Writing.{wrote-plain, wrote-white, wrote-then}
 
--- where no value was read, white bytes stand
+-- where no value was read, all bytes are white
 pub all_white : (at : ℕ) (text : List ℕ) → Wrote at [] text → IsTrue (list_all is_white text)
 all_white at text h = subst (λ ys. IsTrue (list_all is_white ys)) (sym (h.is ∙ ap (λ (ys : List ℕ). ys ++ h.white) h.writes)) h.ends_white
 

@@ -8,7 +8,7 @@ use Rattle.sgf_core.specs.declared.faults.SgfFault.TheVariants as fault
 abbrev with_fault : Reading → Option SgfFault → Reading
 with_fault reading found = record { bytes = reading.bytes; from = reading.from; fault = found }
 
--- a fault that stands there is one that may be answered
+-- the fault of the next tree may be answered
 pub may_answer : (bytes : List ℕ) (from : ℕ) (f : SgfFault) → IsFaultAt bytes from f → IsFaultOrMemory bytes from f
 may_answer bytes from (fault.Truncated at) h = h
 may_answer bytes from (fault.BadByte at) h = h

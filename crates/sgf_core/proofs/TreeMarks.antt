@@ -56,7 +56,7 @@ follow-nodes depth (node ∷ nodes) marks h =
     ap (follow_all (inside expects.Any depth)) (append_assoc (map mark.Prop node) (flat_map node_marks nodes) marks)
     ∙ (follow-properties depth node (flat_map node_marks nodes ++ marks) h.0 ∙ follow-nodes depth nodes marks h.1)
 
--- the first node may stand where only a node may
+-- the first node may come where only a node may
 follow-first : (depth : ℕ) (nodes : List Node) (marks : List Mark) → nodes ≢ [] → AllByRecursion HasValues nodes → follow_all (inside expects.Node depth) (flat_map node_marks nodes ++ marks) ≡ follow_all (inside expects.Any depth) marks
 follow-first depth [] marks some h = absurd (some refl)
 follow-first depth (node ∷ nodes) marks some h = follow-nodes depth (node ∷ nodes) marks h

@@ -32,7 +32,7 @@ abbrev pub tree_parts : GameTree → List Part
 tree_parts tree = flat_map node_parts tree.nodes ++ forest_parts tree.inner ++ closes ∷ []
 
 -- Whether no bracket in these bytes ends a value: a backslash takes the meaning away from the byte after it,
--- and is not the last byte. `escaped` says whether a backslash stands before them.
+-- and is not the last byte. `escaped` says whether a backslash comes before them.
 abbrev pub is_text_after : Bool → List ℕ → Bool
 is_text_after escaped [] = not escaped
 is_text_after true (byte ∷ bytes) = is_text_after false bytes
@@ -73,7 +73,7 @@ AreComplete (a_tree nodes inner rest) = (nodes ≢ []) × AllByRecursion HasValu
 abbrev pub IsComplete : GameTree → Type 0
 IsComplete tree = (tree.nodes ≢ []) × AllByRecursion HasValues tree.nodes × AreComplete tree.inner
 
--- the bytes that write a tree whose first parenthesis stands at a place
+-- the bytes that write a tree whose first parenthesis is at a place
 pub record WritesTree (at : ℕ) (tree : GameTree) (text : List ℕ) : Type 0 where
   pub complete : IsComplete tree
   pub inside : List ℕ

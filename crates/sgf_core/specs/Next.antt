@@ -1,11 +1,11 @@
--- Which tree of the input is next, or which fault stands there. Places are byte offsets in the whole input, from 0.
+-- Which tree of the input is next, or which fault the next tree has. Places are byte offsets in the whole input, from 0.
 use Rattle.std.specs.Prelude.{◌≡◌, ℕ, ◌+◌, ◌<◌, ◌≤◌, IsTrue, List, ◌∷◌, ◌++◌, length, drop, slice_range}
 use Rattle.std.specs.List.{list_all}
 use Rattle.sgf_core.specs.Bytes.{is_white, is_letter, open_parenthesis, semicolon}
 use Rattle.sgf_core.specs.Tree.{GameTree}
 use Rattle.sgf_core.specs.Grammar.{WritesTree, IsGoodFront}
 
--- a tree begins where a parenthesis, white bytes and a semicolon stand (this project's own reading)
+-- a tree begins where a parenthesis, any white bytes and a semicolon follow one another (this project's own reading)
 pub record BeginsTree (text : List ℕ) : Type 0 where
   pub white : List ℕ
   pub rest : List ℕ
@@ -22,7 +22,7 @@ pub record IsFirstBegin (bytes : List ℕ) (from at : ℕ) : Type 0 where
 abbrev pub HasNoTree : List ℕ → ℕ → Type 0
 HasNoTree bytes from = (at : ℕ) → from ≤ at → BeginsTree (drop at bytes) → ⊥
 
--- the next tree from a place on, with its bounds: its first parenthesis stands at `at`, and `end` is the place
+-- the next tree from a place on, with its bounds: its first parenthesis is at `at`, and `end` is the place
 -- after its last
 pub record IsNextTree (bytes : List ℕ) (from at end : ℕ) (tree : GameTree) : Type 0 where
   pub first : IsFirstBegin bytes from at
@@ -57,10 +57,10 @@ pub record EndsWithIdentifier (text : List ℕ) : Type 0 where
   pub is_letter : IsTrue (is_letter letter)
   pub is_white : IsTrue (list_all is_white white)
 
--- a byte that stands in the place of an identifier's first value
+-- a byte that comes in place of an identifier's first value
 abbrev pub IsNoValue : List ℕ → ℕ → ℕ → ℕ → Type 0
 IsNoValue bytes from at bad = TurnsBad bytes from at bad × EndsWithIdentifier (slice_range bytes at bad)
 
--- any other byte that fits nowhere
+-- any other byte that turns a good front into one that is not good
 abbrev pub IsBadByte : List ℕ → ℕ → ℕ → ℕ → Type 0
 IsBadByte bytes from at bad = TurnsBad bytes from at bad × (EndsWithIdentifier (slice_range bytes at bad) → ⊥)

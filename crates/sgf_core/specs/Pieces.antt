@@ -81,7 +81,7 @@ pub record EndsInMark (bytes : List ℕ) (expected : Expects) (from : ℕ) : Typ
   pub some_more : more ≢ []
   pub writes : WritesParts from (mark_parts begun) (drop from bytes ++ more)
 
--- after white bytes stands one with which no mark that may come begins
+-- after white bytes comes a byte with which no mark that may come begins
 pub record IsMisfit (bytes : List ℕ) (expected : Expects) (from bad : ℕ) : Type 0 where
   pub after : from ≤ bad
   pub in_input : bad < length bytes
@@ -89,7 +89,7 @@ pub record IsMisfit (bytes : List ℕ) (expected : Expects) (from bad : ℕ) : T
   pub not_white : is_white (slice_index bytes bad) ≡ false
   pub misfit : is_fitting expected (slice_index bytes bad) ≡ false
 
--- after an identifier and white bytes stands what is no value
+-- after an identifier and white bytes comes something that is no value
 pub record IsNameAlone (bytes : List ℕ) (from bad : ℕ) : Type 0 where
   pub after : from ≤ bad
   pub in_input : bad < length bytes

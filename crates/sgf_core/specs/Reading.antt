@@ -1,4 +1,4 @@
--- What a reader of trees stands for: the input, the place where it goes on, and the fault that it has met.
+-- What a reader of trees is: the input, the place where it goes on, and the fault that it has met.
 use Rattle.std.specs.Prelude.{◌≡◌, ℕ, ◌≤◌, List, length, Option, Some, None, IfSome}
 use Rattle.sgf_core.specs.Limit.{most_bytes}
 use Rattle.sgf_core.specs.Next.{IsTruncated, IsBadByte, IsNoValue}
@@ -10,7 +10,7 @@ pub record Reading : Type 0 where
   pub from : ℕ
   pub fault : Option SgfFault
 
--- this fault of syntax stands at the next tree from a place on
+-- this fault of syntax is that of the next tree from a place on
 abbrev pub IsFaultAt : List ℕ → ℕ → SgfFault → Type 0
 IsFaultAt bytes from (fault.Truncated at) = IsTruncated bytes from at
 IsFaultAt bytes from (fault.BadByte bad) = (at : ℕ) × IsBadByte bytes from at bad
@@ -18,7 +18,7 @@ IsFaultAt bytes from (fault.NoValue bad) = (at : ℕ) × IsNoValue bytes from at
 IsFaultAt bytes from fault.TooLarge = ⊥
 IsFaultAt bytes from fault.Memory = ⊥
 
--- the place is within the input, which is not too large, and a fault that was met stands there
+-- the place is within the input, which is not too large, and a fault that was met is that of the next tree
 pub record IsReading (reading : Reading) : Type 0 where
   pub small : length reading.bytes ≤ most_bytes
   pub in_input : reading.from ≤ length reading.bytes
@@ -29,7 +29,7 @@ abbrev pub IsAfterFault : Reading → Reading → SgfFault → Type 0
 IsAfterFault before after fault.Memory = after ≡ before
 IsAfterFault before after found = after ≡ record before { fault = Some found }
 
--- the fault stands there, or memory was wanting
+-- the fault is that of the next tree, or memory was wanting
 abbrev pub IsFaultOrMemory : List ℕ → ℕ → SgfFault → Type 0
 IsFaultOrMemory bytes from fault.Memory = Unit {0}
 IsFaultOrMemory bytes from found = IsFaultAt bytes from found

@@ -2,7 +2,7 @@
 use Rattle.std.specs.Prelude.{ℕ, List, [], ◌++◌, filter}
 use Rattle.sgf_core.specs.Bytes.{is_upper}
 
--- a value: the place in the input of its first byte, and its bytes as they stand there, escapes not undone
+-- a value: the place in the input of its first byte, and its bytes as they are written, with their escapes
 pub record PropertyValue : Type 0 where
   pub at : ℕ
   pub bytes : List ℕ
@@ -20,7 +20,7 @@ name_of identifier = filter is_upper identifier
 abbrev pub Node : Type 0
 Node = List Property
 
--- trees that stand one after another: none, or a tree with its nodes and the trees inside it, and the rest
+-- trees one after another: none, or a tree with its nodes and the trees inside it, and the rest
 pub data Forest : Type 0 where
   no_trees : Forest
   a_tree : (nodes : List Node) → (inner : Forest) → (rest : Forest) → Forest

@@ -3,7 +3,7 @@ ghost use Rattle.std.specs.Prelude.{◌≡◌, ◌↔◌, IsTrue};
 ghost use Rattle.sgf_core.specs.Bytes.{is_white, is_letter};
 ghost use Rattle.sgf_core.specs.Tree.{name_of};
 
-/// Whether white space may be written by this byte.
+/// Whether this byte is white space: 09 to 0D or 20, in hexadecimal.
 pub fn is_white(byte: u8) -> bool
     ensures { result ≡ is_white byte }
 {

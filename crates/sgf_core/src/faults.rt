@@ -5,20 +5,20 @@ ghost use Rattle.sgf_core.specs.declared.faults.SgfFault.TheVariants.{Memory};
 use std::alloc::{AllocError, AllocFailed};
 use thiserror::Error;
 
-/// Why no tree was read: the first byte that fits nowhere by the grammar of SGF FF[4], a limit of this project's own, or
-/// memory. Places are byte offsets in the whole input, from 0.
+/// Why no tree was read: by the grammar of SGF FF[4] no tree begins so, the input is over this project's own limit, or
+/// memory was refused. Places are byte offsets in the whole input, from 0.
 #[derive(Clone, Copy, Debug, PartialEq, Eq, Error)]
 pub enum SgfFault {
-    /// The input ends within the tree whose first parenthesis stands at this place.
+    /// The input ends within the tree whose first parenthesis is at this place.
     #[error("S1 truncated tree at {0}")]
     Truncated(usize),
-    /// This byte of a tree fits nowhere: what stands before it in the tree could still have become one.
+    /// This byte can't come here: some tree begins with the bytes of this tree before it, and none goes on with it.
     #[error("S2 bad byte at {0}")]
     BadByte(usize),
-    /// As before, and the byte comes after an identifier and white bytes, in the place of its first value.
+    /// The same, and the byte comes after an identifier and white bytes, where its first value has to come.
     #[error("S3 no value at {0}")]
     NoValue(usize),
-    /// The input has more than 2^28 bytes.
+    /// The input has more than `MOST_BYTES` bytes, 2^28.
     #[error("S4 input too large")]
     TooLarge,
     /// Memory was refused.

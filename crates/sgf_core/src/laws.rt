@@ -6,8 +6,8 @@ ghost use Rattle.sgf_core.specs.Next.{IsNextTree, HasNoTree};
 ghost use Rattle.sgf_core.specs.Reading.{IsFaultAt};
 ghost use Rattle.sgf_core.specs.declared.faults.SgfFault.{SgfFault};
 
-/// From a place on at most one tree is next, with one place where it begins and one where it ends. So a tree that is
-/// next is the one that is read.
+/// From a place on at most one tree is next, with one place where it begins and one where it ends. So the tree that is
+/// read is the one that is next.
 pub fn one_next_tree()
     ensures { (bytes : List ℕ) (from at end : ℕ) (tree : GameTree) (other_at other_end : ℕ)
         (other : GameTree)
@@ -15,13 +15,13 @@ pub fn one_next_tree()
         → (at ≡ other_at) × (end ≡ other_end) × (tree ≡ other) }
 {}
 
-/// From a place on at most one fault stands at the next tree. So a fault that stands there is the one that is answered.
+/// From a place on the next tree has at most one fault. So the fault that is answered is the one that it has.
 pub fn one_fault()
     ensures { (bytes : List ℕ) (from : ℕ) (fault other : SgfFault)
         → IsFaultAt bytes from fault → IsFaultAt bytes from other → fault ≡ other }
 {}
 
-/// From a place on there is never both a next tree and a fault, nor one of them where no tree begins.
+/// From a place on no two of these hold: a tree is next, the next tree has a fault, no tree begins.
 pub fn one_answer()
     ensures tree_or_fault { (bytes : List ℕ) (from at end : ℕ) (tree : GameTree) (fault : SgfFault)
         → IsNextTree bytes from at end tree → IsFaultAt bytes from fault → ⊥ }

@@ -7,7 +7,7 @@ use crate::bytes::is_name_of;
 use smallvec::SmallVec;
 use std::marker::Model;
 
-/// A value of a property, as SGF FF[4] has it: the bytes between its brackets as they stand there, escapes not undone.
+/// A value of a property, as SGF FF[4] has it: the bytes between its brackets as they are written, with their escapes.
 #[derive(Clone, Copy, Debug, Default, PartialEq, Eq)]
 pub struct Value<'a> {
     /// The place of its first byte, which comes after the bracket: a byte offset in the whole input, from 0.
@@ -16,8 +16,8 @@ pub struct Value<'a> {
     pub bytes: &'a [u8],
 }
 
-/// A property, as SGF FF[4] has it: an identifier and its values, of which there is one at least.
-#[derive(Debug, Drop)]
+/// A property, as SGF FF[4] has it: an identifier and its values, one or more.
+#[derive(Clone, Debug, Drop)]
 pub struct Prop<'a> {
     pub(crate) identifier: &'a [u8],
     pub(crate) values: SmallVec<Value<'a>, 1>,
@@ -55,7 +55,7 @@ impl<'a> Prop<'a> {
 }
 
 /// One part of a tree, as the tree is written.
-#[derive(Debug, Drop)]
+#[derive(Clone, Debug, Drop)]
 pub enum Mark<'a> {
     /// A parenthesis that begins a tree.
     Begin,

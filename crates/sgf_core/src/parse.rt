@@ -47,7 +47,7 @@ fn read_mark<'a>(
     }
 }
 
-/// Reads the tree whose first parenthesis stands at `at`.
+/// Reads the tree whose first parenthesis is at `at`.
 pub(crate) fn read_tree<'a>(alloc: Global, bytes: &'a [u8], at: usize) -> Result<Tree<'a>, SgfFault>
     requires small { length bytes.now ≤ most_bytes }
     requires begins { BeginsTree (drop at bytes.now) }

@@ -19,8 +19,8 @@ use std::marker::Model;
 /// The most bytes that an input may have, a limit of this project's own.
 pub const MOST_BYTES: usize = 1 << 28;
 
-/// Reads the trees of a collection in their order, as SGF FF[4] has them. Bytes outside trees are skipped: a tree begins
-/// where a parenthesis, white bytes and a semicolon stand (this project's own reading).
+/// Reads the trees of a collection in their order, as SGF FF[4] has them. Bytes outside trees are skipped: a tree
+/// begins where a parenthesis, any white bytes and a semicolon follow one another (this project's own reading).
 #[derive(Clone, Debug, Drop)]
 pub struct Trees<'a> {
     bytes: &'a [u8],
@@ -62,7 +62,7 @@ fn first_begin(bytes: &[u8], from: usize) -> Option<usize>
     None
 }
 
-/// The fault that each later call answers: want of memory passes.
+/// The fault that each later call answers: none after want of memory, since memory may come free.
 fn kept(fault: SgfFault) -> Option<SgfFault>
     ensures { result ≡ kept_fault fault }
 {
@@ -73,9 +73,11 @@ fn kept(fault: SgfFault) -> Option<SgfFault>
 }
 
 impl<'a> Trees<'a> {
-    /// A reader at the beginning of this input, which takes no memory.
+    /// A reader at the beginning of this input. It takes no memory.
     ///
-    /// S4 comes where the input has more than 2^28 bytes.
+    /// # Errors
+    ///
+    /// `TooLarge` where the input has more than `MOST_BYTES` bytes, 2^28. No reader is made then.
     pub fn new(bytes: &'a [u8]) -> Result<Trees<'a>, SgfFault>
         ensures small { IsOk result ↔ (length bytes.now ≤ most_bytes) }
         ensures begins { IfOk result (λ trees. trees
@@ -92,12 +94,16 @@ impl<'a> Trees<'a> {
         })
     }
 
-    /// The next tree, or `None` where none is left.
+    /// The next tree, or `None` where no tree begins any more.
     ///
-    /// S1 comes where the input ends within the tree that is next, S2 where a byte of it fits nowhere, S3 where that
-    /// byte stands in the place of an identifier's first value. Each later call then answers the same. S5 comes where
-    /// memory was refused for the tree's marks or for the values of a property beside the first, and the reader
-    /// then stands where it stood.
+    /// # Errors
+    ///
+    /// `Truncated` where the input ends within the next tree, `NoValue` where something else comes in place of an
+    /// identifier's first value, and `BadByte` at any other byte that can't come where it is. The reader keeps such a
+    /// fault, and each later call answers the same.
+    ///
+    /// `Memory` where memory was refused for the tree's marks or for the values of a property beside the first. The
+    /// reader is then as it was before the call, so the call may be tried again.
     pub fn next_tree(&mut self, alloc: Global) -> Result<Option<Tree<'a>>, SgfFault>
         ensures tree { IfOk result (λ found. IfSome found (λ read. (tree : GameTree)
             × IsNextTree self.old.bytes self.old.from read.at read.end tree

@@ -35,7 +35,7 @@ pub(crate) fn letters_end(bytes: &[u8], from: usize) -> usize
     place
 }
 
-/// The place from `from` on of the bracket that ends the value whose first byte stands there, if one does.
+/// The place of the bracket that ends the value whose first byte is at `from`, if one ends it.
 pub(crate) fn value_end(bytes: &[u8], from: usize) -> Option<usize>
     requires { from ≤ length bytes.now }
     ensures { MatchOption result

@@ -9,7 +9,7 @@ use std::marker::Model;
 
 /// A game tree, as SGF FF[4] has it: its bounds in the whole input, and its marks. It is read whole: a sequence of one
 /// or more nodes, then inner trees.
-#[derive(Debug, Drop)]
+#[derive(Clone, Debug, Drop)]
 pub struct Tree<'a> {
     pub(crate) at: usize,
     pub(crate) end: usize,

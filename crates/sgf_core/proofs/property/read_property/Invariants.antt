@@ -6,7 +6,7 @@ use Rattle.sgf_core.specs.Pieces.{Wrote}
 use Rattle.sgf_core.specs.Values.{value_of}
 use Rattle.sgf_core.proofs.property.read_property.Given as goal
 
--- after the identifier stand the values so far, and white bytes
+-- after the identifier come the values so far, and white bytes
 abbrev pub invariant-loop-place : goal.invariant-loop-place
 invariant-loop-place l = record {
   after : l.identifier_end ≤ l.place;

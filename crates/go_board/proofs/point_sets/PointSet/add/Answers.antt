@@ -1,4 +1,4 @@
--- A point with no mark is none of the members, so there is room for it, and each point still stands once.
+-- A point with no mark is none of the members, so there is room for it, and each point still comes once.
 use Rattle.std.proofs.Common.{rules, ◌<◌, inr, length}
 use Rattle.std.proofs.lemmas.List.{take_more_set}
 use Rattle.go_board.proofs.Sets.{has_room, IsPointSet-added, unmarked}
