@@ -5,7 +5,7 @@ ghost use Rattle.std.specs.Option.{option_map};
 ghost use Rattle.std.specs.List.{list_any, before_first, after_first};
 ghost use Rattle.sgf_core.specs.Bytes.{is_upper, is_lower};
 ghost use Rattle.go_record.specs.Spelling.{without_white_front, trimmed, is_digit, unsigned_of};
-ghost use Rattle.go_record.specs.Spelling.{number_of, side_of, is_colon, size_of};
+ghost use Rattle.go_record.specs.Spelling.{number_of, side_of, is_colon, extent_of, size_of};
 ghost use Rattle.go_record.specs.Point.{coordinate_of, point_of};
 ghost use Rattle.go_record.specs.declared.spelling.TheConstants.{CAP};
 
@@ -81,16 +81,13 @@ pub(crate) fn number(text: &[u8]) -> Option<u32>
     }
 }
 
-/// A side of a board.
-fn side(text: &[u8]) -> Option<u8>
-    ensures { result ≡ side_of text.now }
+/// The size whose columns and rows these texts spell.
+fn sides(columns: &[u8], rows: &[u8]) -> Option<Size>
+    ensures { result ≡ extent_of (side_of columns.now) (side_of rows.now) }
 {
-    let number = number(text)?;
-    if number >= 1 && number <= 52 {
-        Some(number as u8)
-    } else {
-        None
-    }
+    let columns = number(columns)?;
+    let rows = number(rows)?;
+    Size::new(columns as u8, rows as u8)
 }
 
 /// The place of the first colon.
@@ -143,10 +140,7 @@ pub(crate) fn size(bytes: &[u8]) -> Option<Size>
         return Size::new(19, 19);
     }
     match split_colon(text) {
-        Some((columns, rows)) => Size::new(side(trimmed(columns))?, side(trimmed(rows))?),
-        None => {
-            let side = side(text)?;
-            Size::new(side, side)
-        }
+        Some((columns, rows)) => sides(trimmed(columns), trimmed(rows)),
+        None => sides(text, text),
     }
 }
