@@ -115,7 +115,7 @@ impl Size {
         ensures value { result ≡ index_of self point }
         ensures below { result < self.columns * self.rows }
     {
-        usize::from(point.row) * usize::from(self.columns) + usize::from(point.column)
+        point.row as usize * self.columns as usize + point.column as usize
     }
 
     /// Whether the point is on a board of this size.
