@@ -45,7 +45,7 @@ impl<O: ProbeOrder> SoloTable<O> {
         ensures memory { IsOkUnless result ProbeFault.Memory }
     {
         let slots = order.capacity().slots();
-        let words = vec![in alloc; 0; slots].map_err(|_| ProbeFault::Memory)?;
+        let words = vec![in alloc; 0; slots]?;
         Ok(SoloTable { order, words })
     }
 

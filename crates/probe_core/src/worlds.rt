@@ -46,10 +46,8 @@ impl<O: ProbeOrder> World<O> {
         ensures lawful { IfOk result (λ world. IsLawful (2 ^ O.exponent order) world.world) }
         ensures memory { IsOkUnless result ProbeFault.Memory }
     {
-        match Hall::new(alloc, order, callers) {
-            Ok(hall) => Ok(World { hall }),
-            Err(_) => Err(ProbeFault::Memory),
-        }
+        let hall = Hall::new(alloc, order, callers)?;
+        Ok(World { hall })
     }
 
     /// Runs these events, in their order.
@@ -74,9 +72,7 @@ impl<O: ProbeOrder> World<O> {
         if events.len() > MOST_EVENTS - self.hall.events {
             return Err(ProbeFault::TooLong);
         }
-        if self.hall.finished.reserve(count_steps(events)).is_err() {
-            return Err(ProbeFault::Memory);
-        }
+        self.hall.finished.reserve(count_steps(events))?;
         for event in events {
             self.hall.happen(*event);
         }
