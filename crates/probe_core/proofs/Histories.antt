@@ -6,13 +6,11 @@ use Rattle.probe_core.specs.declared.calls.Call.{Call}
 use Rattle.probe_core.specs.declared.calls.Call.TheVariants as call
 use Rattle.probe_core.specs.declared.calls.Answer.{Answer}
 use Rattle.probe_core.specs.declared.calls.Answer.TheVariants as answer
-use Rattle.probe_core.specs.Machine.{code_of, key_of}
+use Rattle.probe_core.specs.Machine.{code_of}
 use Rattle.probe_core.specs.Sequential.{Table, Step, IsNumber, IsAbsent}
 use Rattle.probe_core.specs.History.{Answered, changed, content, content_from, empty_table, IsRunFrom, IsLegal}
-use Rattle.probe_core.specs.Placing.{IsOther, HaveGrown}
+use Rattle.probe_core.specs.Placing.{HaveGrown}
 use Rattle.probe_core.specs.Showing.{key_in, table_of}
-use Rattle.probe_core.specs.Way.{IsOnWay}
-use Rattle.probe_core.specs.Machine as machine
 use Rattle.probe_core.proofs.Telling.{shown, shows_some, step_is_change}
 use Rattle.probe_core.proofs.Growing.{run_keeps}
 use Rattle.probe_core.proofs.Soundness.{content_more, run_more}
@@ -74,20 +72,6 @@ words_grew n front rest words later legal before after p taken =
     in let kept : IsNumber (table_of later) key p =
     subst P after (numbers_kept n front rest key p legal (subst P (sym before) number))
     in shows_some (slice_index_or later p 0) key (sym (shown later p) ∙ kept.stands) ∙ sym some.1
-
--- a call on its way stays so where words only grew
-pub way_kept : (n : ℕ) (place : ℕ → ℕ → ℕ) (words later : List ℕ) (m : machine.Machine) → HaveGrown words later → IsOnWay n place words m
-    → IsOnWay n place later m
-way_kept n place words later m grown way =
-    let key : ℕ = key_of m.call
-    in record {
-      within = way.within;
-      passed = λ j h.
-          let P : ℕ → Type 0 = λ w. IsOther w key
-          in let other : IsOther (slice_index_or words (place key j) 0) key = way.passed j h
-          in subst P (sym (grown (place key j) other.taken)) other;
-      swapping = way.swapping;
-    }
 
 -- no key has two numbers
 abbrev pub HasOneEach : Table → Type 0

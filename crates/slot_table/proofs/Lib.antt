@@ -1,7 +1,5 @@
 pub mod Histories
 pub mod Pairs
-pub mod Placings
-pub mod Winning
 pub mod Deciding
 pub mod Seating
 pub mod Stepping

@@ -9,7 +9,7 @@ use Rattle.slot_table.specs.declared.views.View.{View}
 use Rattle.slot_table.specs.Places.{times, below, IsRising, inserted, merged}
 use Rattle.slot_table.specs.Rule.{times_owned}
 use Rattle.slot_table.specs.Telling.{places_from}
-use Rattle.slot_table.proofs.Placings.{three_ways}
+use Rattle.probe_core.proofs.Placings.{three_ways}
 
 -- how often a place stands
 

@@ -61,7 +61,7 @@ module _ {O : Type 0} (exponent : O → ℕ) (place : ℕ → ℕ → ℕ) (key 
       passed_stays n (place (key_of machine.call)) me.0.seen kept.log (key_of machine.call) machine.index kept.legal (kept.longest.begun id me.0 at).0 search.passed
       in let after : Sound n place words games (kept.log ++ added) =
       subst (λ (v : ℕ). Sound n place words games (kept.log ++ entries_of machine.call (follows n machine p v))) (sym same)
-      (loaded n place words games kept.log before machine loads order search.within search.small passed)
+      (loaded n place words games kept.log before machine order search.within search.small search.enters passed loads)
       in let w : View O = grown_view me.0 kept.log added
       in let stepped : Stepped n machine p x me.0 w = record {
         longest = kept.log;
@@ -94,7 +94,7 @@ module _ {O : Type 0} (exponent : O → ℕ) (place : ℕ → ℕ → ℕ) (key 
       passed_stays n (place (key_of machine.call)) me.0.seen kept.log (key_of machine.call) machine.index kept.legal (kept.longest.begun id me.0 at).0 search.passed
       in let after : Sound n place (slice_set words p (either (x == 0) value x)) games (kept.log ++ added) =
       subst (λ (v : ℕ). Sound n place (slice_set words p (either (v == 0) value v)) games (kept.log ++ entries_of machine.call (follows n machine p v))) (sym same)
-      (rw is (swapped n place words games kept.log before machine swaps (search.enters swaps) order search.within search.small passed))
+      (rw is (swapped n place words games kept.log before machine order search.within search.small search.enters passed swaps))
       in let w : View O = grown_view me.0 kept.log added
       in let stepped : Stepped n machine p x me.0 w = record {
         longest = kept.log;
