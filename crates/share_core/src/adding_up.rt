@@ -59,10 +59,8 @@ pub(crate) fn push(entries: &mut Vec<Entry>, total: Option<Row>) -> Result<(), H
     if row.there == 0 {
         return Ok(());
     }
-    match entries.push(entry(row)) {
-        Ok(()) => Ok(()),
-        Err(_) => Err(HarvestFault::Memory),
-    }
+    entries.push(entry(row))?;
+    Ok(())
 }
 
 /// Puts entries in the order of their patterns' words: in several threads where several workers counted.

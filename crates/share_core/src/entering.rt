@@ -86,9 +86,7 @@ pub(crate) fn enter_all<O: ProbeOrder>(
         let Some(one) = enter_one(table, pass, meeting.shape, game) else {
             return Ok(Some(meeting.shape));
         };
-        let Ok(()) = entered.push(one) else {
-            return Err(HarvestFault::Memory);
-        };
+        entered.push(one)?;
     }
     Ok(None)
 }

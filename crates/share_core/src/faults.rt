@@ -1,6 +1,11 @@
 //! What can go wrong in counting with shares.
+ghost use Rattle.std.specs.Prelude.{◌≡◌};
+ghost use Rattle.share_core.specs.declared.faults.HarvestFault.TheVariants.{Memory};
+
 use sgf_core::SgfFault;
 use shape_core::Word;
+use slot_table::SlotFault;
+use std::alloc::{AllocError, AllocFailed};
 use tally_core::HarvestFault as TallyFault;
 use thiserror::Error;
 
@@ -61,5 +66,41 @@ impl HarvestFault {
             TallyFault::Sgf(found) => HarvestFault::Sgf(found),
             TallyFault::Overflow => HarvestFault::Overflow,
         }
+    }
+}
+
+impl From<AllocError> for HarvestFault {
+    ghost from_gives = { λ _ fault. fault ≡ Memory };
+
+    fn from(_: AllocError) -> HarvestFault {
+        HarvestFault::Memory
+    }
+}
+
+impl<T: Drop> From<AllocFailed<T>> for HarvestFault {
+    ghost from_gives = { λ _ fault. fault ≡ Memory };
+
+    fn from(_: AllocFailed<T>) -> HarvestFault {
+        HarvestFault::Memory
+    }
+}
+
+impl From<SlotFault> for HarvestFault {
+    ghost from_gives = { λ _ fault. fault ≡ Memory };
+
+    fn from(fault: SlotFault) -> HarvestFault {
+        match fault {
+            SlotFault::Memory => HarvestFault::Memory,
+        }
+    }
+}
+
+impl From<TallyFault> for HarvestFault {
+    ghost use Rattle.share_core.specs.Faults.{same_fault};
+
+    ghost from_gives = { λ found fault. fault ≡ same_fault found };
+
+    fn from(found: TallyFault) -> HarvestFault {
+        HarvestFault::of_tally(found)
     }
 }

@@ -115,9 +115,7 @@ impl Ledger {
         let Some(total) = self.weight.checked_add(added) else {
             return Err(HarvestFault::Overflow);
         };
-        let Ok(()) = self.games.push(game) else {
-            return Err(HarvestFault::Memory);
-        };
+        self.games.push(game)?;
         raise_all(&mut self.rows, meetings, places, game);
         self.moves = moves;
         self.weight = total;

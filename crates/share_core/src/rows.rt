@@ -158,12 +158,8 @@ impl Rows {
             played: 0,
             first: None,
         };
-        let Ok(()) = widen(&mut self.index, slots) else {
-            return Err(HarvestFault::Memory);
-        };
-        let Ok(()) = self.rows.push(row) else {
-            return Err(HarvestFault::Memory);
-        };
+        widen(&mut self.index, slots)?;
+        self.rows.push(row)?;
         self.index[number] = RowPlace::of(place);
         Ok(place)
     }

@@ -107,9 +107,7 @@ pub(crate) fn visit_all<O: ProbeOrder>(
         (all_rows shares.now)) }
 {
     let slots = table.capacity().slots();
-    let Ok(entries) = Vec::with_capacity(alloc, most_patterns(shares, slots)) else {
-        return Err(HarvestFault::Memory);
-    };
+    let entries = Vec::with_capacity(alloc, most_patterns(shares, slots))?;
     let mut visited = Visited {
         entries,
         differs: None,

@@ -73,10 +73,7 @@ impl Workings {
             game
             self.old.walk.kinds record.now ledger.new.rows) }
     {
-        let moves = match self.walk.walk(record) {
-            Ok(moves) => moves,
-            Err(fault) => return Err(HarvestFault::of_tally(fault)),
-        };
+        let moves = self.walk.walk(record)?;
         let meetings = self.walk.meetings();
         let refused = enter_all(table, pass, &mut self.entered, meetings, game)?;
         let entered = self.entered.as_slice();
