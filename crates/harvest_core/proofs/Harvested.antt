@@ -247,7 +247,7 @@ module _ (n : ℕ) (seen : List Happened) where
   shapes_numbered [] each = tt
   shapes_numbered (entry ∷ rest) each = (each.0, shapes_numbered rest each.1)
 
--- each pattern of that dictionary has a number, and there are at most n
+-- each pattern of that dictionary has a number, and it has at most n patterns
 pub numbered : (n : ℕ) (seen : List Happened) (kinds : Kinds) (games : ℕ) (shares : List Held) (contents : Contents) → IsLegal n seen → Stand n seen (all_rows shares) →
     IsGathered kinds games shares contents →
     ((entry : Entry) → Contains contents.entries entry → (p : ℕ) × IsNumber (content_of n seen) entry.shape p) × (length contents.entries ≤ n)

@@ -90,10 +90,9 @@ fn read_all<'a, R: Wait, O: ProbeOrder, G: Gate>(
     ensures fault { IfErr result (IsReadFault games.old.bytes) }
 {
     loop {
-        match games.next_job(alloc) {
-            Ok(Some(job)) => offer(rt, desk, worked, table, pass, gate, job, alone),
-            Ok(None) => return Ok(()),
-            Err(fault) => return Err(HarvestFault::of_tally(fault)),
+        match games.next_job(alloc)? {
+            Some(job) => offer(rt, desk, worked, table, pass, gate, job, alone),
+            None => return Ok(()),
         }
         if wants_memory(worked) {
             return Err(HarvestFault::Memory);
@@ -170,13 +169,9 @@ pub(crate) fn read_games<'a, R: Wait, O: ProbeOrder, G: Gate>(
     );
     close(rt, desk, workers);
     worked.sort_rows();
-    let fault = match outcome {
-        Ok(()) => None,
-        Err(fault) => Some(fault),
-    };
     Reading {
         worked,
         report: games.report(),
-        fault,
+        fault: outcome.err(),
     }
 }

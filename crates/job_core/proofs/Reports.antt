@@ -100,7 +100,7 @@ is_game bytes from before after read game h next counts = record {
 pub moved : (P : List ℕ → ℕ → Type 0) (bytes other : List ℕ) (from place : ℕ) → other ≡ bytes → place ≡ from → P other place → P bytes from
 moved P bytes other from place same here h = subst (λ b. P b from) same (subst (λ f. P other f) here h)
 
--- why there is no next tree is why the input is not read
+-- why no next tree comes is why the input is not read
 pub stops : (bytes : List ℕ) (from : ℕ) (report : Report) (found : HarvestFault) → HasRead bytes from report → IsNextFault bytes from found → IsCountFault bytes found
 stops bytes from report fault.Memory h is = tt
 stops bytes from report fault.BadSettings h is = absurd is
