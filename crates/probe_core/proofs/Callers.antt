@@ -1,4 +1,4 @@
--- What a hall shows where a caller's call is put there, taken or put back.
+-- What a hall shows where a caller's call is put into it, taken or put back.
 use Rattle.std.proofs.Common.{◌≡◌, ◌≢◌, ℕ, ◌<◌, List, [], ◌∷◌, ◌++◌, length, map, slice_set, slice_get, slice_index_or, Option, Some, None, refl, ap, ◌∙◌, sym, inl, inr, arith}
 use Rattle.std.specs.Option.{option_map}
 use Rattle.std.proofs.lemmas.Bool.{cases_eq, cases_lt}
@@ -28,7 +28,7 @@ get_set_other xs i j x apart =
       | inr past ↦ slice_get_past (slice_set xs i x) j (omega (arith, e, past)) ∙ sym (slice_get_past xs j past)
     ]
 
--- what stands at an index after a write there: what was written, or nothing
+-- what an index holds after a write at it: what was written, or nothing
 pub set_shows : {X : Type 0} (xs : List X) (i : ℕ) (x y : X) → slice_get (slice_set xs i x) i ≡ Some y → x ≡ y
 set_shows xs i x y e =
     elim (cases_lt i (length xs)) [

@@ -48,7 +48,7 @@ step_keeps table (call.LookUp x) (answer.Number q) key p step number = number
 step_keeps table (call.LookUp x) answer.Absent key p step number = number
 step_keeps table (call.LookUp x) answer.Full key p step number = number
 
--- a key's number is its number after any run from there
+-- a number that a key has in a table is the key's after any run from that table
 pub run_keeps : (table : Table) (history : List Answered) (key p : ℕ) → IsRunFrom table history → IsNumber table key p
     → IsNumber (content_from table history) key p
 run_keeps table [] key p run number = number

@@ -87,7 +87,7 @@ may_load (call.LookUp key) = tt
 abbrev pub machine_at : Call → ℕ → Bool → Machine
 machine_at asked i swaps = record { call = asked; index = i; swaps = swaps }
 
--- what is known where a call stands at a place
+-- what is known where a call is at a place
 pub record Stands (n : ℕ) (place : ℕ → ℕ → ℕ) (words : List ℕ) (asked : Call) (i : ℕ) : Type 0 where
   pub order : IsOrder n (place (key_of asked))
   pub orderly : IsOrderly n place words

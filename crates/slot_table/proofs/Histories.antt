@@ -37,7 +37,7 @@ within_snoc : (n : ℕ) (h : List Happened) (e : Happened) → AreWithin n h →
 within_snoc n [] e within last = (last, tt)
 within_snoc n (x ∷ h) e within last = (within.0, within_snoc n h e within.1 last)
 
--- how many numbers there are
+-- the content has a place for each number
 
 pub length-changed : (table : Table) (c : Call) (a : Answer) → length (changed table c a) ≡ length table
 length-changed table (call.Enter key) (answer.Number p) = length-set table p (Some key)

@@ -136,7 +136,7 @@ module _ {O : Type 0} (fine : ℕ) where
       let parts : AreUpTo fine v.stake × AreUpTo fine (pieces_of (views ++ new ∷ [])) = up_to_parts fine v.stake (pieces_of (views ++ new ∷ [])) up
       in up_to_both fine v.stake (pieces_of views) parts.0 (up_to_snoc views new parts.1)
 
-  -- who has all that there is owns all that is owned
+  -- who has the whole stake owns all that is owned
 
   abbrev pub AreStaked : List (View O) → Type 0
   AreStaked views = (seat : ℕ) (view : View O) → get_elem? views seat ≡ some view → (view.stake ≢ []) ⊎ IsSpent view
