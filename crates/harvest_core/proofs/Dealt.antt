@@ -13,7 +13,7 @@ use Rattle.harvest_core.specs.Working.{IsCounted}
 use Rattle.harvest_core.specs.Reading.{IsDealt, AreDealt}
 
 -- a job was put, or its game was counted here
-abbrev pub IsOffered : WrittenGame → Hand → Worked → Hand → Worked → Type 0
+abbrev IsOffered : WrittenGame → Hand → Worked → Hand → Worked → Type 0
 IsOffered job desk one after two = ((after ≡ putting desk (Job job)) × (two ≡ one)) ⊎ ((after ≡ desk) × IsCounted job.game one two)
 
 -- what was dealt out stays so where one game more was counted here

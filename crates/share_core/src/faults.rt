@@ -43,7 +43,7 @@ pub enum HarvestFault {
     /// A count is over 2^64 - 1.
     #[error("F8 count too large")]
     Overflow,
-    /// The least game marked at a number is not the least game of the shares' rows there.
+    /// The least game marked at a number is not the least game of the number's rows in the shares.
     #[error("F9 mark differs at number {number}")]
     Marks {
         number: usize,
@@ -53,8 +53,20 @@ pub enum HarvestFault {
 }
 
 impl HarvestFault {
-    ghost use Rattle.std.specs.Prelude.{◌≡◌};
+    ghost use Rattle.std.specs.Prelude.{◌≡◌, Some};
+    ghost use Rattle.share_core.specs.declared.faults.HarvestFault.TheVariants as fault;
     ghost use Rattle.share_core.specs.Faults.{same_fault};
+
+    /// A share's row of a number has this word, and the number has another one in the table, or none.
+    pub(crate) fn stranger(number: usize, held: Word, of_table: Option<Word>) -> HarvestFault
+        ensures { result ≡ fault.Stranger number (Some held) of_table }
+    {
+        HarvestFault::Stranger {
+            number,
+            of_share: Some(held),
+            of_table,
+        }
+    }
 
     /// A fault of counting on one thread, under its name here. It takes no memory.
     pub fn of_tally(fault: TallyFault) -> HarvestFault

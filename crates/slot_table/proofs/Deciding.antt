@@ -35,7 +35,7 @@ pub record Sound (n : ℕ) (place : ℕ → ℕ → ℕ) (words games : List ℕ
 
 -- words and numbers
 
-pub other_of_word : (o : Option ℕ) (key : ℕ) → word_of o ≢ 0 → word_of o ≢ key + 1 → (x : ℕ) × (o ≡ Some x) × (x ≢ key)
+other_of_word : (o : Option ℕ) (key : ℕ) → word_of o ≢ 0 → word_of o ≢ key + 1 → (x : ℕ) × (o ≡ Some x) × (x ≢ key)
 other_of_word None key taken other = absurd (taken refl)
 other_of_word (Some x) key taken other = (x, refl, λ e. other (ap (λ (y : ℕ). y + 1) e))
 

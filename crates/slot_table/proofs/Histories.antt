@@ -17,13 +17,13 @@ use Rattle.slot_table.specs.History.{asked_of, content_of, IsFirstAfter, AreFirs
 
 -- calls of two histories in a row
 
-pub asked_of-append : (h k : List Happened) → asked_of (h ++ k) ≡ asked_of h ++ asked_of k
+asked_of-append : (h k : List Happened) → asked_of (h ++ k) ≡ asked_of h ++ asked_of k
 asked_of-append [] k = refl
 asked_of-append (entry.Asked c a ∷ h) k = ap (λ (t : List Answered). record { call = c; answer = a } ∷ t) (asked_of-append h k)
 asked_of-append (entry.Marked p g ∷ h) k = asked_of-append h k
 asked_of-append (entry.First p g ∷ h) k = asked_of-append h k
 
-pub firsts_snoc : (before h : List Happened) (e : Happened) → AreFirstsAfter before h → IsFirstAfter (before ++ h) e → AreFirstsAfter before (h ++ e ∷ [])
+firsts_snoc : (before h : List Happened) (e : Happened) → AreFirstsAfter before h → IsFirstAfter (before ++ h) e → AreFirstsAfter before (h ++ e ∷ [])
 firsts_snoc before [] e firsts last = (subst (λ (t : List Happened). IsFirstAfter t e) (append-nil before) last, tt)
 firsts_snoc before (x ∷ h) e firsts last =
     (firsts.0, firsts_snoc (before ++ x ∷ []) h e firsts.1 (subst (λ (t : List Happened). IsFirstAfter t e) (sym (append_assoc before (x ∷ []) h)) last))
@@ -39,7 +39,7 @@ within_snoc n (x ∷ h) e within last = (within.0, within_snoc n h e within.1 la
 
 -- the content has a place for each number
 
-pub length-changed : (table : Table) (c : Call) (a : Answer) → length (changed table c a) ≡ length table
+length-changed : (table : Table) (c : Call) (a : Answer) → length (changed table c a) ≡ length table
 length-changed table (call.Enter key) (answer.Number p) = length-set table p (Some key)
 length-changed table (call.Enter key) answer.Absent = refl
 length-changed table (call.Enter key) answer.Full = refl
@@ -47,7 +47,7 @@ length-changed table (call.LookUp key) (answer.Number p) = refl
 length-changed table (call.LookUp key) answer.Absent = refl
 length-changed table (call.LookUp key) answer.Full = refl
 
-pub length-content_from : (table : Table) (h : List Answered) → length (content_from table h) ≡ length table
+length-content_from : (table : Table) (h : List Answered) → length (content_from table h) ≡ length table
 length-content_from table [] = refl
 length-content_from table (e ∷ h) = length-content_from (changed table e.call e.answer) h ∙ length-changed table e.call e.answer
 

@@ -33,7 +33,7 @@ inserted_by : (k x y : ℕ) (ys : List ℕ) (b : Bool) → nat_lt x y ≡ b → 
 inserted_by k x y ys true is rest = rw is refl
 inserted_by k x y ys false is rest = rw is (omega (arith, rest))
 
-pub times-inserted : (k x : ℕ) (ys : List ℕ) → times k (inserted x ys) ≡ (if x == k then 1 else 0) + times k ys
+times-inserted : (k x : ℕ) (ys : List ℕ) → times k (inserted x ys) ≡ (if x == k then 1 else 0) + times k ys
 times-inserted k x [] = refl
 times-inserted k x (y ∷ ys) = inserted_by k x y ys (nat_lt x y) refl (times-inserted k x ys)
 
@@ -93,7 +93,7 @@ rising_by low x y ys high from none_of r rest false is =
     in let apart : y ≢ x = λ e. (let here : (y == x) ≡ true = eq-eqb y x e in let one : 1 + times x ys ≡ 0 = rw here at none_of in omega (arith, one))
     in rw is (r.0, rest (omega (arith, behind, apart)))
 
-pub rising-inserted : (low x : ℕ) (ys : List ℕ) (high : ℕ) → low ≤ x → x < high → times x ys ≡ 0 → IsRising low ys high → IsRising low (inserted x ys) high
+rising-inserted : (low x : ℕ) (ys : List ℕ) (high : ℕ) → low ≤ x → x < high → times x ys ≡ 0 → IsRising low ys high → IsRising low (inserted x ys) high
 rising-inserted low x [] high from to none_of r = (from, (let le : x + 1 ≤ high = omega (arith, to) in le))
 rising-inserted low x (y ∷ ys) high from to none_of r =
     rising_by low x y ys high from none_of r

@@ -32,7 +32,7 @@ turn_done order (Answers b) a e = let same : b ≡ a = cc in ap Answers same
 
 -- where a call goes on
 
-abbrev pub Next : ℕ → Call → ℕ → ℕ → Machine → Type 0
+abbrev Next : ℕ → Call → ℕ → ℕ → Machine → Type 0
 Next n c i x next =
     ((record { call = c; index = i; swaps = true } ≡ next) × MaySwap c)
     ⊎ ((record { call = c; index = i + 1; swaps = false } ≡ next) × (x ≢ 0) × (x ≢ code_of (key_of c)) × (i + 1 ≢ n))
@@ -77,7 +77,7 @@ module _ {O : Type 0} (n : ℕ) (place : ℕ → ℕ → ℕ) (machine : Machine
     (stepped : Stepped n machine (place_in place machine) found old new) where
   -- a step that does not end its call
   module _ (next : Machine) (f : follows n machine (place_in place machine) found ≡ Runs next) where
-    pub seen_is : new.seen ≡ stepped.longest
+    seen_is : new.seen ≡ stepped.longest
     seen_is = stepped.grown.seen ∙ ap (λ (t : Followed). stepped.longest ++ entries_of machine.call t) f ∙ append-nil stepped.longest
 
     pub went_on : Went old new
