@@ -38,7 +38,8 @@ fn offer<'a, R: Wait, O: ProbeOrder, G: Gate>(
     requires job { MayPut desk.old (item.Job job) }
     ensures pass { IsPassOf (2 ^ O.exponent table.now.order) table.now pass.new }
     ensures offered { ((desk.new ≡ putting desk.old (item.Job job.entry))
-        × (worked.new ≡ worked.old)) ⊎ ((desk.new ≡ desk.old) × IsCounted job.entry.game worked.old worked.new) }
+        × (worked.new ≡ worked.old))
+        ⊎ ((desk.new ≡ desk.old) × IsCounted job.entry.game worked.old worked.new) }
     ensures alone { IsTrue alone → desk.new ≡ desk.old }
     ensures worked { (kinds : Kinds) → IsWorked job.entry.bytes kinds worked.old.share
         → IsWorked job.entry.bytes kinds worked.new.share }
