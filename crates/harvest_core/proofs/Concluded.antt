@@ -21,7 +21,6 @@ use Rattle.share_core.proofs.Confirmed.{more_patterns}
 use Rattle.harvest_core.specs.declared.threads.Crop.{Crop}
 use Rattle.harvest_core.specs.Parted.{shares_of, refusals_of}
 use Rattle.harvest_core.specs.Working.{IsWorked, IsPatternIn, IsPatternOfGame}
-use Rattle.harvest_core.specs.Reading.{IsReadFault}
 use Rattle.harvest_core.specs.Harvest.{IsRead, HasMorePatterns, IsHarvestFault, IsToldOf}
 
 -- a row of some share is of a pattern of the input
@@ -75,18 +74,6 @@ explained n bytes kinds shares after game word fault.Memory legal read worked pa
 explained n bytes kinds shares after game word (fault.Sgf other) legal read worked pattern h = absurd h
 explained n bytes kinds shares after game word fault.Overflow legal read worked pattern h = absurd h
 explained n bytes kinds shares after game word (fault.Marks number of_shares of_table) legal read worked pattern h = absurd h
-
--- an input that cannot be read
-pub unread : {O : Type 0} (n : ℕ) (bytes : List ℕ) (kinds : Kinds) (after : Known O) (found : HarvestFault) → IsReadFault bytes found → IsHarvestFault n bytes kinds after found
-unread n bytes kinds after fault.Memory h = tt
-unread n bytes kinds after (fault.Sgf found) h = h
-unread n bytes kinds after (fault.Full game word) h = absurd h
-unread n bytes kinds after (fault.Missing game) h = absurd h
-unread n bytes kinds after (fault.Twice game) h = absurd h
-unread n bytes kinds after (fault.Stranger number of_share of_table) h = absurd h
-unread n bytes kinds after fault.BadSettings h = absurd h
-unread n bytes kinds after fault.Overflow h = absurd h
-unread n bytes kinds after (fault.Marks number of_shares of_table) h = absurd h
 
 -- shares that do not go together
 pub ungathered : {O : Type 0} (n : ℕ) (bytes : List ℕ) (kinds : Kinds) (report : Report) (shares : List Held) (before after : Known O) (found : HarvestFault) →

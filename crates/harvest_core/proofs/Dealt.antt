@@ -1,5 +1,6 @@
 -- The games that the thread that reads has dealt out, after one more.
-use Rattle.std.proofs.Common.{◌≡◌, ℕ, ◌+◌, ◌⊎◌, nat_lt, true, false, inl, inr, refl, List, [], ◌∷◌, ◌++◌, Some, None, Contains, ap, sym, subst, ◌∙◌, arith, ⊎_elim}
+use Rattle.std.proofs.Common.{◌≡◌, ℕ, ◌+◌, ◌⊎◌, nat_lt, true, false, inl, inr, refl, List, [], ◌∷◌, ◌++◌, Some, None, Contains, Result, Ok, Err, OnOk, IfNone, ap, sym, subst, ◌∙◌, arith, ⊎_elim}
+use Rattle.std.specs.Result.{result_err}
 use Rattle.std.proofs.lemmas.Bool.Decides.{nat_tests}
 use Rattle.std.proofs.lemmas.List.Elements.{Contains-push, Contains-append_left}
 use Rattle.job_core.specs.declared.hands.Hand.{Hand}
@@ -12,7 +13,7 @@ use Rattle.harvest_core.specs.Working.{IsCounted}
 use Rattle.harvest_core.specs.Reading.{IsDealt, AreDealt}
 
 -- a job was put, or its game was counted here
-abbrev pub IsOffered : WrittenGame → Hand → Worked → Hand → Worked → Type 0
+abbrev IsOffered : WrittenGame → Hand → Worked → Hand → Worked → Type 0
 IsOffered job desk one after two = ((after ≡ putting desk (Job job)) × (two ≡ one)) ⊎ ((after ≡ desk) × IsCounted job.game one two)
 
 -- what was dealt out stays so where one game more was counted here
@@ -78,3 +79,8 @@ dealt_stays low high desk one two games refused h game from below = ⊎_elim
     (λ (was : (found : HarvestFault) × (one.refused ≡ Some found)). inr (was.0, refused ∙ was.1))
     other))
     (h game from below)
+
+-- what holds where a call answers well holds where it has no fault
+pub none_where_ok : {T E : Type 0} (r : Result T E) (P : Type 0) → OnOk r P → IfNone (result_err r) P
+none_where_ok (Ok x) P h = h
+none_where_ok (Err e) P h = tt

@@ -39,6 +39,7 @@ use Rattle.share_core.specs.Shares.{Held, Added, replayed_of, IsShareOf}
 use Rattle.share_core.specs.Covering.{Covers, all_games, times_of}
 use Rattle.share_core.specs.Gathering.{AreWithin, HaveGames, IsGathered, gathered_entry, all_added, replayed_at, replayed_games}
 use Rattle.share_core.proofs.Numbered.{numbers_of}
+use Rattle.share_core.proofs.Ordered.{there_some}
 use Rattle.share_core.proofs.Gathered.{dictionary_of_shares}
 use Rattle.harvest_core.specs.Working.{IsGame, IsWorked}
 
@@ -180,20 +181,6 @@ harvested bytes kinds shares report contents worked read covers gathered =
     }
 
 -- ---- the patterns of the dictionary
-row_before : (row : Row) (rows : List Row) (shape : ℕ) → (one : Row) × Contains rows one × (one.shape ≡ shape) → (one : Row) × Contains (row ∷ rows) one × (one.shape ≡ shape)
-row_before row rows shape found = let low = found.1.1 in (found.0, (suc found.1.0, omega arith, found.1.2), found.2)
-
--- a pattern that was there has a row
-some_row : (rows : List Row) (shape : ℕ) → 0 < there_of rows shape → (one : Row) × Contains rows one × (one.shape ≡ shape)
-some_row [] shape some = absurd (omega arith)
-some_row (row ∷ rows) shape some =
-    let parts = sum_by-cons (λ (r : Row). cond (r.shape == shape) r.there 0) row rows in
-    elim (row.shape == shape) as (λ b. (row.shape == shape) ≡ b → there_of (row ∷ rows) shape ≡ cond b row.there 0 + there_of rows shape →
-    (one : Row) × Contains (row ∷ rows) one × (one.shape ≡ shape)) [
-      | true ↦ λ test p. (row, (0, omega arith, refl), (let same : row.shape ≡ shape = Prim.grind (arith, nat_tests) in same))
-      | false ↦ λ test p. row_before row rows shape (some_row rows shape (omega arith))
-    ] refl parts
-
 gathered_some : (rows : List Row) (shape : ℕ) (entry : Entry) → gathered_entry rows shape ≡ Some entry → 0 < there_of rows shape
 gathered_some rows shape entry is =
     let e : Entry = record { shape = shape; there = there_of rows shape; played = played_of rows shape; first = first_of rows shape } in
@@ -247,7 +234,7 @@ module _ (n : ℕ) (seen : List Happened) where
   shapes_numbered [] each = tt
   shapes_numbered (entry ∷ rest) each = (each.0, shapes_numbered rest each.1)
 
--- each pattern of that dictionary has a number, and there are at most n
+-- each pattern of that dictionary has a number, and it has at most n patterns
 pub numbered : (n : ℕ) (seen : List Happened) (kinds : Kinds) (games : ℕ) (shares : List Held) (contents : Contents) → IsLegal n seen → Stand n seen (all_rows shares) →
     IsGathered kinds games shares contents →
     ((entry : Entry) → Contains contents.entries entry → (p : ℕ) × IsNumber (content_of n seen) entry.shape p) × (length contents.entries ≤ n)
@@ -259,7 +246,7 @@ numbered n seen kinds games shares contents legal stand gathered =
     All-from_recursion (λ (entry : Entry). entry_of entry.shape entries ≡ Some entry) entries (each_is_found entries rises) in
     let each : (entry : Entry) → Contains entries entry → (p : ℕ) × IsNumber (content_of n seen) entry.shape p = λ entry among.
     let is = All-contains (λ (e : Entry). entry_of e.shape entries ≡ Some e) entries entry found among in
-    let row = some_row rows entry.shape (gathered_some rows entry.shape entry (sym (gathered.entries entry.shape) ∙ is)) in
+    let row = there_some rows entry.shape (gathered_some rows entry.shape entry (sym (gathered.entries entry.shape) ∙ is)) in
     (row.0.number, subst (λ shape. IsNumber (content_of n seen) shape row.0.number) row.2 (stand row.0 row.1)) in
     let long : length (shapes_of entries) ≡ length entries = length-map entries (λ (entry : Entry). entry.shape) in
     let all = All-weaker (Contains entries) (λ (entry : Entry). (p : ℕ) × IsNumber (content_of n seen) entry.shape p) each entries (All-contains_itself entries) in

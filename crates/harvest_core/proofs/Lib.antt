@@ -1,6 +1,6 @@
-pub mod Additions
-pub mod Drawn
-pub mod Harvested
-pub mod Concluded
-pub mod Parted
-pub mod Dealt
+mod Additions
+mod Drawn
+mod Harvested
+mod Concluded
+mod Parted
+mod Dealt

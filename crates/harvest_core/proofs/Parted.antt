@@ -43,7 +43,7 @@ refusals_worked bytes kinds worked all =
     All-from_recursion (IsRefusal bytes kinds) (refusals_of worked) (each_refused bytes kinds worked (recursion_from_All (IsWorkOf bytes kinds) worked all))
 
 -- what goes before a fault that goes before another one goes before that too
-pub before_both : (one two three : HarvestFault) → GoesFirst one two → GoesFirst two three → GoesFirst one three
+before_both : (one two three : HarvestFault) → GoesFirst one two → GoesFirst two three → GoesFirst one three
 before_both one two three h k =
     ⊎_elim
     (λ (low : rank one < rank two). inl (⊎_elim
@@ -73,7 +73,7 @@ no_elements [] none = refl
 no_elements (one ∷ refusals) none = absurd (omega arith)
 
 -- of the first n refusals none goes before this one
-abbrev pub NoneBefore : List HarvestFault → ℕ → HarvestFault → Type 0
+abbrev NoneBefore : List HarvestFault → ℕ → HarvestFault → Type 0
 NoneBefore refusals n found = (k : ℕ) (other : HarvestFault) → k < n → slice_get refusals k ≡ Some other → GoesFirst other found → ⊥
 
 -- a fault so far: one of the refusals, and of the first n none goes before it
@@ -105,7 +105,7 @@ stays refusals n found one is none not_first k other low at before =
     ] refl
 
 -- what is told of a fault so far and one more
-abbrev pub IsTold : Option HarvestFault → HarvestFault → HarvestFault → Type 0
+abbrev IsTold : Option HarvestFault → HarvestFault → HarvestFault → Type 0
 IsTold found one result = MatchOption found (result ≡ one) (λ (so_far : HarvestFault).
     ((result ≡ one) × GoesFirst one so_far) ⊎ ((result ≡ so_far) × (GoesFirst one so_far → ⊥)))
 

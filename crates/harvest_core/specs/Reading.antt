@@ -13,7 +13,7 @@ IsReadFault bytes fault.Memory = Unit {0}
 IsReadFault bytes (fault.Sgf found) = IsCountFault bytes (tally.Sgf found)
 IsReadFault bytes found = ⊥
 
--- a game was put into the queue, or it is in the share of the thread that reads; or a game was refused there
+-- a game was put into the queue, or it is in the share of the thread that reads; or a game was refused by that share
 abbrev pub IsDealt : Hand → Worked → ℕ → Type 0
 IsDealt desk worked game = Contains desk.put game
     ⊎ (Contains worked.share.games game ⊎ ((found : HarvestFault) × (worked.refused ≡ Some found)))

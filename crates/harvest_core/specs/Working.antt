@@ -12,7 +12,7 @@ use Rattle.share_core.specs.Shares.{Held, Added, IsShareOf, IsPatternOf}
 use Rattle.share_core.specs.Adding.{IsTooLarge}
 use Rattle.harvest_core.specs.declared.working.Worked.{Worked}
 
--- in these bytes there is a game of this number with this record
+-- these bytes have a game of this number with this record
 pub record IsGame (bytes : List ℕ) (game : ℕ) (actions : Actions) : Type 0 where
   pub at : ℕ
   pub end : ℕ

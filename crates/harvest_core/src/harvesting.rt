@@ -75,10 +75,8 @@ fn count_of<R: Threads + Sync, O: ProbeOrder>(
         pass.new) }
 {
     let _ = bytes;
-    match gather(rt, alloc, table, pass, kinds, report.games, shares) {
-        Ok(dictionary) => Ok(Counted { dictionary, report }),
-        Err(fault) => Err(fault),
-    }
+    let dictionary = gather(rt, alloc, table, pass, kinds, report.games, shares)?;
+    Ok(Counted { dictionary, report })
 }
 
 /// The dictionary of all shares, or the fault that is told: of those of the input, of the games that were refused, and of
@@ -109,14 +107,10 @@ fn conclude<R: Threads + Sync, O: ProbeOrder>(
         report,
         fault,
     } = crop;
-    match fault {
-        Some(fault) => return Err(fault),
-        None => (),
+    if let Some(fault) = fault {
+        return Err(fault);
     }
-    let Ok(parted) = part(alloc, worked) else {
-        return Err(HarvestFault::Memory);
-    };
-    let Parted { shares, refusals } = parted;
+    let Parted { shares, refusals } = part(alloc, worked)?;
     match worst(&refusals) {
         Some(refused) => Err(explain(table, pass, &shares, refused)),
         None => count_of(rt, alloc, kinds, table, pass, bytes, report, &shares),
@@ -156,10 +150,7 @@ where
         kinds: settings.kinds(),
     };
     let crew = Crew { games, bench };
-    match crew.run(rt, alloc, bytes, usize::from(settings.workers())) {
-        Ok(crop) => Ok(crop),
-        Err(_) => Err(HarvestFault::Memory),
-    }
+    Ok(crew.run(rt, alloc, bytes, usize::from(settings.workers()))?)
 }
 
 /// Counts a whole collection by several workers over a table: the dictionary of its games, which are numbered from 0 in
@@ -171,14 +162,15 @@ where
 /// may have numbers already. It takes memory for a queue of 128 games, for each thread for the largest tree and its record,
 /// the board and the patterns of its games, and for the dictionary.
 ///
-/// `HarvestFault::Sgf` comes with S4 where there are more than 2^28 bytes, and then nothing was done to the table; else with
-/// the fault of syntax that stands first. `HarvestFault::Memory` comes where memory was refused or a worker was not
-/// started. `HarvestFault::Full` names a game and one of its patterns for which no number was free, where that is
-/// confirmed: the input has as many other patterns as the table has numbers. `HarvestFault::Missing`, `Twice`, `Stranger`,
-/// `Overflow` and `Marks` come where the workers' shares do not go together; in a table that has numbers of other inputs
-/// `Stranger` may say so in place of `Full`, and `Marks` that a game was marked there before. The first that applies is
-/// told, in this order: want of memory and faults of the input, `Full` of the least game, `Stranger`, `Overflow`, and then
-/// those of `gather`. After each the table keeps the numbers and marks that it got.
+/// # Errors
+///
+/// `Sgf` with S4 where the input has more than 2^28 bytes, and then nothing was done to the table; else `Sgf` with the
+/// first fault of syntax; `Memory` where memory was refused or a worker was not started; `Full` with a game and one of its
+/// patterns for which no number was free, where that is confirmed: the input has as many other patterns as the table has
+/// numbers; `Missing`, `Twice`, `Stranger`, `Overflow` and `Marks` where the workers' shares do not go together. In a table
+/// that has numbers of other inputs `Stranger` may say so in place of `Full`, and `Marks` that it had a mark before. The
+/// first that applies is told, in this order: want of memory and faults of the input, `Full` of the least game, `Stranger`,
+/// `Overflow`, and then those of `gather`. After each the table keeps the numbers and marks that it got.
 pub fn harvest_on<R: Threads + Wait + Sync, O: ProbeOrder, G: Gate>(
     rt: &R,
     alloc: Global,
@@ -199,14 +191,8 @@ where
     ensures fault { IfErr result (IsHarvestFault (2 ^ O.exponent table.now.order) bytes.now
         settings.kinds pass.new) }
 {
-    let games = match Games::new(bytes) {
-        Ok(games) => games,
-        Err(fault) => return Err(HarvestFault::of_tally(fault)),
-    };
-    let (queue, seat) = match new_queue(alloc) {
-        Ok(new) => new,
-        Err(fault) => return Err(HarvestFault::of_tally(fault)),
-    };
+    let games = Games::new(bytes)?;
+    let (queue, seat) = new_queue(alloc)?;
     let crop = count_over(
         rt, alloc, settings, table, pass, bytes, games, &queue, seat, gate,
     )?;
@@ -217,7 +203,11 @@ where
 /// workers, the exponent k and the kinds of pattern. It is what `count_plain` answers, whatever the gate, the number of
 /// workers and their turns. This project's own.
 ///
-/// It takes memory for the table, and what `harvest_on` takes. The faults are those of `harvest_on`.
+/// It takes memory for the table, and what `harvest_on` takes.
+///
+/// # Errors
+///
+/// Those of `harvest_on`; the new table is dropped. `Memory` also where memory was refused for the table.
 pub fn harvest<R: Threads + Wait + Sync, G: Gate>(
     rt: &R,
     alloc: Global,
@@ -232,9 +222,6 @@ pub fn harvest<R: Threads + Wait + Sync, G: Gate>(
     let Some(capacity) = Capacity::new(u32::from(settings.k())) else {
         return Err(HarvestFault::BadSettings);
     };
-    let Ok((table, pass)) = SlotTable::new(alloc, OddStep { capacity }) else {
-        return Err(HarvestFault::Memory);
-    };
-    let mut pass = pass;
+    let (table, mut pass) = SlotTable::new(alloc, OddStep { capacity })?;
     harvest_on(rt, alloc, settings, &table, &mut pass, bytes, gate)
 }

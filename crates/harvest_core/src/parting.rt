@@ -99,7 +99,7 @@ fn told(found: Option<HarvestFault>, one: HarvestFault) -> HarvestFault
     }
 }
 
-/// The fault that is told, or None where there is none: no other one goes before it.
+/// The fault that is told, or None where no game was refused: no other fault goes before it.
 pub(crate) fn worst(refusals: &[HarvestFault]) -> Option<HarvestFault>
     ensures { MatchOption result (refusals.now ≡ []) (IsWorst refusals.now) }
 {

@@ -38,7 +38,8 @@ fn offer<'a, R: Wait, O: ProbeOrder, G: Gate>(
     requires job { MayPut desk.old (item.Job job) }
     ensures pass { IsPassOf (2 ^ O.exponent table.now.order) table.now pass.new }
     ensures offered { ((desk.new ≡ putting desk.old (item.Job job.entry))
-        × (worked.new ≡ worked.old)) ⊎ ((desk.new ≡ desk.old) × IsCounted job.entry.game worked.old worked.new) }
+        × (worked.new ≡ worked.old))
+        ⊎ ((desk.new ≡ desk.old) × IsCounted job.entry.game worked.old worked.new) }
     ensures alone { IsTrue alone → desk.new ≡ desk.old }
     ensures worked { (kinds : Kinds) → IsWorked job.entry.bytes kinds worked.old.share
         → IsWorked job.entry.bytes kinds worked.new.share }
@@ -90,10 +91,9 @@ fn read_all<'a, R: Wait, O: ProbeOrder, G: Gate>(
     ensures fault { IfErr result (IsReadFault games.old.bytes) }
 {
     loop {
-        match games.next_job(alloc) {
-            Ok(Some(job)) => offer(rt, desk, worked, table, pass, gate, job, alone),
-            Ok(None) => return Ok(()),
-            Err(fault) => return Err(HarvestFault::of_tally(fault)),
+        match games.next_job(alloc)? {
+            Some(job) => offer(rt, desk, worked, table, pass, gate, job, alone),
+            None => return Ok(()),
         }
         if wants_memory(worked) {
             return Err(HarvestFault::Memory);
@@ -170,13 +170,9 @@ pub(crate) fn read_games<'a, R: Wait, O: ProbeOrder, G: Gate>(
     );
     close(rt, desk, workers);
     worked.sort_rows();
-    let fault = match outcome {
-        Ok(()) => None,
-        Err(fault) => Some(fault),
-    };
     Reading {
         worked,
         report: games.report(),
-        fault,
+        fault: outcome.err(),
     }
 }

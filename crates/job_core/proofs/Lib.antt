@@ -1,5 +1,5 @@
 pub mod Orders
-pub mod Rules
-pub mod Reports
+mod Rules
+mod Reports
 pub mod OneGame
 pub mod Turns

@@ -42,7 +42,7 @@ reaches bytes tree trees before end (inr less) = inr (fewer (record_of_tree tree
 not_next : (bytes : List ℕ) (from at stop : ℕ) (tree : GameTree) → IsNextTree bytes from at stop tree → HasNoTree bytes from → ⊥
 not_next bytes from at stop tree next none = none at next.first.after next.first.begins
 
-pub game_at : (bytes : List ℕ) (from : ℕ) (trees before : List GameTree) (end middle at stop : ℕ) (tree : GameTree) (actions : Actions) →
+game_at : (bytes : List ℕ) (from : ℕ) (trees before : List GameTree) (end middle at stop : ℕ) (tree : GameTree) (actions : Actions) →
     AreTrees bytes from trees end → AreTrees bytes from before middle → IsNextTree bytes middle at stop tree →
     record_of_tree tree ≡ Ok (kind.Go actions) → Reaches bytes trees end before →
     slice_get (games_of trees) (length (games_of before)) ≡ Some actions

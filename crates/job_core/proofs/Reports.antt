@@ -15,7 +15,7 @@ use Rattle.tally_core.specs.declared.faults.HarvestFault.TheVariants as fault
 use Rattle.tally_core.specs.declared.collections.Report.{Report}
 use Rattle.tally_core.proofs.Trees.{trees_push}
 use Rattle.job_core.specs.declared.games.Recorded.{Recorded}
-use Rattle.job_core.specs.Games.{HasRead, IsGameOf}
+use Rattle.job_core.specs.Games.{HasRead}
 use Rattle.job_core.specs.Reading.{IsNextRecord, Counts}
 
 games_push : (records : List (Result Kind RecordFault)) (last : Result Kind RecordFault) → games_among (records ++ last ∷ []) ≡ games_among records ++ games_among (last ∷ [])
@@ -83,24 +83,11 @@ reads_on bytes from before after read found h next counts =
       refused = omega (arith, h.refused, a.few_refused);
     }
 
--- the tree that was read is the game of the next number
-pub is_game : (bytes : List ℕ) (from : ℕ) (before after : Report) (read : Recorded) (game : Actions) →
-    HasRead bytes from before → IsNextRecord bytes from read → Counts before read.recorded after (Some game) → IsGameOf bytes before.games read.at read.end game
-is_game bytes from before after read game h next counts = record {
-  before = h.trees;
-  from = from;
-  tree = next.tree;
-  written = h.written;
-  next = next.next;
-  numbered = h.reported.games;
-  is_go = sym next.recorded ∙ counts.0;
-}
-
 -- a fact on an input and a place, of the same input and place
 pub moved : (P : List ℕ → ℕ → Type 0) (bytes other : List ℕ) (from place : ℕ) → other ≡ bytes → place ≡ from → P other place → P bytes from
 moved P bytes other from place same here h = subst (λ b. P b from) same (subst (λ f. P other f) here h)
 
--- why there is no next tree is why the input is not read
+-- why no next tree comes is why the input is not read
 pub stops : (bytes : List ℕ) (from : ℕ) (report : Report) (found : HarvestFault) → HasRead bytes from report → IsNextFault bytes from found → IsCountFault bytes found
 stops bytes from report fault.Memory h is = tt
 stops bytes from report fault.BadSettings h is = absurd is

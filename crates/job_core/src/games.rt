@@ -148,7 +148,9 @@ fn count(report: &mut Report, recorded: Result<Kind, RecordFault>) -> Option<Rec
 impl<'a> Games<'a> {
     /// A reader at the beginning of this input. It takes no memory.
     ///
-    /// `HarvestFault::Sgf` with `SgfFault::TooLarge` comes exactly where the input has more than 2^28 bytes.
+    /// # Errors
+    ///
+    /// `Sgf` with `SgfFault::TooLarge`, exactly where the input has more than 2^28 bytes.
     pub fn new(bytes: &'a [u8]) -> Result<Games<'a>, HarvestFault>
         ensures small { IsOk result ↔ (length bytes.now ≤ 2 ^ 28) }
         ensures begins { IfOk result (λ games. games ≡ record {
@@ -159,10 +161,7 @@ impl<'a> Games<'a> {
         ensures large { IfErr result (λ found. found ≡ fault.Sgf sgf.TooLarge) }
         ensures fault { IfErr result (IsCountFault bytes.now) }
     {
-        let trees = match Trees::new(bytes) {
-            Ok(trees) => trees,
-            Err(fault) => return Err(HarvestFault::Sgf(fault)),
-        };
+        let trees = Trees::new(bytes).map_err(HarvestFault::Sgf)?;
         let report = Report {
             games: 0,
             others: 0,
@@ -213,9 +212,12 @@ impl<'a> Games<'a> {
     /// The job of the next game, or None where no game is left. Trees of other games, and those whose records have a
     /// fault, are counted and passed over.
     ///
-    /// It takes memory for a tree and its record. `HarvestFault::Sgf` comes where the next tree has a fault of syntax, and
-    /// `HarvestFault::Memory` where memory was refused. After a fault each later call answers it again, and after None
-    /// each answers None.
+    /// It takes memory for a tree and its record. After None each later call answers None.
+    ///
+    /// # Errors
+    ///
+    /// `Sgf` where the next tree has a fault of syntax; `Memory` where memory was refused. After a fault each later call
+    /// answers it again, and the report is that of the trees before it.
     pub fn next_job(&mut self, alloc: Global) -> Result<Option<Job<'a>>, HarvestFault>
         ensures bytes { self.new.bytes ≡ self.old.bytes }
         ensures job { IfOk result (λ found. IfSome found (IsNextGame self.old self.new)) }

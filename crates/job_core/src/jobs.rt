@@ -53,7 +53,7 @@ impl<'a> Job<'a> {
         }
     }
 
-    /// The number of the game: how many games stand before it in the input.
+    /// The number of the game: how many games come before it in the input.
     pub fn game(&self) -> u64
         ensures number { result ≡ self.now.game }
         ensures few { result < 2 ^ 28 }

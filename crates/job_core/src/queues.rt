@@ -16,15 +16,14 @@ const PLACES: usize = 128;
 
 /// A new queue of 128 places, and its first pass. It takes memory for the places.
 ///
-/// `HarvestFault::Memory` comes where memory was refused.
+/// # Errors
+///
+/// `Memory` where memory was refused.
 pub fn new_queue<'a>(alloc: Global) -> Result<(Jobs<'a>, Seat<'a>), HarvestFault>
     ensures pass { IfOk result (λ new. IsPassOf new.0 new.1 × (view new.1 ≡ blank)) }
     ensures fault { IfErr result (λ found. found ≡ fault.Memory) }
 {
-    match Jobs::ruled(alloc, PLACES) {
-        Ok(new) => Ok(new),
-        Err(_) => Err(HarvestFault::Memory),
-    }
+    Ok(Jobs::ruled(alloc, PLACES)?)
 }
 
 /// Names the input.
@@ -95,10 +94,13 @@ impl<'q, 'a> Desk<'q, 'a> {
         }
     }
 
-    /// Puts an item. It comes back where the queue is full. It takes no memory, and may wait for a thread that is in the
-    /// middle of a call.
+    /// Puts an item. It takes no memory, and may wait for a thread that is in the middle of a call.
     ///
     /// A job is put by the reader alone, is of the input of the queue, and its game is above all that were put.
+    ///
+    /// # Errors
+    ///
+    /// The item itself, where the queue is full; then the desk is as it was.
     pub fn put<R: Wait>(&mut self, rt: &R, item: Item<'a>) -> Result<(), Item<'a>>
         requires { MayPut self.old item }
         ensures { MatchResult result (λ _. self.new ≡ putting self.old item.entry)

@@ -1,4 +1,4 @@
--- What a hall shows where a caller's call is put there, taken or put back.
+-- What a hall shows where a caller's call is put into it, taken or put back.
 use Rattle.std.proofs.Common.{◌≡◌, ◌≢◌, ℕ, ◌<◌, List, [], ◌∷◌, ◌++◌, length, map, slice_set, slice_get, slice_index_or, Option, Some, None, refl, ap, ◌∙◌, sym, inl, inr, arith}
 use Rattle.std.specs.Option.{option_map}
 use Rattle.std.proofs.lemmas.Bool.{cases_eq, cases_lt}
@@ -12,7 +12,7 @@ use Rattle.probe_core.specs.Machine.{Machine, Followed, Runs, Answers, begun, fo
 use Rattle.probe_core.specs.World.{World, Running, began, settled, stepped, words_after}
 use Rattle.probe_core.specs.Hall.{call_of, running_of}
 
-pub get_set_same : {X : Type 0} (xs : List X) (i : ℕ) (x : X) → i < length xs → slice_get (slice_set xs i x) i ≡ Some x
+get_set_same : {X : Type 0} (xs : List X) (i : ℕ) (x : X) → i < length xs → slice_get (slice_set xs i x) i ≡ Some x
 get_set_same xs i x h =
     let inside : i < length (slice_set xs i x) = let e : length (slice_set xs i x) ≡ length xs = length-set xs i x in omega (arith, e, h)
     in slice_get-get_or (slice_set xs i x) i x inside ∙ ap Some (get_or-set_same xs i x x h)
@@ -28,7 +28,7 @@ get_set_other xs i j x apart =
       | inr past ↦ slice_get_past (slice_set xs i x) j (omega (arith, e, past)) ∙ sym (slice_get_past xs j past)
     ]
 
--- what stands at an index after a write there: what was written, or nothing
+-- what an index holds after a write at it: what was written, or nothing
 pub set_shows : {X : Type 0} (xs : List X) (i : ℕ) (x y : X) → slice_get (slice_set xs i x) i ≡ Some y → x ≡ y
 set_shows xs i x y e =
     elim (cases_lt i (length xs)) [
@@ -75,7 +75,7 @@ not_began world caller asked None other = refl
 not_began world caller asked (Some None) other = absurd (other refl)
 not_began world caller asked (Some (Some running)) other = refl
 
-pub shows_idle : {O : Type 0} (found : Option (Option (UnderWay O))) → option_map running_of found ≡ Some None → found ≡ Some None
+shows_idle : {O : Type 0} (found : Option (Option (UnderWay O))) → option_map running_of found ≡ Some None → found ≡ Some None
 shows_idle None e = cc
 shows_idle (Some None) e = refl
 shows_idle (Some (Some call)) e = cc
@@ -114,7 +114,7 @@ settled_answers world caller running words after followed found finished answers
     ∙ ap (λ f. settled world caller running words f) (sym answers)
 
 -- a step of a call that was taken from its caller before is that of the call at its caller
-pub settled_taken : (world : World) (caller : ℕ) (running : Running) (words : List ℕ) (followed : Followed)
+settled_taken : (world : World) (caller : ℕ) (running : Running) (words : List ℕ) (followed : Followed)
     → settled (record world { callers = slice_set world.callers caller None }) caller running words followed ≡ settled world caller running words followed
 settled_taken world caller running words (Runs machine) =
     ap (λ l. record world { words = words; callers = l })

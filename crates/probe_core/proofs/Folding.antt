@@ -7,7 +7,7 @@ use Rattle.probe_core.specs.declared.events.Event.{Event}
 use Rattle.probe_core.specs.World.{World, happened, counted, after_events}
 use Rattle.probe_core.specs.Hall.{is_step}
 
-pub after_more : (n : ℕ) (place : ℕ → ℕ → ℕ) (world : World) (events : List Event) (e : Event)
+after_more : (n : ℕ) (place : ℕ → ℕ → ℕ) (world : World) (events : List Event) (e : Event)
     → after_events n place world (events ++ e ∷ []) ≡ counted (happened n place (after_events n place world events) e)
 after_more n place world [] e = refl
 after_more n place world (first ∷ events) e = after_more n place (counted (happened n place world first)) events e

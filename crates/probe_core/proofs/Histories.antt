@@ -6,13 +6,11 @@ use Rattle.probe_core.specs.declared.calls.Call.{Call}
 use Rattle.probe_core.specs.declared.calls.Call.TheVariants as call
 use Rattle.probe_core.specs.declared.calls.Answer.{Answer}
 use Rattle.probe_core.specs.declared.calls.Answer.TheVariants as answer
-use Rattle.probe_core.specs.Machine.{code_of, key_of}
+use Rattle.probe_core.specs.Machine.{code_of}
 use Rattle.probe_core.specs.Sequential.{Table, Step, IsNumber, IsAbsent}
 use Rattle.probe_core.specs.History.{Answered, changed, content, content_from, empty_table, IsRunFrom, IsLegal}
-use Rattle.probe_core.specs.Placing.{IsOther, HaveGrown}
+use Rattle.probe_core.specs.Placing.{HaveGrown}
 use Rattle.probe_core.specs.Showing.{key_in, table_of}
-use Rattle.probe_core.specs.Way.{IsOnWay}
-use Rattle.probe_core.specs.Machine as machine
 use Rattle.probe_core.proofs.Telling.{shown, shows_some, step_is_change}
 use Rattle.probe_core.proofs.Growing.{run_keeps}
 use Rattle.probe_core.proofs.Soundness.{content_more, run_more}
@@ -39,7 +37,7 @@ pub rest_runs : (table : Table) (front rest : List Answered) → IsRunFrom table
 rest_runs table [] rest run = run
 rest_runs table (entry ∷ front) rest run = rest_runs (changed table entry.call entry.answer) front rest run.1
 
-pub content_parts : (table : Table) (front rest : List Answered) → content_from table (front ++ rest) ≡ content_from (content_from table front) rest
+content_parts : (table : Table) (front rest : List Answered) → content_from table (front ++ rest) ≡ content_from (content_from table front) rest
 content_parts table [] rest = refl
 content_parts table (entry ∷ front) rest = content_parts (changed table entry.call entry.answer) front rest
 
@@ -51,7 +49,7 @@ numbers_kept n front rest key p legal number =
     (run_keeps (content n front) rest key p (rest_runs (empty_table n) front rest legal) number)
 
 -- a word that is not free is that of a key
-pub taken_word : (word : ℕ) → word ≢ 0 → (key : ℕ) × (word ≡ code_of key)
+taken_word : (word : ℕ) → word ≢ 0 → (key : ℕ) × (word ≡ code_of key)
 taken_word zero taken = absurd (taken refl)
 taken_word (suc key) taken = (key, sym (add-one key))
 
@@ -75,37 +73,23 @@ words_grew n front rest words later legal before after p taken =
     subst P after (numbers_kept n front rest key p legal (subst P (sym before) number))
     in shows_some (slice_index_or later p 0) key (sym (shown later p) ∙ kept.stands) ∙ sym some.1
 
--- a call on its way stays so where words only grew
-pub way_kept : (n : ℕ) (place : ℕ → ℕ → ℕ) (words later : List ℕ) (m : machine.Machine) → HaveGrown words later → IsOnWay n place words m
-    → IsOnWay n place later m
-way_kept n place words later m grown way =
-    let key : ℕ = key_of m.call
-    in record {
-      within = way.within;
-      passed = λ j h.
-          let P : ℕ → Type 0 = λ w. IsOther w key
-          in let other : IsOther (slice_index_or words (place key j) 0) key = way.passed j h
-          in subst P (sym (grown (place key j) other.taken)) other;
-      swapping = way.swapping;
-    }
-
 -- no key has two numbers
 abbrev pub HasOneEach : Table → Type 0
 HasOneEach table = (key p q : ℕ) → IsNumber table key p → IsNumber table key q → p ≡ q
 
-pub number_before : (old : Table) (x r key p : ℕ) → p ≢ r → IsNumber (slice_set old r (Some x)) key p → IsNumber old key p
+number_before : (old : Table) (x r key p : ℕ) → p ≢ r → IsNumber (slice_set old r (Some x)) key p → IsNumber old key p
 number_before old x r key p apart number = record {
   within = let e : length (slice_set old r (Some x)) ≡ length old = length-set old r (Some x) in omega (arith, e, number.within);
   stands = sym (get_or-set_other old r p (Some x) None apart) ∙ number.stands;
 }
 
-pub key_written : (old : Table) (x r key : ℕ) → IsNumber (slice_set old r (Some x)) key r → x ≡ key
+key_written : (old : Table) (x r key : ℕ) → IsNumber (slice_set old r (Some x)) key r → x ≡ key
 key_written old x r key number =
     let e : length (slice_set old r (Some x)) ≡ length old = length-set old r (Some x)
     in let same : Some x ≡ Some key = sym (get_or-set_same old r (Some x) None (omega (arith, e, number.within))) ∙ number.stands
     in cc
 
-pub one_each_added : (old : Table) (x r : ℕ) → IsAbsent old x → HasOneEach old → HasOneEach (slice_set old r (Some x))
+one_each_added : (old : Table) (x r : ℕ) → IsAbsent old x → HasOneEach old → HasOneEach (slice_set old r (Some x))
 one_each_added old x r absent one key p q at_p at_q =
     let P : ℕ → Type 0 = λ i. IsNumber (slice_set old r (Some x)) key i
     in let Q : ℕ → Type 0 = λ k. IsNumber old k p
@@ -125,7 +109,7 @@ one_each_added old x r absent one key p q at_p at_q =
           ]
     ]
 
-pub one_each_after : (old : Table) (asked : Call) (found : Answer) (new : Table) → HasOneEach old → Step old asked found new → HasOneEach new
+one_each_after : (old : Table) (asked : Call) (found : Answer) (new : Table) → HasOneEach old → Step old asked found new → HasOneEach new
 one_each_after old (call.Enter x) (answer.Number r) new one step =
     elim step [
       | inl known ↦ let P : Table → Type 0 = HasOneEach in subst P (sym known.1) one
@@ -137,13 +121,13 @@ one_each_after old (call.LookUp x) (answer.Number r) new one step = let P : Tabl
 one_each_after old (call.LookUp x) answer.Absent new one step = let P : Table → Type 0 = HasOneEach in subst P (sym step.2) one
 one_each_after old (call.LookUp x) answer.Full new one step = let P : Table → Type 0 = HasOneEach in subst P (sym step.2) one
 
-pub one_each_run : (table : Table) (history : List Answered) → HasOneEach table → IsRunFrom table history → HasOneEach (content_from table history)
+one_each_run : (table : Table) (history : List Answered) → HasOneEach table → IsRunFrom table history → HasOneEach (content_from table history)
 one_each_run table [] one run = one
 one_each_run table (entry ∷ history) one run =
     one_each_run (changed table entry.call entry.answer) history
     (one_each_after table entry.call entry.answer (changed table entry.call entry.answer) one run.0) run.1
 
-pub none_in_empty : (n key p : ℕ) → IsNumber (empty_table n) key p → ⊥
+none_in_empty : (n key p : ℕ) → IsNumber (empty_table n) key p → ⊥
 none_in_empty n key p number =
     let l : length (empty_table n) ≡ n = length-replicate n None
     in let none : None ≡ Some key = sym (get_or-replicate n p None None (omega (arith, l, number.within))) ∙ number.stands

@@ -1,17 +1,17 @@
 pub mod Placings
-pub mod Winning
-pub mod Growing
+mod Winning
+mod Growing
 pub mod Telling
-pub mod Taking
-pub mod Lending
-pub mod Callers
-pub mod Folding
-pub mod Happening
-pub mod Stamps
+mod Taking
+mod Lending
+mod Callers
+mod Folding
+mod Happening
+mod Stamps
 pub mod Soundness
-pub mod Tracking
-pub mod Running
+mod Tracking
+mod Running
 pub mod Histories
-pub mod Beginning
+mod Beginning
 mod Worked
 mod Schedules

@@ -7,7 +7,7 @@ use Rattle.probe_core.specs.Placing.{HoldOthers, IsPlaced, IsNowhere, AreAllTake
 pub three_ways : (i j : ℕ) → (i < j) ⊎ ((i ≡ j) ⊎ (j < i))
 three_ways i j = grind arith
 
--- a key stands nowhere if the places of its order hold other keys up to one that is free
+-- a key is nowhere if the places of its order hold other keys up to one that is free
 pub nowhere_at_free : (n : ℕ) (place : ℕ → ℕ → ℕ) (words : List ℕ) (key i : ℕ) → IsOrder n (place key) → IsPlaced n place words
     → HoldOthers (place key) words key i → slice_index_or words (place key i) 0 ≡ 0 → IsNowhere n words key
 nowhere_at_free n place words key i order placed held free p h e =
@@ -21,7 +21,7 @@ nowhere_at_free n place words key i order placed held free p h e =
       | inr (inr behind) ↦ (held q.0 behind).other stands
     ]
 
--- a key stands nowhere if all places of its order hold other keys
+-- a key is nowhere if all places of its order hold other keys
 pub nowhere_at_end : (n : ℕ) (place : ℕ → ℕ → ℕ) (words : List ℕ) (key : ℕ) → IsOrder n (place key)
     → HoldOthers (place key) words key n → IsNowhere n words key
 nowhere_at_end n place words key order held p h e =

@@ -36,7 +36,7 @@ run_more table [] entry run step = (step, tt)
 run_more table (first ∷ history) entry run step = (run.0, run_more (changed table first.call first.answer) history entry run.1 step)
 
 -- what a call under way is known by, where its caller's call was replaced
-pub on_way_after : (n : ℕ) (place : ℕ → ℕ → ℕ) (words : List ℕ) (events : ℕ) (callers : List (Option Running)) (caller : ℕ) (put : Option Running)
+on_way_after : (n : ℕ) (place : ℕ → ℕ → ℕ) (words : List ℕ) (events : ℕ) (callers : List (Option Running)) (caller : ℕ) (put : Option Running)
     → ((c : ℕ) (r : Running) → slice_get callers c ≡ Some (Some r) → IsOnWay n place words r.machine × (r.since < events))
     → ((r : Running) → put ≡ Some r → IsOnWay n place words r.machine × (r.since < events))
     → (c : ℕ) (r : Running) → slice_get (slice_set callers caller put) c ≡ Some (Some r) → IsOnWay n place words r.machine × (r.since < events)
@@ -47,15 +47,15 @@ on_way_after n place words events callers caller put others given c r e =
     ]
 
 -- the same calls one event later
-pub later : (n : ℕ) (place : ℕ → ℕ → ℕ) (world : World) → AreOnWay n place world
+later : (n : ℕ) (place : ℕ → ℕ → ℕ) (world : World) → AreOnWay n place world
     → (c : ℕ) (r : Running) → slice_get world.callers c ≡ Some (Some r) → IsOnWay n place world.words r.machine × (r.since < world.events + 1)
 later n place world on_way c r e = let known = on_way c r e in (known.0, omega (arith, known.1))
 
-pub timed_later : (events : ℕ) (finished : List Finished) → AreTimed events finished → AreTimed (events + 1) finished
+timed_later : (events : ℕ) (finished : List Finished) → AreTimed events finished → AreTimed (events + 1) finished
 timed_later events finished timed k f e = let known = timed k f e in (known.0, omega (arith, known.1))
 
 -- one more finished call, which ends now
-pub timed_more : (events : ℕ) (finished : List Finished) (f : Finished) → AreTimed events finished → f.begun < events → f.ended ≡ events
+timed_more : (events : ℕ) (finished : List Finished) (f : Finished) → AreTimed events finished → f.begun < events → f.ended ≡ events
     → AreTimed (events + 1) (finished ++ f ∷ [])
 timed_more events finished f timed before now k g e =
     elim (get_either finished f k g e) [
@@ -65,7 +65,7 @@ timed_more events finished f timed before now k g e =
           in subst P last.1 (omega (arith, before, now), omega (arith, now))
     ]
 
-pub rising_more : (events : ℕ) (finished : List Finished) (f : Finished) → AreTimed events finished → AreRising finished → f.ended ≡ events
+rising_more : (events : ℕ) (finished : List Finished) (f : Finished) → AreTimed events finished → AreRising finished → f.ended ≡ events
     → AreRising (finished ++ f ∷ [])
 rising_more events finished f timed rising now j k g h before ej ek =
     elim (get_either finished f j g ej) [
@@ -87,11 +87,11 @@ abbrev answered : Call → Answer → Answered
 answered asked found = record { call = asked; answer = found }
 
 -- a call that begins is on its way
-pub begun_on_way : (n : ℕ) (place : ℕ → ℕ → ℕ) (words : List ℕ) (asked : Call) → 0 < n → IsOnWay n place words (begun asked)
+begun_on_way : (n : ℕ) (place : ℕ → ℕ → ℕ) (words : List ℕ) (asked : Call) → 0 < n → IsOnWay n place words (begun asked)
 begun_on_way n place words asked some = record { within = some; passed = λ j h. absurd (omega (arith, h)); swapping = may_load asked }
 
 -- what the next step of a call on its way tells
-pub next_tells : (n : ℕ) (place : ℕ → ℕ → ℕ) (world : World) (running : Running) (followed : Followed) → ((key : ℕ) → IsOrder n (place key))
+next_tells : (n : ℕ) (place : ℕ → ℕ → ℕ) (world : World) (running : Running) (followed : Followed) → ((key : ℕ) → IsOrder n (place key))
     → IsOrderly n place world.words → IsOnWay n place world.words running.machine → next_of n place world running ≡ followed
     → Tells n place world.words running.machine followed
 next_tells n place world running followed order orderly way is =
@@ -99,14 +99,14 @@ next_tells n place world running followed order orderly way is =
     in subst P is (step_tells n place world.words running.machine (order (key_of running.machine.call)) orderly way)
 
 -- the calls under way, over the words after a step of one of them
-pub later_over : (n : ℕ) (place : ℕ → ℕ → ℕ) (world : World) (running : Running) → AreOnWay n place world
+later_over : (n : ℕ) (place : ℕ → ℕ → ℕ) (world : World) (running : Running) → AreOnWay n place world
     → (c : ℕ) (r : Running) → slice_get world.callers c ≡ Some (Some r)
     → IsOnWay n place (words_of place world running) r.machine × (r.since < world.events + 1)
 later_over n place world running on_way c r e =
     let known = on_way c r e
     in (step_keeps_way n place world.words running.machine r.machine known.0, omega (arith, known.1))
 
-pub sound_event : (n : ℕ) (place : ℕ → ℕ → ℕ) (world : World) (e : Event) (after : World) → ((key : ℕ) → IsOrder n (place key)) → 0 < n
+sound_event : (n : ℕ) (place : ℕ → ℕ → ℕ) (world : World) (e : Event) (after : World) → ((key : ℕ) → IsOrder n (place key)) → 0 < n
     → IsSound n place world → Happens n place world e after → IsSound n place (counted after)
 sound_event n place world e after order some sound (Nothing _) = record {
   orderly = sound.orderly;
@@ -184,7 +184,7 @@ sound_after n place world (e ∷ events) order some sound =
     (sound_event n place world e (happened n place world e) order some sound (happens n place world e))
 
 -- a word is that of the key that it shows
-pub word_shown : (word : ℕ) → word ≡ word_of (key_in word)
+word_shown : (word : ℕ) → word ≡ word_of (key_in word)
 word_shown zero = refl
 word_shown (suc word) = sym (add-one word)
 

@@ -1,7 +1,7 @@
 -- Lists that get one element more at their end.
 use Rattle.std.proofs.Common.{◌≡◌, ℕ, zero, suc, ◌⊎◌, List, [], ◌∷◌, ◌++◌, length, Some, slice_get, refl, ap, inl, inr}
 
--- an element that stands in the front stands there in the whole
+-- an element of the front is at the same index of the whole
 pub get_front : {X : Type 0} (xs ys : List X) (i : ℕ) (x : X) → slice_get xs i ≡ Some x → slice_get (xs ++ ys) i ≡ Some x
 get_front [] ys i x e = cc
 get_front (z ∷ xs) ys zero x e = e
@@ -12,7 +12,7 @@ pub get_last : {X : Type 0} (xs : List X) (x : X) → slice_get (xs ++ x ∷ [])
 get_last [] x = refl
 get_last (z ∷ xs) x = get_last xs x
 
--- an element of the whole stands in the front, or is the last one
+-- an element of the whole is in the front, or is the last one
 pub get_either : {X : Type 0} (xs : List X) (x : X) (i : ℕ) (y : X) → slice_get (xs ++ x ∷ []) i ≡ Some y
     → (slice_get xs i ≡ Some y) ⊎ ((i ≡ length xs) × (x ≡ y))
 get_either [] x zero y e = inr (refl, cc)

@@ -53,7 +53,7 @@ followed_past exponent place_of words probe =
     (slice_index_or words (place_in (place_of probe.order) probe.machine) 0)
 
 -- the same at the probe's own order
-pub at_own : {O : Type 0} (exponent : O → ℕ) (place_of : O → ℕ → ℕ → ℕ) (order : O) (words : List ℕ) (probe : Probing O)
+at_own : {O : Type 0} (exponent : O → ℕ) (place_of : O → ℕ → ℕ → ℕ) (order : O) (words : List ℕ) (probe : Probing O)
     → HasProbe exponent place_of order words probe → HasProbe exponent place_of probe.order words probe
 at_own {O} exponent place_of order words probe has =
     let P : O → Type 0 = λ o. IsOrderly (2 ^ exponent o) (place_of o) words
@@ -65,7 +65,7 @@ at_own {O} exponent place_of order words probe has =
       way = subst Q (sym has.same) has.way;
     }
 
-pub tells_own : {O : Type 0} (exponent : O → ℕ) (place_of : O → ℕ → ℕ → ℕ) (words : List ℕ) (probe : Probing O)
+tells_own : {O : Type 0} (exponent : O → ℕ) (place_of : O → ℕ → ℕ → ℕ) (words : List ℕ) (probe : Probing O)
     → HasProbe exponent place_of probe.order words probe
     → Tells (2 ^ exponent probe.order) (place_of probe.order) words probe.machine (followed_past exponent place_of words probe)
 tells_own exponent place_of words probe has =
@@ -123,13 +123,6 @@ has_ended {O} exponent place_of order words after probe found has writes turns =
       orderly = subst R (sym writes) (subst Q has.same kept);
       step = subst S (sym writes) (subst P is (tells_own exponent place_of words probe own));
     }
-
--- the place of the probe's next step is one of the words' places
-pub place_within : {O : Type 0} (exponent : O → ℕ) (place_of : O → ℕ → ℕ → ℕ) (order : O) (words : List ℕ) (probe : Probing O)
-    → HasProbe exponent place_of order words probe → place_in (place_of probe.order) probe.machine < length words
-place_within exponent place_of order words probe has =
-    let own : HasProbe exponent place_of probe.order words probe = at_own exponent place_of order words probe has
-    in omega (arith, own.orderly.whole, (has.is_order probe.order (key_of probe.machine.call)).within probe.machine.index own.way.within)
 
 -- a step of the sequential table under other names
 pub step_as : (old older : Table) (asked again : Call) (found : Answer) (new newer : Table) → old ≡ older → asked ≡ again → new ≡ newer

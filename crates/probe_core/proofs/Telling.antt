@@ -22,27 +22,27 @@ use Rattle.probe_core.proofs.Placings.{nowhere_at_free, nowhere_at_end, taken_at
 pub shown : (words : List ℕ) (p : ℕ) → slice_index_or (table_of words) p None ≡ key_in (slice_index_or words p 0)
 shown words p = get_or-map key_in words p 0
 
-pub shows_code : (key : ℕ) → key_in (code_of key) ≡ Some key
+shows_code : (key : ℕ) → key_in (code_of key) ≡ Some key
 shows_code key = ap key_in (add-one key)
 
-pub wrote : (words : List ℕ) (p key : ℕ) → table_of (slice_set words p (code_of key)) ≡ slice_set (table_of words) p (Some key)
+wrote : (words : List ℕ) (p key : ℕ) → table_of (slice_set words p (code_of key)) ≡ slice_set (table_of words) p (Some key)
 wrote words p key = map-set key_in words p (code_of key) ∙ ap (λ o. slice_set (table_of words) p o) (shows_code key)
 
 -- a place that shows the key's word is the key's number
-pub number_at : (n : ℕ) (words : List ℕ) (key p : ℕ) → length words ≡ n → p < n → slice_index_or words p 0 ≡ code_of key
+number_at : (n : ℕ) (words : List ℕ) (key p : ℕ) → length words ≡ n → p < n → slice_index_or words p 0 ≡ code_of key
     → IsNumber (table_of words) key p
 number_at n words key p whole h e = record {
   within = omega (arith, length-map words key_in, whole, h);
   stands = shown words p ∙ ap key_in e ∙ shows_code key;
 }
 
-pub free_at : (n : ℕ) (words : List ℕ) (p : ℕ) → length words ≡ n → p < n → slice_index_or words p 0 ≡ 0 → IsFree (table_of words) p
+free_at : (n : ℕ) (words : List ℕ) (p : ℕ) → length words ≡ n → p < n → slice_index_or words p 0 ≡ 0 → IsFree (table_of words) p
 free_at n words p whole h e = record {
   within = omega (arith, length-map words key_in, whole, h);
   free = shown words p ∙ ap key_in e;
 }
 
-pub shows_none : (word : ℕ) → key_in word ≡ None → word ≡ 0
+shows_none : (word : ℕ) → key_in word ≡ None → word ≡ 0
 shows_none zero e = refl
 shows_none (suc word) e = cc
 
@@ -50,18 +50,18 @@ pub shows_some : (word key : ℕ) → key_in word ≡ Some key → word ≡ code
 shows_some zero key e = cc
 shows_some (suc word) key e = let same : word ≡ key = cc in omega (arith, same)
 
-pub absent_from : (n : ℕ) (words : List ℕ) (key : ℕ) → length words ≡ n → IsNowhere n words key → IsAbsent (table_of words) key
+absent_from : (n : ℕ) (words : List ℕ) (key : ℕ) → length words ≡ n → IsNowhere n words key → IsAbsent (table_of words) key
 absent_from n words key whole nowhere p number =
     nowhere p (omega (arith, length-map words key_in, whole, number.within))
     (shows_some (slice_index_or words p 0) key (sym (shown words p) ∙ number.stands))
 
-pub full_from : (n : ℕ) (words : List ℕ) → length words ≡ n → AreAllTaken n words → IsFull (table_of words)
+full_from : (n : ℕ) (words : List ℕ) → length words ≡ n → AreAllTaken n words → IsFull (table_of words)
 full_from n words whole taken p free =
     taken p (omega (arith, length-map words key_in, whole, free.within))
     (shows_none (slice_index_or words p 0) (sym (shown words p) ∙ free.free))
 
 -- other keys hold one more place
-pub held_more : (place : ℕ → ℕ) (words : List ℕ) (key i : ℕ) → HoldOthers place words key i
+held_more : (place : ℕ → ℕ) (words : List ℕ) (key i : ℕ) → HoldOthers place words key i
     → slice_index_or words (place i) 0 ≢ 0 → slice_index_or words (place i) 0 ≢ code_of key → HoldOthers place words key (i + 1)
 held_more place words key i held taken other j h =
     elim (three_ways j i) [
@@ -72,11 +72,11 @@ held_more place words key i held taken other j h =
       | inr (inr behind) ↦ absurd (omega (arith, behind, h))
     ]
 
-pub full_step : (old new : Table) (asked : Call) → IsAbsent old (key_of asked) → IsFull old → new ≡ old → Step old asked answer.Full new
+full_step : (old new : Table) (asked : Call) → IsAbsent old (key_of asked) → IsFull old → new ≡ old → Step old asked answer.Full new
 full_step old new (call.Enter key) absent full same = (absent, full, same)
 full_step old new (call.LookUp key) absent full same = (absent, full, same)
 
-pub found_step : (old new : Table) (asked : Call) (p : ℕ) → IsNumber old (key_of asked) p → new ≡ old → Step old asked (answer.Number p) new
+found_step : (old new : Table) (asked : Call) (p : ℕ) → IsNumber old (key_of asked) p → new ≡ old → Step old asked (answer.Number p) new
 found_step old new (call.Enter key) p number same = inl (number, same)
 found_step old new (call.LookUp key) p number same = (number, same)
 
@@ -87,15 +87,15 @@ may_load (call.LookUp key) = tt
 abbrev pub machine_at : Call → ℕ → Bool → Machine
 machine_at asked i swaps = record { call = asked; index = i; swaps = swaps }
 
--- what is known where a call stands at a place
-pub record Stands (n : ℕ) (place : ℕ → ℕ → ℕ) (words : List ℕ) (asked : Call) (i : ℕ) : Type 0 where
+-- what is known where a call is at a place
+record Stands (n : ℕ) (place : ℕ → ℕ → ℕ) (words : List ℕ) (asked : Call) (i : ℕ) : Type 0 where
   pub order : IsOrder n (place (key_of asked))
   pub orderly : IsOrderly n place words
   pub within : i < n
   pub passed : HoldOthers (place (key_of asked)) words (key_of asked) i
 
 -- a strange key's word: the call loads its next place, or it is full
-pub told_strange : (n : ℕ) (place : ℕ → ℕ → ℕ) (words : List ℕ) (asked : Call) (i : ℕ) (swaps : Bool) → Stands n place words asked i
+told_strange : (n : ℕ) (place : ℕ → ℕ → ℕ) (words : List ℕ) (asked : Call) (i : ℕ) (swaps : Bool) → Stands n place words asked i
     → slice_index_or words (place (key_of asked) i) 0 ≢ 0
     → slice_index_or words (place (key_of asked) i) 0 ≢ code_of (key_of asked)
     → words_after words (machine_at asked i swaps) (place (key_of asked) i) ≡ words
@@ -122,7 +122,7 @@ told_strange n place words asked i swaps at taken other still =
     })
 
 -- the key's own word: its place is the key's number
-pub told_own : (n : ℕ) (place : ℕ → ℕ → ℕ) (words : List ℕ) (asked : Call) (i : ℕ) (swaps : Bool) → Stands n place words asked i
+told_own : (n : ℕ) (place : ℕ → ℕ → ℕ) (words : List ℕ) (asked : Call) (i : ℕ) (swaps : Bool) → Stands n place words asked i
     → slice_index_or words (place (key_of asked) i) 0 ≡ code_of (key_of asked)
     → words_after words (machine_at asked i swaps) (place (key_of asked) i) ≡ words
     → Tells n place words (machine_at asked i swaps) (Answers (answer.Number (place (key_of asked) i)))
@@ -133,7 +133,7 @@ told_own n place words asked i swaps at own still =
     (ap table_of still)
 
 -- a word that is not free tells the same, whether it was loaded or swapped
-pub told_taken : (n : ℕ) (place : ℕ → ℕ → ℕ) (words : List ℕ) (asked : Call) (i : ℕ) (swaps : Bool) → Stands n place words asked i
+told_taken : (n : ℕ) (place : ℕ → ℕ → ℕ) (words : List ℕ) (asked : Call) (i : ℕ) (swaps : Bool) → Stands n place words asked i
     → slice_index_or words (place (key_of asked) i) 0 ≢ 0
     → words_after words (machine_at asked i swaps) (place (key_of asked) i) ≡ words
     → Tells n place words (machine_at asked i swaps)
@@ -149,13 +149,13 @@ told_taken n place words asked i swaps at taken still =
     (λ e. told_strange n place words asked i swaps at taken (eqb-false word (code_of (key_of asked)) e) still)
 
 -- a free place: the key is nowhere
-pub absent_at : (n : ℕ) (place : ℕ → ℕ → ℕ) (words : List ℕ) (asked : Call) (i : ℕ) → Stands n place words asked i
+absent_at : (n : ℕ) (place : ℕ → ℕ → ℕ) (words : List ℕ) (asked : Call) (i : ℕ) → Stands n place words asked i
     → slice_index_or words (place (key_of asked) i) 0 ≡ 0 → IsAbsent (table_of words) (key_of asked)
 absent_at n place words asked i at free =
     absent_from n words (key_of asked) at.orderly.whole
     (nowhere_at_free n place words (key_of asked) i at.order at.orderly.placed at.passed free)
 
-pub tells_at : (n : ℕ) (place : ℕ → ℕ → ℕ) (words : List ℕ) (asked : Call) (i : ℕ) (swaps : Bool) → Stands n place words asked i
+tells_at : (n : ℕ) (place : ℕ → ℕ → ℕ) (words : List ℕ) (asked : Call) (i : ℕ) (swaps : Bool) → Stands n place words asked i
     → MaySwap asked swaps
     → Tells n place words (machine_at asked i swaps)
     (follows n (machine_at asked i swaps) (place (key_of asked) i) (slice_index_or words (place (key_of asked) i) 0))

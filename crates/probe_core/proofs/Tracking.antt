@@ -16,7 +16,7 @@ use Rattle.probe_core.proofs.Happening.{Happens, Nothing, Begins, GoesOn, Ends, 
 use Rattle.probe_core.proofs.Stamps.{get_front, get_last, get_either}
 
 -- a call goes on as the same call
-pub same_call_by : (n : ℕ) (m : Machine) (d : Decision) (next : Machine) → followed_by n m d ≡ Runs next → next.call ≡ m.call
+same_call_by : (n : ℕ) (m : Machine) (d : Decision) (next : Machine) → followed_by n m d ≡ Runs next → next.call ≡ m.call
 same_call_by n m Swaps next e = let same : record { call = m.call; index = m.index; swaps = true } ≡ next = cc in ap (λ x. x.call) (sym same)
 same_call_by n m machine.GoesOn next e =
     let P : Followed → Type 0 = λ f. f ≡ Runs next → next.call ≡ m.call
@@ -27,38 +27,38 @@ same_call_by n m machine.GoesOn next e =
 same_call_by n m (machine.Ends found) next e = cc
 
 -- the Begin of a call under way is one of these events, if it is not an earlier one
-abbrev pub AreBegunAmong : ℕ → List Event → List (Option Running) → Type 0
+abbrev AreBegunAmong : ℕ → List Event → List (Option Running) → Type 0
 AreBegunAmong first events callers =
     (caller : ℕ) (r : Running) → slice_get callers caller ≡ Some (Some r) → first ≤ r.since
     → slice_get events (r.since - first) ≡ Some (event.Begin caller r.machine.call)
 
 -- the world after these events, with what had ended before them
-pub record Tracks (first : ℕ) (events : List Event) (old : List Finished) (world : World) : Type 0 where
+record Tracks (first : ℕ) (events : List Event) (old : List Finished) (world : World) : Type 0 where
   pub count : world.events ≡ first + length events
   pub grown : GrowsAmong first events old world.finished
   pub begun : AreBegunAmong first events world.callers
 
-pub ends_among_more : (first : ℕ) (events more : List Event) (f : Finished) → EndsAmong first events f → EndsAmong first (events ++ more) f
+ends_among_more : (first : ℕ) (events more : List Event) (f : Finished) → EndsAmong first events f → EndsAmong first (events ++ more) f
 ends_among_more first events more f among = record {
   from = among.from;
   ended = get_front events more (f.ended - first) (event.Step f.caller) among.ended;
   begun = λ since. get_front events more (f.begun - first) (event.Begin f.caller f.call) (among.begun since);
 }
 
-pub grows_more : (first : ℕ) (events more : List Event) (old new : List Finished) → GrowsAmong first events old new → GrowsAmong first (events ++ more) old new
+grows_more : (first : ℕ) (events more : List Event) (old new : List Finished) → GrowsAmong first events old new → GrowsAmong first (events ++ more) old new
 grows_more first events more old new grown = record {
   added = grown.added;
   joined = grown.joined;
   among = λ k f e. ends_among_more first events more f (grown.among k f e);
 }
 
-pub begun_more : (first : ℕ) (events more : List Event) (callers : List (Option Running)) → AreBegunAmong first events callers
+begun_more : (first : ℕ) (events more : List Event) (callers : List (Option Running)) → AreBegunAmong first events callers
     → AreBegunAmong first (events ++ more) callers
 begun_more first events more callers begun c r e since =
     get_front events more (r.since - first) (event.Begin c r.machine.call) (begun c r e since)
 
 -- the same where a caller's call was replaced
-pub begun_after : (first : ℕ) (events : List Event) (callers : List (Option Running)) (caller : ℕ) (put : Option Running) → AreBegunAmong first events callers
+begun_after : (first : ℕ) (events : List Event) (callers : List (Option Running)) (caller : ℕ) (put : Option Running) → AreBegunAmong first events callers
     → ((r : Running) → put ≡ Some r → first ≤ r.since → slice_get events (r.since - first) ≡ Some (event.Begin caller r.machine.call))
     → AreBegunAmong first events (slice_set callers caller put)
 begun_after first events callers caller put begun given c r e since =
@@ -70,15 +70,15 @@ begun_after first events callers caller put begun given c r e since =
     ]
 
 -- the event at the count is the last of one more
-pub at_count : (first : ℕ) (events : List Event) (e : Event) (count : ℕ) → count ≡ first + length events → slice_get (events ++ e ∷ []) (count - first) ≡ Some e
+at_count : (first : ℕ) (events : List Event) (e : Event) (count : ℕ) → count ≡ first + length events → slice_get (events ++ e ∷ []) (count - first) ≡ Some e
 at_count first events e count is =
     let same : count - first ≡ length events = omega (arith, is)
     in ap (λ i. slice_get (events ++ e ∷ []) i) same ∙ get_last events e
 
-pub counts_more : (first : ℕ) (events : List Event) (e : Event) (count : ℕ) → count ≡ first + length events → count + 1 ≡ first + length (events ++ e ∷ [])
+counts_more : (first : ℕ) (events : List Event) (e : Event) (count : ℕ) → count ≡ first + length events → count + 1 ≡ first + length (events ++ e ∷ [])
 counts_more first events e count is = let l : length (events ++ e ∷ []) ≡ length events + length (e ∷ []) = length-append events (e ∷ []) in omega (arith, is, l)
 
-pub tracks_event : (n : ℕ) (place : ℕ → ℕ → ℕ) (first : ℕ) (events : List Event) (old : List Finished) (world : World) (e : Event) (after : World)
+tracks_event : (n : ℕ) (place : ℕ → ℕ → ℕ) (first : ℕ) (events : List Event) (old : List Finished) (world : World) (e : Event) (after : World)
     → Tracks first events old world → Happens n place world e after → Tracks first (events ++ e ∷ []) old (counted after)
 tracks_event n place first events old world e after tracks (Nothing _) = record {
   count = counts_more first events e world.events tracks.count;
@@ -138,7 +138,7 @@ tracks_event n place first events old world e after tracks (Ends caller running 
           (λ r is since. cc);
     }
 
-pub tracks_after : (n : ℕ) (place : ℕ → ℕ → ℕ) (first : ℕ) (passed : List Event) (old : List Finished) (world : World) (events : List Event)
+tracks_after : (n : ℕ) (place : ℕ → ℕ → ℕ) (first : ℕ) (passed : List Event) (old : List Finished) (world : World) (events : List Event)
     → Tracks first passed old world → Tracks first (passed ++ events) old (after_events n place world events)
 tracks_after n place first passed old world [] tracks =
     let P : List Event → Type 0 = λ l. Tracks first l old world in subst P (sym (append-nil passed)) tracks

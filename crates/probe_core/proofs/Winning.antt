@@ -7,13 +7,13 @@ use Rattle.probe_core.specs.Machine.{code_of}
 use Rattle.probe_core.specs.Placing.{IsOther, HoldOthers, IsPlaced}
 
 -- a word elsewhere stays
-pub stays_other : (words : List ℕ) (p c q x : ℕ) → q ≢ p → IsOther (slice_index_or words q 0) x → IsOther (slice_index_or (slice_set words p c) q 0) x
+stays_other : (words : List ℕ) (p c q x : ℕ) → q ≢ p → IsOther (slice_index_or words q 0) x → IsOther (slice_index_or (slice_set words p c) q 0) x
 stays_other words p c q x apart other =
     let P : ℕ → Type 0 = λ w. IsOther w x
     in subst P (sym (get_or-set_other words p q c 0 apart)) other
 
 -- the places before the one that was won
-pub own_places : (n : ℕ) (place : ℕ → ℕ) (words : List ℕ) (key c i j l : ℕ) → IsOrder n place → i < n → j < n → HoldOthers place words key i
+own_places : (n : ℕ) (place : ℕ → ℕ) (words : List ℕ) (key c i j l : ℕ) → IsOrder n place → i < n → j < n → HoldOthers place words key i
     → place j ≡ place i → l < j → IsOther (slice_index_or (slice_set words (place i) c) (place l) 0) key
 own_places n place words key c i j l order hi hj held same hl =
     let at : j ≡ i = order.once j i hj hi same

@@ -34,6 +34,6 @@ abbrev pub is_step : Event → Bool
 is_step (event.Begin caller call) = false
 is_step (event.Step caller) = true
 
--- there is room for as many finished calls as these events can end
+-- the finished calls have room for as many more as these events can end
 abbrev pub HasRoom : {O : Type 0} → Hall O → List Event → Type 0
 HasRoom hall events = vec_len hall.finished + count_by is_step events ≤ vec_capacity hall.finished

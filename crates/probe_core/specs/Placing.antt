@@ -1,4 +1,4 @@
--- Where keys stand among the words of a table: never after a free place of their order.
+-- At which places the words of a table hold a key: never after a free place of the key's order.
 use Rattle.std.specs.Prelude.{◌≡◌, ◌≢◌, ℕ, ◌<◌, List, length, slice_index_or}
 use Rattle.probe_core.specs.Machine.{code_of}
 
@@ -11,12 +11,12 @@ pub record IsOther (word key : ℕ) : Type 0 where
 abbrev pub HoldOthers : (ℕ → ℕ) → List ℕ → ℕ → ℕ → Type 0
 HoldOthers place words key i = (j : ℕ) → j < i → IsOther (slice_index_or words (place j) 0) key
 
--- each key that stands among n places has all earlier places of its order taken by other keys
+-- each key that one of n places holds has all earlier places of its order taken by other keys
 abbrev pub IsPlaced : ℕ → (ℕ → ℕ → ℕ) → List ℕ → Type 0
 IsPlaced n place words =
     (key i : ℕ) → i < n → slice_index_or words (place key i) 0 ≡ code_of key → HoldOthers (place key) words key i
 
--- the key stands at none of n places
+-- none of n places holds the key
 abbrev pub IsNowhere : ℕ → List ℕ → ℕ → Type 0
 IsNowhere n words key = (p : ℕ) → p < n → slice_index_or words p 0 ≢ code_of key
 

@@ -1,5 +1,5 @@
 -- The law of the probe orders, proved: an odd step goes through all places of a table of 2^k slots, each once. These
--- are lemmas and no definitions; they stand here since the law of a trait names what is in this folder alone.
+-- are lemmas and no definitions; they are in this folder since the law of a trait names what is in it alone.
 use Rattle.std.proofs.Common.{◌≡◌, ℕ, zero, suc, ◌+◌, ◌-◌, ◌*◌, ◌/◌, ◌%◌, ◌^◌, ◌<◌, ◌⊎◌, refl, sym, ◌∙◌, ap, subst, inl, inr, arith}
 use Rattle.std.proofs.lemmas.Nat.{pow_pos, mod_below, mod-mul-add, mul-mod_first}
 use Rattle.std.proofs.Math.Nat.{pow-succ', add-mod-mod, mod-add-mod, mul_comm}

@@ -1,4 +1,8 @@
 //! What can go wrong when a table is made, or events are run on it.
+ghost use Rattle.std.specs.Prelude.{◌≡◌};
+ghost use Rattle.probe_core.specs.declared.faults.ProbeFault.TheVariants.{Memory};
+
+use std::alloc::{AllocError, AllocFailed};
 use thiserror::Error;
 
 /// Why no table or world was made, or no event was run.
@@ -10,4 +14,20 @@ pub enum ProbeFault {
     /// The events of all runs together would be more than 2^62.
     #[error("P2 too many events")]
     TooLong,
+}
+
+impl From<AllocError> for ProbeFault {
+    ghost from_gives = { λ _ fault. fault ≡ Memory };
+
+    fn from(_: AllocError) -> ProbeFault {
+        ProbeFault::Memory
+    }
+}
+
+impl<T: Drop> From<AllocFailed<T>> for ProbeFault {
+    ghost from_gives = { λ _ fault. fault ≡ Memory };
+
+    fn from(_: AllocFailed<T>) -> ProbeFault {
+        ProbeFault::Memory
+    }
 }

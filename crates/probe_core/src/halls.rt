@@ -48,7 +48,7 @@ impl<O: ProbeOrder> Hall<O> {
         })
     }
 
-    /// What an event does, and the count. There is room for the call that it may end.
+    /// What an event does, and the count. The finished calls have room for the one that it may end.
     pub(crate) fn happen(&mut self, event: Event)
         requires fitted { IsFitted O.exponent self.old }
         requires room { HasRoom self.old (event ∷ []) }
@@ -94,7 +94,7 @@ impl<O: ProbeOrder> Hall<O> {
         }
     }
 
-    /// A busy caller takes its next step. There is room for its call among the finished ones.
+    /// A busy caller takes its next step. The finished calls have room for its call.
     fn step(&mut self, caller: usize)
         requires fitted { IsFitted O.exponent self.old }
         requires room { vec_len self.old.finished < vec_capacity self.old.finished }

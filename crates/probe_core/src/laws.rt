@@ -1,83 +1,15 @@
 //! Laws of the definitions, for proofs in the crates above. Each is a function that does nothing, and its contract is
 //! the law. They speak of words as plain lists.
-ghost use Rattle.std.specs.Prelude.{◌≡◌, ℕ, ◌^◌, ◌<◌, None, List, [], ◌∷◌, ◌++◌, length, replicate};
-ghost use Rattle.std.specs.Prelude.{slice_index_or, slice_set};
-ghost use Rattle.probe_core.specs.declared.calls.Call.{Call as Asked};
-ghost use Rattle.probe_core.specs.Order.{IsOrder};
-ghost use Rattle.probe_core.specs.Machine.{Machine, code_of, begun, follows, place_in};
+ghost use Rattle.std.specs.Prelude.{◌≡◌, ℕ, ◌^◌, None, List, [], ◌∷◌, ◌++◌, slice_index_or};
+ghost use Rattle.probe_core.specs.Machine.{Machine, follows, place_in};
 ghost use Rattle.probe_core.specs.Sequential.{Table, Step, IsNumber};
-ghost use Rattle.probe_core.specs.History.{Answered, content, content_from, IsRunFrom, IsLegal};
-ghost use Rattle.probe_core.specs.History.{AreWordsOf};
-ghost use Rattle.probe_core.specs.World.{words_after, history_of};
-ghost use Rattle.probe_core.specs.Placing.{HoldOthers, IsPlaced, IsNowhere, AreAllTaken, IsOrderly};
-ghost use Rattle.probe_core.specs.Placing.{HaveGrown};
+ghost use Rattle.probe_core.specs.History.{Answered, content, IsRunFrom, IsLegal, AreWordsOf};
+ghost use Rattle.probe_core.specs.World.{words_after};
+ghost use Rattle.probe_core.specs.Placing.{IsOrderly, HaveGrown};
 ghost use Rattle.probe_core.specs.Showing.{key_in, table_of, words_showing};
 ghost use Rattle.probe_core.specs.Way.{IsOnWay, Tells};
 
-use crate::events::Finished;
-use crate::keys::Key;
 use crate::orders::ProbeOrder;
-
-/// The places of a key at the indices below the number of slots are all places, each once. It takes no memory.
-pub fn places_are_all_places<O: ProbeOrder>(_order: &O, _key: Key)
-    ensures { IsOrder (2 ^ O.exponent _order.now) (O.place_of _order.now _key) }
-{}
-
-/// A free place of a key's order, after places that other keys hold, tells that the key has no number. It takes no
-/// memory.
-pub fn free_place_ends_the_search<O: ProbeOrder>(_order: &O, _key: Key, _words: &[u64], _i: usize)
-    requires placed { IsPlaced (2 ^ O.exponent _order.now) (O.place_of _order.now) _words.now }
-    requires passed { HoldOthers (O.place_of _order.now _key) _words.now _key _i }
-    requires free { slice_index_or _words.now (O.place_of _order.now _key _i) 0 ≡ 0 }
-    ensures { IsNowhere (2 ^ O.exponent _order.now) _words.now _key }
-{}
-
-/// Where other keys hold all places of a key's order, the key has no number, and no number is free. It takes no memory.
-pub fn last_place_ends_the_search<O: ProbeOrder>(_order: &O, _key: Key, _words: &[u64])
-    requires { HoldOthers (O.place_of _order.now _key) _words.now _key (2 ^ O.exponent _order.now) }
-    ensures nowhere { IsNowhere (2 ^ O.exponent _order.now) _words.now _key }
-    ensures full { AreAllTaken (2 ^ O.exponent _order.now) _words.now }
-{}
-
-/// A swap that wins, at a free place after places that other keys hold, leaves each key after places that other
-/// keys hold. It takes no memory.
-pub fn win_keeps_the_order<O: ProbeOrder>(_order: &O, _key: Key, _words: &[u64], _i: usize)
-    requires placed { IsPlaced (2 ^ O.exponent _order.now) (O.place_of _order.now) _words.now }
-    requires within { _i < 2 ^ O.exponent _order.now }
-    requires whole { length _words.now ≡ 2 ^ O.exponent _order.now }
-    requires passed { HoldOthers (O.place_of _order.now _key) _words.now _key _i }
-    requires free { slice_index_or _words.now (O.place_of _order.now _key _i) 0 ≡ 0 }
-    ensures { IsPlaced (2 ^ O.exponent _order.now) (O.place_of _order.now)
-        (slice_set _words.now (O.place_of _order.now _key _i) (code_of _key)) }
-{}
-
-/// A key that has a number after a history has it after every run that goes on from there. It takes no memory.
-pub fn numbers_stay(
-    _slots: usize,
-    _earlier: &[Finished],
-    _later: &[Finished],
-    _key: Key,
-    _number: usize,
-)
-    requires run { IsRunFrom (content _slots (history_of _earlier.now)) (history_of _later.now) }
-    requires number { IsNumber (content _slots (history_of _earlier.now)) _key _number }
-    ensures { IsNumber (content_from (content _slots (history_of _earlier.now))
-        (history_of _later.now)) _key _number }
-{}
-
-/// Free words are orderly, and show the content of the history of no calls. It takes no memory.
-pub fn free_words_show_no_calls<O: ProbeOrder>(_order: &O)
-    ensures orderly { IsOrderly (2 ^ O.exponent _order.now) (O.place_of _order.now)
-        (replicate (2 ^ O.exponent _order.now) 0) }
-    ensures content { content (2 ^ O.exponent _order.now) []
-        ≡ table_of (replicate (2 ^ O.exponent _order.now) 0) }
-{}
-
-/// A call that begins is on its way, whatever the words are. It takes no memory.
-pub fn calls_begin_on_their_way<O: ProbeOrder>(_order: &O)
-    ensures { (words : List ℕ) (asked : Asked)
-        → IsOnWay (2 ^ O.exponent _order.now) (O.place_of _order.now) words (begun asked) }
-{}
 
 /// What a load or an exchange tells a call on its way over orderly words: the call goes on its way and the words stay,
 /// or its answer is a step of the sequential table from what the words showed to what they show then. The words are
@@ -98,14 +30,6 @@ pub fn steps_tell_of_the_key<O: ProbeOrder>(_order: &O)
         IsOnWay (2 ^ O.exponent _order.now) (O.place_of _order.now) words other →
         IsOnWay (2 ^ O.exponent _order.now) (O.place_of _order.now)
         (words_after words machine (place_in (O.place_of _order.now) machine)) other }
-{}
-
-/// A call on its way stays so where words only grew. It takes no memory.
-pub fn growth_keeps_calls_on_their_way<O: ProbeOrder>(_order: &O)
-    ensures { (words later : List ℕ) (machine : Machine) →
-        HaveGrown words later →
-        IsOnWay (2 ^ O.exponent _order.now) (O.place_of _order.now) words machine →
-        IsOnWay (2 ^ O.exponent _order.now) (O.place_of _order.now) later machine }
 {}
 
 /// A legal history goes on by a step of the sequential table from its content, which is then what the step made of it.

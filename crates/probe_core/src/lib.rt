@@ -21,10 +21,8 @@ pub use events::{Event, Finished};
 pub use faults::ProbeFault;
 pub use keys::Key;
 pub use laws::{
-    calls_begin_on_their_way, free_place_ends_the_search, free_words_show_no_calls,
-    growth_keeps_calls_on_their_way, keys_have_one_number, last_place_ends_the_search,
-    legal_histories_go_on, longer_histories_keep_numbers, numbers_stay, places_are_all_places,
-    steps_tell_of_the_key, win_keeps_the_order, words_are_of_what_they_show,
+    keys_have_one_number, legal_histories_go_on, longer_histories_keep_numbers,
+    steps_tell_of_the_key, words_are_of_what_they_show,
 };
 pub use orders::{Linear, OddStep, ProbeOrder};
 pub use probes::{Probe, Turn};

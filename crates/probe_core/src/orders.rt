@@ -28,7 +28,8 @@ pub trait ProbeOrder: Copy {
         ensures { result ≡ place_of self.now key i };
 
     /// For each key the places at the indices below the number of slots are all places, each once.
-    ghost is_order: { (order : Self) (key : ℕ) → IsOrder (2 ^ exponent order) (place_of order key) };
+    ghost is_order: { (order : Self) (key : ℕ) →
+        IsOrder (2 ^ exponent order) (place_of order key) };
 }
 
 /// The multiplier of keys: 2^64 over the golden ratio, made odd. No claim rests on it.

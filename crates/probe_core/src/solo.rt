@@ -38,14 +38,18 @@ impl<O: ProbeOrder> Model for SoloTable<O> {
 impl<O: ProbeOrder> SoloTable<O> {
     /// A table of the order's slots in which no key has a number.
     ///
-    /// It takes memory for each slot. `ProbeFault::Memory` comes where memory is refused.
+    /// It takes memory for each slot.
+    ///
+    /// # Errors
+    ///
+    /// `Memory` where memory was refused.
     pub fn new(alloc: Global, order: O) -> Result<SoloTable<O>, ProbeFault>
         ensures order { IfOk result (λ table. table.order ≡ order) }
         ensures empty { IfOk result (λ table. table.table ≡ empty_table (2 ^ O.exponent order)) }
         ensures memory { IsOkUnless result ProbeFault.Memory }
     {
         let slots = order.capacity().slots();
-        let words = vec![in alloc; 0; slots].map_err(|_| ProbeFault::Memory)?;
+        let words = vec![in alloc; 0; slots]?;
         Ok(SoloTable { order, words })
     }
 

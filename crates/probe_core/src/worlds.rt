@@ -38,7 +38,11 @@ impl<O: ProbeOrder> Model for World<O> {
 impl<O: ProbeOrder> World<O> {
     /// A world of free words and this number of idle callers, before any event.
     ///
-    /// It takes memory for each slot of the order and each caller. `ProbeFault::Memory` comes where memory is refused.
+    /// It takes memory for each slot of the order and each caller.
+    ///
+    /// # Errors
+    ///
+    /// `Memory` where memory was refused.
     pub fn new(alloc: Global, order: O, callers: usize) -> Result<World<O>, ProbeFault>
         ensures order { IfOk result (λ world. world.order ≡ order) }
         ensures world { IfOk result (λ world. world.world
@@ -46,18 +50,19 @@ impl<O: ProbeOrder> World<O> {
         ensures lawful { IfOk result (λ world. IsLawful (2 ^ O.exponent order) world.world) }
         ensures memory { IsOkUnless result ProbeFault.Memory }
     {
-        match Hall::new(alloc, order, callers) {
-            Ok(hall) => Ok(World { hall }),
-            Err(_) => Err(ProbeFault::Memory),
-        }
+        let hall = Hall::new(alloc, order, callers)?;
+        Ok(World { hall })
     }
 
     /// Runs these events, in their order.
     ///
     /// A Begin of a busy caller, a Step of an idle one and an event of a caller that does not exist change the count of
-    /// events and nothing else. Memory is taken first, for each call that may end. `ProbeFault::TooLong` comes exactly
-    /// where the events of all runs together would be more than 2^62, judged before memory is asked for, and
-    /// `ProbeFault::Memory` where memory is refused. After either the world is as it was.
+    /// events and nothing else. Memory is taken first, for each call that may end.
+    ///
+    /// # Errors
+    ///
+    /// `TooLong` exactly where the events of all runs together would be more than 2^62, judged before memory is asked for;
+    /// `Memory` where memory was refused. After either the world is as it was.
     pub fn run(&mut self, events: &[Event]) -> Result<(), ProbeFault>
         ensures order { self.new.order ≡ self.old.order }
         ensures world { OnOk result
@@ -74,9 +79,7 @@ impl<O: ProbeOrder> World<O> {
         if events.len() > MOST_EVENTS - self.hall.events {
             return Err(ProbeFault::TooLong);
         }
-        if self.hall.finished.reserve(count_steps(events)).is_err() {
-            return Err(ProbeFault::Memory);
-        }
+        self.hall.finished.reserve(count_steps(events))?;
         for event in events {
             self.hall.happen(*event);
         }

@@ -23,7 +23,7 @@ use Rattle.share_core.specs.Adding.{IsAdded}
 use Rattle.share_core.proofs.Raised.{earlier_none, earlier_assoc}
 
 -- ---- rows that count nothing
-abbrev pub AreBlank : List Row → Type 0
+abbrev AreBlank : List Row → Type 0
 AreBlank fresh = (k : ℕ) → k < length fresh → row_at fresh k ≡ blank (row_at fresh k).number (row_at fresh k).shape
 
 blank-tail : (row : Row) (fresh : List Row) → AreBlank (row ∷ fresh) → AreBlank fresh
@@ -54,7 +54,7 @@ first_none [] shape h = refl
 first_none (row ∷ fresh) shape h =
     ap₂ earlier (cond_none (row.shape == shape) row.first (ap (λ (r : Row). r.first) (h 0 (omega arith)))) (first_none fresh shape (blank-tail row fresh h))
 
-first_append : (rows more : List Row) (shape : ℕ) → first_of (rows ++ more) shape ≡ earlier (first_of rows shape) (first_of more shape)
+pub first_append : (rows more : List Row) (shape : ℕ) → first_of (rows ++ more) shape ≡ earlier (first_of rows shape) (first_of more shape)
 first_append [] more shape = refl
 first_append (row ∷ rows) more shape =
     let one = cond (row.shape == shape) row.first None in

@@ -21,7 +21,7 @@ use Rattle.share_core.specs.Visiting.{AgreeBelow, HasLarge, IsNumbersFault}
 use Rattle.share_core.proofs.Listed.{large_pattern}
 use Rattle.share_core.proofs.Stood.{stand_all, beyond_fault}
 
--- rows that stand in a table are of numbers below its own
+-- rows of the patterns of a table are of numbers below its own
 pub all_below : (n : ℕ) (seen : List Happened) (rows : List Row) → Stand n seen rows → All (λ (row : Row). row.number < n) rows
 all_below n seen rows stand =
     All-from_get_or (λ (row : Row). row.number < n) rows (blank 0 0) (λ i inside.
@@ -52,7 +52,7 @@ beyond_table n slots games shares first new _ same covers h f = absurd f
 large_sum : (shares : List Held) → AreOneEach (all_rows shares) → HasLarge (all_rows shares) → IsLargeSum shares
 large_sum shares each large = ⊎_elim (λ there. inl there) (λ played. inr (inl played)) (large_pattern (all_rows shares) large.0 each large.1)
 
--- where each row stands in the table
+-- where each row is of its number's pattern in the table
 pub numbers_fault : {O : Type 0} (n games : ℕ) (shares : List Held) (first new : Known O) (differs : Option Differs) (is_large : Bool) (found : HarvestFault) → Covers games (all_games shares) →
     Stand n new.seen (all_rows shares) → AreOneEach (all_rows shares) → AgreeBelow n (all_rows shares) n first new differs → (is_large ≡ true → HasLarge (all_rows shares)) →
     IsNumbersFault differs is_large found → IsGatherFault n games shares first new found

@@ -70,7 +70,7 @@ row_has rows row read shape among is =
     ] refl
 
 -- a row of a share is among those of all
-pub share_among : (shares : List Held) (i : ℕ) (d : Held) (row : Row) → i < length shares → Contains (get_or shares i d).rows row → Contains (all_rows shares) row
+share_among : (shares : List Held) (i : ℕ) (d : Held) (row : Row) → i < length shares → Contains (get_or shares i d).rows row → Contains (all_rows shares) row
 share_among [] i d row inside among = absurd (omega arith)
 share_among (share ∷ shares) zero d row inside among = Contains-append_left share.rows (all_rows shares) row among
 share_among (share ∷ shares) (suc i) d row inside among = Contains-append_right share.rows (all_rows shares) row (share_among shares i d row (omega arith) among)

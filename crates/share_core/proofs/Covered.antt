@@ -6,7 +6,7 @@ use Rattle.std.proofs.lemmas.Bool.Decides.{nat_tests}
 use Rattle.std.proofs.lemmas.List.{get_or-set_same, get_or-set_other, length-set}
 use Rattle.std.proofs.lemmas.List.Sums.{sum_by_push}
 use Rattle.share_core.specs.declared.covering.Seen.{Seen}
-use Rattle.share_core.specs.Covering.{times_of, IsLeastDouble, AreNoted, IsMissing}
+use Rattle.share_core.specs.Covering.{times_of, IsLeastDouble, AreNoted}
 
 -- ---- how often a game is in a list with one more
 times_here : (list : List ℕ) (game : ℕ) → times_of (list ++ game ∷ []) game ≡ times_of list game + 1
@@ -119,12 +119,3 @@ once_each list seen game inside h none was =
     let some = test_some (times_of list game) (sym (h.each game inside) ∙ was) in
     let few = subst (IsLeastDouble list) none h.least game in
     omega arith
-
-pub missing : (list : List ℕ) (seen : Seen) (games game : ℕ) → length seen.games.items ≡ games → game < games → AreNoted list seen → seen.twice ≡ None → get_or seen.games.items game false ≡ false →
-    ((other : ℕ) → other < game → times_of list other ≡ 1) → IsMissing games list game
-missing list seen games game long inside h none unseen before = record {
-  once = subst (IsLeastDouble list) none h.least;
-  within = inside;
-  none = test_none (times_of list game) (sym (h.each game (omega arith)) ∙ unseen);
-  least = before;
-}

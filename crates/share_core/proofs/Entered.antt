@@ -65,7 +65,7 @@ calls_weaker n enters more marks others old new keys games h = record {
 }
 
 -- ---- what was entered stays so
-pub entered_kept : (n game shape : ℕ) (seen history : List Happened) (entered : Entered) → Keeps n seen history → IsEntered n seen game shape entered → IsEntered n history game shape entered
+entered_kept : (n game shape : ℕ) (seen history : List Happened) (entered : Entered) → Keeps n seen history → IsEntered n seen game shape entered → IsEntered n history game shape entered
 entered_kept n game shape seen history entered keeps h = record {
   within = h.within;
   number = keeps.numbers shape entered.number h.number;

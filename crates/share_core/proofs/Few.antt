@@ -1,4 +1,4 @@
--- Rows of different numbers: as many at most as there are numbers.
+-- Rows of different numbers: at most as many as the numbers.
 use Rattle.std.proofs.Common.{◌≡◌, ℕ, ◌<◌, ◌≤◌, ◌||◌, true, false, suc, List, [], ◌∷◌, length, map, eqb, Option, Some, None, refl, ap, sym, ◌∙◌, arith, ⊎_elim}
 use Rattle.std.specs.List.{AllByRecursion, IsDistinct, list_any}
 use Rattle.std.proofs.lemmas.Bool.{cases_lt, eqb-true}
@@ -9,7 +9,7 @@ use Rattle.share_core.specs.declared.rows.Row.{Row}
 use Rattle.share_core.specs.Rows.{row_at, place_in, IsIndexed, HasNoRow, AreOfNumbers}
 use Rattle.share_core.proofs.Found.{tail_none, tail_numbers, others_differ}
 
-abbrev pub numbers_of : List Row → List ℕ
+abbrev numbers_of : List Row → List ℕ
 numbers_of rows = map (λ (row : Row). row.number) rows
 
 apart : (rows : List Row) (number : ℕ) → HasNoRow rows number → AllByRecursion (λ y. eqb number y ≡ false) (numbers_of rows)
@@ -20,7 +20,7 @@ apart (row ∷ rows) number h =
     let test : eqb number row.number ≡ false = Prim.grind (arith, nat_tests) in
     (test, apart rows number (tail_none row rows number h))
 
-pub distinct : (rows : List Row) → AreOfNumbers rows → IsDistinct eqb (numbers_of rows)
+distinct : (rows : List Row) → AreOfNumbers rows → IsDistinct eqb (numbers_of rows)
 unfolding IsDistinct
 distinct [] h = tt
 distinct (row ∷ rows) h = (apart rows row.number (others_differ row rows h), distinct rows (tail_numbers row rows h))

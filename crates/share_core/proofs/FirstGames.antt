@@ -1,4 +1,4 @@
--- Games that have the numbers below some number, once each: where each of them stands in the order of the numbers, and which
+-- Games that have the numbers below some number, once each: where each of them is in the order of the numbers, and which
 -- is the first that has a pattern.
 use Rattle.std.proofs.Common.{◌≡◌, ℕ, ◌+◌, ◌<◌, ◌≤◌, ◌==◌, nat_lt, min, Bool, true, false, cond, zero, suc, List, [], ◌∷◌, length, get_or, Option, Some, None, refl, ap, sym, subst, ◌∙◌, arith, zero-add, Contains, ⊎_elim}
 use Rattle.std.specs.Prelude.{position, slice_get}
@@ -20,7 +20,7 @@ use Rattle.share_core.specs.Gathering.{all_added, replayed_at, replayed_games}
 use Rattle.share_core.proofs.Numbered.{at_game, numbers_of, AreBelow, number_at, once_at, length-numbered}
 
 -- ---- the game at each place
-pub game_at : (games : ℕ) (added : List Added) (game : ℕ) → game < games → slice_get (replayed_games added games) game ≡ Some (replayed_at added game)
+game_at : (games : ℕ) (added : List Added) (game : ℕ) → game < games → slice_get (replayed_games added games) game ≡ Some (replayed_at added game)
 game_at games added game low =
     slice_get-map (replayed_at added) (count_from 0 games) game
     ∙ ap (option_map (replayed_at added)) (number_at 0 games game low ∙ ap (λ x. Some x) (zero-add game))
@@ -74,7 +74,7 @@ among_at (xs ∷ addeds) (suc place) added one low is in' = Contains-append_righ
 pub among_all : (addeds : List (List Added)) (added : List Added) (one : Added) → Contains addeds added → Contains added one → Contains (all_added addeds) one
 among_all addeds added one outer inner = among_at addeds outer.0 added one outer.1 outer.2 inner
 
--- ---- the first number of which there is some
+-- ---- the first number that has some
 abbrev pub IsFirst : (ℕ → ℕ) → Option ℕ → Type 0
 IsFirst amount None = (game : ℕ) → amount game ≡ 0
 IsFirst amount (Some first) = (0 < amount first) × ((game : ℕ) → game < first → amount game ≡ 0)
@@ -122,7 +122,7 @@ first_step amount more one v first each h =
     ] refl
 
 -- how often a pattern was there in a game
-abbrev pub there_weight : Kinds → ℕ → Added → ℕ
+abbrev there_weight : Kinds → ℕ → Added → ℕ
 there_weight kinds shape one = there_in (kinds_of kinds) (replayed_of one) shape
 
 first_among : (kinds : Kinds) (added : List Added) (shape : ℕ) → IsFirst (at_game (there_weight kinds shape) added) (first_in kinds added shape)

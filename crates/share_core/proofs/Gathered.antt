@@ -17,13 +17,14 @@ use Rattle.share_core.specs.Covering.{all_games, Covers}
 use Rattle.share_core.specs.Checking.{all_rows}
 use Rattle.share_core.specs.Gathering.{gathered_entry, all_moves, all_added, replayed_games, HaveGames, IsGathered}
 use Rattle.share_core.proofs.Raised.{earlier_assoc}
+use Rattle.share_core.proofs.Added.{first_append}
 use Rattle.share_core.proofs.Numbered.{numbers_of, AreBelow, sum_numbered, length-numbered}
 use Rattle.share_core.proofs.FirstGames.{game_found, among_all, first_numbered}
 
-abbrev pub AreShares : List (List Added) → List Held → Type 0
+abbrev AreShares : List (List Added) → List Held → Type 0
 AreShares addeds shares = AllZip IsShareOf addeds shares
 
-abbrev pub AreOfKinds : Kinds → List Held → Type 0
+abbrev AreOfKinds : Kinds → List Held → Type 0
 AreOfKinds kinds shares = AllByRecursion (λ (share : Held). share.kinds ≡ kinds) shares
 
 -- ---- what the rows of all shares say is what their games count
@@ -48,12 +49,6 @@ played_all kinds (added ∷ addeds) (share ∷ shares) shape each of_kinds =
     sum_by-append (λ (row : Row). cond (row.shape == shape) row.played 0) share.rows (all_rows shares)
     ∙ ap₂ (λ a b. a + b) (each.0.played shape ∙ ap (λ k. sum_by (weight k) added) of_kinds.0) (played_all kinds addeds shares shape each.1 of_kinds.1)
     ∙ sym (sum_by-append (weight kinds) added (all_added addeds))
-
-first_append : (rows more : List Row) (shape : ℕ) → first_of (rows ++ more) shape ≡ earlier (first_of rows shape) (first_of more shape)
-first_append [] more shape = refl
-first_append (row ∷ rows) more shape =
-    let one = cond (row.shape == shape) row.first None in
-    ap (earlier one) (first_append rows more shape) ∙ sym (earlier_assoc one (first_of rows shape) (first_of more shape))
 
 first_in_append : (kinds : Kinds) (added more : List Added) (shape : ℕ) → first_in kinds (added ++ more) shape ≡ earlier (first_in kinds added shape) (first_in kinds more shape)
 first_in_append kinds [] more shape = refl
@@ -126,7 +121,7 @@ module _ (kinds : Kinds) (games : ℕ) (addeds : List (List Added)) (shares : Li
       played_all kinds addeds shares shape h.each are_of_kinds
       ∙ sum_numbered (λ game. played_in (kinds_of kinds) game shape) games (all_added addeds) are_below are_covered
 
-  pub first_gathered : (shape : ℕ) → first_of (all_rows shares) shape ≡ first_game kinds (replayed_games (all_added addeds) games) shape
+  first_gathered : (shape : ℕ) → first_of (all_rows shares) shape ≡ first_game kinds (replayed_games (all_added addeds) games) shape
   first_gathered shape = first_all kinds addeds shares shape h.each are_of_kinds ∙ first_numbered kinds games (all_added addeds) shape are_below are_covered
 
   pub moves_gathered : all_moves shares ≡ sum_by (λ game. length game.occasions) (replayed_games (all_added addeds) games)

@@ -58,7 +58,7 @@ appended index rows row within none h =
     }
 
 -- the row at a place after a row was put at another, or at the same
-pub put_row : (rows : List Row) (at place : ℕ) (row : Row) → at < length rows → row.number ≡ (row_at rows at).number
+put_row : (rows : List Row) (at place : ℕ) (row : Row) → at < length rows → row.number ≡ (row_at rows at).number
     → (row_at (set rows at row) place).number ≡ (row_at rows place).number
 put_row rows at place row within same = ⊎_elim
     (λ (equal : place ≡ at).

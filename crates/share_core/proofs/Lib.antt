@@ -1,30 +1,30 @@
-pub mod Indexed
-pub mod Exchanged
+mod Indexed
+mod Exchanged
 pub mod Reordered
 pub mod Raised
-pub mod Made
-pub mod Entered
-pub mod Prepared
+mod Made
+mod Entered
+mod Prepared
 pub mod Added
-pub mod Outcomes
-pub mod Covered
-pub mod Found
-pub mod Few
-pub mod Rising
-pub mod RowsLeft
-pub mod Strangers
-pub mod Beyond
-pub mod Stood
-pub mod Firsts
-pub mod Counted
-pub mod FirstGames
+mod Outcomes
+mod Covered
+mod Found
+mod Few
+mod Rising
+mod RowsLeft
+mod Strangers
+mod Beyond
+mod Stood
+mod Firsts
+mod Counted
+mod FirstGames
 pub mod Gathered
-pub mod Listed
+mod Listed
 pub mod Numbered
 pub mod Ordered
-pub mod Summed
-pub mod Totalled
-pub mod OfNumber
-pub mod Visits
+mod Summed
+mod Totalled
+mod OfNumber
+mod Visits
 pub mod Confirmed
-pub mod Agreed
+mod Agreed

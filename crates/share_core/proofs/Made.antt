@@ -44,13 +44,13 @@ gained_more meetings entered old rows new i place inside made h =
     made.rows
 
 -- a row that was there is as it was
-pub kept_row : (number shape place : ℕ) (rows new : List Row) → IsMade number shape place rows new → (p : ℕ) → p < length rows → row_at new p ≡ row_at rows p
+kept_row : (number shape place : ℕ) (rows new : List Row) → IsMade number shape place rows new → (p : ℕ) → p < length rows → row_at new p ≡ row_at rows p
 kept_row number shape place rows new made p within =
     ⊎_elim (λ (same : new ≡ rows). ap (λ (rs : List Row). row_at rs p) same)
     (λ more. ap (λ (rs : List Row). row_at rs p) more ∙ get_or-append rows (blank number shape ∷ []) (blank 0 0) p within)
     made.rows
 
-pub longer : (number shape place : ℕ) (rows new : List Row) → IsMade number shape place rows new → length rows ≤ length new
+longer : (number shape place : ℕ) (rows new : List Row) → IsMade number shape place rows new → length rows ≤ length new
 longer number shape place rows new made =
     ⊎_elim (λ (same : new ≡ rows). let e = ap length same in omega arith)
     (λ more. let e = ap length more in let l = length-append rows (blank number shape ∷ []) in omega arith)

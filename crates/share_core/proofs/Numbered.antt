@@ -13,7 +13,7 @@ use Rattle.share_core.specs.Shares.{Added, replayed_of}
 use Rattle.share_core.specs.Gathering.{replayed_at, replayed_games}
 
 -- ---- the numbers from some number on
-pub length-count_from : (first n : ℕ) → length (count_from first n) ≡ n
+length-count_from : (first n : ℕ) → length (count_from first n) ≡ n
 length-count_from first zero = refl
 length-count_from first (suc n) = ap suc (length-count_from (suc first) n)
 
@@ -80,7 +80,7 @@ sum-map f v [] = refl
 sum-map f v (x ∷ xs) = sum_by-cons f (v x) (map v xs) ∙ ap (λ n. f (v x) + n) (sum-map f v xs) ∙ sym (sum_by-cons (λ y. f (v y)) x xs)
 
 -- what all games add is what the games of each number add, number by number
-pub by_number : (weight : Added → ℕ) (games : ℕ) (added : List Added) → AreBelow games added → sum_by (at_game weight added) (count_from 0 games) ≡ sum_by weight added
+by_number : (weight : Added → ℕ) (games : ℕ) (added : List Added) → AreBelow games added → sum_by (at_game weight added) (count_from 0 games) ≡ sum_by weight added
 by_number weight games [] below = sum-none (at_game weight []) (count_from 0 games) (λ g. refl)
 by_number weight games (one ∷ added) below =
     let low = below.0 in

@@ -1,4 +1,4 @@
--- What stands in a table once a game was added to a share.
+-- What a table has once a game was added to a share.
 use Rattle.std.proofs.Common.{◌≡◌, ℕ, ◌+◌, ◌<◌, ◌≤◌, ◌^◌, List, ◌++◌, length, ap, sym, subst, ◌∙◌, arith, inl, inr, ⊎_elim}
 use Rattle.std.specs.Prelude.{slice_index}
 use Rattle.std.proofs.lemmas.List.{map-append}
@@ -20,7 +20,7 @@ use Rattle.share_core.specs.Making.{AreNumbered, entered_at}
 use Rattle.share_core.specs.Entering.{AreEntered, AreMarked}
 use Rattle.share_core.specs.Ledgers.{Totals, IsCountFault}
 use Rattle.share_core.specs.Shares.{Held}
-use Rattle.share_core.specs.Adding.{AreFresh, HasFresh, HasGrown, IsKept, IsMarked, IsPrepareFault, IsAddFault}
+use Rattle.share_core.specs.Adding.{AreFresh, HasFresh, HasGrown, IsKept, IsMarked, IsAddFault}
 use Rattle.share_core.proofs.Raised.{same_shape, same_number}
 use Rattle.share_core.proofs.Made.{light}
 use Rattle.share_core.proofs.Added.{met_at}
@@ -80,14 +80,6 @@ marked n game moves seen history kinds actions meetings entered keeps walk each 
 )
 
 -- ---- faults
-pub prepare_fault : (n : ℕ) (seen : List Happened) (game : ℕ) (actions : Actions) (old new : Held) (found : HarvestFault) →
-    IsPrepareFault n seen game old.kinds actions new.rows found → IsAddFault n seen game actions old new found
-prepare_fault n seen game actions old new fault.Overflow h = inr h
-prepare_fault n seen game actions old new (fault.Full at word) h = h
-prepare_fault n seen game actions old new (fault.Stranger number of_share of_table) h = h
-prepare_fault n seen game actions old new fault.Memory h = h
-prepare_fault n seen game actions old new _ h = absurd h
-
 pub count_fault : (n : ℕ) (seen : List Happened) (game moves : ℕ) (actions : Actions) (meetings : List Meeting) (old new : Held) (fresh : List Row) (found : HarvestFault) →
     IsWalk old.kinds actions meetings moves → ((k : ℕ) → k < length fresh → row_at fresh k ≡ blank (row_at fresh k).number (row_at fresh k).shape) →
     IsCountFault moves meetings (record { games = old.games; moves = old.moves; rows = old.rows ++ fresh }) found → IsAddFault n seen game actions old new found

@@ -23,7 +23,7 @@ use Rattle.share_core.proofs.Entered.{calls_weaker}
 use Rattle.share_core.specs.Adding.{HasFresh, IsPrepareFault}
 
 -- what is met in a game is a pattern of it
-pub met_pattern : (kinds : Kinds) (actions : Actions) (meetings : List Meeting) (moves i : ℕ) → IsWalk kinds actions meetings moves → i < length meetings → IsPatternOf kinds actions (meeting_at meetings i).shape
+met_pattern : (kinds : Kinds) (actions : Actions) (meetings : List Meeting) (moves i : ℕ) → IsWalk kinds actions meetings moves → i < length meetings → IsPatternOf kinds actions (meeting_at meetings i).shape
 met_pattern kinds actions meetings moves i walk inside =
     let none : Meeting = record { shape = 0; there = 0; played = 0 } in
     record {

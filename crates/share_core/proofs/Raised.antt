@@ -15,7 +15,7 @@ pub earlier_none : (a : Option ℕ) → earlier a None ≡ a
 earlier_none None = refl
 earlier_none (Some a) = refl
 
-pub earlier_same : (a : ℕ) → earlier (Some a) (Some a) ≡ Some a
+earlier_same : (a : ℕ) → earlier (Some a) (Some a) ≡ Some a
 earlier_same a = ap (λ x. Some x) (omega arith)
 
 pub earlier_assoc : (a b c : Option ℕ) → earlier (earlier a b) c ≡ earlier a (earlier b c)
@@ -24,7 +24,7 @@ earlier_assoc (Some a) None c = refl
 earlier_assoc (Some a) (Some b) None = refl
 earlier_assoc (Some a) (Some b) (Some c) = ap (λ x. Some x) (omega arith)
 
-pub earlier_comm : (a b : Option ℕ) → earlier a b ≡ earlier b a
+earlier_comm : (a b : Option ℕ) → earlier a b ≡ earlier b a
 earlier_comm None None = refl
 earlier_comm None (Some b) = refl
 earlier_comm (Some a) None = refl

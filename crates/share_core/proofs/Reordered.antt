@@ -53,7 +53,7 @@ lowest one other a b = ⊎_elim
     (cases_lt other one))
     (cases_lt one other)
 
--- there is one first game at most
+-- at most one game is the first
 one_first : (amount : ℕ → ℕ) (one other : Option ℕ) → IsFirst amount one → IsFirst amount other → one ≡ other
 one_first amount None None a b = refl
 one_first amount None (Some other) a b = let none = a other in let some = b.0 in absurd (omega arith)
@@ -63,7 +63,7 @@ one_first amount (Some one) (Some other) a b =
     let more = b.0 in
     ap (λ x. Some x) (lowest one other (λ low. let none = b.1 one low in omega arith) (λ low. let none = a.1 other low in omega arith))
 
-pub first_stays : (rows sorted : List Row) (shape : ℕ) → IsPermutation rows sorted → first_of sorted shape ≡ first_of rows shape
+first_stays : (rows sorted : List Row) (shape : ℕ) → IsPermutation rows sorted → first_of sorted shape ≡ first_of rows shape
 first_stays rows sorted shape same =
     let counts = λ (game : ℕ). sum_by-IsPermutation (λ (row : Row). cond (row.shape == shape) (is_game row.first game) 0) rows sorted same in
     one_first (firsts rows shape) (first_of sorted shape) (first_of rows shape)

@@ -12,7 +12,7 @@ use Rattle.share_core.proofs.Few.{number_within}
 abbrev pub AreBeyond : List Row → ℕ → ℕ → Type 0
 AreBeyond rows from low = (row : Row) → Contains rows row → from ≤ row.number → low ≤ row.number
 
--- a row among others stands at a place
+-- a row among others is at a place
 pub row_there : (rows : List Row) (row : Row) (h : Contains rows row) → row_at rows h.0 ≡ row
 row_there rows row h = sym (get_or_default rows h.0 row (blank 0 0) h.1) ∙ h.2
 

@@ -37,7 +37,7 @@ no_more (row ∷ rows) from later above =
     omega arith
 
 -- fewer rows are left past one of these
-pub fewer : (rows : List Row) (from place : ℕ) → place < length rows → from ≤ (row_at rows place).number → count_from rows ((row_at rows place).number + 1) < count_from rows from
+fewer : (rows : List Row) (from place : ℕ) → place < length rows → from ≤ (row_at rows place).number → count_from rows ((row_at rows place).number + 1) < count_from rows from
 fewer [] from place inside high = absurd (omega arith)
 fewer (row ∷ rows) from zero inside high =
     let here = counted row from high in

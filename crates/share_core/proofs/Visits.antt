@@ -50,7 +50,7 @@ differs_here n rows number high first old new before of_shares of_table none lat
     (inside, shares, differ, asked_next n rows number first old new before of_table none later h)
 
 -- a look asks nothing
-pub looked : {O : Type 0} (n : ℕ) (rows : List Row) (high : ℕ) (first old new : Known O) (differs : Option Differs) → IsLater n old [] new →
+looked : {O : Type 0} (n : ℕ) (rows : List Row) (high : ℕ) (first old new : Known O) (differs : Option Differs) → IsLater n old [] new →
     AgreeBelow n rows high first old differs → AgreeBelow n rows high first new differs
 looked n rows high first old new None later h =
     let made = agreeing_firsts rows high in

@@ -23,7 +23,7 @@ shape_at n seen number = slice_index_or (content_of n seen) number None
 abbrev pub IsFound : ℕ → List Happened → ℕ → Option ℕ → Type 0
 IsFound n seen number found = IfSome found (λ shape. IsNumber (content_of n seen) shape number)
 
--- each row of a number below this one is of the pattern that the table has there
+-- each row of a number below this one is of the number's pattern in the table
 abbrev pub StandBelow : ℕ → List Happened → List Row → ℕ → Type 0
 StandBelow n seen rows high = (row : Row) → Contains rows row → row.number < high
     → IsNumber (content_of n seen) row.shape row.number
@@ -32,7 +32,7 @@ StandBelow n seen rows high = (row : Row) → Contains rows row → row.number <
 abbrev pub Stand : ℕ → List Happened → List Row → Type 0
 Stand n seen rows = (row : Row) → Contains rows row → IsNumber (content_of n seen) row.shape row.number
 
--- this is the pattern, if there is one
+-- this is the pattern, if one is given
 abbrev pub is_shape : Option ℕ → ℕ → Bool
 is_shape None shape = false
 is_shape (Some one) shape = one == shape
@@ -45,7 +45,7 @@ is_stranger number found row = (row.number == number) && not (is_shape found row
 abbrev pub stranger_in : List Row → ℕ → Option ℕ → Option ℕ
 stranger_in rows number found = option_map (λ row. row.shape) (find (is_stranger number found) rows)
 
--- at this number some row is of another pattern than the table has there, and at no lesser one
+-- some row of this number is of another pattern than the number has in the table, and none of a lesser number is
 pub record IsStranger (n : ℕ) (seen : List Happened) (rows : List Row) (number : ℕ) (of_share of_table : Option ℕ) : Type 0 where
   pub first : of_share ≡ stranger_in rows number of_table
   pub some : (word : ℕ) × (of_share ≡ Some word)

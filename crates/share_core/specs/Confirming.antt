@@ -27,7 +27,7 @@ abbrev pub IsLeastOf : ℕ → List Row → Option ℕ → Type 0
 IsLeastOf shape rows None = HasShape rows shape → ⊥
 IsLeastOf shape rows (Some least) = HasShapeAt rows least shape × AreFrom shape rows least
 
--- there is a key, and it is the pattern of some row
+-- a key is given, and it is the pattern of some row
 abbrev pub IsOfRow : List Row → Option ℕ → Type 0
 IsOfRow rows None = ⊥
 IsOfRow rows (Some key) = HasShape rows key

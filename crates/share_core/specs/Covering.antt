@@ -1,4 +1,4 @@
--- Games over several shares: how often each is there, and which are missing or there twice.
+-- Games over several shares: how often each is in them, and which are missing or in them twice.
 use Rattle.std.specs.Prelude.{◌≡◌, ℕ, ◌<◌, ◌≤◌, ◌==◌, List, count_by, Option, Some, None, nat_lt, false, length, slice_index_or}
 use Rattle.std.specs.List.{flat_map}
 use Rattle.share_core.specs.Shares.{Held}
@@ -23,18 +23,18 @@ abbrev pub IsLeastDouble : List ℕ → Option ℕ → Type 0
 IsLeastDouble list None = (game : ℕ) → times_of list game ≤ 1
 IsLeastDouble list (Some least) = (2 ≤ times_of list least) × ((game : ℕ) → game < least → times_of list game ≤ 1)
 
--- a game is there twice, and no lesser one is
+-- a game is in the list twice, and no lesser one is
 abbrev pub IsTwice : List ℕ → ℕ → Type 0
 IsTwice list game = IsLeastDouble list (Some game)
 
--- no game is there twice; this one is missing, and no lesser one is
+-- no game is in the list twice; this one is missing, and no lesser one is
 pub record IsMissing (games : ℕ) (list : List ℕ) (game : ℕ) : Type 0 where
   pub once : (other : ℕ) → times_of list other ≤ 1
   pub within : game < games
   pub none : times_of list game ≡ 0
   pub least : (other : ℕ) → other < game → times_of list other ≡ 1
 
--- of each game below some number it is known whether it is in a list, and the least one that is there twice
+-- of each game below some number it is known whether it is in a list, and the least one that is in it twice
 pub record AreNoted (list : List ℕ) (seen : Seen) : Type 0 where
   pub each : (game : ℕ) → game < length seen.games.items → slice_index_or seen.games.items game false ≡ nat_lt 0 (times_of list game)
   pub least : IsLeastDouble list seen.twice

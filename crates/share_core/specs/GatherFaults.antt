@@ -9,7 +9,7 @@ use Rattle.share_core.specs.Checking.{all_rows, Stand, IsStranger}
 use Rattle.share_core.specs.Agreeing.{AskedAll, IsMarksFault}
 use Rattle.share_core.specs.Gathering.{IsLargeSum}
 
--- a game is there twice, or missing; a row is of another pattern than the table has at its number; a mark differs; a sum is
+-- a game is in shares twice, or missing; a row is of another pattern than the table has at its number; a mark differs; a sum is
 -- too large; or memory was refused. Each but the last comes only where no earlier one of this order does.
 abbrev pub IsGatherFault : {O : Type 0} → ℕ → ℕ → List Held → Known O → Known O → HarvestFault → Type 0
 IsGatherFault n games shares old new (fault.Twice game) = IsTwice (all_games shares) game

@@ -40,7 +40,7 @@ pub record IsGathered (kinds : Kinds) (games : ℕ) (shares : List Held) (conten
   pub diamonds : contents.counts_diamonds ≡ counts_diamonds kinds
   pub entries : (shape : ℕ) → entry_of shape contents.entries ≡ gathered_entry (all_rows shares) shape
 
--- some pattern was there, or was played, 2 ^ 64 times or more, or there are as many moves
+-- some pattern was there, or was played, 2 ^ 64 times or more, or the moves are as many
 abbrev pub IsLargeSum : List Held → Type 0
 IsLargeSum shares = ((shape : ℕ) × (2 ^ 64 ≤ there_of (all_rows shares) shape))
     ⊎ ((shape : ℕ) × (2 ^ 64 ≤ played_of (all_rows shares) shape)) ⊎ (2 ^ 64 ≤ all_moves shares)
@@ -62,7 +62,7 @@ pub record HaveGames (kinds : Kinds) (games : ℕ) (addeds : List (List Added)) 
   pub within : AreWithin games shares
   pub covers : Covers games (all_games shares)
 
--- the first game of this number, replayed; one without moves where there is none
+-- the first game of this number, replayed; one without moves where no game has it
 abbrev pub replayed_at : List Added → ℕ → Replayed
 replayed_at [] game = record { size = record { columns = 0; rows = 0 }; occasions = [] }
 replayed_at (one ∷ added) game = if one.game == game then replayed_of one else replayed_at added game

@@ -8,7 +8,7 @@ use Rattle.share_core.specs.declared.faults.HarvestFault.TheVariants as fault
 use Rattle.share_core.specs.Rows.{row_at, blank}
 use Rattle.share_core.specs.Raising.{meeting_at}
 
--- the number's row is at this place and of this pattern; it was made if there was none, and then counts nothing
+-- the number's row is at this place and of this pattern; it was made if the number had none, and then counts nothing
 pub record IsMade (number shape place : ℕ) (old new : List Row) : Type 0 where
   pub within : place < length new
   pub number_is : (row_at new place).number ≡ number

@@ -39,10 +39,6 @@ blank number shape = record { number = number; shape = shape; there = 0; played 
 abbrev pub row_at : List Row → ℕ → Row
 row_at rows place = slice_index_or rows place (blank 0 0)
 
--- these rows were made, in this order, after the old ones, and count nothing yet
-abbrev pub IsBlank : Row → Type 0
-IsBlank row = row ≡ blank row.number row.shape
-
 -- what an index has at a number
 abbrev pub place_in : List (Option ℕ) → ℕ → Option ℕ
 place_in index number = slice_index_or index number None

@@ -9,8 +9,8 @@ pub record RowsFrom : Type 0 where
   pub rows : List Row
   pub from : ℕ
 
--- the row of the least number from this one on comes next, and then those after its number; where there is none, nothing
--- changes, so that there is none from then on
+-- the row of the least number from this one on comes next, and then those after its number; where none is left, nothing
+-- changes, so that none is left from then on
 abbrev pub IsNextRow : RowsFrom → Option Row → RowsFrom → Type 0
 IsNextRow old None new = IsLeastFrom old.from old.rows None × (new ≡ old)
 IsNextRow old (Some row) new = IsLeastFrom old.from old.rows (Some row) × (new ≡ record old { from = row.number + 1 })

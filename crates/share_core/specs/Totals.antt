@@ -15,7 +15,7 @@ there_at rows number = sum_by (λ row. if row.number == number then row.there el
 abbrev pub played_at : List Row → ℕ → ℕ
 played_at rows number = sum_by (λ row. if row.number == number then row.played else 0) rows
 
--- a row, if there is one, with what another row of its number counts besides
+-- a row, if it is given, with what another row of its number counts besides
 abbrev pub with_row : Option Row → Row → Row
 with_row None row = row
 with_row (Some total) row = record total { there = total.there + row.there; played = total.played + row.played; first = earlier total.first row.first }
@@ -34,7 +34,7 @@ pub record IsTotal (rows : List Row) (number : ℕ) (total : Row) : Type 0 where
   pub played : total.played ≡ played_at rows number
   pub first : total.first ≡ first_at rows number
 
--- what all rows of a number are together: none where there is none
+-- what all rows of a number are together: none where it has no row
 abbrev pub IsTotalAt : List Row → ℕ → Option Row → Type 0
 IsTotalAt rows number None = row_of rows number ≡ None
 IsTotalAt rows number (Some total) = IsTotal rows number total
@@ -51,7 +51,7 @@ entries_of_row row =
     then record { shape = row.shape; there = row.there; played = row.played; first = row.first } ∷ []
     else []
 
--- the entry of a row, if there is one and it counts something
+-- the entry of a row, if it is given and counts something
 abbrev pub entries_of_total : Option Row → List Entry
 entries_of_total None = []
 entries_of_total (Some row) = entries_of_row row

@@ -23,8 +23,8 @@ AgreeBelow n rows high old new (Some differs) =
 abbrev pub HasLarge : List Row → Type 0
 HasLarge rows = (number : ℕ) × IsLargeAt rows number
 
--- the rows of the numbers below this one stand in the table; their games agree, or the first that differs is known; and the
--- entries are what these rows count, unless some sum is too large
+-- the rows of the numbers below this one are of their patterns in the table; their games agree, or the first that differs
+-- is known; and the entries are what these rows count, unless some sum is too large
 pub record AreVisited {O : Type 0} (n : ℕ) (rows : List Row) (high : ℕ) (old new : Known O) (visited : Visited) : Type 0 where
   pub stand : StandBelow n new.seen rows high
   pub agree : AgreeBelow n rows high old new visited.differs

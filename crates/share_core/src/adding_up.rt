@@ -47,7 +47,7 @@ fn entry(row: Row) -> Entry
     }
 }
 
-/// Adds the entry of a row, if there is one and it counts something.
+/// Adds the entry of a row, if it is given and counts something.
 pub(crate) fn push(entries: &mut Vec<Entry>, total: Option<Row>) -> Result<(), HarvestFault>
     ensures ok { OnOk result (entries.new.items ≡ entries.old.items ++ entries_of_total total) }
     ensures shapes { OnOk result (All IsShape (entries_of_total total)) }
@@ -59,10 +59,8 @@ pub(crate) fn push(entries: &mut Vec<Entry>, total: Option<Row>) -> Result<(), H
     if row.there == 0 {
         return Ok(());
     }
-    match entries.push(entry(row)) {
-        Ok(()) => Ok(()),
-        Err(_) => Err(HarvestFault::Memory),
-    }
+    entries.push(entry(row))?;
+    Ok(())
 }
 
 /// Puts entries in the order of their patterns' words: in several threads where several workers counted.
@@ -98,7 +96,9 @@ fn moves_of(shares: &[Share]) -> Result<u64, HarvestFault>
 /// The dictionary of the games of all shares, of the entries of their rows. The shares are of these kinds, and have the
 /// games below `games`, each once. It takes no memory.
 ///
-/// `HarvestFault::Overflow` comes where the moves pass 2^64 - 1.
+/// # Errors
+///
+/// `Overflow` where the moves pass 2^64 - 1.
 pub(crate) fn add_up<R: Threads + Sync>(
     rt: &R,
     kinds: Kinds,

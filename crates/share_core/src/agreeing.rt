@@ -11,7 +11,7 @@ use crate::faults::HarvestFault;
 use probe_core::ProbeOrder;
 use slot_table::{Pass, SlotTable};
 
-/// A number whose least marked game is not the least that shares counted there.
+/// A number whose least marked game is not the least that shares counted at it.
 #[derive(Clone, Copy)]
 pub(crate) struct Differs {
     pub number: usize,

@@ -126,10 +126,10 @@ fn stranger_at(shares: &[Share], number: usize, of_table: Option<Word>) -> Harve
 /// takes no memory.
 ///
 /// The answer is `HarvestFault::Full` with the game and the word where each number of the table has a key, each of these
-/// keys is the pattern of some row of the shares, and the word is the pattern of no row: there are then more patterns
-/// than numbers. Else it is `HarvestFault::Stranger` at the least number that is free, or whose key is the pattern of no
+/// keys is the pattern of some row of the shares, and the word is the pattern of no row: then the patterns are more than
+/// the numbers. Else it is `HarvestFault::Stranger` at the least number that is free, or whose key is the pattern of no
 /// row, or of which some row has the word as its pattern; a row of a larger table may have a number that this one has
-/// not. It has the pattern of the first row of that number, in the order of the shares, and the table's key there.
+/// not. It has the pattern of the first row of that number, in the order of the shares, and the number's key in the table.
 ///
 /// Each number up to that one is looked at once, in rising order, and nothing is marked. The pass must be of the table.
 pub fn confirm_full<O: ProbeOrder>(

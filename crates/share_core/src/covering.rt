@@ -52,9 +52,7 @@ fn seen_of(alloc: Global, games: u64, shares: &[Share]) -> Result<Seen, HarvestF
     ensures noted { IfOk result (AreNoted (all_games shares.now)) }
     ensures fault { IfErr result (λ found. found ≡ fault.Memory) }
 {
-    let Ok(games) = vec![in alloc; false; games as usize] else {
-        return Err(HarvestFault::Memory);
-    };
+    let games = vec![in alloc; false; games as usize]?;
     let mut seen = Seen { games, twice: None };
     for share in shares {
         note_all(&mut seen, share.games());

@@ -86,14 +86,12 @@ pub(crate) fn enter_all<O: ProbeOrder>(
         let Some(one) = enter_one(table, pass, meeting.shape, game) else {
             return Ok(Some(meeting.shape));
         };
-        let Ok(()) = entered.push(one) else {
-            return Err(HarvestFault::Memory);
-        };
+        entered.push(one)?;
     }
     Ok(None)
 }
 
-/// Marks a game at a number if that is late there.
+/// Marks a game at a number if the number has no mark, or that of a later game.
 fn mark_one<O: ProbeOrder>(table: &SlotTable<O>, pass: &mut Pass<O>, one: Entered, game: u64)
     requires pass { IsPassOf (2 ^ O.exponent table.now.order) table.now pass.old }
     requires number { one.number < 2 ^ O.exponent table.now.order }

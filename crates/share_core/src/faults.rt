@@ -1,6 +1,11 @@
 //! What can go wrong in counting with shares.
+ghost use Rattle.std.specs.Prelude.{◌≡◌};
+ghost use Rattle.share_core.specs.declared.faults.HarvestFault.TheVariants.{Memory};
+
 use sgf_core::SgfFault;
 use shape_core::Word;
+use slot_table::SlotFault;
+use std::alloc::{AllocError, AllocFailed};
 use tally_core::HarvestFault as TallyFault;
 use thiserror::Error;
 
@@ -38,7 +43,7 @@ pub enum HarvestFault {
     /// A count is over 2^64 - 1.
     #[error("F8 count too large")]
     Overflow,
-    /// The least game marked at a number is not the least game of the shares' rows there.
+    /// The least game marked at a number is not the least game of the number's rows in the shares.
     #[error("F9 mark differs at number {number}")]
     Marks {
         number: usize,
@@ -48,8 +53,20 @@ pub enum HarvestFault {
 }
 
 impl HarvestFault {
-    ghost use Rattle.std.specs.Prelude.{◌≡◌};
+    ghost use Rattle.std.specs.Prelude.{◌≡◌, Some};
+    ghost use Rattle.share_core.specs.declared.faults.HarvestFault.TheVariants as fault;
     ghost use Rattle.share_core.specs.Faults.{same_fault};
+
+    /// A share's row of a number has this word, and the number has another one in the table, or none.
+    pub(crate) fn stranger(number: usize, held: Word, of_table: Option<Word>) -> HarvestFault
+        ensures { result ≡ fault.Stranger number (Some held) of_table }
+    {
+        HarvestFault::Stranger {
+            number,
+            of_share: Some(held),
+            of_table,
+        }
+    }
 
     /// A fault of counting on one thread, under its name here. It takes no memory.
     pub fn of_tally(fault: TallyFault) -> HarvestFault
@@ -61,5 +78,41 @@ impl HarvestFault {
             TallyFault::Sgf(found) => HarvestFault::Sgf(found),
             TallyFault::Overflow => HarvestFault::Overflow,
         }
+    }
+}
+
+impl From<AllocError> for HarvestFault {
+    ghost from_gives = { λ _ fault. fault ≡ Memory };
+
+    fn from(_: AllocError) -> HarvestFault {
+        HarvestFault::Memory
+    }
+}
+
+impl<T: Drop> From<AllocFailed<T>> for HarvestFault {
+    ghost from_gives = { λ _ fault. fault ≡ Memory };
+
+    fn from(_: AllocFailed<T>) -> HarvestFault {
+        HarvestFault::Memory
+    }
+}
+
+impl From<SlotFault> for HarvestFault {
+    ghost from_gives = { λ _ fault. fault ≡ Memory };
+
+    fn from(fault: SlotFault) -> HarvestFault {
+        match fault {
+            SlotFault::Memory => HarvestFault::Memory,
+        }
+    }
+}
+
+impl From<TallyFault> for HarvestFault {
+    ghost use Rattle.share_core.specs.Faults.{same_fault};
+
+    ghost from_gives = { λ found fault. fault ≡ same_fault found };
+
+    fn from(found: TallyFault) -> HarvestFault {
+        HarvestFault::of_tally(found)
     }
 }

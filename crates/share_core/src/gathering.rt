@@ -23,7 +23,8 @@ use slot_table::{Pass, SlotTable};
 use std::alloc::Global;
 use std::thread::Threads;
 
-/// What is wrong with the numbers where each row stands in the table: a mark that differs comes before a sum too large.
+/// What is wrong with the numbers where each row is of the table's pattern: a mark that differs comes before a sum too
+/// large.
 fn check_numbers(differs: Option<Differs>, is_large: bool) -> Result<(), HarvestFault>
     ensures ok { OnOk result ((differs ≡ None) × (is_large ≡ false)) }
     ensures fault { IfErr result (IsNumbersFault differs is_large) }
@@ -40,15 +41,18 @@ fn check_numbers(differs: Option<Differs>, is_large: bool) -> Result<(), Harvest
 /// The dictionary of shares that have each number below `games` as a game once together: for each pattern the sums of
 /// all rows, and the least game. A pattern that was never there is left out.
 ///
-/// In this order: `HarvestFault::Twice` comes with the least game that is in the shares twice, `HarvestFault::Missing`
-/// with the least that is in none, `HarvestFault::Stranger` with the least number at which a share has a row and the table
-/// another pattern than the row's, or none, `HarvestFault::Marks` with the least number whose least marked game is not the
-/// least of the shares' rows there, and `HarvestFault::Overflow` where a sum passes 2^64 - 1. `HarvestFault::Memory`
-/// comes where memory was refused. Each number is asked once, in rising order, until one differs; what is marked after that
-/// is not judged. Nothing is entered or marked here. Where there are more than two shares, threads sort a large dictionary, as many as
-/// the machine has processors for; the answer is the same.
+/// Each number is asked once, in rising order, until one differs; what is marked after that is not judged. Nothing is
+/// entered or marked here. With more than two shares, threads sort a large dictionary, as many as the machine has
+/// processors for; the answer is the same.
 ///
 /// The pass must be of the table, each share of these kinds, and each of its games below `games`.
+///
+/// # Errors
+///
+/// In this order: `Twice` with the least game that is in the shares twice; `Missing` with the least that is in none;
+/// `Stranger` with the least number at which a share has a row and the table another pattern than the row's, or none;
+/// `Marks` with the least number whose least marked game is not the least of its rows; `Overflow` where a sum passes
+/// 2^64 - 1. `Memory` where memory was refused. After each the table's numbers and marks are as they were.
 #[tactic(auto, using(crate::proofs::Entered::calls_self))]
 pub fn gather<R: Threads + Sync, O: ProbeOrder>(
     rt: &R,

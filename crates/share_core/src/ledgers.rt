@@ -72,7 +72,12 @@ impl Ledger {
         &self.rows
     }
 
-    /// Makes rows for the meetings of a game that were entered, where there are none.
+    /// Makes rows for the meetings of a game that were entered, where their numbers have none.
+    ///
+    /// # Errors
+    ///
+    /// `Stranger` where a number's row is of another pattern; `Memory` where memory was refused. After either the games,
+    /// the moves and the old rows are as they were, and rows that count nothing may have come.
     pub fn make_rows(
         &mut self,
         places: &mut Vec<usize>,
@@ -94,6 +99,11 @@ impl Ledger {
     }
 
     /// Counts a game whose meetings have their rows at these places.
+    ///
+    /// # Errors
+    ///
+    /// `Overflow` where the moves or all counts together would pass 2^64 - 1; `Memory` where memory was refused. After
+    /// either the ledger is as it was.
     pub fn count(
         &mut self,
         game: u64,
@@ -115,9 +125,7 @@ impl Ledger {
         let Some(total) = self.weight.checked_add(added) else {
             return Err(HarvestFault::Overflow);
         };
-        let Ok(()) = self.games.push(game) else {
-            return Err(HarvestFault::Memory);
-        };
+        self.games.push(game)?;
         raise_all(&mut self.rows, meetings, places, game);
         self.moves = moves;
         self.weight = total;

@@ -18,7 +18,6 @@ mod agreeing;
 mod confirming;
 mod covering;
 mod faults;
-pub mod full_laws;
 mod gathering;
 pub mod laws;
 mod numbers;

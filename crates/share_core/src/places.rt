@@ -3,7 +3,7 @@ ghost use Rattle.std.specs.Prelude.{◌≡◌, ◌+◌, ◌^◌, ◌<◌, Some, 
 
 use std::marker::Model;
 
-/// The place of a number's row, if it has one: one more than the place, or 0 where there is no row.
+/// The place of a number's row, if it has one: one more than the place, or 0 where it has none.
 ///
 /// Contracts see the place, or None.
 #[derive(Clone, Copy)]
@@ -23,7 +23,7 @@ impl Model for RowPlace {
 }
 
 impl RowPlace {
-    /// There is no row.
+    /// No row.
     pub fn none() -> RowPlace
         ensures { result ≡ None }
     {
@@ -40,7 +40,7 @@ impl RowPlace {
         }
     }
 
-    /// The place, if there is a row.
+    /// The place, if the number has a row.
     pub fn place(self) -> Option<usize>
         ensures { result ≡ self }
     {

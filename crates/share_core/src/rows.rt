@@ -1,11 +1,10 @@
 //! Rows of a share, each found by its number.
 ghost use Rattle.std.specs.Prelude.{◌≡◌, ◌≤◌, ℕ, length, OnOk, Some};
-ghost use Rattle.share_core.specs.declared.faults.HarvestFault.TheVariants as fault;
 ghost use Rattle.share_core.specs.Rows.{place_in};
 
 use crate::faults::HarvestFault;
 use crate::places::RowPlace;
-use shape_core::{Shape, Word};
+use shape_core::Shape;
 use std::alloc::{AllocError, Global};
 use std::marker::Model;
 use tally_core::Meeting;
@@ -19,17 +18,6 @@ pub struct Row {
     pub there: u64,
     pub played: u64,
     pub first: Option<u64>,
-}
-
-/// A share's row of this number is of another pattern than the table has there.
-fn stranger(number: usize, held: Word, asked: Word) -> HarvestFault
-    ensures { result ≡ fault.Stranger number (Some held) (Some asked) }
-{
-    HarvestFault::Stranger {
-        number,
-        of_share: Some(held),
-        of_table: Some(asked),
-    }
 }
 
 /// Gives an index at least this many slots, the new ones without a row.
@@ -67,8 +55,8 @@ impl Model for Rows {
 }
 
 impl Rows {
-    ghost use Rattle.std.specs.Prelude.{◌≡◌, ◌+◌, ◌^◌, ◌<◌, ◌≤◌, ◌++◌, ◌∷◌, [], length, IfSome, IfNone};
-    ghost use Rattle.std.specs.Prelude.{IfOk, IfErr, OnErr, slice_set};
+    ghost use Rattle.std.specs.Prelude.{◌≡◌, ◌+◌, ◌^◌, ◌<◌, ◌≤◌, ◌++◌, ◌∷◌, [], length};
+    ghost use Rattle.std.specs.Prelude.{IfSome, IfNone, IfOk, IfErr, OnErr, slice_set};
     ghost use Rattle.std.specs.List.{SwappedAt};
     ghost use Rattle.std.specs.List.Sorted.{IsPermutation, IsNonDecreasingBy};
     ghost use Rattle.share_core.specs.Rows.{row_at, blank, HasNoRow, AreOfNumbers};
@@ -107,7 +95,7 @@ impl Rows {
         }
     }
 
-    /// The row of the least number at or above this one that has a row. It walks the index up to there.
+    /// The row of the least number at or above this one that has a row. It walks the index up to that number.
     pub fn first_from(&self, from: usize) -> Option<Row>
         ensures first { IsLeastFrom from self.now result }
         ensures small { IfSome result (λ row. row.number < 2 ^ 22) }
@@ -120,8 +108,13 @@ impl Rows {
         None
     }
 
-    /// The place of a number's row, which is made where there is none and then counts nothing. The index gets room for
-    /// this many slots, where it has less.
+    /// The place of a number's row, which is made where the number has none and then counts nothing. The index gets room
+    /// for this many slots, where it has less.
+    ///
+    /// # Errors
+    ///
+    /// `Stranger` where the row is of another pattern; `Memory` where memory was refused. After either the rows are as
+    /// they were.
     pub fn make(&mut self, slots: usize, number: usize, shape: Shape) -> Result<usize, HarvestFault>
         requires number { number < slots }
         requires few { slots ≤ 2 ^ 22 }
@@ -134,7 +127,7 @@ impl Rows {
             return if held == shape {
                 Ok(place)
             } else {
-                Err(stranger(number, held.word(), shape.word()))
+                Err(HarvestFault::stranger(number, held.word(), Some(shape.word())))
             };
         }
         self.append(slots, number, shape)
@@ -158,12 +151,8 @@ impl Rows {
             played: 0,
             first: None,
         };
-        let Ok(()) = widen(&mut self.index, slots) else {
-            return Err(HarvestFault::Memory);
-        };
-        let Ok(()) = self.rows.push(row) else {
-            return Err(HarvestFault::Memory);
-        };
+        widen(&mut self.index, slots)?;
+        self.rows.push(row)?;
         self.index[number] = RowPlace::of(place);
         Ok(place)
     }

@@ -17,7 +17,8 @@ use std::marker::Model;
 /// What one worker has counted: games, each with all its patterns, under the numbers that these have in a table.
 ///
 /// Contracts see the worker, the kinds of pattern, the games in the order in which they were added, their moves, and the
-/// rows in the order in which they were made, or in that of their numbers after `sort_rows`. A share is of some games, by its type: its sums are theirs.
+/// rows in the order in which they were made, or in that of their numbers after `sort_rows`. A share is of some games, by
+/// its type: its sums are theirs.
 #[derive(Drop)]
 pub struct Share {
     worker: usize,
@@ -120,7 +121,7 @@ impl Share {
         ensures rows { result ≡ record { rows = self.now.rows; from = 0 } }
         ensures numbers { AreOfNumbers self.now.rows }
     {
-        // Its contract says that no number is there twice.
+        // Its contract says that no two rows are of one number.
         let _ = self.made_rows();
         ShareRows::new(self.ledger.rows())
     }
@@ -128,14 +129,15 @@ impl Share {
     /// Adds a game: each of its patterns is entered into the table, and what the game counts of it goes into the row of
     /// its number; at last the game is marked at each number where no game was that is not later.
     ///
-    /// `HarvestFault::Full` comes where no number is free for a pattern of the game, `HarvestFault::Stranger` where the
-    /// share's row of a pattern's number is of another pattern, as one from another table, `HarvestFault::Overflow` where
-    /// the share's moves or all its counts together would pass 2^64 - 1, or the game has more actions than any input, and
-    /// `HarvestFault::Memory` where memory was refused. After a refusal the share's games, moves and sums are as before and
-    /// the game is nowhere marked. Rows without counts may have come, and numbers in the table, of patterns of the game.
-    /// No other pattern is entered, and no other game is marked.
+    /// No other pattern is entered, and no other game is marked. The pass must be of the table, and the game below 2^28.
     ///
-    /// The pass must be of the table, and the game below 2^28.
+    /// # Errors
+    ///
+    /// `Full` where no number is free for a pattern of the game; `Stranger` where the share's row of a pattern's number is
+    /// of another pattern, as one from another table; `Overflow` where the share's moves or all its counts together would
+    /// pass 2^64 - 1, or the game has more actions than any input; `Memory` where memory was refused. After each the
+    /// share's games, moves and sums are as they were and the game is nowhere marked. Rows without counts may have come,
+    /// and numbers in the table, of patterns of the game.
     pub fn add<O: ProbeOrder>(
         &mut self,
         table: &SlotTable<O>,

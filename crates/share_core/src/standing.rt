@@ -2,7 +2,6 @@
 ghost use Rattle.std.specs.Prelude.{◌≡◌, ◌^◌, ◌<◌, ◌++◌, ◌∷◌, [], List, Some, IfSome, OnOk, IfErr};
 ghost use Rattle.share_core.specs.declared.rows.Row.{Row};
 ghost use Rattle.share_core.specs.Checking.{all_rows, AreBelow, IsBeyondFault, IsLeastFrom};
-ghost use Rattle.share_core.specs.declared.faults.HarvestFault.TheVariants as fault;
 
 use crate::faults::HarvestFault;
 use crate::rows::Row;
@@ -87,16 +86,5 @@ pub(crate) fn check_beyond(shares: &[Share], slots: usize) -> Result<(), Harvest
             of_share: Some(row.shape.word()),
             of_table: None,
         }),
-    }
-}
-
-/// A share has a row of a number at which the table has another pattern, or none.
-pub(crate) fn unlike_at(number: usize, held: Word, of_table: Option<Word>) -> HarvestFault
-    ensures { result ≡ fault.Stranger number (Some held) of_table }
-{
-    HarvestFault::Stranger {
-        number,
-        of_share: Some(held),
-        of_table,
     }
 }

@@ -14,7 +14,7 @@ use crate::agreeing::{Differs, compare};
 use crate::faults::HarvestFault;
 use crate::numbers::{NumberSums, sums_at};
 use crate::shares::Share;
-use crate::standing::{bits_of, unlike_at, word_of};
+use crate::standing::{bits_of, word_of};
 use probe_core::ProbeOrder;
 use shape_dict::Entry;
 use slot_table::{Pass, SlotTable};
@@ -29,8 +29,8 @@ pub(crate) struct Visited {
     pub is_large: bool,
 }
 
-/// Takes what the rows of a number are together, which are all of the pattern that the table has there: compares their
-/// least game with the table's, and adds their entry.
+/// Takes what the rows of a number are together, which are all of the number's pattern in the table: compares their least
+/// game with the table's, and adds their entry.
 fn take<O: ProbeOrder>(
     table: &SlotTable<O>,
     pass: &mut Pass<O>,
@@ -75,7 +75,7 @@ fn visit<O: ProbeOrder>(
     let found = bits_of(table.word_at(pass, number));
     let sums = sums_at(shares, number, found);
     if let Some(held) = sums.stranger {
-        return Err(unlike_at(number, held, word_of(found)));
+        return Err(HarvestFault::stranger(number, held, word_of(found)));
     }
     take(table, pass, number, sums, visited)
 }
@@ -107,9 +107,7 @@ pub(crate) fn visit_all<O: ProbeOrder>(
         (all_rows shares.now)) }
 {
     let slots = table.capacity().slots();
-    let Ok(entries) = Vec::with_capacity(alloc, most_patterns(shares, slots)) else {
-        return Err(HarvestFault::Memory);
-    };
+    let entries = Vec::with_capacity(alloc, most_patterns(shares, slots))?;
     let mut visited = Visited {
         entries,
         differs: None,

@@ -49,6 +49,12 @@ impl Workings {
 
     /// Walks a game, enters its patterns, and makes rows for their numbers; the answer is how many moves onto empty
     /// points it has.
+    ///
+    /// # Errors
+    ///
+    /// `Full` where no number is free for a pattern, `Stranger` where a number's row is of another one; `Overflow` where the
+    /// game has more actions than any input; `Memory` where memory was refused. After each the ledger's games, moves and
+    /// old rows are as they were.
     pub fn prepare<O: ProbeOrder>(
         &mut self,
         ledger: &mut Ledger,
@@ -73,10 +79,7 @@ impl Workings {
             game
             self.old.walk.kinds record.now ledger.new.rows) }
     {
-        let moves = match self.walk.walk(record) {
-            Ok(moves) => moves,
-            Err(fault) => return Err(HarvestFault::of_tally(fault)),
-        };
+        let moves = self.walk.walk(record)?;
         let meetings = self.walk.meetings();
         let refused = enter_all(table, pass, &mut self.entered, meetings, game)?;
         let entered = self.entered.as_slice();

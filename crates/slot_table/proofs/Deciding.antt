@@ -1,25 +1,28 @@
 -- What a step of a call makes of words and history: whatever it found, both still fit.
-use Rattle.std.proofs.Common.{◌≡◌, ◌≢◌, ℕ, ◌+◌, ◌^◌, ◌<◌, ◌≤◌, ◌==◌, Bool, true, false, List, [], ◌∷◌, ◌++◌, length, slice_set, slice_index_or, Option, Some, None, refl, sym, ◌∙◌, ap, subst, inl, inr, arith}
-use Rattle.std.proofs.lemmas.Bool.{cases_eq, eqb-true, eqb-false}
+use Rattle.std.proofs.Common.{◌≡◌, ◌≢◌, ℕ, zero, suc, ◌+◌, ◌^◌, ◌<◌, ◌≤◌, ◌==◌, Bool, true, false, List, [], ◌∷◌, ◌++◌, length, slice_set, slice_index_or, Option, Some, None, refl, sym, ◌∙◌, ap, subst, inl, inr, arith}
+use Rattle.std.specs.Prelude.{◌&&◌, if◌then◌else◌}
+use Rattle.std.proofs.lemmas.Bool.{cases_eq, cond_both}
 use prog.Atomic.{either}
-use Rattle.std.proofs.lemmas.List.{get_or-set_same, get_or-set_other, length-set, set-get_or, append-nil}
+use Rattle.std.proofs.lemmas.List.{set-get_or, append-nil}
 use Rattle.probe_core.specs.declared.calls.Call.{Call}
 use Rattle.probe_core.specs.declared.calls.Call.TheVariants as call
-use Rattle.probe_core.specs.declared.calls.Answer.{Answer}
-use Rattle.probe_core.specs.declared.calls.Answer.TheVariants as answer
 use Rattle.probe_core.specs.Order.{IsOrder}
-use Rattle.probe_core.specs.Machine.{Machine, code_of, follows, key_of, place_in}
-use Rattle.probe_core.specs.Placing.{HoldOthers, IsPlaced, IsNowhere, AreAllTaken}
-use Rattle.probe_core.specs.Sequential.{Table, Step, IsNumber, IsFree, IsAbsent, IsFull}
+use Rattle.probe_core.specs.Machine.{Machine, Followed, Runs, Answers, code_of, follows, key_of, place_in}
+use Rattle.probe_core.specs.Placing.{HoldOthers, IsPlaced, IsOrderly}
+use Rattle.probe_core.specs.Sequential.{Table, Step, IsNumber}
 use Rattle.probe_core.specs.History.{changed, word_of}
+use Rattle.probe_core.specs.Showing.{key_in, table_of}
+use Rattle.probe_core.specs.Way.{IsOnWay, Tells}
+use Rattle.probe_core.specs.Way as way
+use Rattle.probe_core.specs.World.{words_after}
+use Rattle.probe_core.proofs.Telling.{step_tells, step_keeps_order, step_is_change}
+use Rattle.probe_core.proofs.Soundness.{shows_again, words_of_shown}
 use Rattle.slot_table.specs.declared.entries.Happened.{Happened}
 use Rattle.slot_table.specs.declared.entries.Happened.TheVariants as entry
 use Rattle.slot_table.specs.History.{content_of, IsLegal, Begins}
 use Rattle.slot_table.specs.Rule.{AreSlotWords, AreKeyWords, IsMarkWord, AreMarkWords}
 use Rattle.slot_table.specs.Telling.{entries_of, PassedOthers, MaySwap}
 use Rattle.slot_table.proofs.Histories.{length-content, content_snoc, legal_snoc, least_from-append, number_stays}
-use Rattle.slot_table.proofs.Placings.{nowhere_at_free, nowhere_at_end, taken_at_end}
-use Rattle.slot_table.proofs.Winning.{placed_by_win}
 
 -- what the rule says of the words of slots, those of marks and the longest history
 pub record Sound (n : ℕ) (place : ℕ → ℕ → ℕ) (words games : List ℕ) (log : List Happened) : Type 0 where
@@ -32,53 +35,21 @@ pub record Sound (n : ℕ) (place : ℕ → ℕ → ℕ) (words games : List ℕ
 
 -- words and numbers
 
-pub key_of_word : (o : Option ℕ) (key : ℕ) → word_of o ≡ key + 1 → o ≡ Some key
-key_of_word None key e = absurd (omega (arith, e))
-key_of_word (Some x) key e = let same : x ≡ key = omega (arith, e) in ap Some same
-
-pub free_of_word : (o : Option ℕ) → word_of o ≡ 0 → o ≡ None
-free_of_word None e = refl
-free_of_word (Some x) e = absurd (omega (arith, e))
-
-pub other_of_word : (o : Option ℕ) (key : ℕ) → word_of o ≢ 0 → word_of o ≢ key + 1 → (x : ℕ) × (o ≡ Some x) × (x ≢ key)
+other_of_word : (o : Option ℕ) (key : ℕ) → word_of o ≢ 0 → word_of o ≢ key + 1 → (x : ℕ) × (o ≡ Some x) × (x ≢ key)
 other_of_word None key taken other = absurd (taken refl)
 other_of_word (Some x) key taken other = (x, refl, λ e. other (ap (λ (y : ℕ). y + 1) e))
 
-module _ (n : ℕ) (words : List ℕ) (log : List Happened) (slots : AreSlotWords n words (content_of n log)) where
-  pub is_number : (key p : ℕ) → p < n → slice_index_or words p 0 ≡ code_of key → IsNumber (content_of n log) key p
-  is_number key p h e = record {
-    within = let l : length (content_of n log) ≡ n = length-content n log in omega (arith, l, h);
-    stands = key_of_word (slice_index_or (content_of n log) p None) key (sym (slots p h) ∙ e);
-  }
-
-  pub is_free : (p : ℕ) → p < n → slice_index_or words p 0 ≡ 0 → IsFree (content_of n log) p
-  is_free p h e = record {
-    within = let l : length (content_of n log) ≡ n = length-content n log in omega (arith, l, h);
-    free = free_of_word (slice_index_or (content_of n log) p None) (sym (slots p h) ∙ e);
-  }
-
-  pub is_absent : (key : ℕ) → IsNowhere n words key → IsAbsent (content_of n log) key
-  is_absent key nowhere p number =
-      let l : length (content_of n log) ≡ n = length-content n log
-      in let h : p < n = omega (arith, l, number.within)
-      in nowhere p h (slots p h ∙ ap word_of number.stands)
-
-  pub is_full : AreAllTaken n words → IsFull (content_of n log)
-  is_full taken p free =
-      let l : length (content_of n log) ≡ n = length-content n log
-      in let h : p < n = omega (arith, l, free.within)
-      in taken p h (slots p h ∙ ap word_of free.free)
-
-  pub held_words : (place : ℕ → ℕ) (key i : ℕ) → PassedOthers place (content_of n log) key i → HoldOthers place words key i
-  held_words place key i passed j h =
-      let q : (x : ℕ) × IsNumber (content_of n log) x (place j) × (x ≢ key) = passed j h
-      in let l : length (content_of n log) ≡ n = length-content n log
-      in let inside : place j < n = omega (arith, l, q.1.within)
-      in let is : slice_index_or words (place j) 0 ≡ q.0 + 1 = slots (place j) inside ∙ ap word_of q.1.stands
-      in record {
-        taken = λ e. let zero_is : q.0 + 1 ≡ 0 = sym is ∙ e in omega (arith, zero_is);
-        other = λ e. let code_is : q.0 + 1 ≡ key + 1 = sym is ∙ e in q.2 (omega (arith, code_is));
-      }
+held_words : (n : ℕ) (words : List ℕ) (log : List Happened) → AreSlotWords n words (content_of n log) → (place : ℕ → ℕ) (key i : ℕ) → PassedOthers place (content_of n log) key i
+    → HoldOthers place words key i
+held_words n words log slots place key i passed j h =
+    let q : (x : ℕ) × IsNumber (content_of n log) x (place j) × (x ≢ key) = passed j h
+    in let l : length (content_of n log) ≡ n = length-content n log
+    in let inside : place j < n = omega (arith, l, q.1.within)
+    in let is : slice_index_or words (place j) 0 ≡ q.0 + 1 = slots (place j) inside ∙ ap word_of q.1.stands
+    in record {
+      taken = λ e. let zero_is : q.0 + 1 ≡ 0 = sym is ∙ e in omega (arith, zero_is);
+      other = λ e. let code_is : q.0 + 1 ≡ key + 1 = sym is ∙ e in q.2 (omega (arith, code_is));
+    }
 
 -- places that other keys hold are held after all that followed
 pub passed_stays : (n : ℕ) (place : ℕ → ℕ) (seen log : List Happened) (key i : ℕ) → IsLegal n log → Begins seen log
@@ -105,162 +76,107 @@ passes_one n place log key i inside taken other passed j h =
       | inr apart ↦ passed j (omega (arith, apart, h))
     ]
 
+-- a table whose keys have these words is what the words show
+shown_table : (words : List ℕ) (table : Table) → length words ≡ length table
+    → ((p : ℕ) → p < length table → slice_index_or words p 0 ≡ word_of (slice_index_or table p None)) → table ≡ table_of words
+shown_table [] [] e each = refl
+shown_table [] (key ∷ table) e each = absurd (omega (arith, e))
+shown_table (word ∷ words) [] e each = absurd (omega (arith, e))
+shown_table (word ∷ words) (key ∷ table) e each =
+    let first : word ≡ word_of key = each 0 (omega arith)
+    in ap (λ k. k ∷ table) (sym (ap key_in first ∙ shows_again key))
+    ∙ ap (λ t. key_in word ∷ t) (shown_table words table (omega (arith, e)) (λ p h. each (suc p) (omega (arith, h))))
+
+-- words that are written stay those of keys
+written : (words : List ℕ) (p w q : ℕ) → w ≤ 2 ^ 51 → slice_index_or words q 0 ≤ 2 ^ 51 → slice_index_or (slice_set words p w) q 0 ≤ 2 ^ 51
+written [] p w q small before = before
+written (x ∷ words) zero w zero small before = small
+written (x ∷ words) zero w (suc q) small before = before
+written (x ∷ words) (suc p) w zero small before = before
+written (x ∷ words) (suc p) w (suc q) small before = written words p w q small before
+
+-- a call that swaps only as an Enter
+may_swap : (c : Call) (swaps : Bool) → (swaps ≡ true → MaySwap c) → way.MaySwap c swaps
+may_swap (call.Enter key) swaps may = tt
+may_swap (call.LookUp key) true may = absurd (may refl)
+may_swap (call.LookUp key) false may = tt
+
+-- the words after a step, by what they were at its place
+words_swapped : (words : List ℕ) (p value : ℕ) (free : Bool) → (if free then slice_set words p value else words) ≡ slice_set words p (either free value (slice_index_or words p 0))
+words_swapped words p value true = refl
+words_swapped words p value false = sym (set-get_or words p 0)
+
 module _ (n : ℕ) (place : ℕ → ℕ → ℕ) (words games : List ℕ) (log : List Happened) (sound : Sound n place words games log) where
-  idle : Sound n place words games (log ++ [])
-  idle = subst (λ (t : List Happened). Sound n place words games t) (sym (append-nil log)) sound
+  shown : content_of n log ≡ table_of words
+  shown =
+      let l : length (content_of n log) ≡ n = length-content n log
+      in shown_table words (content_of n log) (sound.whole.0 ∙ sym l) (λ p h. sound.slots p (omega (arith, l, h)))
 
-  -- a call whose answer leaves the table as it is
-  stays : (c : Call) (a : Answer) → key_of c < 2 ^ 51 → Step (content_of n log) c a (changed (content_of n log) c a) → changed (content_of n log) c a ≡ content_of n log
-      → Sound n place words games (log ++ entry.Asked c a ∷ [])
-  stays c a small step same = record {
-    legal = legal_snoc n log c a small sound.legal step;
-    whole = sound.whole;
-    slots = subst (λ (t : Table). AreSlotWords n words t) (sym (content_snoc n log c a ∙ same)) sound.slots;
-    small = sound.small;
-    marks = λ p h. subst (λ (o : Option ℕ). IsMarkWord o (slice_index_or games p 0)) (sym (least_from-append None p log (entry.Asked c a ∷ []))) (sound.marks p h);
-    placed = sound.placed;
-  }
+  -- no step writes a number that is no key
+  keys_after : (machine : Machine) → key_of machine.call < 2 ^ 51 → AreKeyWords n (words_after words machine (place_in place machine))
+  keys_after machine small =
+      let p : ℕ = place_in place machine
+      in let code : ℕ = code_of (key_of machine.call)
+      in let P : List ℕ → Type 0 = λ ws. AreKeyWords n ws
+      in cond_both (machine.swaps && (slice_index_or words p 0 == 0)) (slice_set words p code) words P
+      (λ e q h. written words p code q (omega (arith, small)) (sound.small q h))
+      (λ e. sound.small)
 
-  found : (c : Call) (p : ℕ) → key_of c < 2 ^ 51 → p < n → slice_index_or words p 0 ≡ code_of (key_of c) → Sound n place words games (log ++ entry.Asked c (answer.Number p) ∷ [])
-  found (call.Enter key) p small h e =
-      let number : IsNumber (content_of n log) key p = is_number n words log sound.slots key p h e
-      in let same : slice_set (content_of n log) p (Some key) ≡ content_of n log =
-      ap (λ (o : Option ℕ). slice_set (content_of n log) p o) (sym number.stands) ∙ set-get_or (content_of n log) p None
-      in stays (call.Enter key) (answer.Number p) small (inl (number, same)) same
-  found (call.LookUp key) p small h e =
-      let number : IsNumber (content_of n log) key p = is_number n words log sound.slots key p h e
-      in stays (call.LookUp key) (answer.Number p) small (number, refl) refl
-
-  absent : (key i : ℕ) → key < 2 ^ 51 → IsOrder n (place key) → i < n → PassedOthers (place key) (content_of n log) key i
-      → slice_index_or words (place key i) 0 ≡ 0 → Sound n place words games (log ++ entry.Asked (call.LookUp key) answer.Absent ∷ [])
-  absent key i small order h passed e =
-      let held : HoldOthers (place key) words key i = held_words n words log sound.slots (place key) key i passed
-      in let nowhere : IsNowhere n words key = nowhere_at_free n place words key i order sound.placed held e
-      in stays (call.LookUp key) answer.Absent small
-      (is_absent n words log sound.slots key nowhere, (place key i, is_free n words log sound.slots (place key i) (order.within i h) e), refl) refl
-
-  full : (c : Call) → key_of c < 2 ^ 51 → IsOrder n (place (key_of c)) → PassedOthers (place (key_of c)) (content_of n log) (key_of c) n
-      → Sound n place words games (log ++ entry.Asked c answer.Full ∷ [])
-  full (call.Enter key) small order passed =
-      let held : HoldOthers (place key) words key n = held_words n words log sound.slots (place key) key n passed
-      in stays (call.Enter key) answer.Full small
-      (is_absent n words log sound.slots key (nowhere_at_end n place words key order held), is_full n words log sound.slots (taken_at_end n place words key order held), refl) refl
-  full (call.LookUp key) small order passed =
-      let held : HoldOthers (place key) words key n = held_words n words log sound.slots (place key) key n passed
-      in stays (call.LookUp key) answer.Full small
-      (is_absent n words log sound.slots key (nowhere_at_end n place words key order held), is_full n words log sound.slots (taken_at_end n place words key order held), refl) refl
-
-  -- a swap that wins
-  won : (key i : ℕ) → IsOrder n (place key) → i < n → key < 2 ^ 51 → PassedOthers (place key) (content_of n log) key i
-      → slice_index_or words (place key i) 0 ≡ 0
-      → Sound n place (slice_set words (place key i) (code_of key)) games (log ++ entry.Asked (call.Enter key) (answer.Number (place key i)) ∷ [])
-  won key i order h small passed e =
-      let p : ℕ = place key i
-      in let table : Table = content_of n log
-      in let inside : p < n = order.within i h
-      in let held : HoldOthers (place key) words key i = held_words n words log sound.slots (place key) key i passed
-      in let absent_is : IsAbsent table key = is_absent n words log sound.slots key (nowhere_at_free n place words key i order sound.placed held e)
-      in let l : length table ≡ n = length-content n log
-      in let whole : length words ≡ n = sound.whole.0
-      in let there : p < length words = omega (arith, inside, whole)
-      in let there' : p < length table = omega (arith, inside, l)
+  -- what a step tells goes into the history
+  told_fits : (machine : Machine) (followed : Followed) → key_of machine.call < 2 ^ 51 → Tells n place words machine followed
+      → IsOrderly n place (words_after words machine (place_in place machine))
+      → Sound n place (words_after words machine (place_in place machine)) games (log ++ entries_of machine.call followed)
+  told_fits machine (Runs next) small goes orderly =
+      subst (λ (ws : List ℕ). Sound n place ws games (log ++ [])) (sym goes.still)
+      (subst (λ (t : List Happened). Sound n place words games t) (sym (append-nil log)) sound)
+  told_fits machine (Answers found) small step orderly =
+      let after : List ℕ = words_after words machine (place_in place machine)
+      in let told : Step (content_of n log) machine.call found (table_of after) =
+      subst (λ (t : Table). Step t machine.call found (table_of after)) (sym shown) step
+      in let is : table_of after ≡ changed (content_of n log) machine.call found = step_is_change (content_of n log) machine.call found (table_of after) told
       in record {
-        legal = legal_snoc n log (call.Enter key) (answer.Number p) small sound.legal (inr (absent_is, is_free n words log sound.slots p inside e, refl));
-        whole = (length-set words p (code_of key) ∙ whole, sound.whole.1);
-        slots = subst (λ (t : Table). AreSlotWords n (slice_set words p (code_of key)) t) (sym (content_snoc n log (call.Enter key) (answer.Number p)))
-            (λ q k. elim (cases_eq q p) [
-              | inl same ↦
-                  let P : ℕ → Type 0 = λ r. slice_index_or (slice_set words p (code_of key)) r 0 ≡ word_of (slice_index_or (slice_set table p (Some key)) r None)
-                  in subst P (sym same) (get_or-set_same words p (code_of key) 0 there ∙ ap word_of (sym (get_or-set_same table p (Some key) None there')))
-              | inr apart ↦
-                  get_or-set_other words p q (code_of key) 0 apart ∙ sound.slots q k ∙ ap word_of (sym (get_or-set_other table p q (Some key) None apart))
-            ]);
-        small = λ q k. elim (cases_eq q p) [
-          | inl same ↦
-              let P : ℕ → Type 0 = λ r. slice_index_or (slice_set words p (code_of key)) r 0 ≤ 2 ^ 51
-              in let is : slice_index_or (slice_set words p (code_of key)) p 0 ≡ key + 1 = get_or-set_same words p (code_of key) 0 there
-              in subst P (sym same) (omega (arith, is, small))
-          | inr apart ↦
-              let is : slice_index_or (slice_set words p (code_of key)) q 0 ≡ slice_index_or words q 0 = get_or-set_other words p q (code_of key) 0 apart
-              in omega (arith, is, sound.small q k)
-        ];
-        marks = λ q k.
-            subst (λ (o : Option ℕ). IsMarkWord o (slice_index_or games q 0)) (sym (least_from-append None q log (entry.Asked (call.Enter key) (answer.Number p) ∷ []))) (sound.marks q k);
-        placed = placed_by_win n place words key i order sound.placed h (omega (arith, whole)) held e;
+        legal = legal_snoc n log machine.call found small sound.legal (subst (λ (t : Table). Step (content_of n log) machine.call found t) is told);
+        whole = (orderly.whole, sound.whole.1);
+        slots = λ p h. words_of_shown after _ (content_snoc n log machine.call found ∙ sym is) p;
+        small = keys_after machine small;
+        marks = λ p h.
+            subst (λ (o : Option ℕ). IsMarkWord o (slice_index_or games p 0)) (sym (least_from-append None p log (entry.Asked machine.call found ∷ []))) (sound.marks p h);
+        placed = orderly.placed;
       }
 
-  -- one place more
-  on : (c : Call) (i : ℕ) → IsOrder n (place (key_of c)) → i < n → PassedOthers (place (key_of c)) (content_of n log) (key_of c) i
-      → (slice_index_or words (place (key_of c) i) 0 == 0) ≡ false → (slice_index_or words (place (key_of c) i) 0 == code_of (key_of c)) ≡ false
-      → PassedOthers (place (key_of c)) (content_of n log) (key_of c) (i + 1)
-  on c i order h passed taken other =
-      let is : slice_index_or words (place (key_of c) i) 0 ≡ word_of (slice_index_or (content_of n log) (place (key_of c) i) None) = sound.slots (place (key_of c) i) (order.within i h)
-      in passes_one n (place (key_of c)) log (key_of c) i (order.within i h) (λ e. eqb-false _ _ taken (is ∙ e)) (λ e. eqb-false _ _ other (is ∙ e)) passed
+  module _ (machine : Machine) (order : IsOrder n (place (key_of machine.call))) (within : machine.index < n) (small : key_of machine.call < 2 ^ 51)
+      (enters : machine.swaps ≡ true → MaySwap machine.call)
+      (passed : PassedOthers (place (key_of machine.call)) (content_of n log) (key_of machine.call) machine.index) where
+    stepped : Sound n place (words_after words machine (place_in place machine)) games
+        (log ++ entries_of machine.call (follows n machine (place_in place machine) (slice_index_or words (place_in place machine) 0)))
+    stepped =
+        let orderly : IsOrderly n place words = record { whole = sound.whole.0; placed = sound.placed }
+        in let on_way : IsOnWay n place words machine = record {
+          within = within;
+          passed = held_words n words log sound.slots (place (key_of machine.call)) (key_of machine.call) machine.index passed;
+          swapping = may_swap machine.call machine.swaps enters;
+        }
+        in told_fits machine _ small (step_tells n place words machine order orderly on_way) (step_keeps_order n place words machine order orderly on_way)
 
-  at_end : (c : Call) (i : ℕ) → (i + 1 == n) ≡ true → PassedOthers (place (key_of c)) (content_of n log) (key_of c) (i + 1)
-      → PassedOthers (place (key_of c)) (content_of n log) (key_of c) n
-  at_end c i last passed = subst (λ (k : ℕ). PassedOthers (place (key_of c)) (content_of n log) (key_of c) k) (eqb-true (i + 1) n last) passed
+    -- after a load
+    pub loaded : machine.swaps ≡ false → Sound n place words games
+        (log ++ entries_of machine.call (follows n machine (place_in place machine) (slice_index_or words (place_in place machine) 0)))
+    loaded loads =
+        let p : ℕ = place_in place machine
+        in let P : List ℕ → Type 0 = λ ws. Sound n place ws games (log ++ entries_of machine.call (follows n machine p (slice_index_or words p 0)))
+        in let still : words_after words machine p ≡ words =
+        ap (λ b. if b && (slice_index_or words p 0 == 0) then slice_set words p (code_of (key_of machine.call)) else words) loads
+        in subst P still stepped
 
-  enter_loads : (key i : ℕ) → key < 2 ^ 51 → IsOrder n (place key) → i < n → PassedOthers (place key) (content_of n log) key i
-      → (b c d : Bool) → (slice_index_or words (place key i) 0 == 0) ≡ b → (slice_index_or words (place key i) 0 == code_of key) ≡ c → (i + 1 == n) ≡ d
-      → Sound n place words games (log ++ entries_of (call.Enter key) (follows n (record { call = call.Enter key; index = i; swaps = false }) (place key i) (slice_index_or words (place key i) 0)))
-  enter_loads key i small order h passed true c d e0 e1 e2 = rw e0 idle
-  enter_loads key i small order h passed false true d e0 e1 e2 =
-      rw (e0, e1) (found (call.Enter key) (place key i) small (order.within i h) (eqb-true _ _ e1))
-  enter_loads key i small order h passed false false true e0 e1 e2 =
-      rw (e0, e1, e2) (full (call.Enter key) small order (at_end (call.Enter key) i e2 (on (call.Enter key) i order h passed e0 e1)))
-  enter_loads key i small order h passed false false false e0 e1 e2 = rw (e0, e1, e2) idle
-
-  look_up_loads : (key i : ℕ) → key < 2 ^ 51 → IsOrder n (place key) → i < n → PassedOthers (place key) (content_of n log) key i
-      → (b c d : Bool) → (slice_index_or words (place key i) 0 == 0) ≡ b → (slice_index_or words (place key i) 0 == code_of key) ≡ c → (i + 1 == n) ≡ d
-      → Sound n place words games (log ++ entries_of (call.LookUp key) (follows n (record { call = call.LookUp key; index = i; swaps = false }) (place key i) (slice_index_or words (place key i) 0)))
-  look_up_loads key i small order h passed true c d e0 e1 e2 = rw e0 (absent key i small order h passed (eqb-true _ _ e0))
-  look_up_loads key i small order h passed false true d e0 e1 e2 =
-      rw (e0, e1) (found (call.LookUp key) (place key i) small (order.within i h) (eqb-true _ _ e1))
-  look_up_loads key i small order h passed false false true e0 e1 e2 =
-      rw (e0, e1, e2) (full (call.LookUp key) small order (at_end (call.LookUp key) i e2 (on (call.LookUp key) i order h passed e0 e1)))
-  look_up_loads key i small order h passed false false false e0 e1 e2 = rw (e0, e1, e2) idle
-
-  call_loads : (c : Call) (i : ℕ) → key_of c < 2 ^ 51 → IsOrder n (place (key_of c)) → i < n → PassedOthers (place (key_of c)) (content_of n log) (key_of c) i
-      → Sound n place words games (log ++ entries_of c (follows n (record { call = c; index = i; swaps = false }) (place (key_of c) i) (slice_index_or words (place (key_of c) i) 0)))
-  call_loads (call.Enter key) i small order h passed = enter_loads key i small order h passed _ _ _ refl refl refl
-  call_loads (call.LookUp key) i small order h passed = look_up_loads key i small order h passed _ _ _ refl refl refl
-
-  -- after a load
-  pub loaded : (machine : Machine) → machine.swaps ≡ false → IsOrder n (place (key_of machine.call)) → machine.index < n → key_of machine.call < 2 ^ 51
-      → PassedOthers (place (key_of machine.call)) (content_of n log) (key_of machine.call) machine.index
-      → Sound n place words games (log ++ entries_of machine.call (follows n machine (place_in place machine) (slice_index_or words (place_in place machine) 0)))
-  loaded machine loads order h small passed =
-      let P : Bool → Type 0 = λ b. Sound n place words games (log ++ entries_of machine.call (follows n (record { call = machine.call; index = machine.index; swaps = b }) (place_in place machine) (slice_index_or words (place_in place machine) 0)))
-      in subst P (sym loads) (call_loads machine.call machine.index small order h passed)
-
-  unwritten : (p : ℕ) (h : List Happened) → Sound n place words games h → Sound n place (slice_set words p (slice_index_or words p 0)) games h
-  unwritten p h same = subst (λ (ws : List ℕ). Sound n place ws games h) (sym (set-get_or words p 0)) same
-
-  enter_swaps : (key i : ℕ) → IsOrder n (place key) → i < n → key < 2 ^ 51 → PassedOthers (place key) (content_of n log) key i
-      → (b c d : Bool) → (slice_index_or words (place key i) 0 == 0) ≡ b → (slice_index_or words (place key i) 0 == code_of key) ≡ c → (i + 1 == n) ≡ d
-      → Sound n place (slice_set words (place key i) (either (slice_index_or words (place key i) 0 == 0) (code_of key) (slice_index_or words (place key i) 0))) games
-      (log ++ entries_of (call.Enter key) (follows n (record { call = call.Enter key; index = i; swaps = true }) (place key i) (slice_index_or words (place key i) 0)))
-  enter_swaps key i order h small passed true c d e0 e1 e2 = rw e0 (won key i order h small passed (eqb-true _ _ e0))
-  enter_swaps key i order h small passed false true d e0 e1 e2 =
-      rw (e0, e1) (unwritten (place key i) _ (found (call.Enter key) (place key i) small (order.within i h) (eqb-true _ _ e1)))
-  enter_swaps key i order h small passed false false true e0 e1 e2 =
-      rw (e0, e1, e2) (unwritten (place key i) _ (full (call.Enter key) small order (at_end (call.Enter key) i e2 (on (call.Enter key) i order h passed e0 e1))))
-  enter_swaps key i order h small passed false false false e0 e1 e2 = rw (e0, e1, e2) (unwritten (place key i) _ idle)
-
-  call_swaps : (c : Call) (i : ℕ) → MaySwap c → IsOrder n (place (key_of c)) → i < n → key_of c < 2 ^ 51 → PassedOthers (place (key_of c)) (content_of n log) (key_of c) i
-      → Sound n place (slice_set words (place (key_of c) i) (either (slice_index_or words (place (key_of c) i) 0 == 0) (code_of (key_of c)) (slice_index_or words (place (key_of c) i) 0))) games
-      (log ++ entries_of c (follows n (record { call = c; index = i; swaps = true }) (place (key_of c) i) (slice_index_or words (place (key_of c) i) 0)))
-  call_swaps (call.Enter key) i may order h small passed = enter_swaps key i order h small passed _ _ _ refl refl refl
-  call_swaps (call.LookUp key) i may order h small passed = absurd may
-
-  -- after a compare-exchange
-  pub swapped : (machine : Machine) → machine.swaps ≡ true → MaySwap machine.call → IsOrder n (place (key_of machine.call)) → machine.index < n
-      → key_of machine.call < 2 ^ 51 → PassedOthers (place (key_of machine.call)) (content_of n log) (key_of machine.call) machine.index
-      → Sound n place (slice_set words (place_in place machine) (either (slice_index_or words (place_in place machine) 0 == 0) (code_of (key_of machine.call)) (slice_index_or words (place_in place machine) 0))) games
-      (log ++ entries_of machine.call (follows n machine (place_in place machine) (slice_index_or words (place_in place machine) 0)))
-  swapped machine swaps may order h small passed =
-      let P : Bool → Type 0 = λ b. Sound n place
-      (slice_set words (place_in place machine) (either (slice_index_or words (place_in place machine) 0 == 0) (code_of (key_of machine.call)) (slice_index_or words (place_in place machine) 0))) games
-      (log ++ entries_of machine.call (follows n (record { call = machine.call; index = machine.index; swaps = b }) (place_in place machine) (slice_index_or words (place_in place machine) 0)))
-      in subst P (sym swaps) (call_swaps machine.call machine.index may order h small passed)
+    -- after a compare-exchange
+    pub swapped : machine.swaps ≡ true
+        → Sound n place (slice_set words (place_in place machine) (either (slice_index_or words (place_in place machine) 0 == 0) (code_of (key_of machine.call)) (slice_index_or words (place_in place machine) 0))) games
+        (log ++ entries_of machine.call (follows n machine (place_in place machine) (slice_index_or words (place_in place machine) 0)))
+    swapped swaps =
+        let p : ℕ = place_in place machine
+        in let code : ℕ = code_of (key_of machine.call)
+        in let P : List ℕ → Type 0 = λ ws. Sound n place ws games (log ++ entries_of machine.call (follows n machine p (slice_index_or words p 0)))
+        in let writes : words_after words machine p ≡ slice_set words p (either (slice_index_or words p 0 == 0) code (slice_index_or words p 0)) =
+        ap (λ b. if b && (slice_index_or words p 0 == 0) then slice_set words p code else words) swaps
+        ∙ words_swapped words p code (slice_index_or words p 0 == 0)
+        in subst P writes stepped

@@ -1,39 +1,29 @@
 -- Histories that grow: what becomes of their calls, their content and what makes them legal.
-use Rattle.std.proofs.Common.{◌≡◌, ◌≢◌, ℕ, ◌^◌, ◌<◌, ◌≤◌, min, Bool, true, false, List, [], ◌∷◌, ◌++◌, ◌==◌, if◌then◌else◌, length, slice_set, Option, Some, None, refl, sym, ◌∙◌, ap, subst, inl, inr, append_assoc, arith}
-use Rattle.std.proofs.lemmas.Bool.{cases_eq}
-use Rattle.std.proofs.lemmas.List.{get_or-set_same, get_or-set_other, length-set, length-replicate, append-nil}
+use Rattle.std.proofs.Common.{◌≡◌, ℕ, ◌^◌, ◌<◌, ◌≤◌, min, Bool, true, false, List, [], ◌∷◌, ◌++◌, ◌==◌, if◌then◌else◌, length, slice_set, Option, Some, None, refl, sym, ◌∙◌, ap, subst, inl, inr, append_assoc, arith}
+use Rattle.std.proofs.lemmas.List.{get_or-set_same, length-set, length-replicate, append-nil}
 use Rattle.probe_core.specs.declared.calls.Call.{Call}
 use Rattle.probe_core.specs.declared.calls.Call.TheVariants as call
 use Rattle.probe_core.specs.declared.calls.Answer.{Answer}
 use Rattle.probe_core.specs.declared.calls.Answer.TheVariants as answer
 use Rattle.probe_core.specs.Machine.{key_of}
-use Rattle.probe_core.specs.Sequential.{Table, Step, IsNumber, IsFree, IsAbsent, HasFree, IsFull}
-use Rattle.probe_core.specs.History.{Answered, changed, content_from, empty_table, IsRunFrom}
+use Rattle.probe_core.specs.Sequential.{Table, Step, IsNumber, IsAbsent, HasFree, IsFull}
+use Rattle.probe_core.specs.History.{Answered, changed, content, content_from, empty_table, IsRunFrom}
+use Rattle.probe_core.specs.History as keyed
+use Rattle.probe_core.proofs.Histories.{goes_on_legal, rest_runs, numbers_kept}
+use Rattle.probe_core.proofs.Soundness.{content_more}
 use Rattle.slot_table.specs.declared.entries.Happened.{Happened}
 use Rattle.slot_table.specs.declared.entries.Happened.TheVariants as entry
 use Rattle.slot_table.specs.History.{asked_of, content_of, IsFirstAfter, AreFirstsAfter, IsWithin, AreWithin, IsLegal, Begins, lowered, least_from, least_at, Tells, IsAtMost, Keeps}
 
 -- calls of two histories in a row
 
-pub asked_of-append : (h k : List Happened) → asked_of (h ++ k) ≡ asked_of h ++ asked_of k
+asked_of-append : (h k : List Happened) → asked_of (h ++ k) ≡ asked_of h ++ asked_of k
 asked_of-append [] k = refl
 asked_of-append (entry.Asked c a ∷ h) k = ap (λ (t : List Answered). record { call = c; answer = a } ∷ t) (asked_of-append h k)
 asked_of-append (entry.Marked p g ∷ h) k = asked_of-append h k
 asked_of-append (entry.First p g ∷ h) k = asked_of-append h k
 
-pub content_from-append : (table : Table) (h k : List Answered) → content_from table (h ++ k) ≡ content_from (content_from table h) k
-content_from-append table [] k = refl
-content_from-append table (e ∷ h) k = content_from-append (changed table e.call e.answer) h k
-
-pub run_append : (table : Table) (h k : List Answered) → IsRunFrom table h → IsRunFrom (content_from table h) k → IsRunFrom table (h ++ k)
-run_append table [] k first next = next
-run_append table (e ∷ h) k first next = (first.0, run_append (changed table e.call e.answer) h k first.1 next)
-
-pub run_behind : (table : Table) (h k : List Answered) → IsRunFrom table (h ++ k) → IsRunFrom (content_from table h) k
-run_behind table [] k run = run
-run_behind table (e ∷ h) k run = run_behind (changed table e.call e.answer) h k run.1
-
-pub firsts_snoc : (before h : List Happened) (e : Happened) → AreFirstsAfter before h → IsFirstAfter (before ++ h) e → AreFirstsAfter before (h ++ e ∷ [])
+firsts_snoc : (before h : List Happened) (e : Happened) → AreFirstsAfter before h → IsFirstAfter (before ++ h) e → AreFirstsAfter before (h ++ e ∷ [])
 firsts_snoc before [] e firsts last = (subst (λ (t : List Happened). IsFirstAfter t e) (append-nil before) last, tt)
 firsts_snoc before (x ∷ h) e firsts last =
     (firsts.0, firsts_snoc (before ++ x ∷ []) h e firsts.1 (subst (λ (t : List Happened). IsFirstAfter t e) (sym (append_assoc before (x ∷ []) h)) last))
@@ -47,9 +37,9 @@ within_snoc : (n : ℕ) (h : List Happened) (e : Happened) → AreWithin n h →
 within_snoc n [] e within last = (last, tt)
 within_snoc n (x ∷ h) e within last = (within.0, within_snoc n h e within.1 last)
 
--- how many numbers there are
+-- the content has a place for each number
 
-pub length-changed : (table : Table) (c : Call) (a : Answer) → length (changed table c a) ≡ length table
+length-changed : (table : Table) (c : Call) (a : Answer) → length (changed table c a) ≡ length table
 length-changed table (call.Enter key) (answer.Number p) = length-set table p (Some key)
 length-changed table (call.Enter key) answer.Absent = refl
 length-changed table (call.Enter key) answer.Full = refl
@@ -57,7 +47,7 @@ length-changed table (call.LookUp key) (answer.Number p) = refl
 length-changed table (call.LookUp key) answer.Absent = refl
 length-changed table (call.LookUp key) answer.Full = refl
 
-pub length-content_from : (table : Table) (h : List Answered) → length (content_from table h) ≡ length table
+length-content_from : (table : Table) (h : List Answered) → length (content_from table h) ≡ length table
 length-content_from table [] = refl
 length-content_from table (e ∷ h) = length-content_from (changed table e.call e.answer) h ∙ length-changed table e.call e.answer
 
@@ -69,13 +59,13 @@ length-content n h = length-content_from (empty_table n) (asked_of h) ∙ length
 pub content_snoc : (n : ℕ) (h : List Happened) (c : Call) (a : Answer) → content_of n (h ++ entry.Asked c a ∷ []) ≡ changed (content_of n h) c a
 content_snoc n h c a =
     ap (content_from (empty_table n)) (asked_of-append h (entry.Asked c a ∷ []))
-    ∙ content_from-append (empty_table n) (asked_of h) (record { call = c; answer = a } ∷ [])
+    ∙ content_more (empty_table n) (asked_of h) (record { call = c; answer = a })
 
 pub legal_snoc : (n : ℕ) (h : List Happened) (c : Call) (a : Answer) → key_of c < 2 ^ 51 → IsLegal n h → Step (content_of n h) c a (changed (content_of n h) c a)
     → IsLegal n (h ++ entry.Asked c a ∷ [])
 legal_snoc n h c a small legal step = record {
   run = subst (λ (t : List Answered). IsRunFrom (empty_table n) t) (sym (asked_of-append h (entry.Asked c a ∷ [])))
-      (run_append (empty_table n) (asked_of h) (record { call = c; answer = a } ∷ []) legal.run (step, tt));
+      (goes_on_legal n (asked_of h) (record { call = c; answer = a }) _ legal.run step);
   firsts = firsts_snoc [] h (entry.Asked c a) legal.firsts tt;
   within = within_snoc n h (entry.Asked c a) legal.within small;
 }
@@ -101,64 +91,13 @@ least_from-append least p (entry.Asked c a ∷ h) k = least_from-append least p 
 least_from-append least p (entry.Marked q g ∷ h) k = least_from-append (if q == p then lowered least g else least) p h k
 least_from-append least p (entry.First q g ∷ h) k = least_from-append least p h k
 
--- a history that grows keeps every pair of a number and its key
-
-pub set_elsewhere : (table : Table) (x q key p : ℕ) → p ≢ q → IsNumber table key p → IsNumber (slice_set table q (Some x)) key p
-set_elsewhere table x q key p apart number = record {
-  within = let e : length (slice_set table q (Some x)) ≡ length table = length-set table q (Some x) in omega (arith, e, number.within);
-  stands = get_or-set_other table q p (Some x) None apart ∙ number.stands;
-}
-
-pub set_again : (table : Table) (x key p : ℕ) → IsNumber table x p → IsNumber table key p → IsNumber (slice_set table p (Some x)) key p
-set_again table x key p same number = record {
-  within = let e : length (slice_set table p (Some x)) ≡ length table = length-set table p (Some x) in omega (arith, e, number.within);
-  stands = get_or-set_same table p (Some x) None number.within ∙ sym same.stands ∙ number.stands;
-}
-
-pub not_free : (table : Table) (key p : ℕ) → IsFree table p → IsNumber table key p → ⊥
-not_free table key p free number = let e : None ≡ Some key = sym free.free ∙ number.stands in cc
-
-pub entered_keeps : (table : Table) (x q key p : ℕ) → Step table (call.Enter x) (answer.Number q) (slice_set table q (Some x))
-    → IsNumber table key p → IsNumber (slice_set table q (Some x)) key p
-entered_keeps table x q key p step number =
-    elim (cases_eq p q) [
-      | inl same ↦
-          let P : ℕ → Type 0 = λ r. IsNumber table key r
-          in let Q : ℕ → Type 0 = λ r. IsNumber (slice_set table q (Some x)) key r
-          in let there : IsNumber table key q = subst P same number
-          in elim step [
-            | inl found ↦ subst Q (sym same) (set_again table x key q found.0 there)
-            | inr added ↦ absurd (not_free table key q added.1 there)
-          ]
-      | inr apart ↦ set_elsewhere table x q key p apart number
-    ]
-
-pub step_keeps : (table : Table) (asked : Call) (found : Answer) (key p : ℕ) → Step table asked found (changed table asked found)
-    → IsNumber table key p → IsNumber (changed table asked found) key p
-step_keeps table (call.Enter x) (answer.Number q) key p step number = entered_keeps table x q key p step number
-step_keeps table (call.Enter x) answer.Absent key p step number = number
-step_keeps table (call.Enter x) answer.Full key p step number = number
-step_keeps table (call.LookUp x) (answer.Number q) key p step number = number
-step_keeps table (call.LookUp x) answer.Absent key p step number = number
-step_keeps table (call.LookUp x) answer.Full key p step number = number
-
--- a key's number is its number after any run from there
-pub run_keeps : (table : Table) (history : List Answered) (key p : ℕ) → IsRunFrom table history → IsNumber table key p
-    → IsNumber (content_from table history) key p
-run_keeps table [] key p run number = number
-run_keeps table (e ∷ history) key p run number =
-    run_keeps (changed table e.call e.answer) history key p run.1 (step_keeps table e.call e.answer key p run.0 number)
-
 -- a number that a beginning of a legal history has is a number of it
 pub number_stays : (n : ℕ) (seen log : List Happened) (key p : ℕ) → IsLegal n log → Begins seen log → IsNumber (content_of n seen) key p
     → IsNumber (content_of n log) key p
 number_stays n seen log key p legal begins number =
     let calls : asked_of log ≡ asked_of seen ++ asked_of begins.0 = ap asked_of begins.1 ∙ asked_of-append seen begins.0
-    in let run : IsRunFrom (empty_table n) (asked_of seen ++ asked_of begins.0) = subst (λ (t : List Answered). IsRunFrom (empty_table n) t) calls legal.run
-    in let whole : content_of n log ≡ content_from (content_of n seen) (asked_of begins.0) =
-    ap (content_from (empty_table n)) calls ∙ content_from-append (empty_table n) (asked_of seen) (asked_of begins.0)
-    in subst (λ (t : Table). IsNumber t key p) (sym whole)
-    (run_keeps (content_of n seen) (asked_of begins.0) key p (run_behind (empty_table n) (asked_of seen) (asked_of begins.0) run) number)
+    in subst (λ (t : List Answered). IsNumber (content n t) key p) (sym calls)
+    (numbers_kept n (asked_of seen) (asked_of begins.0) key p (subst (keyed.IsLegal n) calls legal.run) number)
 
 -- beginnings
 
@@ -231,4 +170,4 @@ pub last_answer_tells : (n : ℕ) (h : List Happened) (c : Call) (a : Answer) �
 last_answer_tells n h c a legal =
     let last : List Answered = record { call = c; answer = a } ∷ []
     in let run : IsRunFrom (empty_table n) (asked_of h ++ last) = subst (λ (t : List Answered). IsRunFrom (empty_table n) t) (asked_of-append h (entry.Asked c a ∷ [])) legal.run
-    in tells_by_step n (h ++ entry.Asked c a ∷ []) (content_of n h) c a (content_snoc n h c a) (run_behind (empty_table n) (asked_of h) last run).0
+    in tells_by_step n (h ++ entry.Asked c a ∷ []) (content_of n h) c a (content_snoc n h c a) (rest_runs (empty_table n) (asked_of h) last run).0

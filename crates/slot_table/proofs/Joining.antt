@@ -24,10 +24,10 @@ either_by : (P : List Happened → Type 0) (a b : List Happened) (test : Bool) �
 either_by P a b true first second = second
 either_by P a b false first second = first
 
-pub longer_either : (P : List Happened → Type 0) (a b : List Happened) → P a → P b → P (longer a b)
+longer_either : (P : List Happened → Type 0) (a b : List Happened) → P a → P b → P (longer a b)
 longer_either P a b first second = either_by P a b (nat_lt (length a) (length b)) first second
 
-pub shorter_either : (P : List Happened → Type 0) (a b : List Happened) → P a → P b → P (shorter a b)
+shorter_either : (P : List Happened → Type 0) (a b : List Happened) → P a → P b → P (shorter a b)
 shorter_either P a b first second = either_by P b a (nat_lt (length a) (length b)) second first
 
 whole_is : (a log : List Happened) → Begins a log → length log ≤ length a → a ≡ log
@@ -36,7 +36,7 @@ whole_is a log b short =
     in let none_more : b.0 ≡ [] = nil_from_length b.0 (omega (arith, l, short))
     in sym (b.1 ∙ ap (λ (t : List Happened). a ++ t) none_more ∙ append-nil a)
 
-pub begins_shorter : (a log : List Happened) → Begins a log → length a ≤ length log
+begins_shorter : (a log : List Happened) → Begins a log → length a ≤ length log
 begins_shorter a log b =
     let l : length log ≡ length a + length b.0 = ap (λ (t : List Happened). length t) b.1 ∙ length-append a b.0 in omega (arith, l)
 
@@ -54,14 +54,14 @@ longest_by a b log first second (inr e) false is =
     in let same : length b ≡ length log = ap (λ (t : List Happened). length t) e
     in whole_is a log first (omega (arith, le, same))
 
-pub longest_of_both : (a b log : List Happened) → Begins a log → Begins b log → (a ≡ log) ⊎ (b ≡ log) → longer a b ≡ log
+longest_of_both : (a b log : List Happened) → Begins a log → Begins b log → (a ≡ log) ⊎ (b ≡ log) → longer a b ≡ log
 longest_of_both a b log first second one = longest_by a b log first second one (nat_lt (length a) (length b)) refl
 
 begin_by : (a b log : List Happened) (test : Bool) → Begins (if test then b else a) log → Begins (if test then a else b) log → Begins a log × Begins b log
 begin_by a b log true long short = (short, long)
 begin_by a b log false long short = (long, short)
 
-pub both_begin : (a b log : List Happened) → Begins (longer a b) log → Begins (shorter a b) log → Begins a log × Begins b log
+both_begin : (a b log : List Happened) → Begins (longer a b) log → Begins (shorter a b) log → Begins a log × Begins b log
 both_begin a b log long short = begin_by a b log (nat_lt (length a) (length b)) long short
 
 longer_by : (a b : List Happened) (test : Bool) → nat_lt (length a) (length b) ≡ test
@@ -69,7 +69,7 @@ longer_by : (a b : List Happened) (test : Bool) → nat_lt (length a) (length b)
 longer_by a b true is = let short : length a < length b = ltb-true (length a) (length b) is in (omega (arith, short), omega arith)
 longer_by a b false is = let le : length b ≤ length a = ltb-false (length a) (length b) is in (omega arith, omega (arith, le))
 
-pub longer_than : (a b : List Happened) → (length a ≤ length (longer a b)) × (length b ≤ length (longer a b))
+longer_than : (a b : List Happened) → (length a ≤ length (longer a b)) × (length b ≤ length (longer a b))
 longer_than a b = longer_by a b (nat_lt (length a) (length b)) refl
 
 spent_is_spent : {O : Type 0} → IsSpent {O = O} spent
@@ -78,7 +78,7 @@ spent_is_spent = record { order = refl; seen = refl; mine = refl; stake = refl }
 module _ {O : Type 0} (n : ℕ) (place : ℕ → ℕ → ℕ) (key : O) (words : List ℕ) (views : List (View O)) (kept : Kept n place key words views)
     (id other : ℕ) (v w : View O) (apart : other ≢ id) (at : get_elem? views id ≡ some v) (there : get_elem? views other ≡ some w) where
   -- all views afterwards
-  abbrev pub after : List (View O)
+  abbrev after : List (View O)
   after = slice_set (slice_set views id (joined v w)) other spent
 
   joined_there : get_elem? after id ≡ some (joined v w)
@@ -162,7 +162,7 @@ module _ {O : Type 0} (n : ℕ) (place : ℕ → ℕ → ℕ) (key : O) (words :
       in let whole : weight fine (pieces_of views) ≡ 2 ^ fine = kept.stakes fine before
       in omega (arith, one, two, sum, whole)
 
-  pub kept_by_join : v.order ≡ Some key → Kept n place key words after
+  kept_by_join : v.order ≡ Some key → Kept n place key words after
   kept_by_join of = record {
     log = kept.log;
     longest = record {

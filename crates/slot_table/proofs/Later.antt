@@ -71,11 +71,11 @@ calls_added seen (e ∷ added) =
     ∙ ap (λ (t : List Happened). e ∷ t) rest'
 
 -- what a pass shows of the view of its seat
-abbrev pub known_of : {O : Type 0} → TableId → View O → Known O
+abbrev known_of : {O : Type 0} → TableId → View O → Known O
 known_of table view = record { table = table; order = view.order; seen = view.seen; mine = view.mine; stake = view.stake }
 
 -- a seat whose step made these calls is later by them
-pub grown_later : {O : Type 0} (n : ℕ) (table table' : TableId) (old new : View O) (longest added : List Happened)
+grown_later : {O : Type 0} (n : ℕ) (table table' : TableId) (old new : View O) (longest added : List Happened)
     → IsRising 0 old.mine (length old.seen) → Grown n old longest added new → IsLater n (known_of table old) added (known_of table' new)
 grown_later n table table' old new longest added rises grown =
     let rest : List Happened = grown.later.0

@@ -1,16 +1,14 @@
 pub mod Histories
-pub mod Pairs
-pub mod Placings
-pub mod Winning
-pub mod Deciding
-pub mod Seating
-pub mod Stepping
-pub mod Searching
-pub mod Parting
-pub mod Owning
-pub mod Staking
-pub mod Portions
-pub mod Joining
-pub mod Marking
+mod Pairs
+mod Deciding
+mod Seating
+mod Stepping
+mod Searching
+mod Parting
+mod Owning
+mod Staking
+mod Portions
+mod Joining
+mod Marking
 pub mod Contents
 pub mod Later

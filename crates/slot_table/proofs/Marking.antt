@@ -59,7 +59,7 @@ first_is_least n old new p found called =
     in last_first [] called.0 (entry.First p found) legal.firsts ∙ sym (least_first p p found called.0) ∙ ap (λ (t : List Happened). least_at p t) (sym called.1.seen)
 
 module _ (n : ℕ) (place : ℕ → ℕ → ℕ) (words games : List ℕ) (log : List Happened) (sound : Sound n place words games log) (p : ℕ) (inside : p < n) where
-  pub lowers : (game : ℕ) → game < 0xFFFF_FFFF_FFFF_FFFF
+  lowers : (game : ℕ) → game < 0xFFFF_FFFF_FFFF_FFFF
       → Sound n place words (slice_set games p (min (slice_index_or games p 0) game)) (log ++ entry.Marked p game ∷ [])
   lowers game low =
       let x : ℕ = min (slice_index_or games p 0) game
@@ -79,7 +79,7 @@ module _ (n : ℕ) (place : ℕ → ℕ → ℕ) (words games : List ℕ) (log :
         placed = sound.placed;
       }
 
-  pub shows_first : Sound n place words games (log ++ entry.First p (mark_of (slice_index_or games p 0)) ∷ [])
+  shows_first : Sound n place words games (log ++ entry.First p (mark_of (slice_index_or games p 0)) ∷ [])
   shows_first =
       let found : Option ℕ = mark_of (slice_index_or games p 0)
       in record {

@@ -1,4 +1,4 @@
--- Lists of places that rise, how often a place stands in them, and what all seats own together.
+-- Lists of places that rise, how often a place is in them, and what all seats own together.
 use Rattle.std.proofs.Common.{◌≡◌, ◌≢◌, ℕ, zero, suc, ◌+◌, ◌<◌, ◌≤◌, ◌==◌, nat_lt, Bool, true, false, List, [], ◌∷◌, ◌++◌, length, slice_set, refl, sym, ◌∙◌, ap, subst, inl, inr, arith, zero-add, if◌then◌else◌}
 use Rattle.std.proofs.lemmas.Bool.{eqb-true, eq-eqb, ltb-true, ltb-false}
 use Rattle.std.proofs.lemmas.Bool.Decides.{nat_tests}
@@ -9,9 +9,9 @@ use Rattle.slot_table.specs.declared.views.View.{View}
 use Rattle.slot_table.specs.Places.{times, below, IsRising, inserted, merged}
 use Rattle.slot_table.specs.Rule.{times_owned}
 use Rattle.slot_table.specs.Telling.{places_from}
-use Rattle.slot_table.proofs.Placings.{three_ways}
+use Rattle.probe_core.proofs.Placings.{three_ways}
 
--- how often a place stands
+-- how often a place is in a list
 
 pub times-append : (k : ℕ) (xs ys : List ℕ) → times k (xs ++ ys) ≡ times k xs + times k ys
 times-append k [] ys = omega arith
@@ -33,7 +33,7 @@ inserted_by : (k x y : ℕ) (ys : List ℕ) (b : Bool) → nat_lt x y ≡ b → 
 inserted_by k x y ys true is rest = rw is refl
 inserted_by k x y ys false is rest = rw is (omega (arith, rest))
 
-pub times-inserted : (k x : ℕ) (ys : List ℕ) → times k (inserted x ys) ≡ (if x == k then 1 else 0) + times k ys
+times-inserted : (k x : ℕ) (ys : List ℕ) → times k (inserted x ys) ≡ (if x == k then 1 else 0) + times k ys
 times-inserted k x [] = refl
 times-inserted k x (y ∷ ys) = inserted_by k x y ys (nat_lt x y) refl (times-inserted k x ys)
 
@@ -64,7 +64,7 @@ pub rising_more : (low : ℕ) (xs : List ℕ) (high n : ℕ) (added : List Happe
 rising_more low [] high n added h r = let le : low ≤ high = r in rising_places low n added (omega (arith, h, le))
 rising_more low (x ∷ xs) high n added h r = (r.0, rising_more (x + 1) xs high n added h r.1)
 
--- a place below all others does not stand there
+-- a place below all others is not in the list
 below_all : (k low : ℕ) (xs : List ℕ) (high : ℕ) → k < low → IsRising low xs high → times k xs ≡ 0
 below_all k low [] high h r = refl
 below_all k low (x ∷ xs) high h r =
@@ -93,13 +93,13 @@ rising_by low x y ys high from none_of r rest false is =
     in let apart : y ≢ x = λ e. (let here : (y == x) ≡ true = eq-eqb y x e in let one : 1 + times x ys ≡ 0 = rw here at none_of in omega (arith, one))
     in rw is (r.0, rest (omega (arith, behind, apart)))
 
-pub rising-inserted : (low x : ℕ) (ys : List ℕ) (high : ℕ) → low ≤ x → x < high → times x ys ≡ 0 → IsRising low ys high → IsRising low (inserted x ys) high
+rising-inserted : (low x : ℕ) (ys : List ℕ) (high : ℕ) → low ≤ x → x < high → times x ys ≡ 0 → IsRising low ys high → IsRising low (inserted x ys) high
 rising-inserted low x [] high from to none_of r = (from, (let le : x + 1 ≤ high = omega (arith, to) in le))
 rising-inserted low x (y ∷ ys) high from to none_of r =
     rising_by low x y ys high from none_of r
     (λ h. rising-inserted (y + 1) x ys high (omega (arith, h)) to (let e : times x (y ∷ ys) ≡ 0 = none_of in omega (arith, e)) r.1) (nat_lt x y) refl
 
--- both lists put together rise where no place stands twice
+-- both lists put together rise where no place is in them twice
 pub rising-merged : (low : ℕ) (xs ys : List ℕ) (high : ℕ) → IsRising low xs high → IsRising 0 ys high → ((k : ℕ) → times k xs + times k ys ≤ 1) → IsRising 0 (merged xs ys) high
 rising-merged low [] ys high r s apart = s
 rising-merged low (x ∷ xs) ys high r s apart =
@@ -114,7 +114,7 @@ rising-merged low (x ∷ xs) ys high r s apart =
 all_by : (low x : ℕ) (xs : List ℕ) (e : Happened) (seen : List Happened) → low ≡ x → xs ≡ places_from (low + 1) seen → (x ∷ xs) ≡ places_from low (e ∷ seen)
 all_by low x xs e seen same rest = cc
 
--- places that rise, and of which none is left out, are all that there are
+-- places that rise, and of which none is left out, are all places
 pub all_places : (low high : ℕ) (seen : List Happened) (mine : List ℕ) → high ≡ low + length seen → IsRising low mine high
     → ((k : ℕ) → low ≤ k → k < high → times k mine ≡ 1) → mine ≡ places_from low seen
 all_places low high [] [] long rises once = refl

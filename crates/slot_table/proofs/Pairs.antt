@@ -52,7 +52,7 @@ marks_stay (x ∷ words) zero w = refl
 marks_stay (x ∷ words) (suc p) w =
     ap (λ (k : ℕ). mark_words (slice_set (x ∷ words) k w)) (two_on p ∙ ap suc (sym (one_on p))) ∙ slots_stay words p w
 
--- how many there are
+-- how many words slots and marks have
 
 length-slots : (words : List ℕ) (n : ℕ) → length words ≤ 2 * n → 2 * n ≤ length words + 1 → length (slot_words words) ≡ n
 length-slots [] n high low = omega (arith, high, low)
@@ -73,7 +73,7 @@ pub slots_repeated : (n slot mark : ℕ) → slot_words (repeat n (slot ∷ mark
 slots_repeated zero slot mark = refl
 slots_repeated (suc n) slot mark = ap (λ (ws : List ℕ). slot ∷ ws) (slots_repeated n slot mark)
 
--- the words behind a first one, that of a slot
+-- the words after a first one, that of a slot
 marks_behind : (n slot mark : ℕ) → slot_words (mark ∷ repeat n (slot ∷ mark ∷ [])) ≡ mark ∷ replicate n mark
 marks_behind zero slot mark = refl
 marks_behind (suc n) slot mark = ap (λ (ws : List ℕ). mark ∷ ws) (marks_behind n slot mark)

@@ -32,7 +32,7 @@ module _ {O : Type 0} (n : ℕ) (place : ℕ → ℕ → ℕ) (key : O) (words :
   part = slice_set views id (parted view)
 
   -- all views afterwards
-  abbrev pub cut : List (View O)
+  abbrev cut : List (View O)
   cut = part ++ cut_off view ∷ []
 
   -- whoever has a view afterwards
@@ -78,7 +78,7 @@ module _ {O : Type 0} (n : ℕ) (place : ℕ → ℕ → ℕ) (key : O) (words :
       in let whole : weight fine (pieces_of views) ≡ 2 ^ fine = kept.stakes fine before
       in omega (arith, more, less, both, whole)
 
-  pub kept_by_split : Kept n place key words cut
+  kept_by_split : Kept n place key words cut
   kept_by_split =
       let begun : Begins view.seen kept.log × Begins view.met kept.log = kept.longest.begun id view at
       in let some : view.stake ≢ [] = has_stake view key of (kept.staked id view at)

@@ -4,7 +4,7 @@ use Rattle.std.proofs.Math.Nat.{pow-suc}
 use Rattle.slot_table.specs.Stakes.{AreUpTo, weight, IsAsMuch, IsWhole, halved, half_of}
 use Rattle.slot_table.proofs.Staking.{up_to_more, up_to_parts, weight-append, finest, up_to_finest, halves_weigh, whole_piece}
 
--- in pieces of half the size there are twice as many
+-- a stake in pieces of half the size is twice as many
 twice : (fine : ℕ) (stake : List ℕ) → AreUpTo fine stake → weight (fine + 1) stake ≡ weight fine stake + weight fine stake
 twice fine [] up = refl
 twice fine (piece ∷ stake) up =

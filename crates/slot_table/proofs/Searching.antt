@@ -1,5 +1,5 @@
 -- The steps of one call in a row: what the seat knows between two of them, and after the last one.
-use Rattle.std.proofs.Common.{◌≡◌, ◌≢◌, ℕ, ◌+◌, ◌^◌, ◌<◌, ◌⊎◌, ◌==◌, Bool, true, false, List, [], ◌∷◌, ◌++◌, length, refl, sym, ◌∙◌, ap, subst, inl, inr, arith}
+use Rattle.std.proofs.Common.{◌≡◌, ◌≢◌, ℕ, ◌+◌, ◌<◌, ◌⊎◌, ◌==◌, Bool, true, false, List, [], ◌∷◌, ◌++◌, length, refl, sym, ◌∙◌, ap, subst, inl, inr, arith}
 use Rattle.std.proofs.lemmas.Bool.{eqb-false}
 use Rattle.std.proofs.lemmas.List.{append-nil}
 use Rattle.probe_core.specs.declared.calls.Call.{Call}
@@ -9,13 +9,13 @@ use Rattle.probe_core.specs.declared.probes.Turn.TheVariants as turn
 use Rattle.probe_core.specs.Probing.{Probing}
 use Rattle.probe_core.specs.Turn.{turn_of}
 use Rattle.probe_core.specs.Order.{IsOrder}
-use Rattle.probe_core.specs.Machine.{Machine, Followed, Runs, Answers, code_of, follows, key_of, place_in, begun}
+use Rattle.probe_core.specs.Machine.{Machine, Followed, Runs, Answers, code_of, follows, key_of, place_in}
 use Rattle.slot_table.specs.declared.entries.Happened.{Happened}
 use Rattle.slot_table.specs.declared.entries.Happened.TheVariants as entry
 use Rattle.slot_table.specs.declared.views.View.{View}
 use Rattle.slot_table.specs.History.{content_of, IsLegal, Begins, Tells}
 use Rattle.slot_table.specs.Telling.{entries_of, places_from, PassedOthers, IsSearch, MaySwap, Grown, Called, Stepped}
-use Rattle.slot_table.proofs.Histories.{begins_itself, begins_longer, begins_through, kept_since, last_answer_tells}
+use Rattle.slot_table.proofs.Histories.{begins_longer, begins_through, kept_since, last_answer_tells}
 use Rattle.slot_table.proofs.Deciding.{passed_stays, passes_one}
 
 -- what a turn says of what followed
@@ -32,7 +32,7 @@ turn_done order (Answers b) a e = let same : b ≡ a = cc in ap Answers same
 
 -- where a call goes on
 
-abbrev pub Next : ℕ → Call → ℕ → ℕ → Machine → Type 0
+abbrev Next : ℕ → Call → ℕ → ℕ → Machine → Type 0
 Next n c i x next =
     ((record { call = c; index = i; swaps = true } ≡ next) × MaySwap c)
     ⊎ ((record { call = c; index = i + 1; swaps = false } ≡ next) × (x ≢ 0) × (x ≢ code_of (key_of c)) × (i + 1 ≢ n))
@@ -77,7 +77,7 @@ module _ {O : Type 0} (n : ℕ) (place : ℕ → ℕ → ℕ) (machine : Machine
     (stepped : Stepped n machine (place_in place machine) found old new) where
   -- a step that does not end its call
   module _ (next : Machine) (f : follows n machine (place_in place machine) found ≡ Runs next) where
-    pub seen_is : new.seen ≡ stepped.longest
+    seen_is : new.seen ≡ stepped.longest
     seen_is = stepped.grown.seen ∙ ap (λ (t : Followed). stepped.longest ++ entries_of machine.call t) f ∙ append-nil stepped.longest
 
     pub went_on : Went old new

@@ -19,7 +19,7 @@ pub up_to_parts : (fine : ℕ) (stake other : List ℕ) → AreUpTo fine (stake 
 up_to_parts fine [] other up = (tt, up)
 up_to_parts fine (piece ∷ stake) other up = let rest : AreUpTo fine stake × AreUpTo fine other = up_to_parts fine stake other up.1 in ((up.0, rest.0), rest.1)
 
-pub up_to_both : (fine : ℕ) (stake other : List ℕ) → AreUpTo fine stake → AreUpTo fine other → AreUpTo fine (stake ++ other)
+up_to_both : (fine : ℕ) (stake other : List ℕ) → AreUpTo fine stake → AreUpTo fine other → AreUpTo fine (stake ++ other)
 up_to_both fine [] other one two = two
 up_to_both fine (piece ∷ stake) other one two = (one.0, up_to_both fine stake other one.1 two)
 
@@ -38,7 +38,7 @@ up_to_finest [] = tt
 up_to_finest (piece ∷ stake) = (omega arith, up_to_more (finest stake) (piece + finest stake) stake (omega arith) (up_to_finest stake))
 
 -- a stake that weighs nothing has no piece
-pub weightless : (fine : ℕ) (stake : List ℕ) → weight fine stake ≡ 0 → stake ≡ []
+weightless : (fine : ℕ) (stake : List ℕ) → weight fine stake ≡ 0 → stake ≡ []
 weightless fine [] e = refl
 weightless fine (piece ∷ stake) e = let weighs : 0 < 2 ^ (fine - piece) = pow_pos (fine - piece) in absurd (omega (arith, weighs, e))
 
@@ -136,9 +136,9 @@ module _ {O : Type 0} (fine : ℕ) where
       let parts : AreUpTo fine v.stake × AreUpTo fine (pieces_of (views ++ new ∷ [])) = up_to_parts fine v.stake (pieces_of (views ++ new ∷ [])) up
       in up_to_both fine v.stake (pieces_of views) parts.0 (up_to_snoc views new parts.1)
 
-  -- who has all that there is owns all that is owned
+  -- who has the whole stake owns all that is owned
 
-  abbrev pub AreStaked : List (View O) → Type 0
+  abbrev AreStaked : List (View O) → Type 0
   AreStaked views = (seat : ℕ) (view : View O) → get_elem? views seat ≡ some view → (view.stake ≢ []) ⊎ IsSpent view
 
   weigh_one : (views : List (View O)) (id : ℕ) (view : View O) → get_elem? views id ≡ some view → weight fine view.stake ≤ weight fine (pieces_of views)

@@ -44,7 +44,7 @@ wanted {O = O} place order key machine m found given wants same_key same_machine
 
 module _ {O : Type 0} (exponent : O → ℕ) (place : ℕ → ℕ → ℕ) (key : O) (slots id : ℕ) (me : Me (Unit {0}) (View O)) (of : me.0.order ≡ Some key) where
   -- a load of a machine that loads
-  pub load_allowed : (machine : Machine) → machine.swaps ≡ false → IsOrder (2 ^ exponent key) (place (key_of machine.call))
+  load_allowed : (machine : Machine) → machine.swaps ≡ false → IsOrder (2 ^ exponent key) (place (key_of machine.call))
       → IsSearch (2 ^ exponent key) place machine me.0.seen
       → Allows (λ (s : State (Unit {0}) (View O)). Kept (2 ^ exponent key) place key s.words s.views) slots id me (2 * place_in place machine) (λ n. n)
       (told exponent machine (step slots (2 * place_in place machine) 0 0 none) me)
@@ -61,7 +61,7 @@ module _ {O : Type 0} (exponent : O → ℕ) (place : ℕ → ℕ → ℕ) (key 
       passed_stays n (place (key_of machine.call)) me.0.seen kept.log (key_of machine.call) machine.index kept.legal (kept.longest.begun id me.0 at).0 search.passed
       in let after : Sound n place words games (kept.log ++ added) =
       subst (λ (v : ℕ). Sound n place words games (kept.log ++ entries_of machine.call (follows n machine p v))) (sym same)
-      (loaded n place words games kept.log before machine loads order search.within search.small passed)
+      (loaded n place words games kept.log before machine order search.within search.small search.enters passed loads)
       in let w : View O = grown_view me.0 kept.log added
       in let stepped : Stepped n machine p x me.0 w = record {
         longest = kept.log;
@@ -77,7 +77,7 @@ module _ {O : Type 0} (exponent : O → ℕ) (place : ℕ → ℕ → ℕ) (key 
       )
 
   -- a compare-exchange of a machine that swaps
-  pub swap_allowed : (machine : Machine) (value : ℕ) → value ≡ code_of (key_of machine.call) → machine.swaps ≡ true → IsOrder (2 ^ exponent key) (place (key_of machine.call))
+  swap_allowed : (machine : Machine) (value : ℕ) → value ≡ code_of (key_of machine.call) → machine.swaps ≡ true → IsOrder (2 ^ exponent key) (place (key_of machine.call))
       → IsSearch (2 ^ exponent key) place machine me.0.seen
       → Allows (λ (s : State (Unit {0}) (View O)). Kept (2 ^ exponent key) place key s.words s.views) slots id me (2 * place_in place machine) (λ n. either (n == 0) value n)
       (told exponent machine (step slots (2 * place_in place machine) 0 value none) me)
@@ -94,7 +94,7 @@ module _ {O : Type 0} (exponent : O → ℕ) (place : ℕ → ℕ → ℕ) (key 
       passed_stays n (place (key_of machine.call)) me.0.seen kept.log (key_of machine.call) machine.index kept.legal (kept.longest.begun id me.0 at).0 search.passed
       in let after : Sound n place (slice_set words p (either (x == 0) value x)) games (kept.log ++ added) =
       subst (λ (v : ℕ). Sound n place (slice_set words p (either (v == 0) value v)) games (kept.log ++ entries_of machine.call (follows n machine p v))) (sym same)
-      (rw is (swapped n place words games kept.log before machine swaps (search.enters swaps) order search.within search.small passed))
+      (rw is (swapped n place words games kept.log before machine order search.within search.small search.enters passed swaps))
       in let w : View O = grown_view me.0 kept.log added
       in let stepped : Stepped n machine p x me.0 w = record {
         longest = kept.log;

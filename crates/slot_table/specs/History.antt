@@ -91,7 +91,7 @@ abbrev pub TellsAt : ℕ → List Happened → ℕ → Option ℕ → Type 0
 TellsAt n history p None = IsFree (content_of n history) p
 TellsAt n history p (Some key) = IsNumber (content_of n history) key p
 
--- there is a least game, and it is not above this one
+-- some game is the least, and it is not above this one
 abbrev pub IsAtMost : Option ℕ → ℕ → Type 0
 IsAtMost None game = ⊥
 IsAtMost (Some least) game = least ≤ game

@@ -1,7 +1,7 @@
--- Places in a history: lists of them that rise, how often one stands in a list, and lists put together.
+-- Places in a history: lists of them that rise, how often one is in a list, and lists put together.
 use Rattle.std.specs.Prelude.{ℕ, ◌+◌, ◌≤◌, ◌==◌, if◌then◌else◌, nat_lt, List, [], ◌∷◌}
 
--- how often a place stands in a list
+-- how often a place is in a list
 abbrev pub times : ℕ → List ℕ → ℕ
 times k [] = 0
 times k (x ∷ xs) = (if x == k then 1 else 0) + times k xs

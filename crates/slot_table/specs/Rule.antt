@@ -91,7 +91,7 @@ IsMarkWord (Some game) word = (word ≡ game) × (game < 0xFFFF_FFFF_FFFF_FFFF)
 abbrev pub AreMarkWords : ℕ → List ℕ → List Happened → Type 0
 AreMarkWords n words log = (p : ℕ) → p < n → IsMarkWord (least_at p log) (slice_index_or words p 0)
 
--- how often a place stands in what seats call their own, all seats together
+-- how often a place is in what seats call their own, all seats together
 abbrev pub times_owned : {O : Type 0} → ℕ → List (View O) → ℕ
 times_owned k [] = 0
 times_owned k (view ∷ views) = times k view.mine + times_owned k views
@@ -101,13 +101,13 @@ abbrev pub pieces_of : {O : Type 0} → List (View O) → List ℕ
 pieces_of [] = []
 pieces_of (view ∷ views) = view.stake ++ pieces_of views
 
--- The rule of a table of n numbers in this order, over all words and the views of all seats that there ever were, so also
--- of passes that were dropped. There is one history, `log`, and these hold:
+-- The rule of a table of n numbers in this order, over all words and the views of all seats that ever were, so also of
+-- passes that were dropped. One history, `log`, is that of the table, and these hold:
 -- * `longest`: each history that was seen begins it, and it was seen; so of any two that were seen one begins the other;
 -- * `legal`, `whole`, `slots`, `small`, `marks`: it is legal, and its content is the words, of each number that of its key
 --   and beside it that of its least game;
 -- * `placed`: each taken place of a key has all earlier places of the key's order taken by other keys;
--- * `owned`, `rises`: each place of it stands once in what all seats together call their own, and no other place does; what
+-- * `owned`, `rises`: each place of it is once in what all seats together call their own, and no other place is; what
 --   a seat calls its own are places of what it has seen, rising;
 -- * `orders`: each view is of the table's order, but for those that were joined to another, which have nothing left;
 -- * `stakes`, `staked`: the stakes of all seats together are the whole, and each seat has one, but for those same views

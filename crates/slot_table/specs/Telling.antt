@@ -2,6 +2,8 @@
 use Rattle.std.specs.Prelude.{◌≡◌, ◌≢◌, ℕ, ◌+◌, ◌*◌, ◌/◌, ◌^◌, ◌<◌, ◌≤◌, ◌==◌, if◌then◌else◌, true, List, [], ◌∷◌, ◌++◌, length, Option, Some, None, filter_map, slice_get, slice_index_or}
 use Rattle.atomic_table.specs.Table.{Step, Me}
 use Rattle.atomic_table.specs.Seated.{TableId}
+use Rattle.atomic_table.specs.declared.shared.Shared.{Shared}
+use Rattle.atomic_table.specs.declared.shared.Seat.{Seat}
 use Rattle.probe_core.specs.declared.calls.Call.{Call}
 use Rattle.probe_core.specs.declared.calls.Call.TheVariants as call
 use Rattle.probe_core.specs.declared.probes.Turn.{Turn}
@@ -88,7 +90,7 @@ pub record Joined {O : Type 0} (n : ℕ) (old other new : View O) : Type 0 where
   pub stake : new.stake ≡ old.stake ++ other.stake
   pub lone : IsLone new
 
--- A slot word stands at twice its number, and a mark word one place further: half the place is the number in both.
+-- A slot word is at twice its number, and a mark word one place further: half the place is the number in both.
 
 -- what a step of this machine on a slot word tells a seat, whose view has the order
 abbrev pub told : {O S : Type 0} → (O → ℕ) → Machine → Step S → Me S (View O) → ℕ → Me S (View O) → Type 0
@@ -112,6 +114,10 @@ pub record IsSeatOf {O : Type 0} (n : ℕ) (of : TableId) (key : O) (seated : Ta
   pub met : me.0.met ≡ []
   pub legal : IsLegal n me.0.seen
   pub rises : IsRising 0 me.0.mine (length me.0.seen)
+
+-- a seat is one of this table, whose order has the exponent
+abbrev pub IsSeatAt : {O P : Type 0} → (O → ℕ) → Shared (Unit {0}) (View O) O P → Seat (Unit {0}) (View O) → Type 0
+IsSeatAt exponent shared seat = IsSeatOf (2 ^ exponent shared.key) shared.table_id shared.key seat.table_id seat.me
 
 -- in the table the first n places hold other keys
 abbrev pub PassedOthers : (ℕ → ℕ) → Table → ℕ → ℕ → Type 0

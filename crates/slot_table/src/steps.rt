@@ -6,7 +6,7 @@ ghost use Rattle.slot_table.specs.declared.entries.Happened.TheVariants as entry
 ghost use Rattle.slot_table.specs.History.{content_of, least_at, Tells, IsAtMost};
 ghost use Rattle.slot_table.specs.Rule.{parted};
 ghost use Rattle.slot_table.specs.Stakes.{half_of};
-ghost use Rattle.slot_table.specs.Telling.{IsSeatOf, IsSearch, Turned, Grown, Called, Joined};
+ghost use Rattle.slot_table.specs.Telling.{IsSeatAt, IsSearch, Turned, Grown, Called, Joined};
 
 use crate::views::{Ask, Cut, First, Glue, Looked, Marked, Place, Shown, Told};
 use probe_core::{Answer, Call, Key, Probe, ProbeOrder, Turn, Want};
@@ -14,13 +14,11 @@ use std::marker::Brand;
 
 /// Takes the step that the probe wants, and answers what follows.
 fn turn<A: Ask, O: ProbeOrder>(shared: &Shown<O>, seat: &mut Place<O>, probe: Probe<O>) -> Turn<O>
-    requires seat { IsSeatOf (2 ^ O.exponent shared.now.key) shared.now.table_id shared.now.key
-        seat.old.table_id seat.old.me }
+    requires seat { IsSeatAt O.exponent shared.now seat.old }
     requires probe { (probe.order ≡ shared.now.key) × (probe.machine ≡ A.machine) }
     requires search { IsSearch (2 ^ O.exponent shared.now.key) (O.place_of shared.now.key)
         probe.machine seat.old.me.0.seen }
-    ensures seat { IsSeatOf (2 ^ O.exponent shared.now.key) shared.now.table_id shared.now.key
-        seat.new.table_id seat.new.me }
+    ensures seat { IsSeatAt O.exponent shared.now seat.new }
     ensures turned { Turned (2 ^ O.exponent shared.now.key) (O.place_of shared.now.key)
         shared.now.key probe.machine seat.old.me.0 result seat.new.me.0 }
     ensures fewer { HasFewer (2 ^ O.exponent shared.now.key)
@@ -42,12 +40,10 @@ pub(crate) fn asked<O: ProbeOrder>(
     order: &O,
     call: Call,
 ) -> Answer
-    requires seat { IsSeatOf (2 ^ O.exponent shared.now.key) shared.now.table_id shared.now.key
-        seat.old.table_id seat.old.me }
+    requires seat { IsSeatAt O.exponent shared.now seat.old }
     requires order { order.now ≡ shared.now.key }
     requires small { key_of call < 2 ^ 51 }
-    ensures seat { IsSeatOf (2 ^ O.exponent shared.now.key) shared.now.table_id shared.now.key
-        seat.new.table_id seat.new.me }
+    ensures seat { IsSeatAt O.exponent shared.now seat.new }
     ensures called { Called (2 ^ O.exponent shared.now.key) seat.old.me.0 (entry.Asked call result)
         seat.new.me.0 }
     ensures told { Tells (2 ^ O.exponent shared.now.key) seat.new.me.0.seen call result }
@@ -67,11 +63,9 @@ pub(crate) fn word_at<O: ProbeOrder>(
     seat: &mut Place<O>,
     number: usize,
 ) -> Option<Key>
-    requires seat { IsSeatOf (2 ^ O.exponent shared.now.key) shared.now.table_id shared.now.key
-        seat.old.table_id seat.old.me }
+    requires seat { IsSeatAt O.exponent shared.now seat.old }
     requires number { number < 2 ^ O.exponent shared.now.key }
-    ensures seat { IsSeatOf (2 ^ O.exponent shared.now.key) shared.now.table_id shared.now.key
-        seat.new.table_id seat.new.me }
+    ensures seat { IsSeatAt O.exponent shared.now seat.new }
     ensures seen { (longest : _) × Grown (2 ^ O.exponent shared.now.key) seat.old.me.0 longest []
         seat.new.me.0 }
     ensures key { result ≡ slice_index_or (content_of (2 ^ O.exponent shared.now.key)
@@ -87,12 +81,10 @@ pub(crate) fn word_at<O: ProbeOrder>(
 
 /// A new seat that has seen what this one has, with a half of its stake's first piece.
 pub(crate) fn split<O: ProbeOrder>(shared: &Shown<O>, seat: &mut Place<O>) -> Place<O>
-    requires { IsSeatOf (2 ^ O.exponent shared.now.key) shared.now.table_id shared.now.key
-        seat.old.table_id seat.old.me }
+    requires { IsSeatAt O.exponent shared.now seat.old }
     ensures same { (seat.new.table_id ≡ seat.old.table_id)
         × (seat.new.me ≡ (parted seat.old.me.0, seat.old.me.1)) }
-    ensures seat { IsSeatOf (2 ^ O.exponent shared.now.key) shared.now.table_id shared.now.key
-        result.table_id result.me }
+    ensures seat { IsSeatAt O.exponent shared.now result }
     ensures view { (result.me.0.seen ≡ seat.old.me.0.seen) × (result.me.0.mine ≡ []) }
     ensures stake { result.me.0.stake ≡ half_of seat.old.me.0.stake }
 {
@@ -101,12 +93,9 @@ pub(crate) fn split<O: ProbeOrder>(shared: &Shown<O>, seat: &mut Place<O>) -> Pl
 
 /// Joins the other seat to this one.
 pub(crate) fn meet<O: ProbeOrder>(shared: &Shown<O>, seat: &mut Place<O>, other: Place<O>)
-    requires seat { IsSeatOf (2 ^ O.exponent shared.now.key) shared.now.table_id shared.now.key
-        seat.old.table_id seat.old.me }
-    requires other { IsSeatOf (2 ^ O.exponent shared.now.key) shared.now.table_id shared.now.key
-        other.table_id other.me }
-    ensures seat { IsSeatOf (2 ^ O.exponent shared.now.key) shared.now.table_id shared.now.key
-        seat.new.table_id seat.new.me }
+    requires seat { IsSeatAt O.exponent shared.now seat.old }
+    requires other { IsSeatAt O.exponent shared.now other }
+    ensures seat { IsSeatAt O.exponent shared.now seat.new }
     ensures joined { Joined (2 ^ O.exponent shared.now.key) seat.old.me.0 other.me.0 seat.new.me.0 }
 {
     shared.join_seat::<Glue>(seat, other);
@@ -115,12 +104,10 @@ pub(crate) fn meet<O: ProbeOrder>(shared: &Shown<O>, seat: &mut Place<O>, other:
 
 /// Lowers a number's mark word to a game.
 pub(crate) fn mark<O: ProbeOrder>(shared: &Shown<O>, seat: &mut Place<O>, number: usize, game: u64)
-    requires seat { IsSeatOf (2 ^ O.exponent shared.now.key) shared.now.table_id shared.now.key
-        seat.old.table_id seat.old.me }
+    requires seat { IsSeatAt O.exponent shared.now seat.old }
     requires number { number < 2 ^ O.exponent shared.now.key }
     requires game { game < 2 ^ 64 - 1 }
-    ensures seat { IsSeatOf (2 ^ O.exponent shared.now.key) shared.now.table_id shared.now.key
-        seat.new.table_id seat.new.me }
+    ensures seat { IsSeatAt O.exponent shared.now seat.new }
     ensures called { Called (2 ^ O.exponent shared.now.key) seat.old.me.0
         (entry.Marked number game) seat.new.me.0 }
     ensures least { IsAtMost (least_at number seat.new.me.0.seen) game }
@@ -134,11 +121,9 @@ pub(crate) fn first<O: ProbeOrder>(
     seat: &mut Place<O>,
     number: usize,
 ) -> Option<u64>
-    requires seat { IsSeatOf (2 ^ O.exponent shared.now.key) shared.now.table_id shared.now.key
-        seat.old.table_id seat.old.me }
+    requires seat { IsSeatAt O.exponent shared.now seat.old }
     requires number { number < 2 ^ O.exponent shared.now.key }
-    ensures seat { IsSeatOf (2 ^ O.exponent shared.now.key) shared.now.table_id shared.now.key
-        seat.new.table_id seat.new.me }
+    ensures seat { IsSeatAt O.exponent shared.now seat.new }
     ensures called { Called (2 ^ O.exponent shared.now.key) seat.old.me.0
         (entry.First number result) seat.new.me.0 }
     ensures least { result ≡ least_at number seat.new.me.0.seen }

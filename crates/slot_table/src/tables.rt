@@ -20,7 +20,7 @@ use std::marker::Model;
 
 /// A table of numbers for keys, shared by threads. This is the project's own.
 ///
-/// Each key gets a number when it is entered first, and has it for ever after. The word of a number's key and that of its
+/// Each key gets a number when it is entered first, and keeps it for ever. The word of a number's key and that of its
 /// least game lie side by side, so mostly in one line of memory. Contracts see which table it is, and its order.
 #[derive(Drop)]
 pub struct SlotTable<O: ProbeOrder> {
@@ -53,7 +53,11 @@ fn free_words(alloc: Global, slots: usize) -> Result<Vec<u64>, AllocError>
 impl<O: ProbeOrder> SlotTable<O> {
     /// A table in this order of which no number is taken, and its first pass, which has the whole stake.
     ///
-    /// Refusal: `Memory`, and then nothing is kept. It takes 16 bytes a number, and for a moment twice as much.
+    /// It takes 16 bytes a number, and for a moment twice as much.
+    ///
+    /// # Errors
+    ///
+    /// `Memory` where memory was refused; then nothing is kept.
     pub fn new(alloc: Global, order: O) -> Result<(SlotTable<O>, Pass<O>), SlotFault>
         ensures order { IfOk result (λ r. r.0.order ≡ order) }
         ensures pass { IfOk result (λ r. IsPassOf (2 ^ O.exponent order) r.0 r.1) }

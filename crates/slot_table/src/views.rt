@@ -27,7 +27,8 @@ impl<O: ProbeOrder> TableRule<(), View<O>, O> for OneHistory {
     ghost use Rattle.std.specs.Prelude.{◌^◌, []};
     ghost use Rattle.slot_table.specs.Rule.{Kept, newcomer};
 
-    ghost holds = { λ order s. Kept (2 ^ O.exponent order) (O.place_of order) order s.words s.views };
+    ghost holds = { λ order s.
+        Kept (2 ^ O.exponent order) (O.place_of order) order s.words s.views };
 
     ghost first = { λ order. newcomer order [] };
 }

@@ -1,5 +1,9 @@
 //! What can go wrong in counting.
+ghost use Rattle.std.specs.Prelude.{◌≡◌};
+ghost use Rattle.tally_core.specs.declared.faults.HarvestFault.TheVariants.{Memory};
+
 use sgf_core::SgfFault;
+use std::alloc::{AllocError, AllocFailed};
 use thiserror::Error;
 
 /// Why no dictionary was made.
@@ -17,4 +21,20 @@ pub enum HarvestFault {
     /// A count is over 2^64 - 1.
     #[error("F8 count too large")]
     Overflow,
+}
+
+impl From<AllocError> for HarvestFault {
+    ghost from_gives = { λ _ fault. fault ≡ Memory };
+
+    fn from(_: AllocError) -> HarvestFault {
+        HarvestFault::Memory
+    }
+}
+
+impl<T: Drop> From<AllocFailed<T>> for HarvestFault {
+    ghost from_gives = { λ _ fault. fault ≡ Memory };
+
+    fn from(_: AllocFailed<T>) -> HarvestFault {
+        HarvestFault::Memory
+    }
 }

@@ -9,11 +9,11 @@ use Rattle.harvest_core.proofs.reading.read_all.Goals as goal
 
 pub loop-job-preserved : goal.loop-job-preserved
 loop-job-preserved g c =
-    let job = c.in-Ok-Some.job in
+    let job = c.in-Some.job in
     let before = c.loop-job.games in
     let after = c.next_job.new.self in
     let h = c.loop-job.invariant in
-    let next : IsNextGame before after job = subst (λ o. IfSome o (IsNextGame before after)) c.in-Ok-Some.field-0-is c.in-Ok-Some.ensures.job in
+    let next : IsNextGame before after job = subst (λ o. IfSome o (IsNextGame before after)) c.in-Some.is c.in_ok-job.ensures.job in
     let same = c.next_job.ensures.bytes in
     let bytes : job.bytes ≡ c.args.games.now.bytes = next.bytes ∙ h.bytes in
     record {
@@ -37,10 +37,10 @@ loop-job-preserved g c =
           );
     }
 
-pub returns-in-Ok-None-clause-dealt : goal.returns-in-Ok-None-clause-dealt
-returns-in-Ok-None-clause-dealt g c game from below =
+pub returns-in-None-clause-dealt : goal.returns-in-None-clause-dealt
+returns-in-None-clause-dealt g c game from below =
     let before = c.loop-job.games in
     let after = c.next_job.new.self in
-    let none : HasNoGame before after = subst (λ o. IfNone o (HasNoGame before after)) c.in-Ok-None.field-0-is c.in-Ok-None.ensures.none in
+    let none : HasNoGame before after = subst (λ o. IfNone o (HasNoGame before after)) c.in-None.is c.in_ok-job.ensures.none in
     let same = none.games in
     c.loop-job.invariant.dealt game from (omega arith)

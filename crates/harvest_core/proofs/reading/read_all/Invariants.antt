@@ -19,6 +19,6 @@ invariant-loop-job g l =
           → IsWorked l.fn.games.bytes kinds l.worked.share × IsRefused l.fn.games.bytes kinds l.worked.refused;
     }
 
--- each turn reads a game, and there are at most 2 ^ 28 of them
+-- each turn reads a game, and an input has at most 2 ^ 28 of them
 abbrev pub decreases-loop-job : goal.decreases-loop-job
 decreases-loop-job g l = 2 ^ 28 - l.games.report.games

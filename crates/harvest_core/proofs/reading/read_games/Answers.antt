@@ -1,11 +1,11 @@
 use Rattle.std.proofs.Common.{IfNone, ap, sym, subst}
+use Rattle.std.proofs.lemmas.Result.{on_ok_weaker}
 use Rattle.tally_core.specs.declared.collections.Report.{Report}
 use Rattle.job_core.specs.declared.hands.Hand.{Hand}
 use Rattle.harvest_core.specs.Working.{IsRefused}
 use Rattle.harvest_core.specs.Reading.{AreDealt}
-use Rattle.harvest_core.proofs.Dealt.{dealt_stays}
+use Rattle.harvest_core.proofs.Dealt.{dealt_stays, none_where_ok}
 use Rattle.harvest_core.proofs.reading.read_games.Goals as goal
-use Rattle.harvest_core.proofs.reading.read_games.Goals.{in-Ok, in-Err}
 
 pub returns-clause-worked : goal.returns-clause-worked
 returns-clause-worked g c =
@@ -25,11 +25,11 @@ returns-clause-dealt g c =
     let high = c.report.result.games in
     let worked = c.read_all-outcome.new.worked in
     let sorted = c.sort_rows.new.self in
-    elim c.match-outcome.branch [
-      | in-Ok w ↦
-          let same = ap (λ (r : Report). r.games) c.report.ensures.report in
-          subst (λ o. IfNone o (AreDealt low high c.close.new.desk sorted)) (sym w.fault-is)
-          (dealt_stays low high c.close.new.desk worked sorted c.sort_rows.ensures.games c.sort_rows.ensures.refused
-          (subst (λ (v : Hand). AreDealt low high v worked) (sym c.close.ensures) (subst (λ n. AreDealt low n c.read_all-outcome.new.desk worked) (sym same) w.in-Ok.ensures.dealt)))
-      | in-Err w ↦ subst (λ o. IfNone o (AreDealt low high c.close.new.desk sorted)) (sym w.fault-is) tt
-    ]
+    let outcome = c.read_all-outcome.result in
+    let same = ap (λ (r : Report). r.games) c.report.ensures.report in
+    subst (λ o. IfNone o (AreDealt low high c.close.new.desk sorted)) (sym c.err.ensures.value)
+    (none_where_ok outcome (AreDealt low high c.close.new.desk sorted)
+    (on_ok_weaker outcome
+    (λ dealt. dealt_stays low high c.close.new.desk worked sorted c.sort_rows.ensures.games c.sort_rows.ensures.refused
+    (subst (λ (v : Hand). AreDealt low high v worked) (sym c.close.ensures) (subst (λ n. AreDealt low n c.read_all-outcome.new.desk worked) (sym same) dealt)))
+    c.read_all-outcome.ensures.dealt))

@@ -31,15 +31,15 @@ returns-in_default-clause-each g c =
     all_kept (2 ^ g.O.ProbeOrder.exponent c.args.table.now.order) c.args.game c.loop-meeting.pass.seen c.enter_one.new.pass.seen c.args.meetings.now c.loop-meeting.entered.items
     c.enter_one.ensures.later.later.keeps c.loop-meeting.invariant.each
 
-pub returns-in_default-push-clause-later : goal.returns-in_default-push-clause-later
-returns-in_default-push-clause-later g c =
+pub returns-in_err-push-clause-later : goal.returns-in_err-push-clause-later
+returns-in_err-push-clause-later g c =
     entered_so_far (2 ^ g.O.ProbeOrder.exponent c.args.table.now.order) c.args.meetings.now c.loop-meeting.meeting-index c.meeting-item.result c.args.pass.now c.loop-meeting.pass
     c.enter_one.new.pass (omega arith) c.meeting-item.is c.loop-meeting.invariant.later c.enter_one.ensures.later
 
-pub returns-in_default-push-clause-each : goal.returns-in_default-push-clause-each
-returns-in_default-push-clause-each g c =
+pub returns-in_err-push-clause-each : goal.returns-in_err-push-clause-each
+returns-in_err-push-clause-each g c =
     let n = 2 ^ g.O.ProbeOrder.exponent c.args.table.now.order in
-    subst (λ (es : List Entered). AreEntered n c.enter_one.new.pass.seen c.args.game c.args.meetings.now es) (sym c.in_default-push.ensures.items)
+    subst (λ (es : List Entered). AreEntered n c.enter_one.new.pass.seen c.args.game c.args.meetings.now es) (sym c.in_err-push.ensures.items)
     (all_kept n c.args.game c.loop-meeting.pass.seen c.enter_one.new.pass.seen c.args.meetings.now c.loop-meeting.entered.items
     c.enter_one.ensures.later.later.keeps c.loop-meeting.invariant.each)
 
@@ -49,7 +49,7 @@ loop-meeting-preserved g c =
     let meetings = c.args.meetings.now in
     let i = c.loop-meeting.meeting-index in
     let before = c.loop-meeting.entered.items in
-    let items = c.in-Ok.ensures.items in
+    let items = c.in_ok-push.ensures.items in
     let long = length-append before (c.in-Some.one ∷ []) in
     let longer = ap length items in
     let count = c.loop-meeting.invariant.count in

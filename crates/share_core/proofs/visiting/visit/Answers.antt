@@ -12,7 +12,7 @@ returns-in-Some-clause-fault g c first h =
     let n = 2 ^ g.O.ProbeOrder.exponent c.args.table.now.order in
     let rows = all_rows c.args.shares.now in
     let seen = c.word_at.new.pass.seen in
-    subst (IsVisitFault n seen rows) (sym c.unlike_at.ensures)
+    subst (IsVisitFault n seen rows) (sym c.stranger.ensures)
     (stranger_found n c.args.pass.now.seen seen rows c.args.number c.in-Some.held c.bits_of-found.result c.word_of.result c.sums_at-sums.result.stranger
     c.word_at.ensures.later.keeps (c.bits_of-found.ensures.bits ∙ c.word_at.ensures.key) c.word_of.ensures c.in-Some.is c.sums_at-sums.ensures.stranger h.stand)
 

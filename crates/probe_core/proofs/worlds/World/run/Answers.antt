@@ -41,8 +41,8 @@ returns-then-events-self-clause-lawful g c =
     in subst P c.self.view_is
     (sound_is_lawful (2 ^ g.O.ProbeOrder.exponent hall.order) (g.O.ProbeOrder.place_of hall.order) (world_of hall) c.self.invariant.sound)
 
-pub returns-then-is_err-clause-lawful : goal.returns-then-is_err-clause-lawful
-returns-then-is_err-clause-lawful g c =
+pub returns-in_err-reserve-clause-lawful : goal.returns-in_err-reserve-clause-lawful
+returns-in_err-reserve-clause-lawful g c =
     let hall = c.self.inside.hall
     in let n : ℕ = 2 ^ g.O.ProbeOrder.exponent hall.order
     in let P : List Finished → Type 0 = λ l. IsLawful n (record (world_of hall) { finished = l })

@@ -21,10 +21,10 @@ returns-in_err-make_rows-clause-fresh g c =
     let meetings = c.meetings-meetings.result.now in
     let entered = c.as_slice-entered.result.now in
     let value = c.as_slice-entered.ensures.value in
-    let walked = subst (λ (ms : List Meeting). IsWalk kinds actions ms c.in-Ok.moves) (sym c.meetings-meetings.ensures) c.in-Ok.ensures.walked in
+    let walked = subst (λ (ms : List Meeting). IsWalk kinds actions ms c.in_ok-moves.moves) (sym c.meetings-meetings.ensures) c.in_ok-moves.ensures.walked in
     let few = subst (λ (es : List Entered). length es ≤ length meetings) (sym value) c.enter_all.ensures.few in
     let each = subst (λ (es : List Entered). AreEntered n seen c.args.game meetings es) (sym value) c.enter_all.ensures.each in
-    fresh_of n c.args.game seen kinds actions meetings entered c.in-Ok.moves c.args.ledger.now.rows c.make_rows.new.self.rows walked few each c.make_rows.ensures.gained
+    fresh_of n c.args.game seen kinds actions meetings entered c.in_ok-moves.moves c.args.ledger.now.rows c.make_rows.new.self.rows walked few each c.make_rows.ensures.gained
 
 pub returns-in_err-make_rows-clause-fault : goal.returns-in_err-make_rows-clause-fault
 returns-in_err-make_rows-clause-fault g c =
@@ -35,11 +35,11 @@ returns-in_err-make_rows-clause-fault g c =
     let meetings = c.meetings-meetings.result.now in
     let entered = c.as_slice-entered.result.now in
     let value = c.as_slice-entered.ensures.value in
-    let walked = subst (λ (ms : List Meeting). IsWalk kinds actions ms c.in-Ok.moves) (sym c.meetings-meetings.ensures) c.in-Ok.ensures.walked in
+    let walked = subst (λ (ms : List Meeting). IsWalk kinds actions ms c.in_ok-moves.moves) (sym c.meetings-meetings.ensures) c.in_ok-moves.ensures.walked in
     let few = subst (λ (es : List Entered). length es ≤ length meetings) (sym value) c.enter_all.ensures.few in
     let each = subst (λ (es : List Entered). AreEntered n seen c.args.game meetings es) (sym value) c.enter_all.ensures.each in
     let p = err_from_is_err_and c.from_residual-in_err-make_rows.result c.from_residual-in_err-make_rows.ensures.1 in
-    rw (p.1, p.2) (stranger_of n c.args.game seen kinds actions meetings entered c.in-Ok.moves c.make_rows.new.self.rows c.in_err-make_rows.field-0.0 walked few each c.in_err-make_rows.ensures.fault)
+    rw (p.1, p.2) (stranger_of n c.args.game seen kinds actions meetings entered c.in_ok-moves.moves c.make_rows.new.self.rows c.in_err-make_rows.field-0.0 walked few each c.in_err-make_rows.ensures.fault)
 
 pub returns-in-Some-clause-fresh : goal.returns-in-Some-clause-fresh
 returns-in-Some-clause-fresh g c =
@@ -50,10 +50,10 @@ returns-in-Some-clause-fresh g c =
     let meetings = c.meetings-meetings.result.now in
     let entered = c.as_slice-entered.result.now in
     let value = c.as_slice-entered.ensures.value in
-    let walked = subst (λ (ms : List Meeting). IsWalk kinds actions ms c.in-Ok.moves) (sym c.meetings-meetings.ensures) c.in-Ok.ensures.walked in
+    let walked = subst (λ (ms : List Meeting). IsWalk kinds actions ms c.in_ok-moves.moves) (sym c.meetings-meetings.ensures) c.in_ok-moves.ensures.walked in
     let few = subst (λ (es : List Entered). length es ≤ length meetings) (sym value) c.enter_all.ensures.few in
     let each = subst (λ (es : List Entered). AreEntered n seen c.args.game meetings es) (sym value) c.enter_all.ensures.each in
-    fresh_of n c.args.game seen kinds actions meetings entered c.in-Ok.moves c.args.ledger.now.rows c.make_rows.new.self.rows walked few each c.make_rows.ensures.gained
+    fresh_of n c.args.game seen kinds actions meetings entered c.in_ok-moves.moves c.args.ledger.now.rows c.make_rows.new.self.rows walked few each c.make_rows.ensures.gained
 
 pub returns-in-Some-clause-fault : goal.returns-in-Some-clause-fault
 returns-in-Some-clause-fault g c =
@@ -63,10 +63,10 @@ returns-in-Some-clause-fault g c =
     let actions = c.args.record.now in
     let rows = c.make_rows.new.self.rows in
     let meetings = c.meetings-meetings.result.now in
-    let walked = subst (λ (ms : List Meeting). IsWalk kinds actions ms c.in-Ok.moves) (sym c.meetings-meetings.ensures) c.in-Ok.ensures.walked in
+    let walked = subst (λ (ms : List Meeting). IsWalk kinds actions ms c.in_ok-moves.moves) (sym c.meetings-meetings.ensures) c.in_ok-moves.ensures.walked in
     let refused : IsRefused n seen meetings c.in-Some.shape = subst (λ o. IfSome o (IsRefused n seen meetings)) c.in-Some.is c.in_ok-refused.ensures.refused in
     subst (IsPrepareFault n seen c.args.game kinds actions rows) (sym (c.full.ensures ∙ ap (λ w. fault.Full c.args.game w) c.word.ensures.value))
-    (full_of n c.args.game seen kinds actions meetings c.in-Ok.moves c.in-Some.shape rows walked refused)
+    (full_of n c.args.game seen kinds actions meetings c.in_ok-moves.moves c.in-Some.shape rows walked refused)
 
 pub returns-in-None-clause-fresh : goal.returns-in-None-clause-fresh
 returns-in-None-clause-fresh g c =
@@ -77,10 +77,10 @@ returns-in-None-clause-fresh g c =
     let meetings = c.meetings-meetings.result.now in
     let entered = c.as_slice-entered.result.now in
     let value = c.as_slice-entered.ensures.value in
-    let walked = subst (λ (ms : List Meeting). IsWalk kinds actions ms c.in-Ok.moves) (sym c.meetings-meetings.ensures) c.in-Ok.ensures.walked in
+    let walked = subst (λ (ms : List Meeting). IsWalk kinds actions ms c.in_ok-moves.moves) (sym c.meetings-meetings.ensures) c.in_ok-moves.ensures.walked in
     let few = subst (λ (es : List Entered). length es ≤ length meetings) (sym value) c.enter_all.ensures.few in
     let each = subst (λ (es : List Entered). AreEntered n seen c.args.game meetings es) (sym value) c.enter_all.ensures.each in
-    fresh_of n c.args.game seen kinds actions meetings entered c.in-Ok.moves c.args.ledger.now.rows c.make_rows.new.self.rows walked few each c.make_rows.ensures.gained
+    fresh_of n c.args.game seen kinds actions meetings entered c.in_ok-moves.moves c.args.ledger.now.rows c.make_rows.new.self.rows walked few each c.make_rows.ensures.gained
 
 pub returns-in-None-clause-ok : goal.returns-in-None-clause-ok
 returns-in-None-clause-ok g c =
@@ -96,8 +96,8 @@ returns-in-None-clause-ok g c =
     let all : length c.enter_all.new.entered.items ≡ length meetings = subst (λ o. IfNone o (length c.enter_all.new.entered.items ≡ length meetings)) c.in-None.is c.in_ok-refused.ensures.all in
     let whole : take (length entered) meetings ≡ meetings = ap (λ k. take k meetings) (ap length value ∙ all) ∙ take-length meetings in
     record {
-      walked = subst (λ k. IsWalk k c.args.record.now c.walk.new.self.meetings c.in-Ok.moves) (sym c.in-Ok.ensures.kinds) c.in-Ok.ensures.walked;
-      among = c.in-Ok.ensures.among;
+      walked = subst (λ k. IsWalk k c.args.record.now c.walk.new.self.meetings c.in_ok-moves.moves) (sym c.in_ok-moves.ensures.kinds) c.in_ok-moves.ensures.walked;
+      among = c.in_ok-moves.ensures.among;
       entered = subst (λ (ms : List Meeting). AreEntered n seen game ms c.enter_all.new.entered.items) same c.enter_all.ensures.each;
       all = all ∙ ap length same;
       rows_are = subst (λ (ms : List Meeting). AreRowsOf ms places rows) (whole ∙ same) c.in_ok-make_rows.ensures.rows;
@@ -107,23 +107,23 @@ returns-in-None-clause-ok g c =
 pub returns-in_err-refused-clause-later : goal.returns-in_err-refused-clause-later
 returns-in_err-refused-clause-later g c =
     let n = 2 ^ g.O.ProbeOrder.exponent c.args.table.now.order in
-    entered_patterns n c.args.self.now.walk.kinds c.args.record.now c.meetings-meetings.result.now c.in-Ok.moves c.args.pass.now c.enter_all.new.pass
-    (subst (λ (ms : List Meeting). IsWalk c.args.self.now.walk.kinds c.args.record.now ms c.in-Ok.moves) (sym c.meetings-meetings.ensures) c.in-Ok.ensures.walked) c.enter_all.ensures.later
+    entered_patterns n c.args.self.now.walk.kinds c.args.record.now c.meetings-meetings.result.now c.in_ok-moves.moves c.args.pass.now c.enter_all.new.pass
+    (subst (λ (ms : List Meeting). IsWalk c.args.self.now.walk.kinds c.args.record.now ms c.in_ok-moves.moves) (sym c.meetings-meetings.ensures) c.in_ok-moves.ensures.walked) c.enter_all.ensures.later
 
 pub returns-in_err-make_rows-clause-later : goal.returns-in_err-make_rows-clause-later
 returns-in_err-make_rows-clause-later g c =
     let n = 2 ^ g.O.ProbeOrder.exponent c.args.table.now.order in
-    entered_patterns n c.args.self.now.walk.kinds c.args.record.now c.meetings-meetings.result.now c.in-Ok.moves c.args.pass.now c.enter_all.new.pass
-    (subst (λ (ms : List Meeting). IsWalk c.args.self.now.walk.kinds c.args.record.now ms c.in-Ok.moves) (sym c.meetings-meetings.ensures) c.in-Ok.ensures.walked) c.enter_all.ensures.later
+    entered_patterns n c.args.self.now.walk.kinds c.args.record.now c.meetings-meetings.result.now c.in_ok-moves.moves c.args.pass.now c.enter_all.new.pass
+    (subst (λ (ms : List Meeting). IsWalk c.args.self.now.walk.kinds c.args.record.now ms c.in_ok-moves.moves) (sym c.meetings-meetings.ensures) c.in_ok-moves.ensures.walked) c.enter_all.ensures.later
 
 pub returns-in-Some-clause-later : goal.returns-in-Some-clause-later
 returns-in-Some-clause-later g c =
     let n = 2 ^ g.O.ProbeOrder.exponent c.args.table.now.order in
-    entered_patterns n c.args.self.now.walk.kinds c.args.record.now c.meetings-meetings.result.now c.in-Ok.moves c.args.pass.now c.enter_all.new.pass
-    (subst (λ (ms : List Meeting). IsWalk c.args.self.now.walk.kinds c.args.record.now ms c.in-Ok.moves) (sym c.meetings-meetings.ensures) c.in-Ok.ensures.walked) c.enter_all.ensures.later
+    entered_patterns n c.args.self.now.walk.kinds c.args.record.now c.meetings-meetings.result.now c.in_ok-moves.moves c.args.pass.now c.enter_all.new.pass
+    (subst (λ (ms : List Meeting). IsWalk c.args.self.now.walk.kinds c.args.record.now ms c.in_ok-moves.moves) (sym c.meetings-meetings.ensures) c.in_ok-moves.ensures.walked) c.enter_all.ensures.later
 
 pub returns-in-None-clause-later : goal.returns-in-None-clause-later
 returns-in-None-clause-later g c =
     let n = 2 ^ g.O.ProbeOrder.exponent c.args.table.now.order in
-    entered_patterns n c.args.self.now.walk.kinds c.args.record.now c.meetings-meetings.result.now c.in-Ok.moves c.args.pass.now c.enter_all.new.pass
-    (subst (λ (ms : List Meeting). IsWalk c.args.self.now.walk.kinds c.args.record.now ms c.in-Ok.moves) (sym c.meetings-meetings.ensures) c.in-Ok.ensures.walked) c.enter_all.ensures.later
+    entered_patterns n c.args.self.now.walk.kinds c.args.record.now c.meetings-meetings.result.now c.in_ok-moves.moves c.args.pass.now c.enter_all.new.pass
+    (subst (λ (ms : List Meeting). IsWalk c.args.self.now.walk.kinds c.args.record.now ms c.in_ok-moves.moves) (sym c.meetings-meetings.ensures) c.in_ok-moves.ensures.walked) c.enter_all.ensures.later
