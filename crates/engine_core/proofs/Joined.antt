@@ -70,7 +70,7 @@ joined_before (suc n) read left sum h some = (sum, h, some)
 not_empty : (bytes : List ℕ) → 0 < length bytes → bytes ≢ []
 not_empty bytes some none = omega (arith, ap length none)
 
--- a fault stands first after what was joined
+-- a fault is the first after what was joined
 pub bad_text : (input read left : List ℕ) (before : ℕ) (found : DictFault) → input ≡ read ++ left → WereJoined before read left → length input ≤ 2 ^ 28 → IsFrontFault left found → IsDictionaryFault input (before + 1) found
 bad_text input read left before dict_fault.Memory parts joined few stands = tt
 bad_text input read left before dict_fault.TooLarge parts joined few stands = absurd (omega (arith, ap length parts, length-append read left, stands))

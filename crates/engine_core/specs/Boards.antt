@@ -1,6 +1,7 @@
 -- The text that `board` prints: the final position of the first tree's main line.
-use Rattle.std.specs.Prelude.{◌≡◌, ◌⊎◌, ℕ, zero, suc, ◌^◌, ◌<◌, List, [], ◌∷◌, ◌++◌, length, map, Result, Ok, Err}
+use Rattle.std.specs.Prelude.{◌≡◌, ◌⊎◌, ℕ, ◌^◌, ◌<◌, List, [], ◌∷◌, ◌++◌, length, map, Result, Ok, Err}
 use Rattle.std.specs.List.{flat_map}
+use Rattle.shape_core.specs.Word.{count_from}
 use Rattle.sgf_core.specs.Tree.{GameTree, main_line_of}
 use Rattle.sgf_core.specs.Next.{IsNextTree, HasNoTree}
 use Rattle.go_board.specs.Extent.{Extent}
@@ -24,11 +25,6 @@ abbrev pub glyph_of : Stone → ℕ
 glyph_of stone.Empty = 46
 glyph_of stone.Black = 88
 glyph_of stone.White = 79
-
--- n numbers, from a first one on
-abbrev pub count_from : ℕ → ℕ → List ℕ
-count_from first zero = []
-count_from first (suc n) = first ∷ count_from (suc first) n
 
 -- the glyphs of a row from the left, and a line feed
 abbrev pub row_text : Extent → Position → ℕ → List ℕ
@@ -69,7 +65,7 @@ pub record FirstIs (input : List ℕ) (recorded : Result Kind RecordFault) : Typ
 abbrev pub HasNoBoard : List ℕ → Type 0
 HasNoBoard input = HasNoTree input 0 ⊎ FirstIs input (Ok kind.Other)
 
--- the fault's cause stands in the input, or memory was wanting
+-- the fault's cause is in the input, or memory was wanting
 abbrev pub IsBoardFault : List ℕ → RunFault → Type 0
 IsBoardFault input (fault.Sgf sgf.TooLarge) = 2 ^ 28 < length input
 IsBoardFault input (fault.Sgf found) = IsFaultOrMemory input 0 found

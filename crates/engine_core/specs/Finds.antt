@@ -1,8 +1,9 @@
 -- What `find` prints: the uses of one pattern in the dictionary whose text the input is.
-use Rattle.std.specs.Prelude.{◌≡◌, ℕ, ◌^◌, ◌≤◌, ◌⊎◌, List, ◌++◌, length, Option, Some, None}
+use Rattle.std.specs.Prelude.{◌≡◌, ℕ, ◌^◌, ◌≤◌, ◌⊎◌, List, length, Option, Some, None}
 use Rattle.shape_dict.specs.declared.entries.Entry.{Entry}
 use Rattle.shape_dict.specs.Contents.{Contents, entry_of}
-use Rattle.shape_dict.specs.Text.{word_text, uses_text, line_feed}
+use Rattle.shape_dict.specs.Text.{line_text}
+use Rattle.shape_dict.specs.declared.entries.Text.TheVariants as kind
 use Rattle.shape_dict.specs.Reading.{IsTextOf, IsTextFault}
 use Rattle.shape_dict.specs.declared.faults.DictFault.TheVariants as dict_fault
 use Rattle.engine_core.specs.declared.faults.RunFault.{RunFault}
@@ -15,11 +16,7 @@ pub record IsEntryOf (shape : ℕ) (input : List ℕ) (entry : Option Entry) : T
   pub few : length input ≤ 2 ^ 28
   pub found : entry ≡ entry_of shape contents.entries
 
--- a pattern's line: its word, how often it was there, and how often it was played
-abbrev pub found_line : Entry → List ℕ
-found_line entry = word_text entry.shape ++ uses_text entry ++ line_feed
-
--- a pattern that was never there
+-- the entry of a pattern that the dictionary does not have
 abbrev pub absent_entry : ℕ → Entry
 absent_entry shape = record { shape = shape; there = 0; played = 0; first = None }
 
@@ -27,12 +24,12 @@ absent_entry shape = record { shape = shape; there = 0; played = 0; first = None
 pub record IsFoundText (shape : ℕ) (input text : List ℕ) : Type 0 where
   pub entry : Entry
   pub has : IsEntryOf shape input (Some entry)
-  pub printed : text ≡ found_line entry
+  pub printed : text ≡ line_text kind.One entry
 
 -- the input's dictionary does not have the pattern, and the text is its word and twice 0
 pub record IsAbsentText (shape : ℕ) (input text : List ℕ) : Type 0 where
   pub lacks : IsEntryOf shape input None
-  pub printed : text ≡ found_line (absent_entry shape)
+  pub printed : text ≡ line_text kind.One (absent_entry shape)
 
 abbrev pub IsFindText : ℕ → List ℕ → List ℕ → Type 0
 IsFindText shape input text = IsFoundText shape input text ⊎ IsAbsentText shape input text
@@ -41,7 +38,7 @@ IsFindText shape input text = IsFoundText shape input text ⊎ IsAbsentText shap
 abbrev pub HasNoDictionary : List ℕ → Type 0
 HasNoDictionary input = (contents : Contents) → IsTextOf contents input → length input ≤ 2 ^ 28 → ⊥
 
--- the fault is the one that stands first in the input as a text of a dictionary, or memory was wanting
+-- the fault is the first in the input as a text of a dictionary, or memory was wanting
 abbrev pub IsFindFault : List ℕ → RunFault → Type 0
 IsFindFault input (fault.Dict n dict_fault.Memory) = n ≡ 1
 IsFindFault input (fault.Dict n found) = (n ≡ 1) × IsTextFault input found × HasNoDictionary input

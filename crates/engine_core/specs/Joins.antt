@@ -19,7 +19,7 @@ pub record IsNextText (bytes : List ℕ) (count : ℕ) (next : Contents) : Type 
 abbrev pub IsAdded : Contents → List ℕ → ℕ → Contents → Type 0
 IsAdded sum bytes count both = (next : Contents) × IsNextText bytes count next × IsJoin sum next both
 
--- why that can't be had
+-- why there is no such join
 abbrev pub IsAddFault : Contents → List ℕ → DictFault → Type 0
 IsAddFault sum bytes found =
     IsFrontFault bytes found ⊎ ((count : ℕ) × (next : Contents) × IsNextText bytes count next × IsJoinFault sum next found)
@@ -56,7 +56,7 @@ abbrev pub WereJoined : ℕ → List ℕ → List ℕ → Type 0
 WereJoined zero read left = read ≡ []
 WereJoined (suc n) read left = (sum : Contents) × IsJoinedText read (suc n) sum × (left ≢ [])
 
--- those before dictionary `n` were read and joined, and this fault stands first in what follows
+-- those before dictionary `n` were read and joined, and this fault is the first in what follows
 pub record IsBadText (input : List ℕ) (n : ℕ) (found : DictFault) : Type 0 where
   pub before : ℕ
   pub read : List ℕ

@@ -14,7 +14,7 @@ abbrev pub Wrote : (List ℕ → List ℕ → Type 0) → Option (List ℕ) → 
 Wrote IsText rest before after =
     IfSome rest (λ all. (text : List ℕ) × IsText (input_of all) text × Appends before after text)
 
--- after a failed write a front of the text is out; after any other fault nothing is, and its cause stands in the input
+-- after a failed write a front of the text is out; after any other fault nothing is, and its cause is in the input
 -- unless the reader failed
 abbrev pub IsRunFault : (List ℕ → List ℕ → Type 0) → (List ℕ → RunFault → Type 0) → Option (List ℕ) → Option (List ℕ) → Option (List ℕ) → RunFault → Type 0
 IsRunFault IsText IsCause rest before after (fault.Write written) =

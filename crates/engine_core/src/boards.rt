@@ -1,5 +1,5 @@
 //! `board`: from the bytes of a collection to the final position of its first game.
-ghost use Rattle.std.specs.Prelude.{◌≡◌, ◌⊎◌, Ok, IfOk, IfErr, IfSome, IfNone};
+ghost use Rattle.std.specs.Prelude.{◌≡◌, ◌⊎◌, IfOk, IfErr, IfSome, IfNone};
 ghost use Rattle.std.specs.Io.KnownBytes.{Keeps};
 ghost use Rattle.engine_core.specs.Boards.{position_text, IsFinal, IsBoardText, HasNoBoard};
 ghost use Rattle.engine_core.specs.Boards.{IsBoardFault};
@@ -33,33 +33,25 @@ fn final_text(alloc: Global, replayed: &Record) -> Result<Vec<u8>, RunFault>
     ensures fault { IfErr result (λ found. (found ≡ fault.Memory)
         ⊎ (found ≡ fault.Board board_fault.Memory)) }
 {
-    let mut board = match Board::new(alloc, replayed.size()) {
-        Ok(board) => board,
-        Err(fault) => return Err(RunFault::Board(fault)),
-    };
+    let mut board = Board::new(alloc, replayed.size())?;
     replay(&mut board, replayed.actions());
-    board_text(alloc, &board)
+    Ok(board_text(alloc, &board)?)
 }
 
 /// The text of the first tree's final position, or None where there is no tree or it is of another game.
+#[tactic(auto, using(crate::proofs::Runs::sgf_cause))]
 fn first_text(alloc: Global, input: &[u8]) -> Result<Option<Vec<u8>>, RunFault>
     ensures text { IfOk result (λ found. IfSome found (λ text. IsBoardText input.now text.items)) }
     ensures none { IfOk result (λ found. IfNone found (HasNoBoard input.now)) }
     ensures fault { IfErr result (IsBoardFault input.now) }
 {
-    let mut trees = match Trees::new(input) {
-        Ok(trees) => trees,
-        Err(fault) => return Err(RunFault::Sgf(fault)),
+    let mut trees = Trees::new(input)?;
+    let Some(tree) = trees.next_tree(alloc)? else {
+        return Ok(None);
     };
-    let tree = match trees.next_tree(alloc) {
-        Ok(Some(tree)) => tree,
-        Ok(None) => return Ok(None),
-        Err(fault) => return Err(RunFault::Sgf(fault)),
-    };
-    match read_record(alloc, &tree) {
-        Ok(Kind::Go(replayed)) => Ok(Some(final_text(alloc, &replayed)?)),
-        Ok(Kind::Other) => Ok(None),
-        Err(fault) => Err(RunFault::Record(fault)),
+    match read_record(alloc, &tree)? {
+        Kind::Go(replayed) => Ok(Some(final_text(alloc, &replayed)?)),
+        Kind::Other => Ok(None),
     }
 }
 

@@ -25,15 +25,10 @@ fn counted_text<T: Threads + Wait + Sync>(
     ensures text { IfOk result (λ p. IsCountText settings.kinds kind p.1 input.now p.0.items) }
     ensures fault { IfErr result (IsCountRunFault (2 ^ settings.k) settings.kinds input.now) }
 {
-    let counted = match harvest(rt, alloc, settings, input, &FreeGate) {
-        Ok(counted) => counted,
-        Err(fault) => return Err(RunFault::Harvest(fault)),
-    };
+    let counted = harvest(rt, alloc, settings, input, &FreeGate)?;
     let mut text = Vec::new(alloc);
-    match counted.dictionary.write(kind, &mut text) {
-        Ok(()) => Ok((text, counted.report)),
-        Err(fault) => Err(RunFault::Dict { n: 1, fault }),
-    }
+    counted.dictionary.write(kind, &mut text)?;
+    Ok((text, counted.report))
 }
 
 /// Reads a collection and writes a text of the dictionary of its games; the answer is how many trees it has of each sort.

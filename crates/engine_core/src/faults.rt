@@ -1,6 +1,8 @@
 //! What can go wrong in a run, the line that says so, and the exit status.
 ghost use Rattle.std.specs.Prelude.{◌≡◌};
 ghost use Rattle.engine_core.specs.Status.{status_of};
+ghost use Rattle.engine_core.specs.declared.faults.RunFault.TheVariants.{Memory, Sgf, Record, Board};
+ghost use Rattle.engine_core.specs.declared.faults.RunFault.TheVariants.{Harvest, Dict};
 
 use go_board::BoardFault;
 use go_record::RecordFault;
@@ -8,10 +10,11 @@ use sgf_core::SgfFault;
 use shape_core::GlyphFault;
 use shape_dict::DictFault;
 use share_core::HarvestFault;
+use std::alloc::{AllocError, AllocFailed};
 use std::fmt;
 use thiserror::Error;
 
-/// Why a run ended without its answer. The text is what stands on standard error after `shapes: `.
+/// Why a run ended without its answer. Its text follows `shapes: ` on standard error.
 #[derive(Clone, Copy, Debug, PartialEq, Eq, Error)]
 pub enum RunFault {
     /// The collection is not one that can be read.
@@ -44,6 +47,63 @@ pub enum RunFault {
     /// There was no memory for the input, the text or the words of the command line.
     #[error("M1 no memory")]
     Memory,
+}
+
+impl From<SgfFault> for RunFault {
+    ghost from_gives = { λ cause fault. fault ≡ Sgf cause };
+
+    fn from(cause: SgfFault) -> RunFault {
+        RunFault::Sgf(cause)
+    }
+}
+
+impl From<RecordFault> for RunFault {
+    ghost from_gives = { λ cause fault. fault ≡ Record cause };
+
+    fn from(cause: RecordFault) -> RunFault {
+        RunFault::Record(cause)
+    }
+}
+
+impl From<BoardFault> for RunFault {
+    ghost from_gives = { λ cause fault. fault ≡ Board cause };
+
+    fn from(cause: BoardFault) -> RunFault {
+        RunFault::Board(cause)
+    }
+}
+
+impl From<HarvestFault> for RunFault {
+    ghost from_gives = { λ cause fault. fault ≡ Harvest cause };
+
+    fn from(cause: HarvestFault) -> RunFault {
+        RunFault::Harvest(cause)
+    }
+}
+
+/// The fault of the only dictionary of a run, or of its first.
+impl From<DictFault> for RunFault {
+    ghost from_gives = { λ cause fault. fault ≡ Dict 1 cause };
+
+    fn from(cause: DictFault) -> RunFault {
+        RunFault::Dict { n: 1, fault: cause }
+    }
+}
+
+impl From<AllocError> for RunFault {
+    ghost from_gives = { λ _ fault. fault ≡ Memory };
+
+    fn from(_: AllocError) -> RunFault {
+        RunFault::Memory
+    }
+}
+
+impl<T: Drop> From<AllocFailed<T>> for RunFault {
+    ghost from_gives = { λ _ fault. fault ≡ Memory };
+
+    fn from(_: AllocFailed<T>) -> RunFault {
+        RunFault::Memory
+    }
 }
 
 /// The line of a dictionary's fault. Too large an input and want of memory are of no one dictionary, so they are said

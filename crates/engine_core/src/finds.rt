@@ -3,16 +3,17 @@ ghost use Rattle.std.specs.Prelude.{◌≡◌, IfOk, IfErr};
 ghost use Rattle.engine_core.specs.Finds.{IsEntryOf, IsFoundText, IsAbsentText, IsFindText};
 ghost use Rattle.engine_core.specs.Finds.{IsFindFault};
 ghost use Rattle.engine_core.specs.Runs.{Wrote, IsRunFault};
+ghost use Rattle.shape_dict.specs.Text.{line_text};
+ghost use Rattle.shape_dict.specs.declared.entries.Text.TheVariants as kind;
 ghost use Rattle.engine_core.specs.declared.boards.Outcome.TheVariants as outcome;
 
 use crate::boards::Outcome;
 use crate::faults::RunFault;
 use crate::input::read_input;
-use crate::lines::found_line;
 use crate::output::write_output;
 use shape_core::Shape;
-use shape_dict::{Dictionary, Entry};
-use std::alloc::Global;
+use shape_dict::{Dictionary, Entry, Text, push_line};
+use std::alloc::{AllocError, Global};
 use std::io::{Read, Write};
 
 /// The pattern's entry in the dictionary whose text the input is, or None.
@@ -20,10 +21,17 @@ fn entry_in(alloc: Global, input: &[u8], shape: Shape) -> Result<Option<Entry>, 
     ensures found { IfOk result (IsEntryOf shape input.now) }
     ensures fault { IfErr result (IsFindFault input.now) }
 {
-    match Dictionary::read(alloc, input) {
-        Ok(dictionary) => Ok(dictionary.find(shape)),
-        Err(fault) => Err(RunFault::Dict { n: 1, fault }),
-    }
+    let dictionary = Dictionary::read(alloc, input)?;
+    Ok(dictionary.find(shape))
+}
+
+/// A pattern's line: its word in 13 hexadecimal digits, how often it was there, and how often it was played.
+fn found_line(alloc: Global, entry: &Entry) -> Result<Vec<u8>, AllocError>
+    ensures { IfOk result (λ line. line.items ≡ line_text kind.One entry.now) }
+{
+    let mut line = Vec::new(alloc);
+    push_line(&mut line, Text::One, entry)?;
+    Ok(line)
 }
 
 /// The pattern's line in the dictionary whose text the input is, and whether it has the pattern.
@@ -56,7 +64,7 @@ fn answer(alloc: Global, input: &[u8], shape: Shape) -> Result<(Vec<u8>, Outcome
 ///
 /// `Dict` with 1 and the first fault of the text (X1 to X6, X8), `Read` where the reader failed, `Memory` where memory for
 /// the input or the line was refused: nothing is written then. `Write` where the writer failed: exactly that number of bytes of
-/// the line are out.
+/// the line is out.
 pub fn run_find<R: Read, W: Write>(
     alloc: Global,
     shape: Shape,

@@ -1,6 +1,6 @@
 //! The whole input, read up to one byte more than a run may have.
-ghost use Rattle.std.specs.Prelude.{◌≡◌, ◌+◌, ◌^◌, ◌<◌, ◌≤◌, ℕ, [], ◌++◌, length, take, vec_len};
-ghost use Rattle.std.specs.Prelude.{IfOk, IfErr, IfSome, OnOk, MatchResult, ◌⊎◌};
+ghost use Rattle.std.specs.Prelude.{◌≡◌, ◌+◌, ◌^◌, ◌<◌, ◌≤◌, ◌⊎◌, [], length, take, IfOk, IfErr};
+ghost use Rattle.std.specs.Prelude.{IfSome, OnOk};
 ghost use Rattle.std.specs.Io.KnownBytes.{Consumes, IsAtEnd};
 ghost use Rattle.engine_core.specs.declared.faults.RunFault.TheVariants as fault;
 ghost use Rattle.engine_core.specs.declared.input.TheConstants.{BLOCK};
@@ -10,21 +10,12 @@ use std::alloc::Global;
 use std::io::Read;
 
 /// The most bytes that a run may read, 2^28.
-const MOST: usize = 1 << 28;
+pub(crate) const MOST: usize = 1 << 28;
 
 /// How many bytes are asked for at once.
 const BLOCK: usize = 1 << 16;
 
-fn new_block(alloc: Global) -> Result<Vec<u8>, RunFault>
-    ensures { MatchResult result (λ block. vec_len block ≡ BLOCK) (λ found. found ≡ fault.Memory) }
-{
-    match vec![in alloc; 0u8; BLOCK] {
-        Ok(block) => Ok(block),
-        Err(_) => Err(RunFault::Memory),
-    }
-}
-
-/// One read. No bytes are the end, where there was room for one.
+/// One read. Where there was room for a byte, a read of none is the end.
 fn read_some<R: Read>(reader: &mut R, room: &mut [u8]) -> Result<usize, RunFault>
     ensures within { IfOk result (λ count. count ≤ length room.new) }
     ensures taken { IfOk result (λ count. Consumes (R.remaining reader.old)
@@ -33,23 +24,10 @@ fn read_some<R: Read>(reader: &mut R, room: &mut [u8]) -> Result<usize, RunFault
         → IsAtEnd (R.remaining reader.new)) }
     ensures fault { IfErr result (λ found. found ≡ fault.Read) }
 {
-    match reader.read(room) {
-        Ok(count) => Ok(count),
-        Err(_) => Err(RunFault::Read),
-    }
+    reader.read(room).map_err(|_| RunFault::Read)
 }
 
-pub(crate) fn append(input: &mut Vec<u8>, bytes: &[u8]) -> Result<(), RunFault>
-    ensures ok { OnOk result (input.new.items ≡ input.old.items ++ bytes.now) }
-    ensures fault { IfErr result (λ found. found ≡ fault.Memory) }
-{
-    match input.extend_from_slice(bytes) {
-        Ok(()) => Ok(()),
-        Err(_) => Err(RunFault::Memory),
-    }
-}
-
-/// Reads by a block, up to the end or as many bytes as a run may have and one more.
+/// Reads by a block, up to the end, or one byte more than a run may have.
 fn read_by_block<R: Read>(
     reader: &mut R,
     block: &mut [u8],
@@ -67,19 +45,23 @@ fn read_by_block<R: Read>(
         if count == 0 {
             return Ok(());
         }
-        append(input, &block[..count])?;
+        input.extend_from_slice(&block[..count])?;
     }
     Ok(())
 }
 
-/// The reader's bytes up to its end, or the first 2^28 + 1 of them. Any error of the reader is `Read`, and a read of no
-/// bytes is the end. It takes memory for the bytes and a block more.
+/// The reader's bytes up to its end, or the first 2^28 + 1 of them. A read of no bytes is the end. It takes memory for
+/// the bytes and a block more.
+///
+/// # Errors
+///
+/// `Read` where the reader failed, `Memory` where memory was refused: the bytes that were read by then are lost.
 pub fn read_input<R: Read>(alloc: Global, reader: &mut R) -> Result<Vec<u8>, RunFault>
     ensures input { IfOk result (λ input. IfSome (R.remaining reader.old)
         (λ all. input.items ≡ take (2 ^ 28 + 1) all)) }
     ensures fault { IfErr result (λ found. (found ≡ fault.Read) ⊎ (found ≡ fault.Memory)) }
 {
-    let mut block = new_block(alloc)?;
+    let mut block = vec![in alloc; 0u8; BLOCK]?;
     let mut input = Vec::new(alloc);
     read_by_block(reader, &mut block, &mut input)?;
     Ok(input)

@@ -9,27 +9,20 @@ ghost use Rattle.engine_core.specs.declared.boards.Outcome.TheVariants as outcom
 use crate::boards::Outcome;
 use crate::faults::RunFault;
 use crate::halves::{Batch, join_front, join_two};
-use crate::input::read_input;
+use crate::input::{MOST, read_input};
 use crate::output::write_output;
 use shape_dict::{DictFault, Dictionary, Text};
 use std::alloc::Global;
 use std::io::{Read, Write};
-
-/// The most bytes that the input may have, 2^28.
-const MOST: usize = 1 << 28;
 
 /// The join of `sum` and the dictionary of the text that the bytes begin with, and how many bytes that text has.
 fn add_next(alloc: Global, sum: &Dictionary, bytes: &[u8]) -> Result<(Dictionary, usize), DictFault>
     ensures added { IfOk result (λ p. IsAdded sum.now bytes.now p.1 p.0) }
     ensures fault { IfErr result (IsAddFault sum.now bytes.now) }
 {
-    match Dictionary::read_front(alloc, bytes) {
-        Ok((next, length)) => match Dictionary::join(alloc, sum, &next) {
-            Ok(both) => Ok((both, length)),
-            Err(fault) => Err(fault),
-        },
-        Err(fault) => Err(fault),
-    }
+    let (next, length) = Dictionary::read_front(alloc, bytes)?;
+    let both = Dictionary::join(alloc, sum, &next)?;
+    Ok((both, length))
 }
 
 /// The batch at the front of the input, and the dictionary that follows it.
@@ -101,10 +94,7 @@ fn join_all(alloc: Global, input: &[u8]) -> Result<(Dictionary, usize), RunFault
     ensures joined { IfOk result (λ p. IsJoinedText input.now p.1 p.0) }
     ensures fault { IfErr result (IsJoinRunFault input.now) }
 {
-    let (sum, length) = match Dictionary::read_front(alloc, input) {
-        Ok(first) => first,
-        Err(fault) => return Err(RunFault::Dict { n: 1, fault }),
-    };
+    let (sum, length) = Dictionary::read_front(alloc, input)?;
     let first = Batch {
         sum,
         number: 1,
@@ -127,10 +117,9 @@ fn joined_text(alloc: Global, kind: Text, input: &[u8]) -> Result<Vec<u8>, RunFa
     }
     let (sum, number) = join_all(alloc, input)?;
     let mut text = Vec::new(alloc);
-    match sum.write(kind, &mut text) {
-        Ok(()) => Ok(text),
-        Err(fault) => Err(RunFault::Dict { n: number, fault }),
-    }
+    sum.write(kind, &mut text)
+        .map_err(|fault| RunFault::Dict { n: number, fault })?;
+    Ok(text)
 }
 
 /// Reads one dictionary or more, one after another, each in any of the three texts, and writes a text of their join:
@@ -142,8 +131,8 @@ fn joined_text(alloc: Global, kind: Text, input: &[u8]) -> Result<Vec<u8>, RunFa
 /// `Dict` with the number of the first dictionary, from 1, that cannot be read (X1 to X5) or added to those before it (X7,
 /// X9), and its fault; an input without a byte is X1 of dictionary 1. `Dict` with X8 where the whole input has more than
 /// 2^28 bytes, and with X6 where memory for a dictionary, a join or the text was refused. `Read` where the reader failed,
-/// `Memory` where memory for the input was refused. Nothing is written then. `Write` where the writer failed: exactly so
-/// many bytes of the text are out.
+/// `Memory` where memory for the input was refused. Nothing is written then. `Write` where the writer failed: exactly that
+/// number of bytes of the text is out.
 pub fn run_join<R: Read, W: Write>(
     alloc: Global,
     kind: Text,

@@ -11,15 +11,16 @@ mod patterns;
 // the joins that `join` makes
 mod halves;
 
-// the lines that they write
-mod lines;
+// the text of a board
 mod text;
 
 // what they read and write through, and what goes wrong
+mod args;
 mod faults;
 mod input;
 mod output;
 
+pub use args::own_words;
 pub use boards::{Outcome, run_board};
 pub use counts::run_count;
 pub use faults::{RunFault, status_of};

@@ -1,13 +1,16 @@
 //! A text, written whole or up to the byte at which the writer failed.
-ghost use Rattle.std.specs.Prelude.{◌≡◌, OnOk, IfErr};
+ghost use Rattle.std.specs.Prelude.{OnOk, IfErr};
 ghost use Rattle.std.specs.Io.KnownBytes.{Appends};
 ghost use Rattle.engine_core.specs.Output.{WroteFront};
 
 use crate::faults::RunFault;
 use std::io::Write;
 
-/// Writes the text. An error of the writer, or a write of no bytes, is `Write`, and exactly the bytes that it counts
-/// are out. It takes no memory.
+/// Writes the text. It takes no memory.
+///
+/// # Errors
+///
+/// `Write` where the writer failed, or wrote no bytes: exactly that number of bytes of the text is out.
 pub fn write_output<W: Write>(writer: &mut W, text: &[u8]) -> Result<(), RunFault>
     ensures whole { OnOk result (Appends (W.contents writer.old) (W.contents writer.new) text.now) }
     ensures front { IfErr result (WroteFront (W.contents writer.old) (W.contents writer.new)

@@ -39,7 +39,9 @@ fn word_of(kind: Kind, glyphs: &str) -> Result<Word, GlyphFault>
 
 /// The pattern of these glyphs with this mover, `black` or `white`: its canonical form.
 ///
-/// `Usage` comes exactly where the mover is neither, and else `Glyph` where the glyphs are not 25 (H2) or one is none (H1).
+/// # Errors
+///
+/// `Usage` exactly where the mover is neither, and else `Glyph` where the glyphs are not 25 (H2) or one is none (H1).
 pub fn pattern_of(kind: Kind, glyphs: &str, mover: &str) -> Result<Shape, RunFault>
     ensures shape { IfOk result (IsPatternOf kind glyphs.now mover.now) }
     ensures fault { IfErr result (IsPatternFault glyphs.now mover.now) }

@@ -1,13 +1,12 @@
 //! The text of a board.
-ghost use Rattle.std.specs.Prelude.{◌≡◌, ◌++◌, ◌<◌, OnOk, IfOk, IfErr};
+ghost use Rattle.std.specs.Prelude.{◌≡◌, ◌++◌, ◌<◌, OnOk, IfOk};
 ghost use Rattle.go_board.specs.Board.{position_of};
 ghost use Rattle.engine_core.specs.Boards.{glyph_of, row_text, position_text};
-ghost use Rattle.engine_core.specs.declared.faults.RunFault.TheVariants as fault;
 
-use crate::faults::RunFault;
 use go_board::{Board, Point, Stone};
 use std::alloc::{AllocError, Global};
 
+/// The glyph of a point.
 fn glyph(stone: Stone) -> u8
     ensures { result ≡ glyph_of stone }
 {
@@ -31,8 +30,8 @@ fn push_row(text: &mut Vec<u8>, board: &Board, row: u8) -> Result<(), AllocError
     Ok(())
 }
 
-/// The rows of the board from the top, each ended by a line feed.
-fn rows_text(alloc: Global, board: &Board) -> Result<Vec<u8>, AllocError>
+/// The text of a board: its rows from the top, each ended by a line feed.
+pub(crate) fn board_text(alloc: Global, board: &Board) -> Result<Vec<u8>, AllocError>
     ensures { IfOk result (λ text. text.items
         ≡ position_text board.now.size (position_of board.now)) }
 {
@@ -41,16 +40,4 @@ fn rows_text(alloc: Global, board: &Board) -> Result<Vec<u8>, AllocError>
         push_row(&mut text, board, row)?;
     }
     Ok(text)
-}
-
-/// The text of a board. `RunFault::Memory` comes where memory was refused.
-pub fn board_text(alloc: Global, board: &Board) -> Result<Vec<u8>, RunFault>
-    ensures ok { IfOk result (λ text. text.items
-        ≡ position_text board.now.size (position_of board.now)) }
-    ensures fault { IfErr result (λ found. found ≡ fault.Memory) }
-{
-    match rows_text(alloc, board) {
-        Ok(text) => Ok(text),
-        Err(_) => Err(RunFault::Memory),
-    }
 }

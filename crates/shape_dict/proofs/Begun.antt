@@ -10,7 +10,7 @@ use Rattle.shape_core.specs.Symmetry.{least_image}
 use Rattle.shape_dict.specs.declared.entries.Entry.{Entry}
 use Rattle.shape_dict.specs.declared.headers.Header.{Header}
 use Rattle.shape_dict.specs.Text.{header_text, line_text}
-use Rattle.shape_dict.specs.Reading.{IsHeader, IsLine, AreLines, AreShapes, BeginsWith, NextLine, IsBadLine, IsNotRising, IsNotCanonical, HasNoLine, lines_after}
+use Rattle.shape_dict.specs.Reading.{IsLine, AreLines, AreShapes, BeginsWith, NextLine, IsNotRising, IsNotCanonical, lines_after}
 use Rattle.shape_dict.proofs.Climbing.{shapes_of}
 
 rises_push : (ws : List ℕ) (w : ℕ) → IsStrictlyIncreasing ws → (0 < length ws → get_or ws (length ws - 1) 0 < w) → IsStrictlyIncreasing (ws ++ w ∷ [])

@@ -44,12 +44,12 @@ absent_below shape least (e ∷ es) h k =
     let more = absent_below shape (suc e.shape) es (omega arith) k.1 in grind (arith, nat_tests)
 
 -- all but the first entries whose shapes are smaller may be left out
-pub found_behind : (shape : ℕ) (es : List Entry) (i : ℕ) → ((k : ℕ) → k < i → k < length es → get_or (shapes_of es) k 0 < shape) → entry_of shape (drop i es) ≡ entry_of shape es
-found_behind shape es zero h = refl
-found_behind shape [] (suc i) h = refl
-found_behind shape (e ∷ es) (suc i) h =
+pub found_after : (shape : ℕ) (es : List Entry) (i : ℕ) → ((k : ℕ) → k < i → k < length es → get_or (shapes_of es) k 0 < shape) → entry_of shape (drop i es) ≡ entry_of shape es
+found_after shape es zero h = refl
+found_after shape [] (suc i) h = refl
+found_after shape (e ∷ es) (suc i) h =
     let first : e.shape < shape = h 0 (omega arith) (omega arith) in
-    let more = found_behind shape es i (λ k small few. h (suc k) (omega arith) (omega arith)) in
+    let more = found_after shape es i (λ k small few. h (suc k) (omega arith) (omega arith)) in
     grind (arith, nat_tests)
 
 -- the entry at a place has a shape at least that of those before
@@ -63,14 +63,14 @@ above_at least [] j h small = absurd (omega arith)
 above_at least (e ∷ es) zero h small = h.0
 above_at least (e ∷ es) (suc j) h small = let more = above_at (suc e.shape) es j h.1 (omega arith) in omega arith
 
--- what stands at places rises
+-- the shapes at places rise
 pub shapes_rise : (least : ℕ) (es : List Entry) (i j : ℕ) → Climbs least es → i < j → j < length es → get_or (shapes_of es) i 0 < get_or (shapes_of es) j 0
 shapes_rise least [] i j h low high = absurd (omega arith)
 shapes_rise least (e ∷ es) i zero h low high = absurd (omega arith)
 shapes_rise least (e ∷ es) zero (suc j) h low high = above_at (suc e.shape) es j h.1 (omega arith)
 shapes_rise least (e ∷ es) (suc i) (suc j) h low high = shapes_rise (suc e.shape) es i j h.1 (omega arith) (omega arith)
 
--- at the first entry that is not smaller stands the entry of the shape, or there is none
+-- the entry of the shape is the first that is not smaller, or there is none
 pub found_first : (shape : ℕ) (e : Entry) (es : List Entry) → e.shape ≡ shape → entry_of shape (e ∷ es) ≡ Some e
 found_first shape e es h = grind (arith, nat_tests)
 
@@ -81,7 +81,7 @@ shape_read es i e small is = get_or-map (λ (x : Entry). x.shape) es i e 0 small
 -- the first entry that is not smaller
 pub found_at : (shape : ℕ) (es : List Entry) (i : ℕ) (e : Entry) → i < length es → e ≡ get_or es i e → e.shape ≡ shape → ((k : ℕ) → k < i → get_or (shapes_of es) k 0 < shape) → entry_of shape es ≡ Some e
 found_at shape es i e small is same below =
-    sym (found_behind shape es i (λ k lower few. below k lower)) ∙ ap (entry_of shape) (drop_more es i e small ∙ ap (λ x. x ∷ drop (i + 1) es) (sym is))
+    sym (found_after shape es i (λ k lower few. below k lower)) ∙ ap (entry_of shape) (drop_more es i e small ∙ ap (λ x. x ∷ drop (i + 1) es) (sym is))
     ∙ found_first shape e (drop (i + 1) es) same
 
 -- none where all that follow are greater
@@ -95,3 +95,8 @@ found_none shape (e ∷ es) i h =
 -- the shape of the entry at a place
 pub shape_at : (es : List Entry) (i : ℕ) (d : Entry) → i < length es → get_or (shapes_of es) i 0 ≡ (get_or es i d).shape
 shape_at es i d small = get_or-map (λ (x : Entry). x.shape) es i d 0 small
+
+-- the entry at a place is that of its shape
+pub found_here : (es : List Entry) (i : ℕ) (e : Entry) → IsStrictlyIncreasing (shapes_of es) → i < length es → e ≡ get_or es i e → entry_of e.shape es ≡ Some e
+found_here es i e rises small is =
+    found_at e.shape es i e small is refl (λ k low. let here = shape_read es i e small is in let h = shapes_rise 0 es k i (climbs_from_rises es rises) low small in omega arith)

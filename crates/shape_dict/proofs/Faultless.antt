@@ -1,4 +1,4 @@
--- Where a text stands, no fault does, and nothing else is read.
+-- Bytes that are a text have no fault, and nothing else is read.
 use Rattle.std.proofs.Common.{◌≡◌, ℕ, suc, ◌+◌, ◌<◌, ◌≤◌, ◌^◌, inl, inr, List, [], ◌∷◌, ◌++◌, length, take, drop, sym, refl, ap, ◌∙◌, subst, arith, append_assoc, Result, Ok, Err, MatchResult, IfOk, IfErr}
 use Rattle.std.specs.List.{flat_map, AllByRecursion}
 use Rattle.std.proofs.lemmas.List.{length-append, take-append-drop, length-drop, append-nil}

@@ -31,7 +31,7 @@ hexadecimal_more k n d bytes small inside read same =
     rw (take_more bytes k 0 inside) (ap (λ j. hexadecimal j (16 * n + d)) (add-one k) ∙ (ap (λ x. hexadecimal k x ++ hexadecimal_digit ((16 * n + d) % 16) ∷ []) high
     ∙ (ap (λ x. hexadecimal k n ++ hexadecimal_digit x ∷ []) low ∙ (ap (λ x. x ++ hexadecimal_digit d ∷ []) read ∙ ap (λ x. take k bytes ++ x ∷ []) same))))
 
--- what stands at a place is a digit
+-- the byte at a place is a digit
 pub digit_at : (k n i : ℕ) → i < k → (d : ℕ) × (d < 16) × (hexadecimal_digit d ≡ get_or (hexadecimal k n) i 0)
 digit_at zero n i h = absurd (omega arith)
 digit_at (suc k) n i h = elim (cases_lt i k) [

@@ -2,7 +2,6 @@
 use Rattle.std.proofs.Common.{◌≡◌, ℕ, ◌+◌, ◌<◌, ◌≤◌, ◌^◌, ◌⊎◌, inl, inr, List, [], ◌∷◌, ◌++◌, length, map, filter, get_or, drop, sym, refl, ap, ◌∙◌, arith, Option, Some, None, IfSome, Bool, cond, eqb, true, false, ltb, not, All}
 use Rattle.std.specs.List.{AllByRecursion}
 use Rattle.std.specs.Option.{option_map}
-use Rattle.std.specs.List.Sorted.{IsStrictlyIncreasing}
 use Rattle.std.proofs.lemmas.List.Elements.{All-from_recursion, recursion_from_All}
 use Rattle.std.proofs.lemmas.List.Sums.{sum_by-cons}
 use Rattle.std.proofs.lemmas.List.{drop_more, drop_all, append-nil}
@@ -10,13 +9,8 @@ use Rattle.shape_dict.specs.declared.entries.Entry.{Entry}
 use Rattle.shape_dict.specs.Contents.{Contents, entry_of, diamonds_of, played_in, IsEntry, IsDictionary, HasTotals}
 use Rattle.shape_dict.specs.Join.{joined_entry, IsJoin, IsOverflow}
 use Rattle.shape_dict.specs.Merging.{placed, merged, moved_entry, summed_entry}
-use Rattle.shape_dict.proofs.Climbing.{shapes_of, climbs_from_rises, rises_from_climbs, shapes_rise, shape_read, found_at}
+use Rattle.shape_dict.proofs.Climbing.{climbs_from_rises, rises_from_climbs}
 use Rattle.shape_dict.proofs.Merging.{placed_left, placed_right, placed_both, three_ways, merged_nil, climbs_merged, each_merged, found_merged}
-
--- the entry at a place is that of its shape
-pub found_here : (es : List Entry) (i : ℕ) (e : Entry) → IsStrictlyIncreasing (shapes_of es) → i < length es → e ≡ get_or es i e → entry_of e.shape es ≡ Some e
-found_here es i e rises small is =
-    found_at e.shape es i e small is refl (λ k low. let here = shape_read es i e small is in let h = shapes_rise 0 es k i (climbs_from_rises es rises) low small in omega arith)
 
 -- one step of the join
 opened : (es : List Entry) (i : ℕ) (e : Entry) → i < length es → e ≡ get_or es i e → drop i es ≡ e ∷ drop (i + 1) es
@@ -78,7 +72,7 @@ total_placed q games e l rest above [] =
 total_placed q games e l rest above (f ∷ r) = elim (three_ways e.shape f.shape) [
   | inl below ↦ ap (total q) (placed_left games e f rest r below) ∙
       (let here = total-cons q e (rest (f ∷ r)) in let there = total-cons q e l in let more = above (f ∷ r) in omega arith)
-  | inr (inl behind) ↦ ap (total q) (placed_right games e f rest r behind) ∙
+  | inr (inl after) ↦ ap (total q) (placed_right games e f rest r after) ∙
       (let here = total-cons q (moved_entry games f) (placed games e rest r) in let there = total-cons q f r in let more = total_placed q games e l rest above r in let same = share_moved q games f in omega arith)
   | inr (inr both) ↦ ap (total q) (placed_both games e f rest r both) ∙
       (let here = total-cons q (summed_entry e f) (rest r) in let there = total-cons q e l in let also = total-cons q f r in let more = above r in let sum = share_summed q e f both in omega arith)

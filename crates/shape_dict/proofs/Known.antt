@@ -1,7 +1,7 @@
 -- Bytes that begin with a text of a dictionary are read as that dictionary, without a fault.
-use Rattle.std.proofs.Common.{◌≡◌, ℕ, suc, ◌+◌, ◌-◌, ◌<◌, ◌≤◌, ◌^◌, inl, inr, List, [], ◌∷◌, ◌++◌, length, sym, refl, ap, ◌∙◌, subst, arith, Option, None, IfSome, Bool, true, false, cond, ltb, is_some, unwrap_or}
+use Rattle.std.proofs.Common.{◌≡◌, ℕ, suc, ◌+◌, ◌-◌, ◌<◌, ◌≤◌, ◌^◌, inl, inr, List, [], ◌∷◌, ◌++◌, length, take, drop, sym, refl, ap, ◌∙◌, subst, arith, Option, None, IfSome, Bool, true, false, cond, ltb, is_some, unwrap_or}
 use Rattle.std.specs.List.{flat_map, AllByRecursion}
-use Rattle.std.proofs.lemmas.List.{append-nil, length-append, append_cancel_right}
+use Rattle.std.proofs.lemmas.List.{append-nil, length-append, length-drop, take-append-drop, append_cancel_right}
 use Rattle.std.proofs.lemmas.List.Elements.{recursion_from_All}
 use Rattle.std.proofs.lemmas.Bool.Decides.{nat_tests}
 use Rattle.std.proofs.lemmas.Bool.{cases_lt}
@@ -13,13 +13,13 @@ use Rattle.shape_dict.specs.declared.entries.Text.TheVariants as text
 use Rattle.shape_dict.specs.declared.headers.Header.{Header}
 use Rattle.shape_dict.specs.Contents.{Contents, HasTotals, IsEntry, squares_of, diamonds_of}
 use Rattle.shape_dict.specs.Text.{header_text, line_text, header_of, IsWhole, IsSmallEntry, diamonds_counted}
-use Rattle.shape_dict.specs.Reading.{IsFirst, AreLines, HasAllLines, IsRead, IsTextOf, lines_after, counts_of, kind_at}
+use Rattle.shape_dict.specs.Reading.{IsFirst, AreLines, HasAllLines, HasMore, IsRead, IsTextOf, lines_after, counts_of, kind_at}
 use Rattle.shape_dict.specs.Merging.{Climbs}
 use Rattle.shape_dict.proofs.Climbing.{climbs_from_rises}
 use Rattle.shape_dict.proofs.Read.{entries_are, both_kinds}
 use Rattle.shape_dict.proofs.Unique.{begun_unique}
 
--- above a diamond stand no squares
+-- no square is above a diamond
 no_squares : (least : ℕ) (es : List Entry) → 2 ^ 50 ≤ least → Climbs least es → squares_of es ≡ []
 no_squares least [] low h = refl
 no_squares least (e ∷ es) low h =
@@ -135,6 +135,20 @@ read_ordered bytes c d r s p q few =
 pub read_unique : (bytes : List ℕ) (c d : Contents) (r s : List ℕ) → IsRead bytes c r → IsRead bytes d s → (c ≡ d) × (r ≡ s)
 read_unique bytes c d r s p q = elim (cases_lt (length d.entries) (length c.entries))
     [ inl less ↦ (let u = read_ordered bytes d c s r q p (omega arith) in (sym u.0, sym u.1)) | inr more ↦ read_ordered bytes c d r s p q (omega arith) ]
+
+-- bytes follow a text
+pub more_after : (bytes : List ℕ) (d : Contents) (count : ℕ) → IsTextOf d (take count bytes) → count < length bytes → HasMore bytes (length d.entries + 2)
+more_after bytes d count is short =
+    let read = known bytes (take count bytes) (drop count bytes) d is (sym (take-append-drop count bytes)) in
+    record {
+      header = read.header;
+      entries = d.entries;
+      left = drop count bytes;
+      lines = read.lines;
+      totals = read.totals;
+      more = λ none. (let nothing = ap length none in let long = length-drop count bytes in omega arith);
+      at = ap (λ n. n + 2) read.lines.all;
+    }
 
 pub texts_distinct : (one other : Contents) (x y p q : List ℕ) → IsTextOf one x → IsTextOf other y → x ++ p ≡ y ++ q → (x ≡ y) × (one ≡ other)
 texts_distinct one other x y p q h k e =

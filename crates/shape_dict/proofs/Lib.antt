@@ -1,5 +1,6 @@
 pub mod Begun
 pub mod Climbing
+pub mod Searched
 pub mod Decimals
 pub mod Faultless
 pub mod Hexadecimal

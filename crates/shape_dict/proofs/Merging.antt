@@ -36,7 +36,7 @@ climbs_placed : (least games : ℕ) (e : Entry) (rest : List Entry → List Entr
 climbs_placed least games e rest above [] low h = (low, above [] tt)
 climbs_placed least games e rest above (f ∷ r) low h = elim (three_ways e.shape f.shape) [
   | inl below ↦ rw (placed_left games e f rest r below) (low, above (f ∷ r) (omega arith, h.1))
-  | inr (inl behind) ↦ rw (placed_right games e f rest r behind) (h.0, climbs_placed (suc f.shape) games e rest above r (omega arith) h.1)
+  | inr (inl after) ↦ rw (placed_right games e f rest r after) (h.0, climbs_placed (suc f.shape) games e rest above r (omega arith) h.1)
   | inr (inr same) ↦ rw (placed_both games e f rest r same) (low, above r (climbs_lower (suc e.shape) (suc f.shape) r (omega arith) h.1))
 ]
 
@@ -99,7 +99,7 @@ found_placed shape least games e l rest above (f ∷ r) h k = elim (three_ways e
     | inl same ↦ hit shape e (rest (f ∷ r)) same ∙ sym (ap (λ x. joined_entry games x (entry_of shape (f ∷ r))) (hit shape e l same) ∙ joined_left games (entry_of shape (f ∷ r)) e (absent_below shape f.shape (f ∷ r) (omega arith) (omega arith, k.1)))
     | inr other ↦ miss shape e (rest (f ∷ r)) other ∙ (above f.shape (f ∷ r) (omega arith, k.1) ∙ ap (λ x. joined_entry games x (entry_of shape (f ∷ r))) (sym (miss shape e l other)))
   ]
-  | inr (inl behind) ↦ ap (entry_of shape) (placed_right games e f rest r behind) ∙ elim (same_or_not f.shape shape) [
+  | inr (inl after) ↦ ap (entry_of shape) (placed_right games e f rest r after) ∙ elim (same_or_not f.shape shape) [
     | inl same ↦ hit shape (moved_entry games f) (placed games e rest r) same ∙ sym (ap (joined_entry games (entry_of shape (e ∷ l))) (hit shape f r same) ∙ joined_right games (entry_of shape (e ∷ l)) f (absent_below shape e.shape (e ∷ l) (omega arith) (omega arith, h)))
     | inr other ↦ miss shape (moved_entry games f) (placed games e rest r) other ∙ (found_placed shape (suc f.shape) games e l rest above r h k.1 ∙ ap (joined_entry games (entry_of shape (e ∷ l))) (sym (miss shape f r other)))
   ]

@@ -1,7 +1,7 @@
 -- What has been read is a dictionary, and the bytes are a text of it.
-use Rattle.std.proofs.Common.{◌≡◌, ◌≢◌, ℕ, suc, ◌+◌, ◌-◌, ◌<◌, ◌≤◌, ◌^◌, min, inl, List, [], ◌∷◌, ◌++◌, length, take, sym, refl, ap, ◌∙◌, subst, arith, All, Option, Some, None, IfSome, Bool, true, false, cond, ltb, not, is_some, unwrap_or}
+use Rattle.std.proofs.Common.{◌≡◌, ℕ, suc, ◌+◌, ◌-◌, ◌<◌, ◌≤◌, ◌^◌, min, inl, List, [], ◌∷◌, ◌++◌, length, take, sym, refl, ap, ◌∙◌, subst, arith, All, Option, Some, None, IfSome, Bool, true, false, cond, ltb, not, is_some, unwrap_or}
 use Rattle.std.specs.List.{flat_map, AllByRecursion}
-use Rattle.std.proofs.lemmas.List.{take_at, append-nil, length-append}
+use Rattle.std.proofs.lemmas.List.{take_at, length-append}
 use Rattle.std.proofs.lemmas.List.Elements.{All-from_recursion, recursion_from_All}
 use Rattle.std.proofs.lemmas.Bool.Decides.{nat_tests}
 use Rattle.shape_core.specs.Symmetry.{least_image}
@@ -12,7 +12,7 @@ use Rattle.shape_dict.specs.declared.entries.Text.TheVariants as text
 use Rattle.shape_dict.specs.declared.headers.Header.{Header}
 use Rattle.shape_dict.specs.Contents.{Contents, IsDictionary, HasTotals, IsEntry, squares_of, diamonds_of}
 use Rattle.shape_dict.specs.Text.{header_text, line_text, text_of, entries_of, header_of, IsWhole, IsSmallEntry, diamonds_counted}
-use Rattle.shape_dict.specs.Reading.{IsFirst, AreLines, HasAllLines, IsRead, IsTextOf, IsFrontFault, IsTextFault, HasMore, counts_of}
+use Rattle.shape_dict.specs.Reading.{IsFirst, AreLines, HasAllLines, IsRead, IsTextOf, IsFrontFault, IsTextFault, counts_of}
 use Rattle.shape_dict.specs.declared.faults.DictFault.{DictFault}
 use Rattle.shape_dict.specs.declared.faults.DictFault.TheVariants as fault
 
@@ -49,7 +49,7 @@ all_squares_by : (b : Bool) (e : Entry) (es squares diamonds : List Entry) → (
 all_squares_by true e es squares diamonds h k = ap (λ x. e ∷ x) (h k)
 all_squares_by false e es squares diamonds h k = absurd (not_nil e diamonds k)
 
--- where no diamond stands among them, all are squares
+-- where none of them is a diamond, all are squares
 pub all_squares : (es : List Entry) → diamonds_of es ≡ [] → squares_of es ≡ es
 all_squares [] h = refl
 all_squares (e ∷ es) h = all_squares_by (ltb e.shape (2 ^ 50)) e es (squares_of es) (diamonds_of es) (all_squares es) h
@@ -179,9 +179,6 @@ front_read bytes left d r =
     let count = ap length same ∙ length-append text left in
     let front : take (length bytes - length left) bytes ≡ text = ap (take (length bytes - length left)) same ∙ take_at text left (length bytes - length left) (omega arith) in
     subst (λ (x : List ℕ). IsTextOf d x) (sym front) (text_read bytes left d r)
-
-pub whole_read : (bytes : List ℕ) (d : Contents) → IsRead bytes d [] → IsTextOf d bytes
-whole_read bytes d r = subst (λ (x : List ℕ). IsTextOf d x) (sym (read_same bytes [] d r ∙ append-nil (text_of r.header.text d))) (text_read bytes [] d r)
 
 -- a fault of a front is one of the whole
 pub fault_of_whole : (bytes : List ℕ) (found : DictFault) → IsFrontFault bytes found → IsTextFault bytes found

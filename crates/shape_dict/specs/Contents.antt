@@ -3,6 +3,8 @@
 use Rattle.std.specs.Prelude.{◌≡◌, ℕ, ◌^◌, ◌<◌, ◌≤◌, ◌==◌, Bool, true, false, not, nat_lt, List, [], map, filter, sum_by, All, Option, IfSome, find}
 use Rattle.std.specs.List.Sorted.{IsStrictlyIncreasing}
 use Rattle.shape_core.specs.Symmetry.{least_image}
+use Rattle.shape_core.specs.declared.words.Kind.{Kind}
+use Rattle.shape_core.specs.declared.words.Kind.TheVariants as kind
 use Rattle.shape_dict.specs.declared.entries.Entry.{Entry}
 
 pub record Contents : Type 0 where
@@ -15,11 +17,19 @@ pub record Contents : Type 0 where
 abbrev pub is_square : Entry → Bool
 is_square entry = nat_lt entry.shape (2 ^ 50)
 
+-- whether a pattern is of the kind
+abbrev pub is_of : Kind → Entry → Bool
+is_of kind.Square entry = is_square entry
+is_of kind.Diamond entry = not (is_square entry)
+
+abbrev pub of_kind : Kind → List Entry → List Entry
+of_kind which entries = filter (is_of which) entries
+
 abbrev pub squares_of : List Entry → List Entry
-squares_of entries = filter is_square entries
+squares_of entries = of_kind kind.Square entries
 
 abbrev pub diamonds_of : List Entry → List Entry
-diamonds_of entries = filter (λ entry. not (is_square entry)) entries
+diamonds_of entries = of_kind kind.Diamond entries
 
 abbrev pub played_in : List Entry → ℕ
 played_in entries = sum_by (λ entry. entry.played) entries

@@ -40,7 +40,7 @@ pub record IsSpelled (text : Text) (entry : Entry) : Type 0 where
   pub small : IsSmallEntry entry
   pub plain : IsPlain text entry.first
 
--- what a line says may stand at its place
+-- its place may have what a line says
 pub record MayStand (header : Header) (place : ℕ) (line : Line) : Type 0 where
   pub kind : kind_of line.word ≡ kind_at header place
   pub there : 1 ≤ line.there

@@ -1,4 +1,4 @@
--- Which dictionary a text is, and which fault stands first in one that is none. Lines count from 1 at the header.
+-- Which dictionary a text is, and which fault comes first in one that is none. Lines count from 1 at the header.
 use Rattle.std.specs.Prelude.{◌≡◌, ◌≢◌, ℕ, ◌+◌, ◌^◌, ◌<◌, ◌≤◌, ◌⊎◌, Bool, is_some, nat_lt, List, [], ◌∷◌, ◌++◌, length, map, All, Option, None, IfSome, unwrap_or, if◌then◌else◌}
 use Rattle.std.specs.List.{flat_map}
 use Rattle.std.specs.List.Sorted.{IsStrictlyIncreasing}
@@ -54,7 +54,7 @@ pub record IsLine (header : Header) (place : ℕ) (entry : Entry) : Type 0 where
   pub small : IsSmallEntry entry
   pub first : IsFirst header.text header.games entry.first
 
--- each of these entries may stand in its line, from a place on
+-- each of these entries may be said by its line, from a place on
 abbrev pub AreLines : Header → ℕ → List Entry → Type 0
 AreLines header place [] = Unit {0}
 AreLines header place (entry ∷ entries) = IsLine header place entry × AreLines header (place + 1) entries
@@ -76,11 +76,11 @@ pub record BeginsWith (bytes : List ℕ) (header : Header) (entries : List Entry
 abbrev pub HasNoHeader : List ℕ → Type 0
 HasNoHeader bytes = (header : Header) → (left : List ℕ) → IsHeader header → bytes ≡ header_text header ++ left → ⊥
 
--- what follows does not begin with a line that may stand at this place
+-- what follows does not begin with a line that this place may have
 abbrev pub HasNoLine : Header → ℕ → List ℕ → Type 0
 HasNoLine header place left = (entry : Entry) → (rest : List ℕ) → IsLine header place entry → left ≡ line_text header.text entry ++ rest → ⊥
 
--- the next line may stand at its place by itself
+-- the next line is one that its place may have, by itself
 pub record NextLine (bytes : List ℕ) (header : Header) (entries : List Entry) (entry : Entry) : Type 0 where
   pub left : List ℕ
   pub rest : List ℕ
@@ -92,7 +92,7 @@ pub record NextLine (bytes : List ℕ) (header : Header) (entries : List Entry) 
 abbrev pub counts_of : Header → Bool
 counts_of header = is_some header.diamonds
 
--- a line is missing or is none: no line that may stand at its place follows
+-- a line is missing or is none: no line that its place may have follows
 pub record IsBadLine (bytes : List ℕ) (line : ℕ) : Type 0 where
   pub header : Header
   pub entries : List Entry
@@ -122,12 +122,12 @@ pub record IsNotCanonical (bytes : List ℕ) (line : ℕ) : Type 0 where
   pub other : least_image entry.shape ≢ entry.shape
   pub at : line ≡ length entries + 2
 
--- all lines are there
+-- no line is missing
 pub record HasAllLines (bytes : List ℕ) (header : Header) (entries : List Entry) (left : List ℕ) : Type 0 where
   pub begins : BeginsWith bytes header entries left
   pub all : length entries ≡ lines_after header
 
--- all lines are there, and the totals do not agree
+-- no line is missing, and the totals do not agree
 pub record HasWrongTotals (bytes : List ℕ) : Type 0 where
   pub header : Header
   pub entries : List Entry
@@ -135,7 +135,7 @@ pub record HasWrongTotals (bytes : List ℕ) : Type 0 where
   pub lines : HasAllLines bytes header entries left
   pub wrong : HasTotals header.games header.moves entries (counts_of header) → ⊥
 
--- a text is there, and bytes after it
+-- the bytes begin with a text, and others follow it
 pub record HasMore (bytes : List ℕ) (line : ℕ) : Type 0 where
   pub header : Header
   pub entries : List Entry
@@ -145,7 +145,7 @@ pub record HasMore (bytes : List ℕ) (line : ℕ) : Type 0 where
   pub more : left ≢ []
   pub at : line ≡ lines_after header + 2
 
--- the fault stands first in bytes that are to begin with a text; want of memory may be answered anywhere
+-- the fault is the first in bytes that are to begin with a text; want of memory may be answered anywhere
 abbrev pub IsFrontFault : List ℕ → DictFault → Type 0
 IsFrontFault bytes fault.TooLarge = 2 ^ 28 < length bytes
 IsFrontFault bytes fault.BadHeader = HasNoHeader bytes

@@ -1,5 +1,5 @@
 -- The three texts of a dictionary (this project's own). Text 1 is that of its squares, text 2 has its diamonds too, and
--- text 3 the first game of each pattern besides. Each line ends with one line feed; one space stands between parts.
+-- text 3 the first game of each pattern besides. Each line ends with one line feed; parts are one space apart.
 use Rattle.std.specs.Prelude.{◌≡◌, ℕ, zero, suc, ◌+◌, ◌/◌, ◌%◌, ◌^◌, ◌<◌, Bool, true, false, nat_lt, List, [], ◌∷◌, ◌++◌, length, All, Option, Some, None, IfSome, codes, if◌then◌else◌}
 use Rattle.std.specs.List.{flat_map}
 use Rattle.std.specs.Fmt.{decimal}

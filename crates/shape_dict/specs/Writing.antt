@@ -1,4 +1,4 @@
--- What stands in bytes to which a text is appended.
+-- What is known of bytes to which a text is appended.
 use Rattle.std.specs.Prelude.{◌≡◌, ℕ, List, ◌++◌}
 
 -- the new bytes begin with the old ones

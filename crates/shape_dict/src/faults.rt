@@ -1,4 +1,8 @@
 //! What can be wrong with a text of a dictionary, or with a join.
+ghost use Rattle.std.specs.Prelude.{◌≡◌};
+ghost use Rattle.shape_dict.specs.declared.faults.DictFault.TheVariants.{Memory};
+
+use std::alloc::{AllocError, AllocFailed};
 use thiserror::Error;
 
 /// Why no dictionary was read, written or made. Lines count from 1 at the dictionary's header.
@@ -31,4 +35,20 @@ pub enum DictFault {
     /// One of the two counts diamonds and the other does not.
     #[error("X9 mixed kinds")]
     MixedKinds,
+}
+
+impl From<AllocError> for DictFault {
+    ghost from_gives = { λ _ fault. fault ≡ Memory };
+
+    fn from(_: AllocError) -> DictFault {
+        DictFault::Memory
+    }
+}
+
+impl<T: Drop> From<AllocFailed<T>> for DictFault {
+    ghost from_gives = { λ _ fault. fault ≡ Memory };
+
+    fn from(_: AllocFailed<T>) -> DictFault {
+        DictFault::Memory
+    }
 }

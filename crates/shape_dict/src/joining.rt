@@ -8,17 +8,14 @@ ghost use Rattle.shape_dict.specs.declared.faults.DictFault.TheVariants as fault
 
 use crate::entries::Entry;
 use crate::faults::DictFault;
-use std::alloc::Global;
+use std::alloc::{AllocError, Global};
 
 /// The sum of two numbers, or `DictFault::Overflow` where it is over 2^64 - 1.
 pub(crate) fn sum_of(left: u64, right: u64) -> Result<u64, DictFault>
     ensures ok { IfOk result (λ sum. (sum ≡ left + right) × (left + right < 2 ^ 64)) }
     ensures err { IfErr result (λ found. (found ≡ fault.Overflow) × (2 ^ 64 ≤ left + right)) }
 {
-    match left.checked_add(right) {
-        Some(sum) => Ok(sum),
-        None => Err(DictFault::Overflow),
-    }
+    left.checked_add(right).ok_or(DictFault::Overflow)
 }
 
 /// An entry of the right alone, whose first game follows the left's games.
@@ -50,23 +47,19 @@ fn summed(left: Entry, right: Entry) -> Result<Entry, DictFault>
 }
 
 /// Appends an entry.
-pub(crate) fn push(entries: &mut Vec<Entry>, entry: Entry) -> Result<(), DictFault>
+pub(crate) fn push(entries: &mut Vec<Entry>, entry: Entry) -> Result<(), AllocError>
     ensures ok { OnOk result (entries.new.items ≡ entries.old.items ++ entry ∷ []) }
     ensures small { entry.there < 2 ^ 64 }
-    ensures fault { IfErr result (λ found. found ≡ fault.Memory) }
 {
-    match entries.push(entry) {
-        Ok(()) => Ok(()),
-        Err(_) => Err(DictFault::Memory),
-    }
+    entries.push(entry)?;
+    Ok(())
 }
 
 /// Appends the entries of the left.
-fn push_kept(entries: &mut Vec<Entry>, left: &[Entry]) -> Result<(), DictFault>
+fn push_kept(entries: &mut Vec<Entry>, left: &[Entry]) -> Result<(), AllocError>
     requires { All (λ entry. entry.there < 2 ^ 64) entries.old.items }
     ensures ok { OnOk result (entries.new.items ≡ entries.old.items ++ left.now) }
     ensures small { OnOk result (All (λ entry. entry.there < 2 ^ 64) entries.new.items) }
-    ensures fault { IfErr result (λ found. found ≡ fault.Memory) }
 {
     for entry in left {
         push(entries, *entry)?;
@@ -75,13 +68,12 @@ fn push_kept(entries: &mut Vec<Entry>, left: &[Entry]) -> Result<(), DictFault>
 }
 
 /// Appends the entries of the right alone.
-fn push_moved(entries: &mut Vec<Entry>, right: &[Entry], games: u64) -> Result<(), DictFault>
+fn push_moved(entries: &mut Vec<Entry>, right: &[Entry], games: u64) -> Result<(), AllocError>
     requires small { All (λ entry. entry.there < 2 ^ 64) entries.old.items }
     requires first { All (λ entry. IfSome entry.first (λ game. game + games < 2 ^ 64)) right.now }
     ensures ok { OnOk result (entries.new.items
         ≡ entries.old.items ++ map (moved_entry games) right.now) }
     ensures small { OnOk result (All (λ entry. entry.there < 2 ^ 64) entries.new.items) }
-    ensures fault { IfErr result (λ found. found ≡ fault.Memory) }
 {
     for entry in right {
         push(entries, moved(*entry, games))?;

@@ -104,7 +104,7 @@ fn is_counted(games: u64, first: Option<u64>) -> bool
     }
 }
 
-/// Whether what a line says may stand at its place.
+/// Whether its place may have what a line says.
 fn may_stand(header: &Header, place: u64, line: &Line) -> bool
     ensures { MatchBool result (MayStand header.now place line.now)
         (MayStand header.now place line.now → ⊥) }
@@ -115,7 +115,7 @@ fn may_stand(header: &Header, place: u64, line: &Line) -> bool
         && is_counted(header.games, line.first)
 }
 
-/// The line that may stand at this place, and what follows it.
+/// The line at the front of the bytes, where this place may have it, and what follows it.
 pub(crate) fn read_line<'a>(
     header: &Header,
     place: u64,

@@ -3,7 +3,7 @@ ghost use Rattle.std.specs.Prelude.{◌≡◌, ◌++◌, ◌∷◌, [], ◌<◌,
 ghost use Rattle.std.specs.Prelude.{map, slice_index, IfOk, IfErr, MatchBool, min, take};
 ghost use Rattle.shape_dict.specs.Text.{header_text};
 ghost use Rattle.shape_dict.specs.Reading.{IsHeader, BeginsWith, HasAllLines, IsFrontFault};
-ghost use Rattle.shape_dict.specs.Reading.{IsTextFault, IsTextOf, IsRead, lines_after};
+ghost use Rattle.shape_dict.specs.Reading.{IsTextFault, IsTextOf, lines_after};
 ghost use Rattle.shape_dict.specs.declared.faults.DictFault.TheVariants as fault;
 
 use crate::dictionaries::Dictionary;
@@ -15,6 +15,9 @@ use crate::lines::read_line;
 use crate::totals::have_totals;
 use shape_core::{Shape, Word};
 use std::alloc::Global;
+
+/// The most bytes that an input may have, 2^28.
+const MOST: usize = 1 << 28;
 
 /// Whether a word is above that of the last entry.
 fn is_above(entries: &[Entry], word: Word) -> bool
@@ -96,11 +99,16 @@ fn read_lines<'a>(
     Ok((entries, left))
 }
 
-/// The dictionary of the text that the bytes begin with, and what follows it.
-fn read_text(alloc: Global, bytes: &[u8]) -> Result<(Dictionary, &[u8]), DictFault>
-    ensures found { IfOk result (λ p. IsRead bytes.now p.0 p.1.now) }
+/// The dictionary of the text that the bytes begin with, and how many bytes the text has.
+fn front_of(alloc: Global, bytes: &[u8]) -> Result<(Dictionary, usize), DictFault>
+    ensures found { IfOk result (λ p. (p.1 ≤ length bytes.now) × IsTextOf p.0 (take p.1 bytes.now)
+        × (length bytes.now ≤ 2 ^ 28)) }
     ensures fault { IfErr result (IsFrontFault bytes.now) }
+    ensures large { 2 ^ 28 < length bytes.now → IfErr result (λ found. found ≡ fault.TooLarge) }
 {
+    if bytes.len() > MOST {
+        return Err(DictFault::TooLarge);
+    }
     let Some((header, rest)) = read_header(bytes) else {
         return Err(DictFault::BadHeader);
     };
@@ -112,45 +120,64 @@ fn read_text(alloc: Global, bytes: &[u8]) -> Result<(Dictionary, &[u8]), DictFau
         return Err(DictFault::WrongTotals);
     }
     let counts = header.diamonds.is_some();
-    Ok((
-        Dictionary::new(header.games, header.moves, entries, counts),
-        left,
-    ))
-}
-
-/// The dictionary of the text that the bytes begin with, and how many bytes the text has.
-pub(crate) fn front_of(alloc: Global, bytes: &[u8]) -> Result<(Dictionary, usize), DictFault>
-    ensures found { IfOk result (λ p. (p.1 ≤ length bytes.now) × IsTextOf p.0 (take p.1 bytes.now)
-        × (length bytes.now ≤ 2 ^ 28)) }
-    ensures fault { IfErr result (IsFrontFault bytes.now) }
-    ensures large { 2 ^ 28 < length bytes.now → IfErr result (λ found. found ≡ fault.TooLarge) }
-{
-    if bytes.len() > 1 << 28 {
-        return Err(DictFault::TooLarge);
-    }
-    match read_text(alloc, bytes) {
-        Ok((dictionary, left)) => Ok((dictionary, bytes.len() - left.len())),
-        Err(fault) => Err(fault),
-    }
+    let dictionary = Dictionary::new(header.games, header.moves, entries, counts);
+    Ok((dictionary, bytes.len() - left.len()))
 }
 
 /// The dictionary whose text the bytes are.
-pub(crate) fn read_whole(alloc: Global, bytes: &[u8]) -> Result<Dictionary, DictFault>
+fn read_whole(alloc: Global, bytes: &[u8]) -> Result<Dictionary, DictFault>
     ensures found { IfOk result (λ d. IsTextOf d bytes.now × (length bytes.now ≤ 2 ^ 28)) }
     ensures fault { IfErr result (IsTextFault bytes.now) }
     ensures large { 2 ^ 28 < length bytes.now → IfErr result (λ found. found ≡ fault.TooLarge) }
 {
-    if bytes.len() > 1 << 28 {
-        return Err(DictFault::TooLarge);
+    let (dictionary, length) = front_of(alloc, bytes)?;
+    if length < bytes.len() {
+        return Err(DictFault::BadLine(dictionary.entries().len() as u64 + 2));
     }
-    match read_text(alloc, bytes) {
-        Ok((dictionary, left)) => {
-            if left.is_empty() {
-                Ok(dictionary)
-            } else {
-                Err(DictFault::BadLine(dictionary.entries().len() as u64 + 2))
-            }
-        }
-        Err(fault) => Err(fault),
+    Ok(dictionary)
+}
+
+impl Dictionary {
+    ghost use Rattle.std.specs.Prelude.{◌≡◌, ◌<◌, ◌≤◌, ◌^◌, ℕ, length, take, IfOk, IfErr};
+    ghost use Rattle.std.specs.Prelude.{MatchResult};
+    ghost use Rattle.shape_dict.specs.declared.faults.DictFault.TheVariants as fault;
+    ghost use Rattle.shape_dict.specs.Contents.{Contents};
+    ghost use Rattle.shape_dict.specs.Reading.{IsTextOf, IsTextFault, IsFrontFault};
+
+    /// The dictionary whose text these bytes are, in whichever of the three texts. It takes memory.
+    ///
+    /// # Errors
+    ///
+    /// In this order: `TooLarge` where the input has more than 2^28 bytes, `BadHeader` where it does not begin with a
+    /// header, and for each line in turn `BadLine` where it is missing or is none, `NotRising` where its word is not above
+    /// the one before, `NotCanonical` where its word is not the least of its images; then `WrongTotals` where the plays do
+    /// not add up to the moves, and `BadLine` where bytes follow the text. `Memory` where memory was refused.
+    pub fn read(alloc: Global, bytes: &[u8]) -> Result<Dictionary, DictFault>
+        ensures found { IfOk result (λ d. IsTextOf d bytes.now × (length bytes.now ≤ 2 ^ 28)) }
+        ensures only { (contents : Contents) → IsTextOf contents bytes.now
+            → length bytes.now ≤ 2 ^ 28
+            → MatchResult result (λ d. d ≡ contents) (λ found. found ≡ fault.Memory) }
+        ensures fault { IfErr result (IsTextFault bytes.now) }
+        ensures large { 2 ^ 28 < length bytes.now → IfErr result (λ found. found ≡ fault.TooLarge) }
+    {
+        read_whole(alloc, bytes)
+    }
+
+    /// The dictionary of the text that these bytes begin with, and how many bytes that text has. It takes memory.
+    ///
+    /// # Errors
+    ///
+    /// Those of `read`, but that bytes may follow the text.
+    pub fn read_front(alloc: Global, bytes: &[u8]) -> Result<(Dictionary, usize), DictFault>
+        ensures found { IfOk result (λ p. (p.1 ≤ length bytes.now)
+            × IsTextOf p.0 (take p.1 bytes.now) × (length bytes.now ≤ 2 ^ 28)) }
+        ensures only { (contents : Contents) → (count : ℕ) → count ≤ length bytes.now
+            → IsTextOf contents (take count bytes.now) → length bytes.now ≤ 2 ^ 28
+            → MatchResult result (λ p. (p.0 ≡ contents) × (p.1 ≡ count))
+            (λ found. found ≡ fault.Memory) }
+        ensures fault { IfErr result (IsFrontFault bytes.now) }
+        ensures large { 2 ^ 28 < length bytes.now → IfErr result (λ found. found ≡ fault.TooLarge) }
+    {
+        front_of(alloc, bytes)
     }
 }

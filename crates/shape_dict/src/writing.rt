@@ -1,49 +1,41 @@
 //! The texts of a dictionary, appended to bytes.
-ghost use Rattle.std.specs.Prelude.{◌≡◌, ◌++◌, ◌∷◌, [], ◌<◌, ◌^◌, ℕ, length, OnOk, OnErr, IfErr};
-ghost use Rattle.std.specs.Prelude.{Option};
-ghost use Rattle.std.specs.List.{flat_map};
+ghost use Rattle.std.specs.Prelude.{◌≡◌, ◌++◌, ◌∷◌, [], ◌<◌, OnOk};
 ghost use Rattle.std.specs.Fmt.{decimal};
 ghost use Rattle.shape_dict.specs.Text.{hexadecimal_digit, word_text, optional_number, uses_text};
 ghost use Rattle.shape_dict.specs.Text.{first_text, line_text};
 ghost use Rattle.shape_dict.specs.Writing.{Begins};
-ghost use Rattle.shape_dict.specs.declared.entries.Entry.{Entry};
-ghost use Rattle.shape_dict.specs.declared.faults.DictFault.TheVariants as fault;
 
 use crate::entries::{Entry, Text};
-use crate::faults::DictFault;
 use itoa::Buffer;
 use shape_core::Shape;
+use std::alloc::AllocError;
 
 /// Appends bytes, or none.
-pub(crate) fn push_bytes(out: &mut Vec<u8>, bytes: &[u8]) -> Result<(), DictFault>
+pub(crate) fn push_bytes(out: &mut Vec<u8>, bytes: &[u8]) -> Result<(), AllocError>
     ensures ok { OnOk result (out.new.items ≡ out.old.items ++ bytes.now) }
     ensures begins { Begins out.old.items out.new.items }
-    ensures fault { IfErr result (λ found. found ≡ fault.Memory) }
 {
-    match out.extend_from_slice(bytes) {
-        Ok(()) => Ok(()),
-        Err(_) => Err(DictFault::Memory),
-    }
+    out.extend_from_slice(bytes)
 }
 
 /// Appends one byte.
-fn push_byte(out: &mut Vec<u8>, byte: u8) -> Result<(), DictFault>
+fn push_byte(out: &mut Vec<u8>, byte: u8) -> Result<(), AllocError>
     ensures ok { OnOk result (out.new.items ≡ out.old.items ++ byte ∷ []) }
     ensures begins { Begins out.old.items out.new.items }
-    ensures fault { IfErr result (λ found. found ≡ fault.Memory) }
 {
-    match out.push(byte) {
-        Ok(()) => Ok(()),
-        Err(_) => Err(DictFault::Memory),
-    }
+    out.push(byte)?;
+    Ok(())
 }
 
 /// Appends a number in decimal digits. Most numbers of a dictionary have one digit.
+///
+/// # Errors
+///
+/// `AllocError` where memory was refused: what the bytes held stays their beginning.
 #[tactic(auto, using(std::proofs::lemmas::Fmt::decimal_digit))]
-pub(crate) fn push_number(out: &mut Vec<u8>, number: u64) -> Result<(), DictFault>
+pub fn push_number(out: &mut Vec<u8>, number: u64) -> Result<(), AllocError>
     ensures ok { OnOk result (out.new.items ≡ out.old.items ++ decimal number) }
     ensures begins { Begins out.old.items out.new.items }
-    ensures fault { IfErr result (λ found. found ≡ fault.Memory) }
 {
     if number < 10 {
         return push_byte(out, b'0' + number as u8);
@@ -66,10 +58,13 @@ fn hexadecimal_digit(digit: u8) -> u8
 }
 
 /// Appends a word in 13 hexadecimal digits.
-fn push_word(out: &mut Vec<u8>, shape: Shape) -> Result<(), DictFault>
+///
+/// # Errors
+///
+/// `AllocError` where memory was refused: what the bytes held stays their beginning.
+pub fn push_word(out: &mut Vec<u8>, shape: Shape) -> Result<(), AllocError>
     ensures ok { OnOk result (out.new.items ≡ out.old.items ++ word_text shape) }
     ensures begins { Begins out.old.items out.new.items }
-    ensures fault { IfErr result (λ found. found ≡ fault.Memory) }
 {
     let digits = word_digits(shape.word().bits());
     push_bytes(out, &digits)
@@ -89,10 +84,9 @@ fn word_digits(number: u64) -> [u8; 13]
 }
 
 /// Appends a number, or `-` where there is none.
-pub(crate) fn push_optional(out: &mut Vec<u8>, number: Option<u64>) -> Result<(), DictFault>
+pub(crate) fn push_optional(out: &mut Vec<u8>, number: Option<u64>) -> Result<(), AllocError>
     ensures ok { OnOk result (out.new.items ≡ out.old.items ++ optional_number number) }
     ensures begins { Begins out.old.items out.new.items }
-    ensures fault { IfErr result (λ found. found ≡ fault.Memory) }
 {
     match number {
         None => push_bytes(out, b"-"),
@@ -101,10 +95,9 @@ pub(crate) fn push_optional(out: &mut Vec<u8>, number: Option<u64>) -> Result<()
 }
 
 /// Appends what a line says of a first game.
-fn push_first(out: &mut Vec<u8>, text: Text, first: Option<u64>) -> Result<(), DictFault>
+fn push_first(out: &mut Vec<u8>, text: Text, first: Option<u64>) -> Result<(), AllocError>
     ensures ok { OnOk result (out.new.items ≡ out.old.items ++ first_text text first) }
     ensures begins { Begins out.old.items out.new.items }
-    ensures fault { IfErr result (λ found. found ≡ fault.Memory) }
 {
     match text {
         Text::One | Text::Two => Ok(()),
@@ -116,10 +109,9 @@ fn push_first(out: &mut Vec<u8>, text: Text, first: Option<u64>) -> Result<(), D
 }
 
 /// Appends how often a pattern was there, and how often it was played.
-fn push_uses(out: &mut Vec<u8>, entry: &Entry) -> Result<(), DictFault>
+fn push_uses(out: &mut Vec<u8>, entry: &Entry) -> Result<(), AllocError>
     ensures ok { OnOk result (out.new.items ≡ out.old.items ++ uses_text entry.now) }
     ensures begins { Begins out.old.items out.new.items }
-    ensures fault { IfErr result (λ found. found ≡ fault.Memory) }
 {
     push_byte(out, b' ')?;
     push_number(out, entry.there)?;
@@ -127,11 +119,14 @@ fn push_uses(out: &mut Vec<u8>, entry: &Entry) -> Result<(), DictFault>
     push_number(out, entry.played)
 }
 
-/// Appends a pattern's line.
-pub(crate) fn push_line(out: &mut Vec<u8>, text: Text, entry: &Entry) -> Result<(), DictFault>
+/// Appends a pattern's line in one of the texts.
+///
+/// # Errors
+///
+/// `AllocError` where memory was refused: what the bytes held stays their beginning.
+pub fn push_line(out: &mut Vec<u8>, text: Text, entry: &Entry) -> Result<(), AllocError>
     ensures ok { OnOk result (out.new.items ≡ out.old.items ++ line_text text entry.now) }
     ensures begins { Begins out.old.items out.new.items }
-    ensures fault { IfErr result (λ found. found ≡ fault.Memory) }
 {
     push_word(out, entry.shape)?;
     push_uses(out, entry)?;

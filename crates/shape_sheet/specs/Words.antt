@@ -17,7 +17,7 @@ use Rattle.shape_sheet.specs.declared.words.Task.TheVariants as task
 abbrev pub rows_for : List (List ℕ) → List Row
 rows_for words = matches_of program_app words
 
--- the value of this option is this number, in decimal digits that a `+` may stand before
+-- the value of this option is this number, in decimal digits that may follow a `+`
 pub record IsNumberOf (id : List ℕ) (rows : List Row) (number : ℕ) : Type 0 where
   pub text : List ℕ
   pub given : one_of id rows ≡ Some text

@@ -7,7 +7,7 @@ ghost use Rattle.shape_sheet.specs.Commands.{plain_rule, bare_app, values_app, p
 use clap::{Arg, ArgAction, Command, value_parser};
 use std::alloc::{AllocError, Global};
 
-/// What stands at the end of the program's help.
+/// The end of the program's help.
 const NOTES: &str =
     "The dictionary is read from standard input, in any of its three texts, up to 268,435,456 bytes. Colours
 are seen from the mover, as Black.
@@ -96,6 +96,10 @@ fn program_of_values<'a>(alloc: Global) -> Result<Command<'a>, AllocError>
 }
 
 /// All that the program knows.
+///
+/// # Errors
+///
+/// `AllocError` where memory was refused.
 pub fn program<'a>(alloc: Global) -> Result<Command<'a>, AllocError>
     ensures { IfOk result (λ command. app_of command ≡ program_app) }
 {

@@ -4,28 +4,11 @@
 mod commands;
 mod words;
 
-use engine_core::{RunFault, status_of, write_output};
+use engine_core::{RunFault, own_words, status_of, write_output};
 use sheet_core::run_sheet;
-use std::io::ErrorKind;
+use std::io;
 use std::process::ExitCode;
-use std::{env, io};
 use words::{Task, read_words};
-
-/// The words after the program's name. Words that are not UTF-8 are none that the program knows.
-fn own_words(rt: &HostRuntime) -> Result<Vec<String>, RunFault> {
-    let all = match env::args(rt) {
-        Ok(all) => all,
-        Err(error) => {
-            return Err(match error.kind() {
-                ErrorKind::InvalidData => RunFault::Usage,
-                _ => RunFault::Memory,
-            });
-        }
-    };
-    all.skip(1)
-        .collect(rt.alloc())
-        .map_err(|_| RunFault::Memory)
-}
 
 /// Does what the words say.
 fn run(rt: &HostRuntime) -> Result<(), RunFault> {

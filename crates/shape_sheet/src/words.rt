@@ -104,10 +104,9 @@ fn refused(alloc: Global, error: &Error) -> Result<Task, RunFault>
     ensures fault { IfErr result (λ found. (found ≡ fault.Usage) ⊎ (found ≡ fault.Memory)) }
 {
     match error.kind() {
-        ErrorKind::DisplayHelp | ErrorKind::DisplayVersion => match error.to_string(alloc) {
-            Ok(text) => Ok(Task::Help(text)),
-            Err(_) => Err(RunFault::Memory),
-        },
+        ErrorKind::DisplayHelp | ErrorKind::DisplayVersion => {
+            Ok(Task::Help(error.to_string(alloc)?))
+        }
         ErrorKind::OutOfMemory => Err(RunFault::Memory),
         _ => Err(RunFault::Usage),
     }
@@ -124,9 +123,7 @@ pub fn read_words(alloc: Global, words: &[String]) -> Result<Task, RunFault>
     ensures task { IfOk result (IsTaskOf (rows_for (map string_bytes words.now))) }
     ensures fault { IfErr result (λ found. (found ≡ fault.Usage) ⊎ (found ≡ fault.Memory)) }
 {
-    let Ok(command) = program(alloc) else {
-        return Err(RunFault::Memory);
-    };
+    let command = program(alloc)?;
     match command.try_get_matches_from(words) {
         Ok(matches) => match sheet_of(&matches) {
             Some(asked) => Ok(Task::Sheet(asked)),

@@ -59,7 +59,7 @@ program_app =
 abbrev pub asked_by : List (List ℕ) → Option (List ℕ × List Row)
 asked_by words = subcommand_of program_app words
 
--- the value of this option is this number, in decimal digits that a `+` may stand before
+-- the value of this option is this number, in decimal digits that may follow a `+`
 pub record IsNumberOf (id : List ℕ) (rows : List Row) (number : ℕ) : Type 0 where
   pub text : List ℕ
   pub given : one_of id rows ≡ Some text

@@ -9,7 +9,7 @@ ghost use Rattle.shapes.specs.Commands.{bare_app, program_app};
 use clap::{Arg, ArgAction, Command, value_parser};
 use std::alloc::{AllocError, Global};
 
-/// What stands at the end of the program's help.
+/// The end of the program's help.
 const NOTES: &str =
     "Without a command it does what `board` does. Input is read from standard input alone, up to
 268,435,456 bytes; what is wrong with it is said in one line on standard error.
@@ -23,7 +23,7 @@ Exit status: 0 done, 1 not found, 2 wrong words, 3 input refused, 4 more pattern
 has room for, 5 no memory, 6 a read or a write
 failed";
 
-/// What stands at the end of the help of `count`.
+/// The end of the help of `count`.
 const COUNT_NOTES: &str =
     "A line of the dictionary is a pattern's word, how often the pattern was there when somebody was to
 move, how often that point was then played, and in text 3 the first game that had it, from 0. Standard
@@ -33,7 +33,7 @@ record. A fault of syntax anywhere refuses the whole input.
 Exit status: 0 done, 2 wrong words, 3 input refused, 4 more patterns than the table has room for,
 5 no memory, 6 a read or a write failed";
 
-/// What stands at the end of the help of `find`.
+/// The end of the help of `find`.
 const FIND_NOTES: &str =
     "The glyphs are: . an empty point, X a black stone, O a white one, # off the board. Those of a square
 come in five rows of 5 from the top, those of a diamond in rows of 1, 3, 5, 7, 5, 3 and 1. The point
@@ -42,7 +42,7 @@ itself is the 13th. Turned, mirrored and with the colours exchanged it is the sa
 Exit status: 0 found, 1 not found (the line then ends in 0 0), 2 wrong words, 3 input refused, 5 no
 memory, 6 a read or a write failed";
 
-/// What stands at the end of the help of `join`.
+/// The end of the help of `join`.
 const JOIN_NOTES: &str =
     "The games of each dictionary are numbered after those of the dictionaries before it.
 
@@ -176,6 +176,10 @@ fn bare_program<'a>(alloc: Global) -> Command<'a>
 }
 
 /// All that the program knows.
+///
+/// # Errors
+///
+/// `AllocError` where memory was refused.
 pub fn program<'a>(alloc: Global) -> Result<Command<'a>, AllocError>
     ensures { IfOk result (λ command. app_of command ≡ program_app) }
 {

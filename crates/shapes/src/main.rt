@@ -1,34 +1,17 @@
-//! Reads collections of Go games and dictionaries of their patterns, and prints what stands in them.
+//! Reads collections of Go games and dictionaries of their patterns, and prints what they say.
 #![tactic(auto)]
 
 mod commands;
 mod words;
 
 use engine_core::{
-    Outcome, RunFault, run_board, run_count, run_find, run_join, status_of, write_output,
+    Outcome, RunFault, own_words, run_board, run_count, run_find, run_join, status_of, write_output,
 };
-use std::io::ErrorKind;
+use std::io;
 use std::process::ExitCode;
 use std::sync::Wait;
 use std::thread::Threads;
-use std::{env, io};
 use words::{Task, read_words};
-
-/// The words after the program's name. Words that are not UTF-8 are none that the program knows.
-fn own_words(rt: &HostRuntime) -> Result<Vec<String>, RunFault> {
-    let all = match env::args(rt) {
-        Ok(all) => all,
-        Err(error) => {
-            return Err(match error.kind() {
-                ErrorKind::InvalidData => RunFault::Usage,
-                _ => RunFault::Memory,
-            });
-        }
-    };
-    all.skip(1)
-        .collect(rt.alloc())
-        .map_err(|_| RunFault::Memory)
-}
 
 /// Does what the words say. The threads that count are started through `threads`.
 fn run<T: Threads + Wait + Sync>(rt: &HostRuntime, threads: &T) -> Result<Outcome, RunFault> {

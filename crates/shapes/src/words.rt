@@ -72,10 +72,8 @@ fn count_task(matches: &ArgMatches<'_>) -> Result<Task, RunFault>
     let text = text_of(matches)?;
     let workers = number(matches, "workers")?;
     let k = number(matches, "bits")?;
-    match Settings::new(workers, k) {
-        Ok(settings) => Ok(Task::Count(settings.with(kinds_for(text)), text)),
-        Err(_) => Err(RunFault::Usage),
-    }
+    let settings = Settings::new(workers, k).map_err(|_| RunFault::Usage)?;
+    Ok(Task::Count(settings.with(kinds_for(text)), text))
 }
 
 /// The kind of pattern that the glyphs are of.
@@ -103,10 +101,8 @@ fn find_task(matches: &ArgMatches<'_>) -> Result<Task, RunFault>
     let Some(mover) = matches.get_str("colour") else {
         return Err(RunFault::Usage);
     };
-    match pattern_of(kind_of(matches), glyphs, mover) {
-        Ok(shape) => Ok(Task::Find(shape)),
-        Err(fault) => Err(fault),
-    }
+    let shape = pattern_of(kind_of(matches), glyphs, mover)?;
+    Ok(Task::Find(shape))
 }
 
 fn join_task(matches: &ArgMatches<'_>) -> Result<Task, RunFault>
@@ -135,10 +131,9 @@ fn refused(alloc: Global, error: &Error) -> Result<Task, RunFault>
     ensures fault { (asked : Option (List ℕ × List Row)) → IfErr result (IsWordsFault asked) }
 {
     match error.kind() {
-        ErrorKind::DisplayHelp | ErrorKind::DisplayVersion => match error.to_string(alloc) {
-            Ok(text) => Ok(Task::Help(text)),
-            Err(_) => Err(RunFault::Memory),
-        },
+        ErrorKind::DisplayHelp | ErrorKind::DisplayVersion => {
+            Ok(Task::Help(error.to_string(alloc)?))
+        }
         ErrorKind::OutOfMemory => Err(RunFault::Memory),
         _ => Err(RunFault::Usage),
     }
@@ -154,9 +149,7 @@ pub fn read_words(alloc: Global, words: &[String]) -> Result<Task, RunFault>
     ensures task { IfOk result (IsTaskOf (asked_by (map string_bytes words.now))) }
     ensures fault { IfErr result (IsWordsFault (asked_by (map string_bytes words.now))) }
 {
-    let Ok(command) = program(alloc) else {
-        return Err(RunFault::Memory);
-    };
+    let command = program(alloc)?;
     match command.try_get_matches_from(words) {
         Ok(matches) => task_of(&matches),
         Err(error) => refused(alloc, &error),

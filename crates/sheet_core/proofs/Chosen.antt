@@ -77,7 +77,7 @@ words_apart q entries sorted rises same i j d before within equal =
     apart i j d.shape before (rw length-map within)
     (get_or-map shape sorted i d d.shape (omega arith) ∙ equal ∙ sym (get_or-map shape sorted j d d.shape within))
 
--- sorted patterns with different words stand in strict order
+-- sorted patterns with different words are in strict order
 strictly_ordered : (o : Order) (sorted : List Entry) → IsSortedBy (goes_before o) sorted → AllPairs (λ x y. x.shape ≢ y.shape) sorted → AllPairs (GoesBefore o) sorted
 strictly_ordered o sorted up apart i j d before within =
     GoesBefore-from o (get_or sorted i d) (get_or sorted j d)

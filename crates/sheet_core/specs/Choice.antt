@@ -1,18 +1,12 @@
 -- The patterns that are chosen from a dictionary.
-use Rattle.std.specs.Prelude.{◌≡◌, ℕ, ◌≤◌, ◌⊎◌, nat_le, ◌&&◌, not, Bool, List, length, All}
+use Rattle.std.specs.Prelude.{◌≡◌, ℕ, ◌≤◌, ◌⊎◌, nat_le, ◌&&◌, Bool, List, length, All}
 use Rattle.std.specs.List.{AllPairs, Contains}
 use Rattle.shape_core.specs.Word.{kind_of}
 use Rattle.shape_core.specs.declared.words.Kind.{Kind}
-use Rattle.shape_core.specs.declared.words.Kind.TheVariants as kind
-use Rattle.shape_dict.specs.Contents.{is_square}
+use Rattle.shape_dict.specs.Contents.{is_of}
 use Rattle.shape_dict.specs.declared.entries.Entry.{Entry}
 use Rattle.sheet_core.specs.declared.orders.Order.{Order}
 use Rattle.sheet_core.specs.Orders.{GoesBefore}
-
--- whether a pattern is of the kind
-abbrev pub is_of : Kind → Entry → Bool
-is_of kind.Square entry = is_square entry
-is_of kind.Diamond entry = not (is_square entry)
 
 -- whether it is of the kind and was there at least this often
 abbrev pub qualifies : Kind → ℕ → Entry → Bool

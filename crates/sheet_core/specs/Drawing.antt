@@ -46,7 +46,7 @@ links_text cells = codes "<path class='grid' d='" ++ flat_map (links_from cells)
 abbrev pub middle_text : Cell → List ℕ
 middle_text cell = codes " cx='" ++ decimal cell.column ++ codes "' cy='" ++ decimal cell.row ++ codes "'"
 
--- a circle at a cell, which begins so
+-- a circle at a cell, after its beginning
 abbrev pub circle_text : List ℕ → Cell → List ℕ
 circle_text begun cell = begun ++ middle_text cell ++ codes "/>"
 

@@ -28,7 +28,7 @@ unfoldable pub game_text : Option ℕ → List ℕ
 game_text None = []
 game_text (Some game) = codes "<br>first in game " ++ decimal game
 
--- what stands below a drawing
+-- what is below a drawing
 unfoldable pub caption_text : ℕ → Entry → List ℕ
 caption_text rank entry =
     codes "<figcaption>" ++ name_text rank entry ++ uses_text entry ++ game_text entry.first ++ codes "</figcaption>"
@@ -66,7 +66,7 @@ unfoldable pub colours_text : List ℕ
 colours_text =
     codes "<p>Colours are seen from the mover, as Black: with colours exchanged it is the same pattern. The dot marks its point.</p>\n<main>\n"
 
--- what stands above the figures
+-- what is above the figures
 unfoldable pub heading_text : Asked → Contents → ℕ → List ℕ
 heading_text asked contents count =
     counted_text contents ++ number_text asked.kind count ++ terms_text asked.order asked.least ++ colours_text

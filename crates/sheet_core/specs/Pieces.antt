@@ -1,4 +1,4 @@
--- What plain text and page say alike.
+-- What plain text and page have in common.
 use Rattle.std.specs.Prelude.{ℕ, ◌+◌, ◌*◌, ◌/◌, ◌%◌, List, [], ◌∷◌, ◌++◌, Option, Some, None, codes}
 use Rattle.std.specs.Fmt.{decimal}
 use Rattle.shape_dict.specs.declared.entries.Entry.{Entry}

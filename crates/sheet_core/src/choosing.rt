@@ -3,7 +3,7 @@ ghost use Rattle.std.specs.Prelude.{◌≡◌, IfOk};
 ghost use Rattle.std.specs.List.{filter};
 ghost use Rattle.std.specs.List.Sorted.{IsPermutation, IsSortedBy};
 ghost use Rattle.sheet_core.specs.Orders.{goes_before};
-ghost use Rattle.sheet_core.specs.Choice.{IsChoice, is_of, qualifies};
+ghost use Rattle.sheet_core.specs.Choice.{IsChoice, qualifies};
 
 use crate::orders::{Order, compare};
 use shape_core::Kind;

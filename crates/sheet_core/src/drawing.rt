@@ -7,8 +7,8 @@ ghost use Rattle.sheet_core.specs.Drawing.{stone_text, mark_text, picture_text};
 ghost use Rattle.sheet_core.specs.Drawing.{drawing_text};
 
 use crate::cells::{Cell, cells_of, is_on};
-use crate::pieces::push_number;
 use shape_core::{Kind, Word};
+use shape_dict::push_number;
 use std::alloc::AllocError;
 
 /// Appends the beginning of a drawing, with the part of the plane that is shown.
@@ -110,7 +110,7 @@ fn push_middle(text: &mut Vec<u8>, cell: Cell) -> Result<(), AllocError>
     text.extend_from_slice(b"'")
 }
 
-/// Appends a circle at a cell, which begins so.
+/// Appends a circle at a cell. `begun` is the circle's beginning.
 fn push_circle(text: &mut Vec<u8>, begun: &[u8], cell: Cell) -> Result<(), AllocError>
     ensures { OnOk result (text.new.items ≡ text.old.items ++ circle_text begun.now cell) }
 {

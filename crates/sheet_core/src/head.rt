@@ -1,6 +1,6 @@
 //! The head of the page, with its style sheet.
 
-/// All that stands before the heading's paragraphs.
+/// All that comes before the heading's paragraphs.
 pub(crate) const HEAD: &str = "<!DOCTYPE html>
 <html lang='en'>
 <head>

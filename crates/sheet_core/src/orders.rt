@@ -1,5 +1,5 @@
 //! The orders in which patterns are chosen.
-ghost use Rattle.std.specs.Prelude.{◌≡◌, ◌<◌, ◌^◌};
+ghost use Rattle.std.specs.Prelude.{◌≡◌};
 ghost use Rattle.std.specs.Ordering.{is_lt};
 ghost use Rattle.sheet_core.specs.Orders.{worth_of, scale_of, goes_before};
 

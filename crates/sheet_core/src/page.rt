@@ -1,18 +1,18 @@
 //! The page of chosen patterns.
-ghost use Rattle.std.specs.Prelude.{◌≡◌, ◌++◌, OnOk, IfOk, Option};
+ghost use Rattle.std.specs.Prelude.{◌≡◌, ◌++◌, OnOk, IfOk};
 ghost use Rattle.sheet_core.specs.Pieces.{ranked};
 ghost use Rattle.sheet_core.specs.Page.{name_text, uses_text, game_text, caption_text, figure_text};
-ghost use Rattle.sheet_core.specs.Page.{kind_name, order_name, counted_text, number_text, terms_text};
-ghost use Rattle.sheet_core.specs.Page.{page_text};
+ghost use Rattle.sheet_core.specs.Page.{kind_name, order_name, counted_text, number_text};
+ghost use Rattle.sheet_core.specs.Page.{terms_text, page_text};
 ghost use Rattle.sheet_core.specs.Page.{colours_text, heading_text, end_text, head_text};
 
 use crate::asked::Asked;
 use crate::drawing::push_drawing;
 use crate::head::HEAD;
 use crate::orders::Order;
-use crate::pieces::{push_number, push_percent, push_word};
+use crate::pieces::push_percent;
 use shape_core::Kind;
-use shape_dict::{Dictionary, Entry};
+use shape_dict::{Dictionary, Entry, push_number, push_word};
 use std::alloc::{AllocError, Global};
 
 /// Appends a pattern's rank and word.
@@ -54,7 +54,7 @@ fn push_game(text: &mut Vec<u8>, first: Option<u64>) -> Result<(), AllocError>
     }
 }
 
-/// Appends what stands below a drawing.
+/// Appends what is below a drawing.
 #[tactic(auto, unfolding(crate::specs::Page::caption_text))]
 fn push_caption(text: &mut Vec<u8>, rank: u64, entry: &Entry) -> Result<(), AllocError>
     ensures { OnOk result (text.new.items ≡ text.old.items ++ caption_text rank entry.now) }
@@ -165,7 +165,7 @@ fn push_colours(text: &mut Vec<u8>) -> Result<(), AllocError>
     )
 }
 
-/// Appends what stands above the figures.
+/// Appends what is above the figures.
 #[tactic(auto, unfolding(crate::specs::Page::heading_text))]
 fn push_heading(
     text: &mut Vec<u8>,
@@ -190,7 +190,7 @@ fn push_end(text: &mut Vec<u8>) -> Result<(), AllocError>
     text.extend_from_slice(b"</main>\n</body>\n</html>\n")
 }
 
-/// The page of chosen patterns of a dictionary. It stands alone: it has its style sheet in itself, no script, and loads
+/// The page of chosen patterns of a dictionary. It is one file: it holds its style sheet, has no script, and loads
 /// nothing. It takes memory for the text.
 ///
 /// # Errors

@@ -1,53 +1,10 @@
-//! What plain text and page say alike.
-ghost use Rattle.std.specs.Prelude.{◌≡◌, ◌++◌, ◌<◌, OnOk, Option};
-ghost use Rattle.std.specs.Fmt.{decimal};
-ghost use Rattle.shape_dict.specs.Text.{hexadecimal_digit, word_text};
+//! What plain text and page have in common.
+ghost use Rattle.std.specs.Prelude.{◌≡◌, ◌++◌, OnOk};
 ghost use Rattle.sheet_core.specs.Pieces.{hundredths_of, percent_text, first_text};
 
 use itoa::Buffer;
-use shape_core::Shape;
-use shape_dict::Entry;
+use shape_dict::{Entry, push_number};
 use std::alloc::AllocError;
-
-/// Appends a number in decimal digits.
-pub(crate) fn push_number(text: &mut Vec<u8>, number: u64) -> Result<(), AllocError>
-    ensures { OnOk result (text.new.items ≡ text.old.items ++ decimal number) }
-{
-    let mut buffer = Buffer::new();
-    text.extend_from_slice(buffer.format(number).as_bytes())
-}
-
-/// A hexadecimal digit in lower case.
-fn hexadecimal_digit(digit: u8) -> u8
-    requires { digit < 16 }
-    ensures { result ≡ hexadecimal_digit digit }
-{
-    if digit < 10 {
-        b'0' + digit
-    } else {
-        b'a' + (digit - 10)
-    }
-}
-
-/// The 13 lowest hexadecimal digits of a number, the highest first.
-fn word_digits(number: u64) -> [u8; 13]
-    ensures { result ≡ word_text number }
-{
-    let mut digits = [0u8; 13];
-    let mut left = number;
-    for place in (0..13).rev() {
-        digits[place] = hexadecimal_digit((left % 16) as u8);
-        left /= 16;
-    }
-    digits
-}
-
-/// Appends a word in 13 hexadecimal digits.
-pub(crate) fn push_word(text: &mut Vec<u8>, shape: Shape) -> Result<(), AllocError>
-    ensures { OnOk result (text.new.items ≡ text.old.items ++ word_text shape) }
-{
-    text.extend_from_slice(&word_digits(shape.word().bits()))
-}
 
 /// The plays for ten thousand times that the pattern was there, rounded down.
 fn hundredths(entry: &Entry) -> u128

@@ -3,13 +3,13 @@ ghost use Rattle.std.specs.Prelude.{◌≡◌, ◌+◌, ◌≤◌, ◌++◌, len
 ghost use Rattle.sheet_core.specs.Plain.{marked_glyphs, row_text, board_text, uses_text};
 ghost use Rattle.sheet_core.specs.Plain.{caption_text, figure_text, plain_text};
 
-use crate::pieces::{push_first, push_number, push_percent, push_word};
+use crate::pieces::{push_first, push_percent};
 use crate::rows::{Row, rows_of};
 use shape_core::{Word, glyphs};
-use shape_dict::Entry;
+use shape_dict::{Entry, push_number, push_word};
 use std::alloc::{AllocError, Global};
 
-/// As many spaces as a row may be indented.
+/// The spaces of the row that is indented most.
 const SPACES: [u8; 3] = [b' '; 3];
 
 /// The cell of the point itself.

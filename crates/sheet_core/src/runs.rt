@@ -16,14 +16,8 @@ fn sheet_of(alloc: Global, asked: Asked, input: &[u8]) -> Result<Vec<u8>, RunFau
     ensures text { IfOk result (λ text. IsSheetText asked input.now text.items) }
     ensures fault { IfErr result (IsFindFault input.now) }
 {
-    let dictionary = match Dictionary::read(alloc, input) {
-        Ok(dictionary) => dictionary,
-        Err(fault) => return Err(RunFault::Dict { n: 1, fault }),
-    };
-    match sheet_text(alloc, asked, &dictionary) {
-        Ok(text) => Ok(text),
-        Err(_) => Err(RunFault::Memory),
-    }
+    let dictionary = Dictionary::read(alloc, input)?;
+    Ok(sheet_text(alloc, asked, &dictionary)?)
 }
 
 /// Reads one dictionary, in any of the three texts, and writes its sheet: the patterns that are asked for, as a page or as

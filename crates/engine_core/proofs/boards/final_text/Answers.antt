@@ -1,5 +1,4 @@
 use Rattle.std.proofs.Common.{◌∙◌, subst, ap}
-use Rattle.std.proofs.lemmas.Result.{IfOk-weaker}
 use Rattle.go_board.specs.Extent.{Extent}
 use Rattle.go_board.specs.Board.{position_of}
 use Rattle.go_record.specs.Replay.{AreSame, empty_position}
@@ -9,12 +8,12 @@ use Rattle.engine_core.proofs.boards.final_text.Goals as goal
 
 pub returns-clause-text : goal.returns-clause-text
 returns-clause-text c =
-    let empty = subst (λ (s : Extent). AreSame s (position_of c.in-Ok.board) empty_position) c.size.ensures c.in-Ok.ensures.empty in
-    let same = c.in-Ok.ensures.size ∙ c.size.ensures in
-    IfOk-weaker c.board_text.result _ _
-    (λ text printed. (
-      position_of c.replay.new.board,
-      final_of c.args.replayed.now c.in-Ok.board.size c.actions.result.now (position_of c.in-Ok.board) (position_of c.replay.new.board) same c.actions.ensures.value empty c.replay.ensures.replays,
-      printed ∙ ap (λ s. position_text s (position_of c.replay.new.board)) (c.replay.ensures.size ∙ same),
-    ))
-    c.board_text.ensures.ok
+    let game = c.args.replayed.now in
+    let board = c.in_ok-board.board in
+    let final = position_of c.replay.new.board in
+    let empty = subst (λ (s : Extent). AreSame s (position_of board) empty_position) c.size.ensures c.in_ok-board.ensures.empty in
+    let same = c.in_ok-board.ensures.size ∙ c.size.ensures in (
+      final,
+      final_of game board.size c.actions.result.now (position_of board) final same c.actions.ensures.value empty c.replay.ensures.replays,
+      c.in_ok-board_text.ensures ∙ ap (λ s. position_text s final) (c.replay.ensures.size ∙ same),
+    )

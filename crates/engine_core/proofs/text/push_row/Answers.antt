@@ -1,6 +1,7 @@
 use Rattle.std.proofs.Common.{ℕ, ◌++◌, ◌∷◌, [], ap, sym, ◌∙◌, map, ◌-◌, ◌+◌, arith}
 use Rattle.go_board.specs.Board.{position_of}
-use Rattle.engine_core.specs.Boards.{glyph_of, count_from}
+use Rattle.shape_core.specs.Word.{count_from}
+use Rattle.engine_core.specs.Boards.{glyph_of}
 use Rattle.engine_core.proofs.Rows.{count_from-first, piece_moved}
 use Rattle.engine_core.proofs.text.push_row.Goals as goal
 

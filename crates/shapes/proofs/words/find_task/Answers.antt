@@ -1,11 +1,12 @@
 use Rattle.std.proofs.Common.{codes, refl, sym, ◌∙◌}
+use Rattle.std.proofs.lemmas.Result.{err_from_is_err_and}
 use Rattle.clap.specs.Words.{found_of, rows_of}
 use Rattle.clap.proofs.WalkLemmas.{first_value-rows}
 use Rattle.shapes.proofs.Asked.{search_fault}
 use Rattle.shapes.proofs.words.find_task.Goals as goal
 
-pub returns-in-Ok-clause-task : goal.returns-in-Ok-clause-task
-returns-in-Ok-clause-task c =
+pub returns-clause-task : goal.returns-clause-task
+returns-clause-task c =
     let found = found_of c.args.matches.now in (
       rows_of found,
       refl,
@@ -16,13 +17,14 @@ returns-in-Ok-clause-task c =
         is_kind = c.kind_of.ensures;
         has_glyphs = sym (first_value-rows found (codes "glyphs")) ∙ sym c.in-Some.ensures;
         has_mover = sym (first_value-rows found (codes "colour")) ∙ sym c.in-Some-get_str.ensures;
-        pattern = c.in-Ok.ensures.shape;
+        pattern = c.in_ok-shape.ensures.shape;
       },
     )
 
-pub returns-in-Err-clause-fault : goal.returns-in-Err-clause-fault
-returns-in-Err-clause-fault c =
+pub returns-in_err-shape-clause-fault : goal.returns-in_err-shape-clause-fault
+returns-in_err-shape-clause-fault c =
     let found = found_of c.args.matches.now in
-    search_fault (rows_of found) c.in-Some.glyphs.now c.in-Some-get_str.mover.now c.in-Err.fault
+    let p = err_from_is_err_and c.from_residual.result c.from_residual.ensures.1 in
+    rw (p.1, p.2) (search_fault (rows_of found) c.in-Some.glyphs.now c.in-Some-get_str.mover.now c.in_err-shape.field-0.0
     (sym (first_value-rows found (codes "glyphs")) ∙ sym c.in-Some.ensures)
-    (sym (first_value-rows found (codes "colour")) ∙ sym c.in-Some-get_str.ensures) c.in-Err.ensures.fault
+    (sym (first_value-rows found (codes "colour")) ∙ sym c.in-Some-get_str.ensures) c.in_err-shape.ensures.fault)

@@ -1,9 +1,10 @@
 use Rattle.std.proofs.Common.{◌++◌, ap, sym, ◌∙◌, ◌-◌, ◌+◌, arith}
 use Rattle.std.specs.List.{flat_map}
 use Rattle.go_board.specs.Board.{position_of}
-use Rattle.engine_core.specs.Boards.{row_text, count_from}
+use Rattle.shape_core.specs.Word.{count_from}
+use Rattle.engine_core.specs.Boards.{row_text}
 use Rattle.engine_core.proofs.Rows.{count_from-first, piece_moved}
-use Rattle.engine_core.proofs.text.rows_text.Goals as goal
+use Rattle.engine_core.proofs.text.board_text.Goals as goal
 
 pub loop-row-preserved : goal.loop-row-preserved
 loop-row-preserved c =

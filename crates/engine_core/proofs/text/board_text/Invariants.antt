@@ -1,8 +1,9 @@
 use Rattle.std.proofs.Common.{◌≡◌, ◌++◌, ◌-◌}
 use Rattle.std.specs.List.{flat_map}
 use Rattle.go_board.specs.Board.{position_of}
-use Rattle.engine_core.specs.Boards.{row_text, count_from}
-use Rattle.engine_core.proofs.text.rows_text.Given as goal
+use Rattle.shape_core.specs.Word.{count_from}
+use Rattle.engine_core.specs.Boards.{row_text}
+use Rattle.engine_core.proofs.text.board_text.Given as goal
 
 abbrev pub invariant-loop-row : goal.invariant-loop-row
 invariant-loop-row l =
