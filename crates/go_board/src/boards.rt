@@ -17,7 +17,7 @@ pub struct Played {
 
 /// A position on a board, and the points that the last move emptied.
 ///
-/// All memory is taken by `new`, for each point of the board.
+/// All memory is taken by `new` and `copied`, for each point of the board.
 #[derive(Clone, Debug, Drop)]
 pub struct Board {
     size: Size,
@@ -71,6 +71,22 @@ impl Board {
             group,
             removed,
         })
+    }
+
+    /// Another board with the same stones, from which nothing was removed. It takes memory for each point of the board.
+    ///
+    /// # Errors
+    ///
+    /// `Memory` where memory was refused. No board is made then.
+    pub fn copied(&self, alloc: Global) -> Result<Board, BoardFault>
+        ensures size { IfOk result (λ board. board.size ≡ self.now.size) }
+        ensures stones { IfOk result (λ board. board.stones ≡ self.now.stones) }
+        ensures removed { IfOk result (λ board. board.removed ≡ []) }
+        ensures board { IfOk result IsBoard }
+    {
+        let mut board = Board::new(alloc, self.size)?;
+        board.stones.copy_from_slice(&self.stones);
+        Ok(board)
     }
 
     /// The size of the board.
