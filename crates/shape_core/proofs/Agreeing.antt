@@ -1,4 +1,4 @@
--- Words of positions that agree on the board; the cell in the middle; a stone placed where it stands already.
+-- Words of positions that agree on the board; the cell in the middle; a stone placed where it is already.
 use Rattle.std.proofs.Common.{◌≡◌, ℕ, List, [], ◌∷◌, map, Bool, true, false, cond, ltb, ◌&&◌, Option, Some, None, sym, refl, ap, ap₂, ◌∙◌, arith, ⊎_elim}
 use Rattle.std.proofs.lemmas.Bool.{and_parts, ltb-true, cases_eq}
 use Rattle.shape_core.proofs.Marking.{same_point_from}
@@ -77,7 +77,7 @@ same_stones stone.Black stone.White e = absurd (omega arith)
 same_stones stone.White stone.Empty e = absurd (omega arith)
 same_stones stone.White stone.Black e = absurd (omega arith)
 
--- a stone placed where it stands changes nothing
+-- a stone placed where it is already changes nothing
 pub placed_again : (size : Extent) (position : Position) (p : Point) (stone : Stone) → position p ≡ stone → Agree size position (placed position p stone)
 placed_again size position p stone stands = λ r on.
     ⊎_elim

@@ -43,7 +43,7 @@ codes_from zero a w = refl
 codes_from (suc n) a w =
     ap (λ cs. code_at w a ∷ cs) (codes_from n (suc a) w ∙ ap (digits n) (ap (λ p. w / p) (pow-suc 4 a) ∙ sym (div-div-eq-div-mul w (4 ^ a) 4)))
 
--- a number is the sum of its digits and of what stands above them
+-- a number is the sum of its digits and of what is above them
 pub sum_of-digits : (n w : ℕ) → sum_of (digits n w) + 4 ^ n * (w / 4 ^ n) ≡ w
 unfolding digits
 sum_of-digits zero w = omega (arith, div-one w)

@@ -6,8 +6,9 @@ use Rattle.go_board.specs.declared.points.Colour.TheVariants as colour
 use Rattle.go_board.specs.Play.{other}
 use Rattle.shape_core.specs.declared.symmetries.Symmetry.{Symmetry}
 use Rattle.shape_core.specs.declared.symmetries.Symmetry.TheVariants as symmetry
+use Rattle.shape_core.specs.Flips.{flips}
 use Rattle.shape_core.specs.Symmetry.{image_of, exchange_of, least_image, canonical_of, IsImageOf}
-use Rattle.shape_core.proofs.Images.{images_compose, images_return, image-same, image-half_turn, image-right_turn, image-left_turn, image-rising}
+use Rattle.shape_core.proofs.Images.{image_of_small, images_compose, images_return, image-same, image-half_turn, image-right_turn, image-left_turn, image-rising}
 use Rattle.shape_core.proofs.Exchanges.{exchange_of_small, exchange-exchange, exchange-image}
 
 least-le : (w : ℕ) (s : Symmetry) → least_image w ≤ image_of s w
@@ -58,10 +59,6 @@ image_between v w small e =
     (step.0, sym back.1 ∙ ap (image_of back.0) (sym of_w.1 ∙ sym e ∙ of_v.1) ∙ step.1)
 
 -- ---- the order in which the program takes the eight
-
-unfoldable pub flips : ℕ → ℕ
-flips w =
-    min (min (min w (image_of symmetry.LeftRight w)) (image_of symmetry.TopBottom w)) (image_of symmetry.TopBottom (image_of symmetry.LeftRight w))
 
 flips_are_image : (w : ℕ) → w < 2 ^ 51 → (s : Symmetry) × (min (flips w) (flips (image_of symmetry.FallingDiagonal w)) ≡ image_of s w)
 unfolding flips
@@ -116,3 +113,11 @@ to_image a colour.White b colour.White p q e =
 -- two words with their movers have one canonical word exactly where one is among the sixteen images of the other
 pub same_canonical : (a : ℕ) (m : Colour) (b : ℕ) (n : Colour) → a < 2 ^ 51 → b < 2 ^ 51 → (canonical_of a m ≡ canonical_of b n) ↔ IsImageOf a m b n
 same_canonical a m b n p q = (to_image a m b n p q, from_image a m b n p)
+
+-- ---- the least of two rows of flips
+
+pub least_by_two : (w d r : ℕ) → w < 2 ^ 51 → d ≡ image_of symmetry.FallingDiagonal w → r ≡ min (flips w) (flips d) → r ≡ least_image w
+least_by_two w d r small e f = f ∙ ap (λ x. min (flips w) (flips x)) e ∙ least_by_flips w small
+
+pub least_small : (w : ℕ) → least_image w < 2 ^ 51
+least_small w = let found = least_is_image w in rw (found.1) (image_of_small found.0 w)

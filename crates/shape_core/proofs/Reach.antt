@@ -102,7 +102,7 @@ pub word_around_is : (k : Kind) (size : Extent) (position : Position) (p : Point
 unfolding word_around codes_round
 word_around_is k size position p = refl
 
--- the point that lies so far from another, or that there is none on the board
+-- the point at a distance from another, or that there is none on the board
 pub point_away : (size : Extent) (p : Point) (away : ℕ × ℕ) →
     ((q : Point) × IsOn size q × Sees p away q)
     ⊎ ((q : Point) → IsOn size q → Sees p away q → ⊥)

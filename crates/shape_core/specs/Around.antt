@@ -9,7 +9,7 @@ use Rattle.shape_core.specs.declared.words.Kind.{Kind}
 use Rattle.shape_core.specs.Offset.{Offset, offsets_of}
 use Rattle.shape_core.specs.Word.{word_of}
 
--- a column or a row so far on, or None before the first
+-- a column or a row at a distance from another, or None before the first
 abbrev pub shifted : ℕ → ℤ → Option ℕ
 shifted n (pos d) = Some (n + d)
 shifted n (negsuc d) = if nat_lt d n then Some (n - (d + 1)) else None

@@ -1,4 +1,4 @@
--- What a field stands for, and what its words and marks are.
+-- What a field is, and what its words and marks are.
 use Rattle.std.specs.Prelude.{◌≡◌, ℕ, ◌<◌, ◌⊎◌, List, length, slice_index, bit_or}
 use Rattle.std.specs.Int.{bit_at}
 use Rattle.go_board.specs.Extent.{Extent}

@@ -1,6 +1,7 @@
 pub mod Offset
 pub mod Word
 pub mod Symmetry
+pub mod Flips
 pub mod Around
 pub mod Table
 pub mod Glyph

@@ -11,6 +11,6 @@ less_three n = if nat_lt n 3 then negsuc (2 - n) else pos (n - 3)
 abbrev pub offset_of : ℕ × ℕ → Offset
 offset_of parts = record { dx = less_three parts.0; dy = less_three parts.1 }
 
--- a cell of p is at q: q lies so far from p
+-- a cell of p is at q: q lies at this distance from p
 abbrev pub Sees : Point → ℕ × ℕ → Point → Type 0
 Sees p away q = (p.column + away.0 ≡ q.column + 3) × (p.row + away.1 ≡ q.row + 3)

@@ -67,7 +67,7 @@ pub const DIAMOND_CELLS: [Away; 25] = [
     (3, 6),
 ];
 
-/// The point that lies so far from a point, or None where that is off the board.
+/// The point at this distance from a point, or None where that is off the board.
 pub fn reached(size: Size, point: Point, away: Away) -> Option<Point>
     requires on_board { IsOn size point }
     requires columns { away.0 ≤ 6 }

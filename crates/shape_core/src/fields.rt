@@ -1,5 +1,4 @@
 //! Fields: boards that keep the words of all their points.
-use crate::keeping::index;
 use crate::kept::KeptWords;
 use crate::marks::{is_marked, move_marks, take_first};
 use crate::words::{Kinds, Word};
@@ -9,7 +8,7 @@ use std::marker::Model;
 
 /// A board with the word of every point kept, and marks on the points whose words have changed.
 ///
-/// All memory is taken by `new` and `with_kinds`.
+/// All memory is taken by `new`, `with_kinds` and `copied`.
 #[derive(Drop)]
 pub struct Field {
     board: Board,
@@ -48,7 +47,11 @@ impl Field {
 
     /// An empty board of this size, with the words of both kinds kept and no point marked.
     ///
-    /// It takes memory for each point of the board. `BoardFault::Memory` comes where memory is refused.
+    /// It takes memory for each point of the board.
+    ///
+    /// # Errors
+    ///
+    /// `BoardFault::Memory` where memory was refused. No field is made then.
     pub fn new(alloc: Global, size: Size) -> Result<Field, BoardFault>
         ensures size { IfOk result (λ field. field.board.size ≡ size) }
         ensures empty { IfOk result
@@ -63,7 +66,11 @@ impl Field {
 
     /// An empty board of this size, with the words of these kinds kept and no point marked.
     ///
-    /// It takes memory for each point of the board. `BoardFault::Memory` comes where memory is refused.
+    /// It takes memory for each point of the board.
+    ///
+    /// # Errors
+    ///
+    /// `BoardFault::Memory` where memory was refused. No field is made then.
     pub fn with_kinds(alloc: Global, size: Size, kinds: Kinds) -> Result<Field, BoardFault>
         ensures size { IfOk result (λ field. field.board.size ≡ size) }
         ensures empty { IfOk result
@@ -74,7 +81,25 @@ impl Field {
         ensures board { IfOk result (λ field. IsBoard field.board) }
     {
         let board = Board::new(alloc, size)?;
-        let kept = KeptWords::new(alloc, &board, kinds).map_err(|_| BoardFault::Memory)?;
+        let kept = KeptWords::new(alloc, &board, kinds)?;
+        Ok(Field { board, kept })
+    }
+
+    /// Another field with the same stones, words and marks, from which nothing was removed. It takes memory for each
+    /// point of the board.
+    ///
+    /// # Errors
+    ///
+    /// `BoardFault::Memory` where memory was refused. No field is made then.
+    pub fn copied(&self, alloc: Global) -> Result<Field, BoardFault>
+        ensures size { IfOk result (λ field. field.board.size ≡ self.now.board.size) }
+        ensures stones { IfOk result (λ field. field.board.stones ≡ self.now.board.stones) }
+        ensures removed { IfOk result (λ field. field.board.removed ≡ []) }
+        ensures kinds { IfOk result (λ field. field.kinds ≡ self.now.kinds) }
+        ensures marks { IfOk result (λ field. field.changed ≡ self.now.changed) }
+    {
+        let board = self.board.copied(alloc)?;
+        let kept = self.kept.copied(alloc)?;
         Ok(Field { board, kept })
     }
 
@@ -116,7 +141,7 @@ impl Field {
         ensures { result
             ≡ word_around kind.Square self.now.board.size (position_of self.now.board) point }
     {
-        self.kept.squares[index(self.kept.size, point)]
+        self.kept.squares[self.kept.size.index(point)]
     }
 
     /// The diamond of a point, as it is now. The point is on the board, and diamonds are kept.
@@ -126,7 +151,7 @@ impl Field {
         ensures { result
             ≡ word_around kind.Diamond self.now.board.size (position_of self.now.board) point }
     {
-        self.kept.diamonds[index(self.kept.size, point)]
+        self.kept.diamonds[self.kept.size.index(point)]
     }
 
     /// Whether a point is marked: some kept word of it may be another than when it was last unmarked. The point is on

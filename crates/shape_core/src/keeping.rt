@@ -20,16 +20,7 @@ use crate::marks::mark;
 use crate::words::Word;
 use go_board::{Point, Size};
 
-/// The place of a point in a list of the points row by row from the top, each row from the left.
-pub fn index(size: Size, point: Point) -> usize
-    requires { IsOn size point }
-    ensures value { result ≡ index_of size point }
-    ensures below { result < size.columns * size.rows }
-{
-    usize::from(point.row) * usize::from(size.columns()) + usize::from(point.column)
-}
-
-/// Gives the point that has this one so far away another code at that cell, and marks it. Where such a point would be
+/// Gives the point that has this one at this distance another code at that cell, and marks it. Where such a point would be
 /// off the board, nothing changes.
 fn recode_cell(
     size: Size,
@@ -62,7 +53,7 @@ fn recode_cell(
         slice_index words.new (index_of size q) ≡ slice_index words.old (index_of size q) }
 {
     if let Some(near) = reached(size, point, (6 - away.0, 6 - away.1)) {
-        let index = index(size, near);
+        let index = size.index(near);
         words[index] = words[index].with_code(cell, code);
         mark(changed, near);
     }

@@ -9,7 +9,7 @@ ghost use Rattle.shape_core.specs.Field.{IsMarked};
 ghost use Rattle.shape_core.specs.KeptLists.{AreWords, emptied};
 
 use crate::cells::{DIAMOND_CELLS, SQUARE_CELLS};
-use crate::keeping::{index, recode};
+use crate::keeping::recode;
 use crate::surroundings::{around, code_of, diamond};
 use crate::words::{Kind, Kinds, Word};
 use go_board::{Board, Point, Size, Stone};
@@ -58,6 +58,25 @@ impl KeptWords {
         })
     }
 
+    /// The same words and marks again. It takes memory for each point of the board.
+    pub fn copied(&self, alloc: Global) -> Result<KeptWords, AllocError>
+        requires room { HasRoom self.now }
+        ensures size { IfOk result (λ kept. kept.size ≡ self.now.size) }
+        ensures kinds { IfOk result (λ kept. kept.kinds ≡ self.now.kinds) }
+        ensures room { IfOk result HasRoom }
+        ensures squares { IfOk result (λ kept. kept.squares.items ≡ self.now.squares.items) }
+        ensures diamonds { IfOk result (λ kept. kept.diamonds.items ≡ self.now.diamonds.items) }
+        ensures changed { IfOk result (λ kept. kept.changed.items ≡ self.now.changed.items) }
+    {
+        Ok(KeptWords {
+            size: self.size,
+            kinds: self.kinds,
+            squares: list_of(alloc, &self.squares)?,
+            diamonds: list_of(alloc, &self.diamonds)?,
+            changed: list_of(alloc, &self.changed)?,
+        })
+    }
+
     /// Makes the words follow a stone set on a point, or the point emptied, and marks each point of which a kept word
     /// changes.
     pub fn change(&mut self, point: Point, stone: Stone)
@@ -69,7 +88,7 @@ impl KeptWords {
             Follows self.old position → Follows self.new (placed position point stone) }
     {
         let code = code_of(stone);
-        if self.squares[index(self.size, point)].code(MIDDLE) != code {
+        if self.squares[self.size.index(point)].code(MIDDLE) != code {
             recode(
                 self.size,
                 &mut self.squares,
@@ -104,6 +123,15 @@ impl KeptWords {
             self.change(*point, Stone::Empty);
         }
     }
+}
+
+/// A list of these items.
+fn list_of<T: Copy>(alloc: Global, items: &[T]) -> Result<Vec<T>, AllocError>
+    ensures { IfOk result (λ list. list.items ≡ items.now) }
+{
+    let mut list = Vec::new(alloc);
+    list.extend_from_slice(items)?;
+    Ok(list)
 }
 
 /// The words of this kind of all points of a board, row by row from the top, each row from the left.

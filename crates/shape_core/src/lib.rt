@@ -5,6 +5,8 @@ mod cells;
 mod fields;
 mod keeping;
 mod kept;
+mod lanes;
+mod laws;
 mod marks;
 mod masks;
 mod shapes;
@@ -14,7 +16,8 @@ mod symmetries;
 mod words;
 
 pub use fields::Field;
-pub use shapes::{Shape, canonical, kinds_stay, same_canonical};
+pub use laws::{kinds_stay, same_canonical};
+pub use shapes::{Shape, canonical};
 pub use spelling::{GlyphFault, from_diamond_glyphs, from_glyphs, glyphs};
 pub use surroundings::{around, diamond};
 pub use symmetries::{Symmetry, exchange, image};

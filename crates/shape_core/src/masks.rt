@@ -1,9 +1,12 @@
 //! The cells of words moved by masks and shifts, for both kinds of pattern.
 ghost use Rattle.std.specs.Prelude.{◌≡◌, ◌<◌, ◌≤◌, ◌^◌, ◌*◌, ◌/◌, ◌%◌, bit_and, bit_or};
 ghost use Rattle.shape_core.specs.Symmetry.{image_of, exchange_of};
+ghost use Rattle.shape_core.specs.Word.{kind_of};
 ghost use Rattle.shape_core.specs.declared.symmetries.Symmetry.TheVariants as symmetry;
 
-use crate::words::DIAMOND;
+use crate::lanes;
+use crate::words::{DIAMOND, Kind};
+use std::simd::prelude::*;
 
 /// The bits of the mask and those `places` places above them, each in the other's place; no other bit.
 fn swapped(word: u64, mask: u64, places: u32) -> u64
@@ -12,22 +15,6 @@ fn swapped(word: u64, mask: u64, places: u32) -> u64
         ≡ bit_or (bit_and word mask * 2 ^ places % 2 ^ 64) (bit_and (word / 2 ^ places) mask) }
 {
     ((word & mask) << places) | ((word >> places) & mask)
-}
-
-/// A square, with its column c in column 4 - c.
-fn square_left_right(word: u64) -> u64
-    requires { word < 2 ^ 50 }
-    ensures { result ≡ image_of symmetry.LeftRight word }
-{
-    (word & 0x300c0300c030) | swapped(word, 0xc0300c0300c, 4) | swapped(word, 0x300c0300c03, 8)
-}
-
-/// A square, with its row r in row 4 - r.
-fn square_top_bottom(word: u64) -> u64
-    requires { word < 2 ^ 50 }
-    ensures { result ≡ image_of symmetry.TopBottom word }
-{
-    (word & 0x3ff00000) | swapped(word, 0xffc00, 20) | swapped(word, 0x3ff, 40)
 }
 
 /// A square, with rows for columns and columns for rows.
@@ -40,30 +27,6 @@ fn square_diagonal(word: u64) -> u64
         | swapped(word, 0x30030030, 16)
         | swapped(word, 0xc00c0, 24)
         | swapped(word, 0x300, 32)
-}
-
-/// A diamond, with what lies so far to the left as far to the right.
-fn diamond_left_right(word: u64) -> u64
-    requires low { 2 ^ 50 ≤ word }
-    requires high { word < 2 ^ 51 }
-    ensures { result ≡ image_of symmetry.LeftRight word }
-{
-    (word & 0x7303003003033)
-        | swapped(word, 0xc0c00c00c0c, 4)
-        | swapped(word, 0x300300300, 8)
-        | swapped(word, 0xc0000, 12)
-}
-
-/// A diamond, with what lies so far above as far below.
-fn diamond_top_bottom(word: u64) -> u64
-    requires low { 2 ^ 50 ≤ word }
-    requires high { word < 2 ^ 51 }
-    ensures { result ≡ image_of symmetry.TopBottom word }
-{
-    (word & 0x40000fffc0000)
-        | swapped(word, 0x3ff00, 24)
-        | swapped(word, 0xfc, 40)
-        | swapped(word, 0x3, 48)
 }
 
 /// A diamond, with rows for columns and columns for rows.
@@ -81,32 +44,35 @@ fn diamond_diagonal(word: u64) -> u64
         | swapped(word, 0x300c0, 26)
 }
 
+/// Of which kind the word is.
+fn kind(word: u64) -> Kind
+    ensures { result ≡ kind_of word }
+{
+    if word < DIAMOND {
+        Kind::Square
+    } else {
+        Kind::Diamond
+    }
+}
+
 /// The word with left and right exchanged.
-#[tactic(auto, using(crate::proofs::Images::image_of_small))]
 pub fn left_right(word: u64) -> u64
     requires { word < 2 ^ 51 }
     ensures value { result ≡ image_of symmetry.LeftRight word }
     ensures small { result < 2 ^ 51 }
 {
-    if word < DIAMOND {
-        square_left_right(word)
-    } else {
-        diamond_left_right(word)
-    }
+    let [moved, _] = lanes::left_right(u64x2::from_array([word, word]), kind(word)).to_array();
+    moved
 }
 
 /// The word with top and bottom exchanged.
-#[tactic(auto, using(crate::proofs::Images::image_of_small))]
 pub fn top_bottom(word: u64) -> u64
     requires { word < 2 ^ 51 }
     ensures value { result ≡ image_of symmetry.TopBottom word }
     ensures small { result < 2 ^ 51 }
 {
-    if word < DIAMOND {
-        square_top_bottom(word)
-    } else {
-        diamond_top_bottom(word)
-    }
+    let [moved, _] = lanes::top_bottom(u64x2::from_array([word, word]), kind(word)).to_array();
+    moved
 }
 
 /// The word with rows for columns and columns for rows.

@@ -51,7 +51,7 @@ fn sum_around(board: &Board, point: Point, cells: &[Away; 25]) -> u64
     sum
 }
 
-/// The code of the cell so far from a point.
+/// The code of the cell at this distance from a point.
 fn code_away(board: &Board, point: Point, away: Away) -> u8
     requires on_board { IsOn board.now.size point }
     requires columns { away.0 ≤ 6 }

@@ -1,0 +1,122 @@
+//! The cells of two words of one kind moved at once, each word in a lane of a vector.
+ghost use Rattle.std.specs.Prelude.{◌≡◌, ◌<◌, ◌*◌, ◌/◌, ◌%◌, ◌^◌, ℕ, [], ◌∷◌, bit_and, bit_or, min};
+ghost use Rattle.shape_core.specs.Word.{kind_of};
+ghost use Rattle.shape_core.specs.Flips.{flips};
+ghost use Rattle.shape_core.specs.Symmetry.{image_of};
+ghost use Rattle.shape_core.specs.declared.words.Kind.TheVariants as kind;
+ghost use Rattle.shape_core.specs.declared.symmetries.Symmetry.TheVariants as symmetry;
+
+use crate::words::Kind;
+use std::simd::prelude::*;
+
+/// The bits of the mask and those `places` places above them, each in the other's place; no other bit.
+fn swapped(words: u64x2, mask: u64, places: u64) -> u64x2
+    requires { places < 64 }
+    ensures { (a b : ℕ) → words ≡ a ∷ b ∷ [] → result
+        ≡ bit_or (bit_and a mask * 2 ^ places % 2 ^ 64) (bit_and (a / 2 ^ places) mask)
+        ∷ bit_or (bit_and b mask * 2 ^ places % 2 ^ 64) (bit_and (b / 2 ^ places) mask) ∷ [] }
+{
+    let masks = u64x2::splat(mask);
+    let shifts = u64x2::splat(places);
+    ((words & masks) << shifts) | ((words >> shifts) & masks)
+}
+
+/// Squares, with column c in column 4 - c.
+fn square_left_right(words: u64x2) -> u64x2
+    ensures { (a b : ℕ) → words ≡ a ∷ b ∷ [] → a < 2 ^ 51 → b < 2 ^ 51
+        → kind_of a ≡ kind.Square → kind_of b ≡ kind.Square
+        → result ≡ image_of symmetry.LeftRight a ∷ image_of symmetry.LeftRight b ∷ [] }
+{
+    (words & u64x2::splat(0x300c0300c030))
+        | swapped(words, 0xc0300c0300c, 4)
+        | swapped(words, 0x300c0300c03, 8)
+}
+
+/// Squares, with row r in row 4 - r.
+fn square_top_bottom(words: u64x2) -> u64x2
+    ensures { (a b : ℕ) → words ≡ a ∷ b ∷ [] → a < 2 ^ 51 → b < 2 ^ 51
+        → kind_of a ≡ kind.Square → kind_of b ≡ kind.Square
+        → result ≡ image_of symmetry.TopBottom a ∷ image_of symmetry.TopBottom b ∷ [] }
+{
+    (words & u64x2::splat(0x3ff00000)) | swapped(words, 0xffc00, 20) | swapped(words, 0x3ff, 40)
+}
+
+/// Diamonds, with each cell left of the middle as far to its right.
+fn diamond_left_right(words: u64x2) -> u64x2
+    ensures { (a b : ℕ) → words ≡ a ∷ b ∷ [] → a < 2 ^ 51 → b < 2 ^ 51
+        → kind_of a ≡ kind.Diamond → kind_of b ≡ kind.Diamond
+        → result ≡ image_of symmetry.LeftRight a ∷ image_of symmetry.LeftRight b ∷ [] }
+{
+    (words & u64x2::splat(0x7303003003033))
+        | swapped(words, 0xc0c00c00c0c, 4)
+        | swapped(words, 0x300300300, 8)
+        | swapped(words, 0xc0000, 12)
+}
+
+/// Diamonds, with each cell above the middle as far below it.
+fn diamond_top_bottom(words: u64x2) -> u64x2
+    ensures { (a b : ℕ) → words ≡ a ∷ b ∷ [] → a < 2 ^ 51 → b < 2 ^ 51
+        → kind_of a ≡ kind.Diamond → kind_of b ≡ kind.Diamond
+        → result ≡ image_of symmetry.TopBottom a ∷ image_of symmetry.TopBottom b ∷ [] }
+{
+    (words & u64x2::splat(0x40000fffc0000))
+        | swapped(words, 0x3ff00, 24)
+        | swapped(words, 0xfc, 40)
+        | swapped(words, 0x3, 48)
+}
+
+/// Words of a kind, with left and right exchanged.
+pub fn left_right(words: u64x2, kind: Kind) -> u64x2
+    ensures { (a b : ℕ) → words ≡ a ∷ b ∷ [] → a < 2 ^ 51 → b < 2 ^ 51
+        → kind_of a ≡ kind → kind_of b ≡ kind
+        → result ≡ image_of symmetry.LeftRight a ∷ image_of symmetry.LeftRight b ∷ [] }
+{
+    match kind {
+        Kind::Square => square_left_right(words),
+        Kind::Diamond => diamond_left_right(words),
+    }
+}
+
+/// Words of a kind, with top and bottom exchanged.
+pub fn top_bottom(words: u64x2, kind: Kind) -> u64x2
+    ensures { (a b : ℕ) → words ≡ a ∷ b ∷ [] → a < 2 ^ 51 → b < 2 ^ 51
+        → kind_of a ≡ kind → kind_of b ≡ kind
+        → result ≡ image_of symmetry.TopBottom a ∷ image_of symmetry.TopBottom b ∷ [] }
+{
+    match kind {
+        Kind::Square => square_top_bottom(words),
+        Kind::Diamond => diamond_top_bottom(words),
+    }
+}
+
+/// In each lane the lesser of two words.
+fn lesser(words: u64x2, others: u64x2) -> u64x2
+    ensures { (a b c d : ℕ) → words ≡ a ∷ b ∷ [] → others ≡ c ∷ d ∷ []
+        → result ≡ min a c ∷ min b d ∷ [] }
+{
+    words.simd_min(others)
+}
+
+/// In each lane the least of its word and of that word's images with left and right exchanged, or top and bottom, or both.
+fn least_of_flips(words: u64x2, kind: Kind) -> u64x2
+    ensures { (a b : ℕ) → words ≡ a ∷ b ∷ [] → a < 2 ^ 51 → b < 2 ^ 51
+        → kind_of a ≡ kind → kind_of b ≡ kind
+        → result ≡ flips a ∷ flips b ∷ [] }
+{
+    let flipped = left_right(words, kind);
+    let least = lesser(words, flipped);
+    let least = lesser(least, top_bottom(words, kind));
+    lesser(least, top_bottom(flipped, kind))
+}
+
+/// The least of two words of a kind and of their images with left and right exchanged, or top and bottom, or both.
+pub fn least_of_two(one: u64, other: u64, kind: Kind) -> u64
+    requires one { one < 2 ^ 51 }
+    requires other { other < 2 ^ 51 }
+    requires kind { kind_of one ≡ kind }
+    requires same { kind_of other ≡ kind }
+    ensures { result ≡ min (flips one) (flips other) }
+{
+    let [one, other] = least_of_flips(u64x2::from_array([one, other]), kind).to_array();
+    one.min(other)
+}
