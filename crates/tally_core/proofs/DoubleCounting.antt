@@ -94,7 +94,7 @@ few_kept : (keep : Bool) (n : ℕ) → n ≤ 1 → cond keep n 0 ≤ cond keep 1
 few_kept true n few = few
 few_kept false n few = omega arith
 
--- no member stands twice: then the members' counts add up to at most how many of the numbers are kept
+-- no member is in the list twice: then the members' counts add up to at most how many of the numbers are kept
 pub counted_within : (keep : ℕ → Bool) (members numbers : List ℕ) → ((x : ℕ) → count_by (λ s. x == s) members ≤ 1) →
     sum_by (λ s. count_by (λ c. c == s) numbers) (filter keep members) ≤ count_by keep numbers
 counted_within keep members [] few = let none = sum-none (λ (s : ℕ). 0) (filter keep members) (λ s. refl) in omega arith

@@ -1,4 +1,4 @@
--- Entries whose shapes rise: each is that of its shape, and no shape stands twice.
+-- Entries whose shapes rise: each is that of its shape, and no shape comes twice.
 use Rattle.std.proofs.Common.{◌≡◌, ℕ, suc, ◌+◌, ◌<◌, ◌≤◌, ◌==◌, true, false, cond, List, [], ◌∷◌, map, length, Some, None, ap, ◌∙◌, arith, add-one, zero-add, All, refl}
 use Rattle.std.specs.Prelude.{count_by}
 use Rattle.std.specs.List.{AllByRecursion}
@@ -32,7 +32,7 @@ unfolding Rises
 rises_from_increasing [] h = tt
 rises_from_increasing (s ∷ ss) h = (omega arith, rises_from_head s ss h)
 
--- ---- how often a shape stands
+-- ---- how often a shape comes
 step_same : (x s : ℕ) (ss : List ℕ) → (s == x) ≡ true → count_by (λ y. x == y) (s ∷ ss) ≡ 1 + count_by (λ y. x == y) ss
 step_same x s ss same =
     let test : (x == s) ≡ true = Prim.grind (arith, nat_tests) in
@@ -83,7 +83,7 @@ stands x entry (e ∷ entries) h =
       | false ↦ λ other is. rw (step_other x e.shape (shapes_of entries) other) (stands x entry entries is)
     ] refl h
 
--- one that has an entry stands once
+-- one that has an entry comes once
 pub stands_once : (x : ℕ) (entry : Entry) (entries : List Entry) → IsStrictlyIncreasing (shapes_of entries) → entry_of x entries ≡ Some entry → count_by (λ s. x == s) (shapes_of entries) ≡ 1
 stands_once x entry entries rises is =
     let some = stands x entry entries is in

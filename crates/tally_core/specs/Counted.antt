@@ -14,6 +14,7 @@ use Rattle.tally_core.specs.declared.collections.Counted.{Counted}
 use Rattle.tally_core.specs.declared.collections.Report.{Report}
 use Rattle.tally_core.specs.declared.faults.HarvestFault.{HarvestFault}
 use Rattle.tally_core.specs.declared.faults.HarvestFault.TheVariants as fault
+use Rattle.sgf_core.specs.Limit.{most_bytes}
 
 -- how many of these trees are of each sort
 pub record IsReport (trees : List GameTree) (report : Report) : Type 0 where
@@ -26,7 +27,7 @@ pub record IsCounted (kinds : Kinds) (bytes : List ℕ) (counted : Counted) : Ty
   pub trees : List GameTree
   pub end : ℕ
   pub games : List Replayed
-  pub small : length bytes ≤ 2 ^ 28
+  pub small : length bytes ≤ most_bytes
   pub written : AreTrees bytes 0 trees end
   pub no_more : HasNoTree bytes end
   pub replayed : AreReplayed (games_among (map record_of_tree trees)) games
@@ -45,6 +46,6 @@ pub record HasFault (bytes : List ℕ) (found : SgfFault) : Type 0 where
 abbrev pub IsCountFault : List ℕ → HarvestFault → Type 0
 IsCountFault bytes fault.BadSettings = ⊥
 IsCountFault bytes fault.Memory = Unit {0}
-IsCountFault bytes (fault.Sgf sgf.TooLarge) = 2 ^ 28 < length bytes
+IsCountFault bytes (fault.Sgf sgf.TooLarge) = most_bytes < length bytes
 IsCountFault bytes (fault.Sgf found) = HasFault bytes found
 IsCountFault bytes fault.Overflow = ⊥

@@ -14,6 +14,7 @@ use Rattle.tally_core.specs.Counted.{IsReport}
 use Rattle.tally_core.specs.declared.counting.Counter.{Counter}
 use Rattle.tally_core.specs.declared.faults.HarvestFault.{HarvestFault}
 use Rattle.tally_core.specs.declared.faults.HarvestFault.TheVariants as fault
+use Rattle.sgf_core.specs.Limit.{most_bytes}
 
 -- these trees were counted
 pub record CountsTrees (kinds : Kinds) (trees : List GameTree) (counter : Counter) : Type 0 where
@@ -34,7 +35,7 @@ pub record IsWithin (place : ℕ) (counter : Counter) : Type 0 where
 pub record IsSmallTree (tree : WrittenTree) (game : GameTree) : Type 0 where
   pub marks : tree.marks ≡ marks_of game
   pub values : tree.at + value_count (main_line_of game) < tree.end
-  pub in_input : tree.end ≤ 2 ^ 28
+  pub in_input : tree.end ≤ most_bytes
 
 -- all trees of an input were counted
 pub record CountsAll (kinds : Kinds) (bytes : List ℕ) (counter : Counter) : Type 0 where

@@ -1,3 +1,4 @@
+pub mod Blank
 pub mod Occasions
 pub mod Counts
 pub mod Games

@@ -1,4 +1,4 @@
--- The words of a walk over a field as it stands: what is seen, what stays, and what an action counts.
+-- The words of a walk over a field as it is: what is seen, what stays, and what an action counts.
 use Rattle.std.specs.Prelude.{◌≡◌, ℕ, ◌+◌, ◌^◌, ◌<◌, ◌⊎◌, List, Contains}
 use Rattle.go_board.specs.Board.{position_of}
 use Rattle.go_board.specs.Point.{IsOn}

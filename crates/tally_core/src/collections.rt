@@ -3,6 +3,7 @@ ghost use Rattle.std.specs.Prelude.{◌≡◌, ◌^◌, ◌<◌, length, IfOk, I
 ghost use Rattle.sgf_core.specs.declared.faults.SgfFault.TheVariants as sgf;
 ghost use Rattle.tally_core.specs.Counted.{IsCounted, IsCountFault};
 ghost use Rattle.tally_core.specs.declared.faults.HarvestFault.TheVariants as fault;
+ghost use Rattle.sgf_core.specs.Limit.{most_bytes};
 
 use crate::counting::{Counter, count_trees};
 use crate::faults::HarvestFault;
@@ -37,19 +38,18 @@ pub struct Counted {
 /// their order, and how many of its trees are games, are of other games, and are refused. `kinds` says which kinds of
 /// pattern are counted. It takes memory for the largest tree and its record, for the board, and for each pattern.
 ///
-/// `HarvestFault::Sgf` comes with S4 where there are more than 2^28 bytes, else with the fault of syntax that stands
-/// first; `HarvestFault::Memory` where memory was refused. `HarvestFault::Overflow` does not come: no count of an input
-/// that is not too large passes 2^64 - 1.
+/// # Errors
+///
+/// `HarvestFault::Sgf` with S4 where there are more than 2^28 bytes, else with the first fault of syntax in the input;
+/// `HarvestFault::Memory` where memory was refused. `HarvestFault::Overflow` does not come: no count of an input that is
+/// not too large passes 2^64 - 1.
 pub fn count_plain(alloc: Global, kinds: Kinds, bytes: &[u8]) -> Result<Counted, HarvestFault>
     ensures counted { IfOk result (IsCounted kinds bytes.now) }
     ensures fault { IfErr result (IsCountFault bytes.now) }
-    ensures large { 2 ^ 28 < length bytes.now
+    ensures large { most_bytes < length bytes.now
         → IfErr result (λ found. found ≡ fault.Sgf sgf.TooLarge) }
 {
-    let mut trees = match Trees::new(bytes) {
-        Ok(trees) => trees,
-        Err(fault) => return Err(HarvestFault::Sgf(fault)),
-    };
+    let mut trees = Trees::new(bytes).map_err(HarvestFault::Sgf)?;
     let mut counter = Counter::new(alloc);
     let mut walk = Walk::begin(alloc, kinds);
     count_trees(alloc, &mut walk, &mut counter, &mut trees)?;

@@ -60,8 +60,6 @@ pub(crate) fn add(
         played,
         first: game,
     };
-    match counts.insert(shape, count) {
-        Ok(_) => Ok(()),
-        Err(_) => Err(HarvestFault::Memory),
-    }
+    counts.insert(shape, count)?;
+    Ok(())
 }

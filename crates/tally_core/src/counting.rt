@@ -11,6 +11,7 @@ ghost use Rattle.tally_core.specs.Counting.{CountsTrees, IsWithin, IsSmallTree, 
 ghost use Rattle.tally_core.specs.Counting.{IsNextFault};
 ghost use Rattle.tally_core.specs.Counted.{IsCountFault};
 ghost use Rattle.tally_core.specs.declared.faults.HarvestFault.TheVariants as harvest_fault;
+ghost use Rattle.sgf_core.specs.Limit.{most_bytes};
 
 use crate::collections::Report;
 use crate::counters::Count;
@@ -23,7 +24,7 @@ use shape_core::Shape;
 use std::alloc::Global;
 use std::collections::BTreeMap;
 
-/// What was counted of a collection so far.
+/// What was counted of the part of a collection that was read.
 #[derive(Drop)]
 pub struct Counter {
     pub counts: BTreeMap<Shape, Count>,
@@ -61,7 +62,7 @@ fn count_record(
     replayed: &Record,
 ) -> Result<(), HarvestFault>
     requires { (place : ℕ) × IsWithin place counter.old
-        × (place + length replayed.now.actions < 2 ^ 28) }
+        × (place + length replayed.now.actions < most_bytes) }
     ensures counted { (before : List GameTree) (game : GameTree)
         → record_of_tree game ≡ Ok (kind.Go replayed.now)
         → CountsTrees walk.old.kinds before counter.old
@@ -143,12 +144,12 @@ pub(crate) fn count_trees(
     counter: &mut Counter,
     trees: &mut Trees<'_>,
 ) -> Result<(), HarvestFault>
-    requires small { length trees.old.bytes ≤ 2 ^ 28 }
+    requires small { length trees.old.bytes ≤ most_bytes }
     requires begins { trees.old.from ≡ 0 }
     requires none { CountsTrees walk.old.kinds [] counter.old }
     requires within { IsWithin 0 counter.old }
     ensures counted { OnOk result (CountsAll walk.old.kinds trees.old.bytes counter.new) }
-    ensures within { OnOk result (IsWithin (2 ^ 28) counter.new) }
+    ensures within { OnOk result (IsWithin (most_bytes) counter.new) }
     ensures fault { IfErr result (IsCountFault trees.old.bytes) }
 {
     few_values();

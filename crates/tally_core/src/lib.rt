@@ -1,6 +1,7 @@
 //! Games to dictionaries.
 #![tactic(auto)]
 
+mod blanks;
 mod collections;
 mod counters;
 mod counting;

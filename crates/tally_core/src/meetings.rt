@@ -85,10 +85,8 @@ impl Meetings {
         };
         self.list.clear();
         self.index.clear();
-        match self.index.resize(wanted.max(FIRST_PLACES), 0) {
-            Ok(()) => Ok(()),
-            Err(_) => Err(HarvestFault::Memory),
-        }
+        self.index.resize(wanted.max(FIRST_PLACES), 0)?;
+        Ok(())
     }
 
     /// The meetings, in their order.
@@ -132,9 +130,7 @@ impl Meetings {
     {
         let places = self.index.len();
         self.index.clear();
-        if self.index.resize(places.saturating_mul(2), 0).is_err() {
-            return Err(HarvestFault::Memory);
-        }
+        self.index.resize(places.saturating_mul(2), 0)?;
         for at in 0..self.list.len() {
             self.enter(at);
         }
@@ -180,9 +176,7 @@ impl Meetings {
             there: 0,
             played: 0,
         };
-        if self.list.push(meeting).is_err() {
-            return Err(HarvestFault::Memory);
-        }
+        self.list.push(meeting)?;
         self.take(place, at);
         if at >= self.index.len() / 2 {
             self.grow()?;

@@ -15,7 +15,7 @@ ghost use Rattle.tally_core.specs.declared.faults.HarvestFault.TheVariants as fa
 use crate::faults::HarvestFault;
 use crate::meetings::Meetings;
 use crate::sights::see;
-use crate::stays::{Side, index, play};
+use crate::stays::{Side, play};
 use go_board::{Colour, Point, Stone};
 use go_record::{Action, apply};
 use shape_core::Field;
@@ -56,7 +56,7 @@ fn count_occasion(
     ensures fault { IfErr result (λ found. found ≡ fault.Memory) }
 {
     see(meetings, side, field, mover, seen)?;
-    let stays = side.points[index(field.size(), at)];
+    let stays = side.points[field.size().index(at)];
     play(meetings, stays.square);
     play(meetings, stays.diamond);
     side.occasions += 1;

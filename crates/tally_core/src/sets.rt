@@ -9,17 +9,6 @@ ghost use Rattle.tally_core.specs.declared.faults.HarvestFault.TheVariants as fa
 use crate::faults::HarvestFault;
 use go_board::{Point, Size};
 
-/// Appends a point to a list.
-fn push(points: &mut Vec<Point>, point: Point) -> Result<(), HarvestFault>
-    ensures ok { OnOk result (points.new.items ≡ points.old.items ++ point ∷ []) }
-    ensures fault { IfErr result (λ found. found ≡ fault.Memory) }
-{
-    match points.push(point) {
-        Ok(()) => Ok(()),
-        Err(_) => Err(HarvestFault::Memory),
-    }
-}
-
 /// Takes the points of a row out of a set, from the left, and appends them to a list.
 fn take_row(
     bits: &mut u64,
@@ -37,13 +26,10 @@ fn take_row(
     while *bits != 0 {
         let column = bits.trailing_zeros();
         *bits &= !(1 << column);
-        push(
-            points,
-            Point {
-                column: column as u8,
-                row,
-            },
-        )?;
+        points.push(Point {
+            column: column as u8,
+            row,
+        })?;
     }
     Ok(())
 }

@@ -33,8 +33,11 @@ impl Settings {
     ghost use Rattle.tally_core.specs.Limits.{AreLimits};
     ghost use Rattle.tally_core.specs.declared.faults.HarvestFault.TheVariants as fault;
 
-    /// Settings that count squares. `HarvestFault::BadSettings` comes where the workers are outside 1 to 64, or k is
-    /// over 22.
+    /// Settings that count squares.
+    ///
+    /// # Errors
+    ///
+    /// `HarvestFault::BadSettings` where the workers are outside 1 to 64, or k is over 22.
     pub fn new(workers: u8, k: u8) -> Result<Settings, HarvestFault>
         ensures ok { IsOk result ↔ AreLimits (record {
           workers = workers;

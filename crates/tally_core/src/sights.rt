@@ -17,7 +17,7 @@ ghost use Rattle.go_board.specs.declared.points.Stone.TheVariants as stone;
 use crate::faults::HarvestFault;
 use crate::meetings::Meetings;
 use crate::sets::take_points;
-use crate::stays::{Side, Stays, begin, index, play, settle};
+use crate::stays::{Side, Stays, begin, play, settle};
 use go_board::{Colour, Point, Stone};
 use shape_core::{Field, Kinds, canonical};
 
@@ -122,7 +122,7 @@ fn see_points(
 {
     for point in points {
         let occasions = side.occasions;
-        let stays = &mut side.points[index(field.size(), *point)];
+        let stays = &mut side.points[field.size().index(*point)];
         see_point(meetings, stays, field, mover, *point, occasions)?;
     }
     Ok(())

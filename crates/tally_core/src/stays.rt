@@ -1,7 +1,6 @@
 //! What stays at the points of a board while a game is walked: most patterns do, and only what changes is looked up.
 ghost use Rattle.std.specs.Prelude.{◌≡◌, ◌+◌, ◌<◌, ◌*◌, ◌^◌, ◌∷◌, ℕ, [], length, IfOk, IfErr, OnOk};
 ghost use Rattle.std.specs.Prelude.{All};
-ghost use Rattle.go_board.specs.Point.{IsOn, index_of};
 ghost use Rattle.tally_core.specs.Counter.{times_in};
 ghost use Rattle.tally_core.specs.Walk.{shapes_of, there_among, played_among};
 ghost use Rattle.tally_core.specs.Meeting.{Meets, CountsStay};
@@ -11,7 +10,6 @@ ghost use Rattle.tally_core.specs.declared.faults.HarvestFault.TheVariants as fa
 
 use crate::faults::HarvestFault;
 use crate::meetings::Meetings;
-use go_board::{Point, Size};
 use shape_core::Shape;
 use std::alloc::Global;
 
@@ -39,15 +37,6 @@ pub struct Side {
     pub changed: Vec<u64>,
     /// What stays at each point, row by row from the top, each row from the left.
     pub points: Vec<Stays>,
-}
-
-/// The place of a point in a list of the points row by row from the top, each row from the left.
-pub(crate) fn index(size: Size, point: Point) -> usize
-    requires { IsOn size point }
-    ensures value { result ≡ index_of size point }
-    ensures below { result < size.columns * size.rows }
-{
-    usize::from(point.row) * usize::from(size.columns()) + usize::from(point.column)
 }
 
 /// Counts the occasions of a stay.
@@ -82,7 +71,8 @@ pub(crate) fn play(meetings: &mut Meetings, stay: Option<Stay>)
     }
 }
 
-/// A stay of a pattern that begins now.
+/// A stay of a pattern that begins now. It is called for each point that changes, so it is no call in the program.
+#[inline(always)]
 pub(crate) fn begin(
     meetings: &mut Meetings,
     shape: Shape,

@@ -50,8 +50,10 @@ impl Tally {
 /// with the mover to move, was there, and that of the move's point was played besides (this project's own). `kinds` says
 /// which kinds of pattern are counted.
 ///
-/// `HarvestFault::Memory` comes where memory for the board or the counts was refused. `HarvestFault::Overflow`, of a count
-/// that would pass 2^64 - 1, comes only where the game has more actions than any input.
+/// # Errors
+///
+/// `HarvestFault::Memory` where memory for the board or the counts was refused. `HarvestFault::Overflow`, of a count that
+/// would pass 2^64 - 1, only where the game has more actions than any input.
 pub fn tally_plain(alloc: Global, kinds: Kinds, replayed: &Record) -> Result<Tally, HarvestFault>
     ensures tally { IfOk result (IsTally kinds replayed.now) }
     ensures fault { IfErr result (IsTallyFault replayed.now) }

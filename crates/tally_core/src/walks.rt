@@ -10,6 +10,7 @@ ghost use Rattle.tally_core.specs.Sight.{PlayedStays};
 ghost use Rattle.tally_core.specs.Standing.{AreStays, there_with, IsNewSide, IsWalkOf};
 ghost use Rattle.tally_core.specs.declared.faults.HarvestFault.TheVariants as fault;
 
+use crate::blanks::Blank;
 use crate::faults::HarvestFault;
 use crate::meetings::{Meeting, Meetings};
 use crate::occasions::{Sides, act};
@@ -28,7 +29,7 @@ const MOST_ACTIONS: usize = 3_409_749_366_674_594;
 #[derive(Drop)]
 pub struct Walk {
     alloc: Global,
-    kinds: Kinds,
+    blank: Blank,
     meetings: Meetings,
 }
 
@@ -37,7 +38,7 @@ impl Model for Walk {
 
     ghost Value = { Walked };
 
-    ghost view = { λ w. record { kinds = w.kinds; meetings = w.meetings } };
+    ghost view = { λ w. record { kinds = w.blank; meetings = w.meetings } };
 }
 
 /// A side before the first action: nothing stays, and every point is in the set.
@@ -51,12 +52,8 @@ fn new_side(alloc: Global, size: Size) -> Result<Side, HarvestFault>
         square: None,
         diamond: None,
     };
-    let Ok(changed) = vec![in alloc; (1 << columns) - 1; rows] else {
-        return Err(HarvestFault::Memory);
-    };
-    let Ok(points) = vec![in alloc; stays; columns * rows] else {
-        return Err(HarvestFault::Memory);
-    };
+    let changed = vec![in alloc; (1 << columns) - 1; rows]?;
+    let points = vec![in alloc; stays; columns * rows]?;
     Ok(Side {
         occasions: 0,
         changed,
@@ -115,7 +112,7 @@ impl Walk {
     {
         Walk {
             alloc,
-            kinds,
+            blank: Blank::new(alloc, kinds),
             meetings: Meetings::new(alloc),
         }
     }
@@ -124,8 +121,10 @@ impl Walk {
     /// it has. What was met in the game before is forgotten, and its memory used again. It takes memory for the board and
     /// for the patterns.
     ///
-    /// `HarvestFault::Memory` comes where memory was refused, and `HarvestFault::Overflow` only where the game has more
-    /// actions than any input. After a fault nothing is known of the meetings, and the walk can be used as before.
+    /// # Errors
+    ///
+    /// `HarvestFault::Memory` where memory was refused, and `HarvestFault::Overflow` only where the game has more actions
+    /// than any input. After a fault nothing is known of the meetings, and the walk can be used as before.
     pub fn walk(&mut self, replayed: &Record) -> Result<u64, HarvestFault>
         ensures walked { IfOk result (IsWalk self.old.kinds replayed.now self.new.meetings) }
         ensures among { OnOk result (IsAmong self.new.meetings) }
@@ -144,9 +143,7 @@ impl Walk {
             white: new_side(self.alloc, replayed.size())?,
             seen: Vec::new(self.alloc),
         };
-        let Ok(mut field) = Field::with_kinds(self.alloc, replayed.size(), self.kinds) else {
-            return Err(HarvestFault::Memory);
-        };
+        let mut field = self.blank.field(replayed.size())?;
         walk_actions(
             &mut self.meetings,
             &mut sides,
@@ -166,6 +163,6 @@ impl Walk {
     pub fn kinds(&self) -> Kinds
         ensures { result ≡ self.now.kinds }
     {
-        self.kinds
+        self.blank.kinds()
     }
 }

@@ -1,4 +1,4 @@
-use Rattle.std.proofs.Common.{◌≡◌, ℕ, List, ap, subst, refl}
+use Rattle.std.proofs.Common.{◌≡◌, ◌≤◌, ◌^◌, ℕ, List, length, ap, subst, rules, None}
 use Rattle.sgf_core.specs.Reading.{Reading}
 use Rattle.shape_core.specs.declared.words.Kinds.{Kinds}
 use Rattle.tally_core.specs.Walk.{Walked}
@@ -9,20 +9,22 @@ use Rattle.tally_core.proofs.collections.count_plain.Goals as goal
 pub dictionary_of-requires : goal.dictionary_of-requires
 dictionary_of-requires c =
     let kinds : c.begin-walk.result.kinds ≡ c.args.kinds = ap (λ (w : Walked). w.kinds) c.begin-walk.ensures in
-    let all = subst (λ (k : Kinds). CountsAll k c.in-Ok.trees.bytes c.count_trees.new.counter) kinds c.in_ok-count_trees.ensures.counted in
+    let all = subst (λ (k : Kinds). CountsAll k c.in_ok-trees.trees.bytes c.count_trees.new.counter) kinds c.in_ok-count_trees.ensures.counted in
     record { counted = (all.counted.games, games_reported c.args.kinds all.trees c.count_trees.new.counter all.counted, all.counted.counted) }
 
 pub returns-clause-counted : goal.returns-clause-counted
 returns-clause-counted c =
-    let bytes = ap (λ (t : Reading). t.bytes) c.in-Ok.ensures.begins in
+    let begins : c.in_ok-trees.trees ≡ record { bytes = c.args.bytes.now; from = 0; fault = None } = search rules in
+    let bytes = ap (λ (t : Reading). t.bytes) begins in
+    let small : length c.args.bytes.now ≤ 2 ^ 28 = search rules in
     let kinds : c.begin-walk.result.kinds ≡ c.args.kinds = ap (λ (w : Walked). w.kinds) c.begin-walk.ensures in
     let all = subst (λ (bytes : List ℕ). CountsAll c.args.kinds bytes c.count_trees.new.counter) bytes
-    (subst (λ (k : Kinds). CountsAll k c.in-Ok.trees.bytes c.count_trees.new.counter) kinds c.in_ok-count_trees.ensures.counted) in
+    (subst (λ (k : Kinds). CountsAll k c.in_ok-trees.trees.bytes c.count_trees.new.counter) kinds c.in_ok-count_trees.ensures.counted) in
     record {
       trees = all.trees;
       end = all.end;
       games = all.counted.games;
-      small = c.in-Ok.ensures.small.0 refl;
+      small = small;
       written = all.written;
       no_more = all.no_more;
       replayed = all.counted.replayed;

@@ -18,8 +18,8 @@ returns-in_default-raised-clause-fault c =
           (subst (λ (o : Option Count). 2 ^ 64 ≤ uses_at o + c.args.there + c.args.played + 0) is (omega (arith, c.in_default-raised.ensures.none))),
     )
 
-pub returns-in-Ok-clause-ok : goal.returns-in-Ok-clause-ok
-returns-in-Ok-clause-ok c =
+pub returns-clause-ok : goal.returns-clause-ok
+returns-clause-ok c =
     let same = c.get_mut.follows.holds-at-none in
     let some : 0 < c.args.there + c.args.played = elim c.else-there-eq0.branch [
       | else-there-eq0-via-then-there-eq0+else-played-eq0 w ↦ omega (arith, w.if-played-eq0)
@@ -27,4 +27,4 @@ returns-in-Ok-clause-ok c =
     ] in
     used_first c.args.game c.args.shape c.args.there c.args.played (count_in c.args.counts.now) (count_in c.insert.new.self) some
     (sym c.get_mut.ensures.value ∙ ap (option_map (λ x. x.now)) c.in_default.is)
-    (λ q. c.in-Ok.ensures.updates.0 q ∙ ap (λ m. cond (is_at (nat_cmp c.args.shape) q) (Some (record { there = c.args.there; played = c.args.played; first = c.args.game })) (count_in m q)) same)
+    (λ q. c.in_ok-insert.ensures.updates.0 q ∙ ap (λ m. cond (is_at (nat_cmp c.args.shape) q) (Some (record { there = c.args.there; played = c.args.played; first = c.args.game })) (count_in m q)) same)

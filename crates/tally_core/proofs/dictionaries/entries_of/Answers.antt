@@ -7,9 +7,9 @@ pub loop-shape-preserved : goal.loop-shape-preserved
 loop-shape-preserved c = record {
   can_next = tt;
   is_finite = tt;
-  shapes = shapes_more c.loop-shape.entries.items c.push.new.entries.items c.entry.result c.in_ok-push.ensures.ok c.entry.ensures.shape c.loop-shape.invariant.shapes;
-  left = entry_moved c.args.first_games c.loop-shape.entries.items c.push.new.entries.items c.entry.result (c.in-Some.shape.now, c.in-Some.count.now) c.loop-shape.shape-iterator c.next.new.self
-      (map (entry_of_pair c.args.first_games) c.args.counts.now.entries) c.in_ok-push.ensures.ok c.entry.ensures.value c.in-Some.ensures.steps c.loop-shape.invariant.left;
+  shapes = shapes_more c.loop-shape.entries.items c.push.new.self.items c.entry.result c.in_ok-push.ensures.items c.entry.ensures.shape c.loop-shape.invariant.shapes;
+  left = entry_moved c.args.first_games c.loop-shape.entries.items c.push.new.self.items c.entry.result (c.in-Some.shape.now, c.in-Some.count.now) c.loop-shape.shape-iterator c.next.new.self
+      (map (entry_of_pair c.args.first_games) c.args.counts.now.entries) c.in_ok-push.ensures.items c.entry.ensures.value c.in-Some.ensures.steps c.loop-shape.invariant.left;
 }
 
 pub returns-clause-rises : goal.returns-clause-rises

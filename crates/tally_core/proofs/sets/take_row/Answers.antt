@@ -23,7 +23,7 @@ loop-bits-preserved c =
     record {
       within = omega (arith, within, low.below);
       left =
-          ap (λ points. points ++ rest) c.in_ok-push.ensures.ok
+          ap (λ points. points ++ rest) c.in_ok-push.ensures.items
           ∙ append_assoc c.loop-bits.points.items (record { column = k; row = row } ∷ []) rest
           ∙ ap (λ points. c.loop-bits.points.items ++ points) (sym (row-first size row bits (cleared bits) k low.set low.none low.gone low.others (column-inside bits k size.columns low.set within)))
           ∙ c.loop-bits.invariant.left;

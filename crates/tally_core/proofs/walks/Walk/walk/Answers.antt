@@ -20,13 +20,14 @@ small (Err found) kinds size actions start meetings most extent fits few walked 
 
 pub returns-clause-walked : goal.returns-clause-walked
 returns-clause-walked c =
-    let field = c.in-Ok.field in
+    let field = c.in_ok-field.field in
     let game = c.args.replayed.now in
     let start = position_of field.board in
     let meetings = c.walk_actions.new.meetings in
-    let size = c.in-Ok.ensures.size ∙ c.size-3.ensures in
-    let kinds : field.kinds ≡ c.args.self.now.kinds = c.in-Ok.ensures.kinds ∙ ap (λ (w : Walked). w.kinds) c.self.view_is in
-    let empty = subst (λ (s : Extent). AreSame s start empty_position) c.size-3.ensures c.in-Ok.ensures.empty in
+    let size = c.in_ok-field.ensures.size ∙ c.size-3.ensures in
+    let blank = c.in_ok-field.ensures.blank in
+    let kinds : field.kinds ≡ c.args.self.now.kinds = blank.keeps ∙ ap (λ (w : Walked). w.kinds) c.self.view_is in
+    let empty = subst (λ (s : Extent). AreSame s start empty_position) size blank.empty in
     IfOk-weaker c.walk_actions.result _ _
     (λ moves walked. walk-of c.args.self.now.kinds game field.board.size c.actions-2.result.now start meetings moves size c.actions-2.ensures.value empty
     (subst (λ (k : Kinds). IsWalkOf k field.board.size c.actions-2.result.now start meetings moves) kinds walked))
@@ -34,8 +35,8 @@ returns-clause-walked c =
 
 pub returns-clause-among : goal.returns-clause-among
 returns-clause-among c =
-    let field = c.in-Ok.field in
-    let size = c.in-Ok.ensures.size ∙ c.size-3.ensures in
+    let field = c.in_ok-field.field in
+    let size = c.in_ok-field.ensures.size ∙ c.size-3.ensures in
     let on = subst (λ (s : Extent). All (IsActionOn s) c.actions-2.result.now) (sym size) (rw c.actions-2.ensures.value c.actions-2.ensures.on_board) in
     IfOk-weaker c.walk_actions.result _ _
     (λ moves walked. among-of field.kinds field.board.size c.actions-2.result.now (position_of field.board) c.walk_actions.new.meetings moves on walked)
@@ -43,8 +44,8 @@ returns-clause-among c =
 
 pub returns-clause-small : goal.returns-clause-small
 returns-clause-small c =
-    let field = c.in-Ok.field in
+    let field = c.in_ok-field.field in
     let actions = c.actions-2.result.now in
     let most : length actions ≤ length c.args.replayed.now.actions = omega (arith, ap length c.actions-2.ensures.value) in
     small c.walk_actions.result field.kinds field.board.size actions (position_of field.board) c.walk_actions.new.meetings (length c.args.replayed.now.actions)
-    c.in-Ok.ensures.board.extent most c.walk_actions.ensures.few c.walk_actions.ensures.walked
+    c.in_ok-field.ensures.blank.board.extent most c.walk_actions.ensures.few c.walk_actions.ensures.walked

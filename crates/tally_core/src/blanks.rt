@@ -1,0 +1,83 @@
+//! The empty field that a game begins with, kept for the games after it.
+ghost use Rattle.std.specs.Prelude.{◌≡◌, IfOk, IfErr};
+ghost use Rattle.tally_core.specs.Blank.{IsBlank};
+ghost use Rattle.shape_core.specs.declared.words.Kinds.{Kinds};
+ghost use Rattle.tally_core.specs.declared.faults.HarvestFault.TheVariants as fault;
+
+use crate::faults::HarvestFault;
+use go_board::{BoardFault, Size};
+use shape_core::{Field, Kinds};
+use std::alloc::Global;
+use std::marker::Model;
+
+/// An empty field of the size that was asked for last: to copy it is quicker than to find the words of each point again.
+#[derive(Drop)]
+pub(crate) struct Blank {
+    alloc: Global,
+    kinds: Kinds,
+    field: Option<Field>,
+}
+
+impl Model for Blank {
+    ghost use Rattle.std.specs.Prelude.{IfSome};
+    ghost use Rattle.shape_core.specs.declared.words.Kinds.{Kinds};
+    ghost use Rattle.tally_core.specs.Blank.{IsBlank};
+
+    ghost Value = { Kinds };
+
+    ghost view = { λ b. b.kinds };
+
+    ghost invariant = { λ b. IfSome b.field (IsBlank b.kinds) };
+}
+
+impl Blank {
+    /// Of fields for these kinds of pattern. It takes no memory.
+    pub fn new(alloc: Global, kinds: Kinds) -> Blank
+        ensures { result ≡ kinds }
+    {
+        Blank {
+            alloc,
+            kinds,
+            field: None,
+        }
+    }
+
+    /// The kinds of pattern whose words the fields keep.
+    pub fn kinds(&self) -> Kinds
+        ensures { result ≡ self.now }
+    {
+        self.kinds
+    }
+
+    /// An empty field of this size. It takes memory for each point of the board, twice where the size is another than before.
+    pub fn field(&mut self, size: Size) -> Result<Field, HarvestFault>
+        ensures kinds { self.new ≡ self.old }
+        ensures blank { IfOk result (IsBlank self.old) }
+        ensures size { IfOk result (λ field. field.board.size ≡ size) }
+        ensures fault { IfErr result (λ found. found ≡ fault.Memory) }
+    {
+        if let Some(blank) = &self.field {
+            if blank.size() == size {
+                return copy(self.alloc, blank);
+            }
+        }
+        let Ok(blank) = Field::with_kinds(self.alloc, size, self.kinds) else {
+            return Err(HarvestFault::Memory);
+        };
+        let field = copy(self.alloc, &blank)?;
+        self.field = Some(blank);
+        Ok(field)
+    }
+}
+
+/// Another field with the same stones.
+fn copy(alloc: Global, blank: &Field) -> Result<Field, HarvestFault>
+    ensures blank { (kinds : Kinds) → IsBlank kinds blank.now → IfOk result (IsBlank kinds) }
+    ensures size { IfOk result (λ field. field.board.size ≡ blank.now.board.size) }
+    ensures fault { IfErr result (λ found. found ≡ fault.Memory) }
+{
+    match blank.copied(alloc) {
+        Ok(field) => Ok(field),
+        Err(BoardFault::Memory) => Err(HarvestFault::Memory),
+    }
+}
