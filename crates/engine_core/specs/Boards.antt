@@ -19,6 +19,7 @@ use Rattle.sgf_core.specs.Reading.{IsFaultOrMemory}
 use Rattle.sgf_core.specs.declared.faults.SgfFault.TheVariants as sgf
 use Rattle.engine_core.specs.declared.faults.RunFault.{RunFault}
 use Rattle.engine_core.specs.declared.faults.RunFault.TheVariants as fault
+use Rattle.sgf_core.specs.Limit.{most_bytes}
 
 -- `.`, `X` and `O`
 abbrev pub glyph_of : Stone → ℕ
@@ -67,7 +68,7 @@ HasNoBoard input = HasNoTree input 0 ⊎ FirstIs input (Ok kind.Other)
 
 -- the fault's cause is in the input, or memory was wanting
 abbrev pub IsBoardFault : List ℕ → RunFault → Type 0
-IsBoardFault input (fault.Sgf sgf.TooLarge) = 2 ^ 28 < length input
+IsBoardFault input (fault.Sgf sgf.TooLarge) = most_bytes < length input
 IsBoardFault input (fault.Sgf found) = IsFaultOrMemory input 0 found
 IsBoardFault input (fault.Record record_fault.Memory) = Unit {0}
 IsBoardFault input (fault.Record found) = FirstIs input (Err found)

@@ -8,12 +8,13 @@ use Rattle.shape_dict.specs.Reading.{IsTextOf, IsTextFault}
 use Rattle.shape_dict.specs.declared.faults.DictFault.TheVariants as dict_fault
 use Rattle.engine_core.specs.declared.faults.RunFault.{RunFault}
 use Rattle.engine_core.specs.declared.faults.RunFault.TheVariants as fault
+use Rattle.sgf_core.specs.Limit.{most_bytes}
 
 -- the input, of at most 2 ^ 28 bytes, is a text of a dictionary that says so of a pattern
 pub record IsEntryOf (shape : ℕ) (input : List ℕ) (entry : Option Entry) : Type 0 where
   pub contents : Contents
   pub read : IsTextOf contents input
-  pub few : length input ≤ 2 ^ 28
+  pub few : length input ≤ most_bytes
   pub found : entry ≡ entry_of shape contents.entries
 
 -- the entry of a pattern that the dictionary does not have
@@ -36,7 +37,7 @@ IsFindText shape input text = IsFoundText shape input text ⊎ IsAbsentText shap
 
 -- the input is no text of a dictionary, or too large for one
 abbrev pub HasNoDictionary : List ℕ → Type 0
-HasNoDictionary input = (contents : Contents) → IsTextOf contents input → length input ≤ 2 ^ 28 → ⊥
+HasNoDictionary input = (contents : Contents) → IsTextOf contents input → length input ≤ most_bytes → ⊥
 
 -- the fault is the first in the input as a text of a dictionary, or memory was wanting
 abbrev pub IsFindFault : List ℕ → RunFault → Type 0

@@ -9,6 +9,7 @@ use Rattle.shape_dict.specs.declared.faults.DictFault.{DictFault}
 use Rattle.shape_dict.specs.declared.faults.DictFault.TheVariants as dict_fault
 use Rattle.engine_core.specs.declared.faults.RunFault.{RunFault}
 use Rattle.engine_core.specs.declared.faults.RunFault.TheVariants as fault
+use Rattle.sgf_core.specs.Limit.{most_bytes}
 
 -- the bytes begin with a text of this dictionary, of this length in bytes
 pub record IsNextText (bytes : List ℕ) (count : ℕ) (next : Contents) : Type 0 where
@@ -47,7 +48,7 @@ pub record IsJoinedText (bytes : List ℕ) (number : ℕ) (sum : Contents) : Typ
 pub record IsJoinText (kind : Text) (input text : List ℕ) : Type 0 where
   pub number : ℕ
   pub sum : Contents
-  pub few : length input ≤ 2 ^ 28
+  pub few : length input ≤ most_bytes
   pub joined : IsJoinedText input number sum
   pub printed : text ≡ text_of kind sum
 
@@ -84,7 +85,7 @@ pub record IsNotAdded (input : List ℕ) (n : ℕ) (found : DictFault) : Type 0 
 -- whether the input is too large is judged once, over all of it
 abbrev pub IsDictionaryFault : List ℕ → ℕ → DictFault → Type 0
 IsDictionaryFault input n dict_fault.Memory = Unit {0}
-IsDictionaryFault input n dict_fault.TooLarge = 2 ^ 28 < length input
+IsDictionaryFault input n dict_fault.TooLarge = most_bytes < length input
 IsDictionaryFault input n dict_fault.Overflow = IsNotAdded input n dict_fault.Overflow
 IsDictionaryFault input n dict_fault.MixedKinds = IsNotAdded input n dict_fault.MixedKinds
 IsDictionaryFault input n found = IsBadText input n found

@@ -4,10 +4,11 @@ use Rattle.std.specs.Io.KnownBytes.{Appends, Keeps}
 use Rattle.engine_core.specs.declared.faults.RunFault.{RunFault}
 use Rattle.engine_core.specs.declared.faults.RunFault.TheVariants as fault
 use Rattle.engine_core.specs.Output.{WroteFront}
+use Rattle.sgf_core.specs.Limit.{most_bytes}
 
 -- the bytes of the reader's rest that a run reads
 abbrev pub input_of : List ℕ → List ℕ
-input_of rest = take (2 ^ 28 + 1) rest
+input_of rest = take (most_bytes + 1) rest
 
 -- the input has such a text, and all of it was written and nothing else
 abbrev pub Wrote : (List ℕ → List ℕ → Type 0) → Option (List ℕ) → Option (List ℕ) → Option (List ℕ) → Type 0

@@ -4,13 +4,12 @@ ghost use Rattle.std.specs.Prelude.{IfSome, OnOk};
 ghost use Rattle.std.specs.Io.KnownBytes.{Consumes, IsAtEnd};
 ghost use Rattle.engine_core.specs.declared.faults.RunFault.TheVariants as fault;
 ghost use Rattle.engine_core.specs.declared.input.TheConstants.{BLOCK};
+ghost use Rattle.sgf_core.specs.Limit.{most_bytes};
 
 use crate::faults::RunFault;
+use sgf_core::MOST_BYTES;
 use std::alloc::Global;
 use std::io::Read;
-
-/// The most bytes that a run may read, 2^28.
-pub(crate) const MOST: usize = 1 << 28;
 
 /// How many bytes are asked for at once.
 const BLOCK: usize = 1 << 16;
@@ -36,11 +35,11 @@ fn read_by_block<R: Read>(
     requires block { length block.old ≡ BLOCK }
     requires none { input.old.items ≡ [] }
     ensures input { OnOk result (IfSome (R.remaining reader.old)
-        (λ all. input.new.items ≡ take (2 ^ 28 + 1) all)) }
+        (λ all. input.new.items ≡ take (most_bytes + 1) all)) }
     ensures fault { IfErr result (λ found. (found ≡ fault.Read) ⊎ (found ≡ fault.Memory)) }
 {
-    while input.len() <= MOST {
-        let room = (MOST + 1 - input.len()).min(BLOCK);
+    while input.len() <= MOST_BYTES {
+        let room = (MOST_BYTES + 1 - input.len()).min(BLOCK);
         let count = read_some(reader, &mut block[..room])?;
         if count == 0 {
             return Ok(());
@@ -58,7 +57,7 @@ fn read_by_block<R: Read>(
 /// `Read` where the reader failed, `Memory` where memory was refused: the bytes that were read by then are lost.
 pub fn read_input<R: Read>(alloc: Global, reader: &mut R) -> Result<Vec<u8>, RunFault>
     ensures input { IfOk result (λ input. IfSome (R.remaining reader.old)
-        (λ all. input.items ≡ take (2 ^ 28 + 1) all)) }
+        (λ all. input.items ≡ take (most_bytes + 1) all)) }
     ensures fault { IfErr result (λ found. (found ≡ fault.Read) ⊎ (found ≡ fault.Memory)) }
 {
     let mut block = vec![in alloc; 0u8; BLOCK]?;

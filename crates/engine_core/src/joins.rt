@@ -5,12 +5,14 @@ ghost use Rattle.engine_core.specs.Joins.{IsAdded, IsAddFault, IsJoinedText, IsJ
 ghost use Rattle.engine_core.specs.Joins.{IsJoinRunFault};
 ghost use Rattle.engine_core.specs.Runs.{Wrote, IsRunFault};
 ghost use Rattle.engine_core.specs.declared.boards.Outcome.TheVariants as outcome;
+ghost use Rattle.sgf_core.specs.Limit.{most_bytes};
 
 use crate::boards::Outcome;
 use crate::faults::RunFault;
 use crate::halves::{Batch, join_front, join_two};
-use crate::input::{MOST, read_input};
+use crate::input::read_input;
 use crate::output::write_output;
+use sgf_core::MOST_BYTES;
 use shape_dict::{DictFault, Dictionary, Text};
 use std::alloc::Global;
 use std::io::{Read, Write};
@@ -29,7 +31,7 @@ fn add_next(alloc: Global, sum: &Dictionary, bytes: &[u8]) -> Result<(Dictionary
 ///
 /// `RunFault::Dict` has the number of that dictionary, from 1, and why it cannot be read or added, or want of memory.
 fn add_one(alloc: Global, input: &[u8], before: &Batch) -> Result<Batch, RunFault>
-    requires few { length input.now ≤ 2 ^ 28 }
+    requires few { length input.now ≤ most_bytes }
     requires before { IsBatch input.now before.now }
     requires more { before.now.length < length input.now }
     ensures batch { IfOk result (IsBatch input.now) }
@@ -64,7 +66,7 @@ fn add_joined(alloc: Global, input: &[u8], before: &Batch, end: usize) -> Option
 /// they cannot be joined before they are added, those of the first half of the bytes are added, and then the others: so the
 /// first fault is met, and each time only half of the bytes are read again.
 fn add_up_to(alloc: Global, input: &[u8], before: Batch, end: usize) -> Result<Batch, RunFault>
-    requires few { length input.now ≤ 2 ^ 28 }
+    requires few { length input.now ≤ most_bytes }
     requires before { IsBatch input.now before }
     requires within { end ≤ length input.now }
     ensures batch { IfOk result (IsBatch input.now) }
@@ -90,7 +92,7 @@ fn add_up_to(alloc: Global, input: &[u8], before: Batch, end: usize) -> Result<B
 
 /// The join of all dictionaries whose texts the input is, and how many they are.
 fn join_all(alloc: Global, input: &[u8]) -> Result<(Dictionary, usize), RunFault>
-    requires { length input.now ≤ 2 ^ 28 }
+    requires { length input.now ≤ most_bytes }
     ensures joined { IfOk result (λ p. IsJoinedText input.now p.1 p.0) }
     ensures fault { IfErr result (IsJoinRunFault input.now) }
 {
@@ -109,7 +111,7 @@ fn joined_text(alloc: Global, kind: Text, input: &[u8]) -> Result<Vec<u8>, RunFa
     ensures text { IfOk result (λ text. IsJoinText kind input.now text.items) }
     ensures fault { IfErr result (IsJoinRunFault input.now) }
 {
-    if input.len() > MOST {
+    if input.len() > MOST_BYTES {
         return Err(RunFault::Dict {
             n: 1,
             fault: DictFault::TooLarge,

@@ -17,6 +17,7 @@ ghost use Rattle.harvest_core.specs.Crew.{IsCrop, AreAsked};
 ghost use Rattle.harvest_core.specs.Parted.{refusals_of};
 ghost use Rattle.harvest_core.specs.Harvest.{IsRead, IsExplained, IsToldOf};
 ghost use Rattle.harvest_core.specs.Harvest.{IsHarvest, IsHarvestFault, IsHarvestRefused};
+ghost use Rattle.sgf_core.specs.Limit.{most_bytes};
 
 use crate::gates::Gate;
 use crate::parting::{Parted, part, worst};
@@ -184,7 +185,7 @@ where
     O: Send + Sync,
     requires pass { IsPassOf (2 ^ O.exponent table.now.order) table.now pass.old }
     ensures pass { IsPassOf (2 ^ O.exponent table.now.order) table.now pass.new }
-    ensures large { 2 ^ 28 < length bytes.now
+    ensures large { most_bytes < length bytes.now
         → (result ≡ Err (fault.Sgf sgf.TooLarge)) × (pass.new ≡ pass.old) }
     ensures harvest { IfOk result (IsHarvest (2 ^ O.exponent table.now.order) pass.new.seen
         settings.kinds bytes.now) }

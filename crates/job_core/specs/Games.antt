@@ -7,6 +7,7 @@ use Rattle.go_record.specs.declared.records.Kind.TheVariants as kind
 use Rattle.tally_core.specs.Collection.{AreTrees, record_of_tree, games_among}
 use Rattle.tally_core.specs.Counted.{IsReport}
 use Rattle.tally_core.specs.declared.collections.Report.{Report}
+use Rattle.sgf_core.specs.Limit.{most_bytes}
 
 -- a game as it is written in an input: its number, where its tree begins and ends, and its record
 pub record WrittenGame : Type 0 where
@@ -31,7 +32,7 @@ pub record HasRead (bytes : List ℕ) (from : ℕ) (report : Report) : Type 0 wh
   pub trees : List GameTree
   pub written : AreTrees bytes 0 trees from
   pub reported : IsReport trees report
-  pub small : length bytes ≤ 2 ^ 28
+  pub small : length bytes ≤ most_bytes
   pub in_input : from ≤ length bytes
   pub games : report.games ≤ from
   pub others : report.others ≤ from
@@ -41,7 +42,7 @@ pub record HasRead (bytes : List ℕ) (from : ℕ) (report : Report) : Type 0 wh
 pub record HasReadAll (bytes : List ℕ) (report : Report) : Type 0 where
   pub trees : List GameTree
   pub end : ℕ
-  pub small : length bytes ≤ 2 ^ 28
+  pub small : length bytes ≤ most_bytes
   pub written : AreTrees bytes 0 trees end
   pub no_more : HasNoTree bytes end
   pub reported : IsReport trees report

@@ -15,6 +15,7 @@ use Rattle.job_core.specs.declared.games.Recorded.{Recorded}
 use Rattle.job_core.specs.declared.games.Step.{Step}
 use Rattle.job_core.specs.declared.games.Step.TheVariants as step
 use Rattle.job_core.specs.Games.{WrittenGame, HasReadAll}
+use Rattle.sgf_core.specs.Limit.{most_bytes}
 
 -- an input, the place up to which its trees were read, and what these are
 pub record Reading : Type 0 where
@@ -33,7 +34,7 @@ pub record IsNextGame (before after : Reading) (job : WrittenGame) : Type 0 wher
   pub bytes : job.bytes ≡ before.bytes
   pub game : job.game ≡ before.report.games
   pub counted : after.report.games ≡ before.report.games + 1
-  pub few : after.report.games ≤ 2 ^ 28
+  pub few : after.report.games ≤ most_bytes
 
 -- no game was left
 pub record HasNoGame (before after : Reading) : Type 0 where

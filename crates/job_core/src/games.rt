@@ -11,6 +11,7 @@ ghost use Rattle.tally_core.specs.Counting.{IsNextFault};
 ghost use Rattle.tally_core.specs.declared.faults.HarvestFault.TheVariants as fault;
 ghost use Rattle.job_core.specs.Games.{HasRead};
 ghost use Rattle.job_core.specs.Reading.{IsNextGame, HasNoGame, IsStep, IsNextRecord, Counts};
+ghost use Rattle.sgf_core.specs.Limit.{most_bytes};
 
 use crate::jobs::Job;
 use go_record::{Kind, Record, RecordFault, read_record};
@@ -130,8 +131,8 @@ fn next_record(alloc: Global, trees: &mut Trees<'_>) -> Result<Option<Recorded>,
 
 /// Counts a tree by its record, which comes back where the tree is a game.
 fn count(report: &mut Report, recorded: Result<Kind, RecordFault>) -> Option<Record>
-    requires { (report.old.games < 2 ^ 28) × (report.old.others < 2 ^ 28)
-        × (report.old.refused < 2 ^ 28) }
+    requires { (report.old.games < most_bytes) × (report.old.others < most_bytes)
+        × (report.old.refused < most_bytes) }
     ensures { Counts report.old recorded report.new result }
 {
     match recorded {
@@ -152,7 +153,7 @@ impl<'a> Games<'a> {
     ///
     /// `Sgf` with `SgfFault::TooLarge`, exactly where the input has more than 2^28 bytes.
     pub fn new(bytes: &'a [u8]) -> Result<Games<'a>, HarvestFault>
-        ensures small { IsOk result ↔ (length bytes.now ≤ 2 ^ 28) }
+        ensures small { IsOk result ↔ (length bytes.now ≤ most_bytes) }
         ensures begins { IfOk result (λ games. games ≡ record {
           bytes = bytes.now;
           from = 0;

@@ -1,6 +1,7 @@
 //! Jobs: one game of an input each, for one worker.
 ghost use Rattle.std.specs.Prelude.{◌≡◌, ◌^◌, ◌<◌, ℕ};
 ghost use Rattle.job_core.specs.Games.{IsGameOf};
+ghost use Rattle.sgf_core.specs.Limit.{most_bytes};
 
 use go_record::Record;
 use std::marker::Model;
@@ -21,6 +22,7 @@ pub struct Job<'a> {
 impl<'a> Model for Job<'a> {
     ghost use Rattle.std.specs.Prelude.{◌^◌, ◌<◌};
     ghost use Rattle.job_core.specs.Games.{WrittenGame, IsGameOf};
+    ghost use Rattle.sgf_core.specs.Limit.{most_bytes};
 
     ghost Value = { WrittenGame };
 
@@ -33,14 +35,14 @@ impl<'a> Model for Job<'a> {
     } };
 
     ghost invariant = { λ job. IsGameOf job.bytes.now job.game job.at job.end job.record
-        × (job.game < 2 ^ 28) };
+        × (job.game < most_bytes) };
 }
 
 impl<'a> Job<'a> {
     /// The job of a game of this input.
     pub(crate) fn new(bytes: &'a [u8], game: u64, at: usize, end: usize, actions: Record) -> Job<'a>
         requires game { IsGameOf bytes.now game at end actions }
-        requires few { game < 2 ^ 28 }
+        requires few { game < most_bytes }
         ensures { result ≡ record
             { bytes = bytes.now; game = game; at = at; end = end; actions = actions } }
     {
@@ -56,7 +58,7 @@ impl<'a> Job<'a> {
     /// The number of the game: how many games come before it in the input.
     pub fn game(&self) -> u64
         ensures number { result ≡ self.now.game }
-        ensures few { result < 2 ^ 28 }
+        ensures few { result < most_bytes }
     {
         self.game
     }
@@ -87,7 +89,7 @@ impl<'a> Job<'a> {
         ensures value { result.now ≡ self.now.actions }
         ensures game { IsGameOf
             self.now.bytes self.now.game self.now.at self.now.end self.now.actions }
-        ensures few { self.now.game < 2 ^ 28 }
+        ensures few { self.now.game < most_bytes }
     {
         &self.record
     }

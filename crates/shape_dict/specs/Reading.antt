@@ -14,6 +14,7 @@ use Rattle.shape_dict.specs.declared.headers.Header.{Header}
 use Rattle.shape_dict.specs.declared.faults.DictFault.TheVariants as fault
 use Rattle.shape_dict.specs.Contents.{Contents, IsDictionary, HasTotals}
 use Rattle.shape_dict.specs.Text.{header_text, line_text, text_of, IsWhole, IsSmall, IsSmallEntry}
+use Rattle.sgf_core.specs.Limit.{most_bytes}
 
 -- the bytes are a text of the dictionary that leaves nothing of it out
 pub record IsTextOf (contents : Contents) (bytes : List ℕ) : Type 0 where
@@ -147,7 +148,7 @@ pub record HasMore (bytes : List ℕ) (line : ℕ) : Type 0 where
 
 -- the fault is the first in bytes that are to begin with a text; want of memory may be answered anywhere
 abbrev pub IsFrontFault : List ℕ → DictFault → Type 0
-IsFrontFault bytes fault.TooLarge = 2 ^ 28 < length bytes
+IsFrontFault bytes fault.TooLarge = most_bytes < length bytes
 IsFrontFault bytes fault.BadHeader = HasNoHeader bytes
 IsFrontFault bytes (fault.BadLine line) = IsBadLine bytes line
 IsFrontFault bytes (fault.NotRising line) = IsNotRising bytes line

@@ -5,6 +5,7 @@ ghost use Rattle.shape_dict.specs.Text.{header_text};
 ghost use Rattle.shape_dict.specs.Reading.{IsHeader, BeginsWith, HasAllLines, IsFrontFault};
 ghost use Rattle.shape_dict.specs.Reading.{IsTextFault, IsTextOf, lines_after};
 ghost use Rattle.shape_dict.specs.declared.faults.DictFault.TheVariants as fault;
+ghost use Rattle.sgf_core.specs.Limit.{most_bytes};
 
 use crate::dictionaries::Dictionary;
 use crate::entries::Entry;
@@ -13,11 +14,9 @@ use crate::headers::{Header, read_header};
 use crate::joining::push;
 use crate::lines::read_line;
 use crate::totals::have_totals;
+use sgf_core::MOST_BYTES;
 use shape_core::{Shape, Word};
 use std::alloc::Global;
-
-/// The most bytes that an input may have, 2^28.
-const MOST: usize = 1 << 28;
 
 /// Whether a word is above that of the last entry.
 fn is_above(entries: &[Entry], word: Word) -> bool
@@ -102,11 +101,11 @@ fn read_lines<'a>(
 /// The dictionary of the text that the bytes begin with, and how many bytes the text has.
 fn front_of(alloc: Global, bytes: &[u8]) -> Result<(Dictionary, usize), DictFault>
     ensures found { IfOk result (λ p. (p.1 ≤ length bytes.now) × IsTextOf p.0 (take p.1 bytes.now)
-        × (length bytes.now ≤ 2 ^ 28)) }
+        × (length bytes.now ≤ most_bytes)) }
     ensures fault { IfErr result (IsFrontFault bytes.now) }
-    ensures large { 2 ^ 28 < length bytes.now → IfErr result (λ found. found ≡ fault.TooLarge) }
+    ensures large { most_bytes < length bytes.now → IfErr result (λ found. found ≡ fault.TooLarge) }
 {
-    if bytes.len() > MOST {
+    if bytes.len() > MOST_BYTES {
         return Err(DictFault::TooLarge);
     }
     let Some((header, rest)) = read_header(bytes) else {
@@ -126,9 +125,9 @@ fn front_of(alloc: Global, bytes: &[u8]) -> Result<(Dictionary, usize), DictFaul
 
 /// The dictionary whose text the bytes are.
 fn read_whole(alloc: Global, bytes: &[u8]) -> Result<Dictionary, DictFault>
-    ensures found { IfOk result (λ d. IsTextOf d bytes.now × (length bytes.now ≤ 2 ^ 28)) }
+    ensures found { IfOk result (λ d. IsTextOf d bytes.now × (length bytes.now ≤ most_bytes)) }
     ensures fault { IfErr result (IsTextFault bytes.now) }
-    ensures large { 2 ^ 28 < length bytes.now → IfErr result (λ found. found ≡ fault.TooLarge) }
+    ensures large { most_bytes < length bytes.now → IfErr result (λ found. found ≡ fault.TooLarge) }
 {
     let (dictionary, length) = front_of(alloc, bytes)?;
     if length < bytes.len() {
@@ -153,12 +152,12 @@ impl Dictionary {
     /// the one before, `NotCanonical` where its word is not the least of its images; then `WrongTotals` where the plays do
     /// not add up to the moves, and `BadLine` where bytes follow the text. `Memory` where memory was refused.
     pub fn read(alloc: Global, bytes: &[u8]) -> Result<Dictionary, DictFault>
-        ensures found { IfOk result (λ d. IsTextOf d bytes.now × (length bytes.now ≤ 2 ^ 28)) }
+        ensures found { IfOk result (λ d. IsTextOf d bytes.now × (length bytes.now ≤ most_bytes)) }
         ensures only { (contents : Contents) → IsTextOf contents bytes.now
-            → length bytes.now ≤ 2 ^ 28
+            → length bytes.now ≤ most_bytes
             → MatchResult result (λ d. d ≡ contents) (λ found. found ≡ fault.Memory) }
         ensures fault { IfErr result (IsTextFault bytes.now) }
-        ensures large { 2 ^ 28 < length bytes.now → IfErr result (λ found. found ≡ fault.TooLarge) }
+        ensures large { most_bytes < length bytes.now → IfErr result (λ found. found ≡ fault.TooLarge) }
     {
         read_whole(alloc, bytes)
     }
@@ -170,13 +169,13 @@ impl Dictionary {
     /// Those of `read`, but that bytes may follow the text.
     pub fn read_front(alloc: Global, bytes: &[u8]) -> Result<(Dictionary, usize), DictFault>
         ensures found { IfOk result (λ p. (p.1 ≤ length bytes.now)
-            × IsTextOf p.0 (take p.1 bytes.now) × (length bytes.now ≤ 2 ^ 28)) }
+            × IsTextOf p.0 (take p.1 bytes.now) × (length bytes.now ≤ most_bytes)) }
         ensures only { (contents : Contents) → (count : ℕ) → count ≤ length bytes.now
-            → IsTextOf contents (take count bytes.now) → length bytes.now ≤ 2 ^ 28
+            → IsTextOf contents (take count bytes.now) → length bytes.now ≤ most_bytes
             → MatchResult result (λ p. (p.0 ≡ contents) × (p.1 ≡ count))
             (λ found. found ≡ fault.Memory) }
         ensures fault { IfErr result (IsFrontFault bytes.now) }
-        ensures large { 2 ^ 28 < length bytes.now → IfErr result (λ found. found ≡ fault.TooLarge) }
+        ensures large { most_bytes < length bytes.now → IfErr result (λ found. found ≡ fault.TooLarge) }
     {
         front_of(alloc, bytes)
     }

@@ -1,5 +1,6 @@
 //! Shares: what one worker has counted over the table.
 ghost use Rattle.std.specs.Prelude.{◌≡◌, ◌^◌, ◌≤◌, length, IfOk, IfErr, OnOk, OnErr};
+ghost use Rattle.sgf_core.specs.Limit.{most_bytes};
 
 use crate::entering::mark_all;
 use crate::faults::HarvestFault;
@@ -146,7 +147,7 @@ impl Share {
         record: &Record,
     ) -> Result<(), HarvestFault>
         requires pass { IsPassOf (2 ^ O.exponent table.now.order) table.now pass.old }
-        requires game { game < 2 ^ 28 }
+        requires game { game < most_bytes }
         ensures pass { IsPassOf (2 ^ O.exponent table.now.order) table.now pass.new }
         ensures added { OnOk result (IsAdded game record.now self.old self.new) }
         ensures grown { OnOk result (HasGrown (2 ^ O.exponent table.now.order) pass.new.seen

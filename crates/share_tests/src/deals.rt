@@ -2,6 +2,7 @@
 ghost use Rattle.std.specs.Prelude.{◌≡◌, ◌<◌, ◌≤◌, ◌^◌, All, IfOk, OnOk, length};
 ghost use Rattle.shape_core.specs.declared.words.Kinds.TheVariants as kinds;
 ghost use Rattle.slot_table.specs.Passes.{IsPassOf};
+ghost use Rattle.sgf_core.specs.Limit.{most_bytes};
 
 use crate::testing::{order_of, record_of};
 use go_record::Record;
@@ -45,7 +46,7 @@ fn add_one<O: ProbeOrder>(
     records: &[Record],
 ) -> Result<(), HarvestFault>
     requires pass { IsPassOf (2 ^ O.exponent table.now.order) table.now pass.old }
-    requires few { length records.now ≤ 2 ^ 28 }
+    requires few { length records.now ≤ most_bytes }
     requires game { game < length records.now }
     requires games { All (λ game. game < length records.now) share.old.games }
     ensures pass { IsPassOf (2 ^ O.exponent table.now.order) table.now pass.new }
@@ -65,7 +66,7 @@ fn share_of<O: ProbeOrder>(
     turn: usize,
 ) -> Result<Share, HarvestFault>
     requires pass { IsPassOf (2 ^ O.exponent table.now.order) table.now pass.old }
-    requires few { length records.now ≤ 2 ^ 28 }
+    requires few { length records.now ≤ most_bytes }
     requires dealt { length dealt.now ≡ length records.now }
     ensures pass { IsPassOf (2 ^ O.exponent table.now.order) table.now pass.new }
     ensures kinds { IfOk result (λ share. share.kinds ≡ kinds.Both) }
@@ -95,7 +96,7 @@ fn gather_three<R: Threads + Sync, O: ProbeOrder>(
     dealt: &[usize],
 ) -> Result<Dictionary, HarvestFault>
     requires pass { IsPassOf (2 ^ O.exponent table.now.order) table.now pass.old }
-    requires few { length records.now ≤ 2 ^ 28 }
+    requires few { length records.now ≤ most_bytes }
     requires dealt { length dealt.now ≡ length records.now }
 {
     let one = share_of(alloc, table, pass, records, dealt, 0)?;
@@ -121,7 +122,7 @@ fn gathered_of<R: Threads + Sync>(
     records: &[Record],
     dealt: &[usize],
 ) -> Result<Dictionary, HarvestFault>
-    requires few { length records.now ≤ 2 ^ 28 }
+    requires few { length records.now ≤ most_bytes }
     requires dealt { length dealt.now ≡ length records.now }
 {
     let Ok((table, mut pass)) = SlotTable::new(alloc, order) else {
@@ -184,7 +185,7 @@ fn part_of<O: ProbeOrder>(
     turn: usize,
 ) -> Result<Part<O>, HarvestFault>
     requires pass { IsPassOf (2 ^ O.exponent table.now.order) table.now pass }
-    requires few { length records.now ≤ 2 ^ 28 }
+    requires few { length records.now ≤ most_bytes }
     requires dealt { length dealt.now ≡ length records.now }
     ensures pass { IfOk result (λ part. IsPassOf (2 ^ O.exponent table.now.order) table.now
         part.pass) }
@@ -215,7 +216,7 @@ fn two_of<O: ProbeOrder + Send + Sync, R: Threads + Sync>(
     turn: usize,
 ) -> Result<Two<O>, HarvestFault>
     requires pass { IsPassOf (2 ^ O.exponent table.now.order) table.now pass }
-    requires few { length records.now ≤ 2 ^ 28 }
+    requires few { length records.now ≤ most_bytes }
     requires dealt { length dealt.now ≡ length records.now }
     requires turn { turn < 4 }
     ensures pass { IfOk result (λ two. IsPassOf (2 ^ O.exponent table.now.order) table.now
@@ -231,7 +232,7 @@ fn two_of<O: ProbeOrder + Send + Sync, R: Threads + Sync>(
         rt,
         move || -> Result<Part<O>, HarvestFault>
             requires pass { IsPassOf (2 ^ O.exponent table.now.order) table.now pass }
-            requires few { length records.now ≤ 2 ^ 28 }
+            requires few { length records.now ≤ most_bytes }
             requires dealt { length dealt.now ≡ length records.now }
             ensures pass { IfOk result (λ part. IsPassOf (2 ^ O.exponent table.entry.now.order)
                 table.entry.now part.pass) }
@@ -241,7 +242,7 @@ fn two_of<O: ProbeOrder + Send + Sync, R: Threads + Sync>(
         { part_of(alloc, table, pass, records, dealt, turn) },
         move || -> Result<Part<O>, HarvestFault>
             requires pass { IsPassOf (2 ^ O.exponent table.now.order) table.now second }
-            requires few { length records.now ≤ 2 ^ 28 }
+            requires few { length records.now ≤ most_bytes }
             requires dealt { length dealt.now ≡ length records.now }
             ensures pass { IfOk result (λ part. IsPassOf (2 ^ O.exponent table.entry.now.order)
                 table.entry.now part.pass) }
@@ -269,7 +270,7 @@ fn four_of<O: ProbeOrder + Send + Sync, R: Threads + Sync>(
     dealt: &[usize],
 ) -> Result<Dictionary, HarvestFault>
     requires pass { IsPassOf (2 ^ O.exponent table.now.order) table.now pass }
-    requires few { length records.now ≤ 2 ^ 28 }
+    requires few { length records.now ≤ most_bytes }
     requires dealt { length dealt.now ≡ length records.now }
 {
     let Two { pass, one, other } = two_of(rt, alloc, table, pass, records, dealt, 2)?;

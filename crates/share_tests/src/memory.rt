@@ -3,6 +3,7 @@ ghost use Rattle.std.specs.Prelude.{◌≡◌, ◌++◌, ◌∷◌, [], ◌<◌,
 ghost use Rattle.std.specs.Bool.{OnTrue};
 ghost use Rattle.shape_core.specs.declared.words.Kinds.TheVariants as kinds;
 ghost use Rattle.slot_table.specs.Passes.{IsPassOf};
+ghost use Rattle.sgf_core.specs.Limit.{most_bytes};
 
 use crate::testing::{entry_of, order_of, record_of};
 use go_record::Record;
@@ -68,7 +69,7 @@ fn add_or_keep<O: ProbeOrder>(
     record: &Record,
 ) -> bool
     requires pass { IsPassOf (2 ^ O.exponent table.now.order) table.now pass.old }
-    requires game { game < 2 ^ 28 }
+    requires game { game < most_bytes }
     ensures pass { IsPassOf (2 ^ O.exponent table.now.order) table.now pass.new }
     ensures kinds { share.new.kinds ≡ share.old.kinds }
     ensures games { OnTrue result (share.new.games ≡ share.old.games ++ game ∷ []) }

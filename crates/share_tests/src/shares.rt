@@ -1,6 +1,7 @@
 //! Shares seen from outside: small tables, and shares of other tables.
 ghost use Rattle.std.specs.Prelude.{◌<◌, ◌≤◌, ◌^◌};
 ghost use Rattle.slot_table.specs.Passes.{IsPassOf};
+ghost use Rattle.sgf_core.specs.Limit.{most_bytes};
 
 use crate::testing::{
     ALONE, EMPTY, ONE_POINT, TAKEN, TWO_POINTS, entry_of, first_share, order_of, record_of,
@@ -30,7 +31,7 @@ fn gather_two<R: Threads + Sync, O: ProbeOrder>(
     games: u64,
 ) -> Result<Dictionary, HarvestFault>
     requires pass { IsPassOf (2 ^ O.exponent table.now.order) table.now pass.old }
-    requires games { games ≤ 2 ^ 28 }
+    requires games { games ≤ most_bytes }
     requires one { one < games }
     requires other { other < games }
     ensures { IsPassOf (2 ^ O.exponent table.now.order) table.now pass.new }

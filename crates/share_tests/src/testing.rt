@@ -2,6 +2,7 @@
 ghost use Rattle.std.specs.Prelude.{◌≡◌, ◌<◌, ◌^◌, ◌∷◌, [], IfOk};
 ghost use Rattle.shape_core.specs.declared.words.Kinds.TheVariants as kinds;
 ghost use Rattle.slot_table.specs.Passes.{IsPassOf};
+ghost use Rattle.sgf_core.specs.Limit.{most_bytes};
 
 use go_record::{Kind, Record, read_record};
 use probe_core::{Capacity, OddStep, ProbeOrder};
@@ -70,7 +71,7 @@ pub(crate) fn share_of<O: ProbeOrder>(
     record: &Record,
 ) -> Result<Share, HarvestFault>
     requires pass { IsPassOf (2 ^ O.exponent table.now.order) table.now pass.old }
-    requires game { game < 2 ^ 28 }
+    requires game { game < most_bytes }
     ensures pass { IsPassOf (2 ^ O.exponent table.now.order) table.now pass.new }
     ensures kinds { IfOk result (λ share. share.kinds ≡ kinds.Squares) }
     ensures games { IfOk result (λ share. share.games ≡ game ∷ []) }
@@ -107,7 +108,7 @@ pub(crate) fn refusal_of<O: ProbeOrder>(
     bytes: &[u8],
 ) -> Result<Option<HarvestFault>, Fail>
     requires pass { IsPassOf (2 ^ O.exponent table.now.order) table.now pass.old }
-    requires game { game < 2 ^ 28 }
+    requires game { game < most_bytes }
     ensures { IsPassOf (2 ^ O.exponent table.now.order) table.now pass.new }
 {
     let record = record_of(alloc, bytes).ok_or("no record")?;
