@@ -4,8 +4,9 @@ use Rattle.std.proofs.lemmas.List.{length-drop, length-take-le}
 use Rattle.shape_dict.specs.Contents.{Contents}
 use Rattle.shape_dict.specs.Join.{IsJoin}
 use Rattle.engine_core.specs.declared.halves.Batch.{Batch}
-use Rattle.engine_core.specs.Joins.{IsNextText, IsJoinedText}
-use Rattle.engine_core.specs.Batches.{IsBatch, AreBatches}
+use Rattle.engine_core.specs.Joins.{IsJoinedText}
+use Rattle.engine_core.specs.Inner.Joins.{IsNextText}
+use Rattle.engine_core.specs.Inner.Batches.{IsBatch, AreBatches}
 use Rattle.engine_core.proofs.Joined.{more_joined, rest_is}
 use Rattle.engine_core.proofs.Regrouped.{both_joined, no_more_than_bytes}
 

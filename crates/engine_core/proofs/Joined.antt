@@ -9,7 +9,8 @@ use Rattle.shape_dict.specs.Reading.{IsTextOf, IsFrontFault}
 use Rattle.shape_dict.specs.Join.{IsJoin, IsJoinFault}
 use Rattle.shape_dict.specs.declared.faults.DictFault.{DictFault}
 use Rattle.shape_dict.specs.declared.faults.DictFault.TheVariants as dict_fault
-use Rattle.engine_core.specs.Joins.{IsNextText, IsAddFault, AreTextsOf, IsJoinOf, IsJoinedText, WereJoined, IsNotAdded, IsDictionaryFault}
+use Rattle.engine_core.specs.Joins.{AreTextsOf, IsJoinOf, IsJoinedText, WereJoined, IsNotAdded, IsDictionaryFault}
+use Rattle.engine_core.specs.Inner.Joins.{IsNextText, IsAddFault}
 
 some_text : (t : Text) (contents : Contents) → 0 < length (text_of t contents)
 some_text kind.One contents = omega arith

@@ -3,7 +3,8 @@ use Rattle.std.proofs.Common.{◌≡◌, ℕ, ◌+◌, ◌≤◌, List, [], ◌�
 use Rattle.std.specs.Option.{option_map}
 use Rattle.shape_dict.specs.declared.entries.Entry.{Entry}
 use Rattle.shape_dict.specs.Contents.{Contents, IsDictionary, entry_of}
-use Rattle.shape_dict.specs.Merging.{summed_entry, merged}
+use Rattle.shape_dict.specs.Merging.{summed_entry}
+use Rattle.shape_dict.specs.Inner.Merging.{merged}
 use Rattle.shape_dict.specs.Join.{joined_entry, IsJoin}
 use Rattle.shape_dict.proofs.Joined.{join_of}
 use Rattle.engine_core.specs.Joins.{AreTextsOf, IsJoinOf, IsJoinedText}

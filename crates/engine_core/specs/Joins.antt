@@ -1,5 +1,5 @@
 -- What `join` prints: the join of the dictionaries whose texts the input is, one after another.
-use Rattle.std.specs.Prelude.{◌≡◌, ◌≢◌, ℕ, zero, suc, ◌+◌, ◌^◌, ◌<◌, ◌≤◌, ◌⊎◌, List, [], ◌∷◌, ◌++◌, length, take}
+use Rattle.std.specs.Prelude.{◌≡◌, ◌≢◌, ℕ, zero, suc, ◌+◌, ◌^◌, ◌<◌, ◌≤◌, List, [], ◌∷◌, ◌++◌, length}
 use Rattle.shape_dict.specs.declared.entries.Text.{Text}
 use Rattle.shape_dict.specs.Contents.{Contents}
 use Rattle.shape_dict.specs.Text.{text_of}
@@ -10,20 +10,6 @@ use Rattle.shape_dict.specs.declared.faults.DictFault.TheVariants as dict_fault
 use Rattle.engine_core.specs.declared.faults.RunFault.{RunFault}
 use Rattle.engine_core.specs.declared.faults.RunFault.TheVariants as fault
 use Rattle.sgf_core.specs.Limit.{most_bytes}
-
--- the bytes begin with a text of this dictionary, of this length in bytes
-pub record IsNextText (bytes : List ℕ) (count : ℕ) (next : Contents) : Type 0 where
-  pub within : count ≤ length bytes
-  pub is_text : IsTextOf next (take count bytes)
-
--- the bytes begin with a text of a dictionary, and `both` is the join of `sum` and it
-abbrev pub IsAdded : Contents → List ℕ → ℕ → Contents → Type 0
-IsAdded sum bytes count both = (next : Contents) × IsNextText bytes count next × IsJoin sum next both
-
--- why there is no such join
-abbrev pub IsAddFault : Contents → List ℕ → DictFault → Type 0
-IsAddFault sum bytes found =
-    IsFrontFault bytes found ⊎ ((count : ℕ) × (next : Contents) × IsNextText bytes count next × IsJoinFault sum next found)
 
 -- the bytes are texts of these dictionaries, one after another
 abbrev pub AreTextsOf : List Contents → List ℕ → Type 0

@@ -1,4 +1,3 @@
-pub mod Batches
 pub mod Output
 pub mod Boards
 pub mod Runs
@@ -7,3 +6,4 @@ pub mod Counts
 pub mod Finds
 pub mod Joins
 pub mod Patterns
+pub mod Inner

@@ -27,14 +27,14 @@ pub enum Outcome {
 }
 
 /// The text of a game's final position.
-fn final_text(alloc: Global, replayed: &Record) -> Result<Vec<u8>, RunFault>
-    ensures text { IfOk result (λ text. (final : Position) × IsFinal replayed.now final
-        × (text.items ≡ position_text replayed.now.size final)) }
+fn final_text(alloc: Global, game_record: &Record) -> Result<Vec<u8>, RunFault>
+    ensures text { IfOk result (λ text. (final : Position) × IsFinal game_record.now final
+        × (text.items ≡ position_text game_record.now.size final)) }
     ensures fault { IfErr result (λ found. (found ≡ fault.Memory)
         ⊎ (found ≡ fault.Board board_fault.Memory)) }
 {
-    let mut board = Board::new(alloc, replayed.size())?;
-    replay(&mut board, replayed.actions());
+    let mut board = Board::new(alloc, game_record.size())?;
+    replay(&mut board, game_record.actions());
     Ok(board_text(alloc, &board)?)
 }
 

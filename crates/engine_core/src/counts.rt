@@ -19,16 +19,16 @@ fn counted_text<T: Threads + Wait + Sync>(
     rt: &T,
     alloc: Global,
     settings: Settings,
-    kind: Text,
+    text: Text,
     input: &[u8],
 ) -> Result<(Vec<u8>, Report), RunFault>
-    ensures text { IfOk result (λ p. IsCountText settings.kinds kind p.1 input.now p.0.items) }
+    ensures written { IfOk result (λ p. IsCountText settings.kinds text p.1 input.now p.0.items) }
     ensures fault { IfErr result (IsCountRunFault (2 ^ settings.k) settings.kinds input.now) }
 {
     let counted = harvest(rt, alloc, settings, input, &FreeGate)?;
-    let mut text = Vec::new(alloc);
-    counted.dictionary.write(kind, &mut text)?;
-    Ok((text, counted.report))
+    let mut written = Vec::new(alloc);
+    counted.dictionary.write(text, &mut written)?;
+    Ok((written, counted.report))
 }
 
 /// Reads a collection and writes a text of the dictionary of its games; the answer is how many trees it has of each sort.
@@ -48,18 +48,18 @@ pub fn run_count<T: Threads + Wait + Sync, R: Read, W: Write>(
     rt: &T,
     alloc: Global,
     settings: Settings,
-    kind: Text,
+    text: Text,
     reader: &mut R,
     writer: &mut W,
 ) -> Result<Report, RunFault>
-    ensures done { IfOk result (λ report. Wrote (IsCountText settings.kinds kind report)
+    ensures done { IfOk result (λ report. Wrote (IsCountText settings.kinds text report)
         (R.remaining reader.old) (W.contents writer.old) (W.contents writer.new)) }
-    ensures fault { IfErr result (IsRunFault (HasCountText settings.kinds kind)
+    ensures fault { IfErr result (IsRunFault (HasCountText settings.kinds text)
         (IsCountRunFault (2 ^ settings.k) settings.kinds)
         (R.remaining reader.old) (W.contents writer.old) (W.contents writer.new)) }
 {
     let input = read_input(alloc, reader)?;
-    let (text, report) = counted_text(rt, alloc, settings, kind, &input)?;
-    write_output(writer, &text)?;
+    let (written, report) = counted_text(rt, alloc, settings, text, &input)?;
+    write_output(writer, &written)?;
     Ok(report)
 }

@@ -1,6 +1,6 @@
 //! Dictionaries one after another, joined by halves of their bytes: none is in more joins than they can be halved.
 ghost use Rattle.std.specs.Prelude.{◌≡◌, ℕ, ◌+◌, ◌^◌, ◌<◌, ◌≤◌, List, length, IfSome};
-ghost use Rattle.engine_core.specs.Batches.{IsBatch, AreBatches};
+ghost use Rattle.engine_core.specs.Inner.Batches.{IsBatch, AreBatches};
 
 use shape_dict::Dictionary;
 use std::alloc::Global;

@@ -1,7 +1,8 @@
 //! `join`: dictionaries read one after another, and their join.
 ghost use Rattle.std.specs.Prelude.{◌≡◌, ◌<◌, ◌≤◌, ◌^◌, length, IfOk, IfErr, IfSome};
-ghost use Rattle.engine_core.specs.Batches.{IsBatch};
-ghost use Rattle.engine_core.specs.Joins.{IsAdded, IsAddFault, IsJoinedText, IsJoinText};
+ghost use Rattle.engine_core.specs.Inner.Batches.{IsBatch};
+ghost use Rattle.engine_core.specs.Joins.{IsJoinedText, IsJoinText};
+ghost use Rattle.engine_core.specs.Inner.Joins.{IsAdded, IsAddFault};
 ghost use Rattle.engine_core.specs.Joins.{IsJoinRunFault};
 ghost use Rattle.engine_core.specs.Runs.{Wrote, IsRunFault};
 ghost use Rattle.engine_core.specs.declared.boards.Outcome.TheVariants as outcome;
@@ -107,8 +108,8 @@ fn join_all(alloc: Global, input: &[u8]) -> Result<(Dictionary, usize), RunFault
 }
 
 /// The text of the join of all dictionaries whose texts the input is.
-fn joined_text(alloc: Global, kind: Text, input: &[u8]) -> Result<Vec<u8>, RunFault>
-    ensures text { IfOk result (λ text. IsJoinText kind input.now text.items) }
+fn joined_text(alloc: Global, text: Text, input: &[u8]) -> Result<Vec<u8>, RunFault>
+    ensures written { IfOk result (λ written. IsJoinText text input.now written.items) }
     ensures fault { IfErr result (IsJoinRunFault input.now) }
 {
     if input.len() > MOST_BYTES {
@@ -118,10 +119,10 @@ fn joined_text(alloc: Global, kind: Text, input: &[u8]) -> Result<Vec<u8>, RunFa
         });
     }
     let (sum, number) = join_all(alloc, input)?;
-    let mut text = Vec::new(alloc);
-    sum.write(kind, &mut text)
+    let mut written = Vec::new(alloc);
+    sum.write(text, &mut written)
         .map_err(|fault| RunFault::Dict { n: number, fault })?;
-    Ok(text)
+    Ok(written)
 }
 
 /// Reads one dictionary or more, one after another, each in any of the three texts, and writes a text of their join:
@@ -137,18 +138,18 @@ fn joined_text(alloc: Global, kind: Text, input: &[u8]) -> Result<Vec<u8>, RunFa
 /// number of bytes of the text is out.
 pub fn run_join<R: Read, W: Write>(
     alloc: Global,
-    kind: Text,
+    text: Text,
     reader: &mut R,
     writer: &mut W,
 ) -> Result<Outcome, RunFault>
     ensures done { IfOk result (λ found. (found ≡ outcome.Done)
-        × Wrote (IsJoinText kind) (R.remaining reader.old) (W.contents writer.old)
+        × Wrote (IsJoinText text) (R.remaining reader.old) (W.contents writer.old)
         (W.contents writer.new)) }
-    ensures fault { IfErr result (IsRunFault (IsJoinText kind) IsJoinRunFault
+    ensures fault { IfErr result (IsRunFault (IsJoinText text) IsJoinRunFault
         (R.remaining reader.old) (W.contents writer.old) (W.contents writer.new)) }
 {
     let input = read_input(alloc, reader)?;
-    let text = joined_text(alloc, kind, &input)?;
-    write_output(writer, &text)?;
+    let written = joined_text(alloc, text, &input)?;
+    write_output(writer, &written)?;
     Ok(Outcome::Done)
 }

@@ -7,7 +7,7 @@ use Rattle.go_board.specs.Extent.{Extent}
 use Rattle.go_board.specs.Point.{IsOn, AreNeighbours}
 use Rattle.go_board.specs.Position.{Position, AreJoined, IsAlive}
 use Rattle.go_board.specs.Play.{Removes}
-use Rattle.go_board.specs.Groups.{IsDead}
+use Rattle.go_board.specs.Inner.Groups.{IsDead}
 use Rattle.go_board.proofs.Paths.{AreNeighbours-sym, along, AreJoined-refl, AreJoined-step, AreJoined-trans, joined_same}
 
 -- q is of a group without a liberty, which one of the points `among` belongs to

@@ -11,7 +11,7 @@ use Rattle.go_board.specs.Extent.{Extent}
 use Rattle.go_board.specs.Point.{IsOn, AreNeighbours}
 use Rattle.go_board.specs.Position.{Position, AreJoined, IsAlive}
 use Rattle.go_board.specs.Play.{Removes, IsCaptured, stone_of, other}
-use Rattle.go_board.specs.Groups.{IsDead}
+use Rattle.go_board.specs.Inner.Groups.{IsDead}
 use Rattle.go_board.proofs.Captures.{IsTaken, Removes-same, Removes-more, taken_more}
 
 -- such a group was removed, so its points are those of the list

@@ -7,7 +7,7 @@ use Rattle.go_board.specs.declared.points.Stone.{Stone}
 use Rattle.go_board.specs.Extent.{Extent}
 use Rattle.go_board.specs.Point.{IsOn}
 use Rattle.go_board.specs.Position.{Position, AreJoined, IsAlive}
-use Rattle.go_board.specs.Groups.{Gathers, IsSuchNeighbour, IsSurrounded}
+use Rattle.go_board.specs.Inner.Groups.{Gathers, IsSuchNeighbour, IsSurrounded}
 use Rattle.go_board.proofs.Paths.{along, AreJoined-step}
 
 -- q is on the board and joined to p

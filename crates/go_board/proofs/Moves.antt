@@ -12,7 +12,7 @@ use Rattle.go_board.specs.Gathered.{IsGathered}
 use Rattle.go_board.specs.Point.{IsOn}
 use Rattle.go_board.specs.Position.{Position, placed, IsAlive}
 use Rattle.go_board.specs.Play.{Removes, IsCaptured, IsSuicide, Plays, IsRemoved, ListsOnce, stone_of, other, same_stone, count_of}
-use Rattle.go_board.specs.Groups.{IsDead}
+use Rattle.go_board.specs.Inner.Groups.{IsDead}
 use Rattle.go_board.proofs.Paths.{AreJoined-refl, joined_on, joined_same}
 use Rattle.go_board.proofs.Captures.{Removes-same}
 use Rattle.go_board.proofs.Capturing.{stone_solid}

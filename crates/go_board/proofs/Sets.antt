@@ -7,7 +7,8 @@ use Rattle.std.proofs.lemmas.List.Quantifiers.{all_pairs_push}
 use Rattle.go_board.specs.declared.points.Point.{Point}
 use Rattle.go_board.specs.Extent.{Extent}
 use Rattle.go_board.specs.Point.{IsOn, index_of}
-use Rattle.go_board.specs.Gathered.{IsGathered, IsMarked, MarksThese, IsPointSet}
+use Rattle.go_board.specs.Gathered.{IsGathered}
+use Rattle.go_board.specs.Inner.Gathered.{IsMarked, MarksThese, IsPointSet}
 use Rattle.go_board.proofs.Places.{same_index, index_below, few_points}
 
 -- one more point, which is on the board and has no mark

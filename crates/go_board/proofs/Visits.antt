@@ -8,7 +8,7 @@ use Rattle.go_board.specs.declared.points.Stone.TheVariants as stone
 use Rattle.go_board.specs.Extent.{Extent}
 use Rattle.go_board.specs.Point.{IsOn, AreNeighbours}
 use Rattle.go_board.specs.Position.{Position}
-use Rattle.go_board.specs.Groups.{Gathers, IsSuchNeighbour, IsSurrounded}
+use Rattle.go_board.specs.Inner.Groups.{Gathers, IsSuchNeighbour, IsSurrounded}
 
 -- this neighbour is not empty, and is in the list if such a stone stands there
 pub record IsSeen (position : Position) (kind : Stone) (points : List Point) (q : Point) : Type 0 where

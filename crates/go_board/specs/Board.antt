@@ -4,7 +4,7 @@ use Rattle.std.specs.Prelude.{◌≡◌, ◌*◌, List, length}
 use Rattle.go_board.specs.declared.points.Point.{Point}
 use Rattle.go_board.specs.Extent.{Extent, IsExtent}
 use Rattle.go_board.specs.declared.points.Stone.{Stone}
-use Rattle.go_board.specs.Gathered.{Gathered, IsGathered}
+use Rattle.go_board.specs.Gathered.{IsGathered}
 use Rattle.go_board.specs.Position.{Position, position_in}
 
 -- a size, a stone or none for each point, and the removed points
@@ -22,11 +22,3 @@ pub record IsBoard (board : Stones) : Type 0 where
   pub extent : IsExtent board.size
   pub whole : length board.stones ≡ board.size.columns * board.size.rows
   pub removed : IsGathered board.size board.removed
-
--- the lists that hold a board, with a set to find groups with
-pub record IsHeld (size : Extent) (stones : List Stone) (group_size : Extent) (removed : Gathered) : Type 0 where
-  pub extent : IsExtent size
-  pub whole : length stones ≡ size.columns * size.rows
-  pub group_sized : group_size ≡ size
-  pub removed_sized : removed.size ≡ size
-  pub gathered : IsGathered size removed.points

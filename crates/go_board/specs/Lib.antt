@@ -4,4 +4,4 @@ pub mod Position
 pub mod Play
 pub mod Board
 pub mod Gathered
-pub mod Groups
+pub mod Inner

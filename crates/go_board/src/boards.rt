@@ -27,7 +27,8 @@ pub struct Board {
 }
 
 impl Model for Board {
-    ghost use Rattle.go_board.specs.Board.{Stones, IsHeld};
+    ghost use Rattle.go_board.specs.Board.{Stones};
+    ghost use Rattle.go_board.specs.Inner.Board.{IsHeld};
 
     ghost Value = { Stones };
 

@@ -6,7 +6,7 @@ ghost use Rattle.go_board.specs.declared.points.Stone.TheVariants as kind;
 ghost use Rattle.go_board.specs.Point.{IsOn};
 ghost use Rattle.go_board.specs.Position.{position_in, AreJoined, IsAlive};
 ghost use Rattle.go_board.specs.Play.{Removes, IsCaptured};
-ghost use Rattle.go_board.specs.Groups.{IsDead, HasLiberty, Gathers, IsSurrounded};
+ghost use Rattle.go_board.specs.Inner.Groups.{IsDead, HasLiberty, Gathers, IsSurrounded};
 
 use crate::around::neighbours;
 use crate::point_sets::PointSet;

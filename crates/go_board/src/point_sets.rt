@@ -14,7 +14,7 @@ pub(crate) struct PointSet {
 
 impl Model for PointSet {
     ghost use Rattle.std.specs.Prelude.{take};
-    ghost use Rattle.go_board.specs.Gathered.{Gathered, IsPointSet};
+    ghost use Rattle.go_board.specs.Inner.Gathered.{Gathered, IsPointSet};
 
     ghost Value = { Gathered };
 
@@ -26,7 +26,8 @@ impl Model for PointSet {
 impl PointSet {
     ghost use Rattle.std.specs.Prelude.{◌≡◌, ◌*◌, ◌≤◌, ◌<◌, ◌⊎◌, List, [], ◌∷◌, ◌++◌, length};
     ghost use Rattle.std.specs.Prelude.{slice_index_or, IfOk, Contains};
-    ghost use Rattle.go_board.specs.Gathered.{Gathered, IsGathered};
+    ghost use Rattle.go_board.specs.Gathered.{IsGathered};
+    ghost use Rattle.go_board.specs.Inner.Gathered.{Gathered};
     ghost use Rattle.go_board.specs.Point.{IsOn};
 
     /// The set of no points, with room for each point of a board of this size.

@@ -4,7 +4,7 @@ use Rattle.go_record.specs.declared.actions.Action.{Action}
 use Rattle.go_record.specs.declared.faults.RecordFault.{RecordFault}
 use Rattle.go_record.specs.declared.faults.RecordFault.TheVariants as fault
 use Rattle.go_record.specs.Record.{collected, onto}
-use Rattle.go_record.specs.Adding.{behind, Adds}
+use Rattle.go_record.specs.Inner.Adding.{behind, Adds}
 
 -- first these, then those
 followed : Result (List Action) RecordFault → Result (List Action) RecordFault → Result (List Action) RecordFault

@@ -5,3 +5,4 @@ pub mod Actions
 pub mod Record
 pub mod Adding
 pub mod Replay
+pub mod Inner

@@ -3,7 +3,7 @@ ghost use Rattle.std.specs.Prelude.{map, All, OnOk};
 ghost use Rattle.std.specs.List.{flat_map};
 ghost use Rattle.sgf_core.specs.Values.{value_of};
 ghost use Rattle.go_record.specs.Actions.{IsActionOn};
-ghost use Rattle.go_record.specs.Adding.{Adds, action_of, round_deeds};
+ghost use Rattle.go_record.specs.Inner.Adding.{Adds, action_of, round_deeds};
 ghost use Rattle.go_record.specs.Record.{node_deeds};
 
 use crate::actions::Action;

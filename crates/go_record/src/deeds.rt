@@ -100,7 +100,7 @@ pub(crate) enum Deed {
 }
 
 impl Deed {
-    ghost use Rattle.go_record.specs.Adding.{action_of};
+    ghost use Rattle.go_record.specs.Inner.Adding.{action_of};
 
     /// What it does with a value, or None where that is nothing.
     pub(crate) fn action(self, size: Size, value: Value<'_>) -> Result<Option<Action>, RecordFault>

@@ -3,7 +3,7 @@ ghost use Rattle.std.specs.Prelude.{◌≡◌};
 ghost use Rattle.std.specs.Option.{option_map};
 ghost use Rattle.sgf_core.specs.Values.{value_of};
 ghost use Rattle.go_board.specs.Extent.{Extent};
-ghost use Rattle.go_record.specs.Adding.{deeds_of, round_deeds};
+ghost use Rattle.go_record.specs.Inner.Adding.{deeds_of, round_deeds};
 ghost use Rattle.go_record.specs.Record.{is_named, setup_stone, move_colour, front_value};
 ghost use Rattle.go_record.specs.Record.{first_value};
 

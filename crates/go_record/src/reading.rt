@@ -6,7 +6,8 @@ ghost use Rattle.sgf_core.specs.Values.{value_of};
 ghost use Rattle.go_record.specs.Record.{record_of, is_go, board_of, root_of, first_value};
 ghost use Rattle.go_record.specs.Record.{collected, node_deeds};
 ghost use Rattle.go_record.specs.Actions.{IsActionOn};
-ghost use Rattle.go_record.specs.Adding.{IsUnlessMemory, IsFaultOrMemory};
+ghost use Rattle.go_record.specs.Adding.{IsUnlessMemory};
+ghost use Rattle.go_record.specs.Inner.Adding.{IsFaultOrMemory};
 ghost use Rattle.std.specs.Option.{option_map};
 ghost use Rattle.std.specs.List.{flat_map};
 

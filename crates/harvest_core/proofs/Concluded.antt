@@ -19,9 +19,10 @@ use Rattle.share_core.specs.GatherFaults.{IsGatherFault}
 use Rattle.share_core.specs.Shares.{Held}
 use Rattle.share_core.proofs.Confirmed.{more_patterns}
 use Rattle.harvest_core.specs.declared.threads.Crop.{Crop}
-use Rattle.harvest_core.specs.Parted.{shares_of, refusals_of}
+use Rattle.harvest_core.specs.Inner.Parted.{shares_of, refusals_of}
 use Rattle.harvest_core.specs.Working.{IsWorked, IsPatternIn, IsPatternOfGame}
-use Rattle.harvest_core.specs.Harvest.{IsRead, HasMorePatterns, IsHarvestFault, IsToldOf}
+use Rattle.harvest_core.specs.Harvest.{IsRead, HasMorePatterns, IsHarvestFault}
+use Rattle.harvest_core.specs.Inner.Harvest.{IsToldOf}
 
 -- a row of some share is of a pattern of the input
 row_known : (bytes : List ℕ) (kinds : Kinds) (shares : List Held) (row : Row) → AllByRecursion (IsWorked bytes kinds) shares → Contains (all_rows shares) row →

@@ -10,7 +10,7 @@ use Rattle.job_core.specs.Rule.{putting}
 use Rattle.share_core.specs.declared.faults.HarvestFault.{HarvestFault}
 use Rattle.harvest_core.specs.declared.working.Worked.{Worked}
 use Rattle.harvest_core.specs.Working.{IsCounted}
-use Rattle.harvest_core.specs.Reading.{IsDealt, AreDealt}
+use Rattle.harvest_core.specs.Inner.Reading.{IsDealt, AreDealt}
 
 -- a job was put, or its game was counted here
 abbrev IsOffered : WrittenGame → Hand → Worked → Hand → Worked → Type 0

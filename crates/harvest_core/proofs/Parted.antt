@@ -9,8 +9,9 @@ use Rattle.shape_core.specs.declared.words.Kinds.{Kinds}
 use Rattle.share_core.specs.Shares.{Held}
 use Rattle.share_core.specs.declared.faults.HarvestFault.{HarvestFault}
 use Rattle.harvest_core.specs.declared.working.Worked.{Worked}
-use Rattle.harvest_core.specs.Working.{IsWorked, IsRefusal, IsRefused, IsWorkOf}
-use Rattle.harvest_core.specs.Parted.{shares_of, refusals_of, rank, game_of, GoesFirst, IsWorst}
+use Rattle.harvest_core.specs.Working.{IsWorked, IsRefusal, IsRefused}
+use Rattle.harvest_core.specs.Inner.Working.{IsWorkOf}
+use Rattle.harvest_core.specs.Inner.Parted.{shares_of, refusals_of, rank, game_of, GoesFirst, IsWorst}
 
 -- one worker's share moves from those that are left to those that are parted
 pub shares_on : (done : List Held) (one : Worked) (rest : List Worked) → (done ++ one.share ∷ []) ++ shares_of rest ≡ done ++ shares_of (one ∷ rest)

@@ -1,5 +1,3 @@
 pub mod Working
-pub mod Reading
-pub mod Crew
 pub mod Harvest
-pub mod Parted
+pub mod Inner

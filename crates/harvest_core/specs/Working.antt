@@ -64,7 +64,3 @@ pub record HasDrawn (old : Hand) (worked : Worked) (new : Hand) : Type 0 where
   pub first : drawn ≡ worked.share.games ++ rest
   pub whole : worked.refused ≡ None → rest ≡ []
   pub rises : Rising 0 drawn (past drawn)
-
--- what a worker hands back of an input
-abbrev pub IsWorkOf : List ℕ → Kinds → Worked → Type 0
-IsWorkOf bytes kinds worked = IsWorked bytes kinds worked.share × IsRefused bytes kinds worked.refused

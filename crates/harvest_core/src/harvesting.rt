@@ -13,9 +13,10 @@ ghost use Rattle.crossbeam_queue.specs.Passes.{IsPassOf as IsSeatOf};
 ghost use Rattle.job_core.specs.Games.{HasReadAll};
 ghost use Rattle.job_core.specs.Rule.{blank};
 ghost use Rattle.harvest_core.specs.Working.{IsWorked, IsRefusal};
-ghost use Rattle.harvest_core.specs.Crew.{IsCrop, AreAsked};
-ghost use Rattle.harvest_core.specs.Parted.{refusals_of};
-ghost use Rattle.harvest_core.specs.Harvest.{IsRead, IsExplained, IsToldOf};
+ghost use Rattle.harvest_core.specs.Inner.Crew.{IsCrop, AreAsked};
+ghost use Rattle.harvest_core.specs.Inner.Parted.{refusals_of};
+ghost use Rattle.harvest_core.specs.Harvest.{IsRead};
+ghost use Rattle.harvest_core.specs.Inner.Harvest.{IsExplained, IsToldOf};
 ghost use Rattle.harvest_core.specs.Harvest.{IsHarvest, IsHarvestFault, IsHarvestRefused};
 ghost use Rattle.sgf_core.specs.Limit.{most_bytes};
 

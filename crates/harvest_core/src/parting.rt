@@ -1,7 +1,7 @@
 //! What all threads came to, parted into shares and what was refused.
 ghost use Rattle.std.specs.Prelude.{◌≡◌, ◌⊎◌, ◌↔◌, [], IsTrue, MatchOption, IfOk};
-ghost use Rattle.harvest_core.specs.Parted.{shares_of, refusals_of};
-ghost use Rattle.harvest_core.specs.Parted.{rank, game_of as game_named, GoesFirst, IsWorst};
+ghost use Rattle.harvest_core.specs.Inner.Parted.{shares_of, refusals_of};
+ghost use Rattle.harvest_core.specs.Inner.Parted.{rank, game_of as game_named, GoesFirst, IsWorst};
 
 use crate::working::Worked;
 use share_core::{HarvestFault, Share};
@@ -16,7 +16,7 @@ pub(crate) struct Parted {
 
 impl Parted {
     ghost use Rattle.std.specs.Prelude.{◌≡◌, ◌++◌, ◌∷◌, [], OnOk};
-    ghost use Rattle.harvest_core.specs.Parted.{refusals_of};
+    ghost use Rattle.harvest_core.specs.Inner.Parted.{refusals_of};
 
     /// Takes in what one worker hands back.
     fn take(&mut self, worked: Worked) -> Result<(), AllocError>

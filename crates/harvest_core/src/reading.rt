@@ -5,11 +5,12 @@ ghost use Rattle.std.specs.Prelude.{IfSome, IfNone, IfErr, OnOk};
 ghost use Rattle.job_core.specs.declared.jobs.Item.TheVariants as item;
 ghost use Rattle.shape_core.specs.declared.words.Kinds.{Kinds};
 ghost use Rattle.job_core.specs.Games.{HasReadAll};
-ghost use Rattle.job_core.specs.Rule.{IsInStep, MayPut, putting};
+ghost use Rattle.job_core.specs.Rule.{MayPut, putting};
+ghost use Rattle.job_core.specs.Inner.Rule.{IsInStep};
 ghost use Rattle.slot_table.specs.Passes.{IsPassOf};
 ghost use Rattle.share_core.specs.declared.faults.HarvestFault.TheVariants as fault;
 ghost use Rattle.harvest_core.specs.Working.{IsWorked, IsRefused, IsCounted};
-ghost use Rattle.harvest_core.specs.Reading.{IsReadFault, AreDealt};
+ghost use Rattle.harvest_core.specs.Inner.Reading.{IsReadFault, AreDealt};
 
 use crate::gates::Gate;
 use crate::working::Worked;

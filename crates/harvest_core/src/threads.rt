@@ -1,10 +1,10 @@
 //! The thread that reads and the workers beside it.
 ghost use Rattle.std.specs.Prelude.{◌≡◌, ◌+◌, ◌^◌, All, Contains, length, IfOk};
 ghost use Rattle.job_core.specs.Games.{HasReadAll};
-ghost use Rattle.job_core.specs.Rule.{IsInStep};
+ghost use Rattle.job_core.specs.Inner.Rule.{IsInStep};
 ghost use Rattle.slot_table.specs.Passes.{IsPassOf};
-ghost use Rattle.harvest_core.specs.Working.{IsWorkOf};
-ghost use Rattle.harvest_core.specs.Crew.{IsHandleOf, IsReadingOf, IsCrop};
+ghost use Rattle.harvest_core.specs.Inner.Working.{IsWorkOf};
+ghost use Rattle.harvest_core.specs.Inner.Crew.{IsHandleOf, IsReadingOf, IsCrop};
 ghost use Rattle.share_core.specs.declared.faults.HarvestFault.TheVariants as fault;
 
 use crate::gates::Gate;
@@ -35,7 +35,7 @@ pub(crate) struct Bench<'q, 'a, 't, O: ProbeOrder, G: Gate> {
 impl<'q, 'a, 't, O: ProbeOrder, G: Gate> Bench<'q, 'a, 't, O, G> {
     ghost use Rattle.std.specs.Prelude.{◌≡◌, ◌^◌};
     ghost use Rattle.slot_table.specs.Passes.{IsPassOf};
-    ghost use Rattle.harvest_core.specs.Working.{IsWorkOf};
+    ghost use Rattle.harvest_core.specs.Inner.Working.{IsWorkOf};
 
     /// Draws and counts to the first end.
     fn work<R: Wait>(self, rt: &R, alloc: Global) -> Worked
@@ -67,9 +67,9 @@ impl<'q, 'a, 't, O: ProbeOrder, G: Gate> Crew<'q, 'a, 't, O, G> {
     ghost use Rattle.std.specs.Prelude.{◌≡◌, ◌^◌, [], IfNone, IfSome};
     ghost use Rattle.slot_table.specs.Passes.{IsPassOf};
     ghost use Rattle.job_core.specs.Games.{HasReadAll};
-    ghost use Rattle.harvest_core.specs.Working.{IsWorkOf};
-    ghost use Rattle.harvest_core.specs.Reading.{IsReadFault};
-    ghost use Rattle.harvest_core.specs.Crew.{IsCrew, IsBenchOf};
+    ghost use Rattle.harvest_core.specs.Inner.Working.{IsWorkOf};
+    ghost use Rattle.harvest_core.specs.Inner.Reading.{IsReadFault};
+    ghost use Rattle.harvest_core.specs.Inner.Crew.{IsCrew, IsBenchOf};
 
     /// A bench for a worker, beside this one.
     fn another(&mut self, worker: usize) -> Bench<'q, 'a, 't, O, G>
@@ -120,7 +120,7 @@ struct WorkOf<'a> {
 }
 
 impl<'a> Promise<Worked> for WorkOf<'a> {
-    ghost use Rattle.harvest_core.specs.Working.{IsWorkOf};
+    ghost use Rattle.harvest_core.specs.Inner.Working.{IsWorkOf};
 
     ghost kept_by = { λ p r. IsWorkOf p.bytes.now p.kinds r };
 }
@@ -179,8 +179,8 @@ impl<'q, 'a, 't, O: ProbeOrder, G: Gate> Crew<'q, 'a, 't, O, G> {
     ghost use Rattle.std.specs.Prelude.{◌≡◌, ◌≢◌, ◌^◌, IfOk};
     ghost use Rattle.share_core.specs.declared.faults.HarvestFault.TheVariants as fault;
     ghost use Rattle.slot_table.specs.Passes.{IsPassOf};
-    ghost use Rattle.harvest_core.specs.Working.{IsWorkOf};
-    ghost use Rattle.harvest_core.specs.Crew.{IsCrew, IsReadingOf, IsCrop, AreAsked};
+    ghost use Rattle.harvest_core.specs.Inner.Working.{IsWorkOf};
+    ghost use Rattle.harvest_core.specs.Inner.Crew.{IsCrew, IsReadingOf, IsCrop, AreAsked};
 
     /// Reads all games beside the workers that were started. Where these are fewer than were asked for, that is want of
     /// memory, and nothing is read: the workers are told to end.

@@ -9,14 +9,14 @@ use Rattle.go_record.specs.declared.faults.RecordFault.{RecordFault}
 use Rattle.tally_core.specs.Collection.{record_of_tree, games_among, others_among, refused_among}
 use Rattle.sgf_core.specs.declared.faults.SgfFault.TheVariants as sgf
 use Rattle.tally_core.specs.Counted.{IsReport, IsCountFault}
-use Rattle.tally_core.specs.Counting.{IsNextFault}
+use Rattle.tally_core.specs.Inner.Counting.{IsNextFault}
 use Rattle.tally_core.specs.declared.faults.HarvestFault.{HarvestFault}
 use Rattle.tally_core.specs.declared.faults.HarvestFault.TheVariants as fault
 use Rattle.tally_core.specs.declared.collections.Report.{Report}
 use Rattle.tally_core.proofs.Trees.{trees_push}
 use Rattle.job_core.specs.declared.games.Recorded.{Recorded}
 use Rattle.job_core.specs.Games.{HasRead}
-use Rattle.job_core.specs.Reading.{IsNextRecord, Counts}
+use Rattle.job_core.specs.Inner.Reading.{IsNextRecord, Counts}
 
 games_push : (records : List (Result Kind RecordFault)) (last : Result Kind RecordFault) → games_among (records ++ last ∷ []) ≡ games_among records ++ games_among (last ∷ [])
 games_push [] last = refl

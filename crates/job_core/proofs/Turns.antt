@@ -5,7 +5,8 @@ use Rattle.job_core.specs.declared.jobs.Item.TheVariants.{Job}
 use Rattle.job_core.specs.Games.{WrittenGame}
 use Rattle.job_core.specs.Reading.{Reading, IsNextGame}
 use Rattle.job_core.specs.Rising.{Rising, past}
-use Rattle.job_core.specs.Rule.{putting, Draws, IsInStep}
+use Rattle.job_core.specs.Rule.{putting, Draws}
+use Rattle.job_core.specs.Inner.Rule.{IsInStep}
 use Rattle.job_core.proofs.Orders.{past_on, rising_end, rising_down}
 
 -- the next game was put

@@ -2,3 +2,4 @@ pub mod Games
 pub mod Reading
 pub mod Rising
 pub mod Rule
+pub mod Inner

@@ -7,10 +7,11 @@ ghost use Rattle.sgf_core.specs.Next.{IsNextTree, HasNoTree};
 ghost use Rattle.sgf_core.specs.declared.faults.SgfFault.TheVariants as sgf;
 ghost use Rattle.tally_core.specs.Collection.{record_of_tree};
 ghost use Rattle.tally_core.specs.Counted.{IsCountFault};
-ghost use Rattle.tally_core.specs.Counting.{IsNextFault};
+ghost use Rattle.tally_core.specs.Inner.Counting.{IsNextFault};
 ghost use Rattle.tally_core.specs.declared.faults.HarvestFault.TheVariants as fault;
 ghost use Rattle.job_core.specs.Games.{HasRead};
-ghost use Rattle.job_core.specs.Reading.{IsNextGame, HasNoGame, IsStep, IsNextRecord, Counts};
+ghost use Rattle.job_core.specs.Reading.{IsNextGame, HasNoGame};
+ghost use Rattle.job_core.specs.Inner.Reading.{IsStep, IsNextRecord, Counts};
 ghost use Rattle.sgf_core.specs.Limit.{most_bytes};
 
 use crate::jobs::Job;
@@ -65,7 +66,8 @@ pub struct Games<'a> {
 impl<'a> Model for Games<'a> {
     ghost use Rattle.std.specs.Prelude.{◌≡◌};
     ghost use Rattle.job_core.specs.Games.{HasRead};
-    ghost use Rattle.job_core.specs.Reading.{Reading, IsStage};
+    ghost use Rattle.job_core.specs.Reading.{Reading};
+    ghost use Rattle.job_core.specs.Inner.Reading.{IsStage};
 
     ghost Value = { Reading };
 

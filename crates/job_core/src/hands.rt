@@ -24,7 +24,8 @@ pub struct Hand {
 pub struct InTurn;
 
 impl<'a> Protocol<Item<'a>, Hand> for InTurn {
-    ghost use Rattle.job_core.specs.Rule.{Holds, blank};
+    ghost use Rattle.job_core.specs.Rule.{blank};
+    ghost use Rattle.job_core.specs.Inner.Rule.{Holds};
 
     ghost holds = { Holds };
 

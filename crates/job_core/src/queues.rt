@@ -59,7 +59,7 @@ impl<'q, 'a> Model for Desk<'q, 'a> {
     ghost use Rattle.std.specs.Prelude.{◌≡◌, true};
     ghost use Rattle.crossbeam_queue.specs.Passes.{IsPassOf};
     ghost use Rattle.job_core.specs.declared.hands.Hand.{Hand};
-    ghost use Rattle.job_core.specs.Rule.{hand_of};
+    ghost use Rattle.job_core.specs.Inner.Rule.{hand_of};
 
     ghost Value = { Hand };
 

@@ -2,7 +2,7 @@
 use Rattle.std.proofs.Common.{◌≡◌, ℕ, zero, suc, List, ◌∷◌, map, replicate, slice_get, Option, Some, None, refl, ap, ◌∙◌, sym, subst}
 use Rattle.probe_core.specs.declared.halls.UnderWay.{UnderWay}
 use Rattle.probe_core.specs.World.{Running}
-use Rattle.probe_core.specs.Hall.{running_of}
+use Rattle.probe_core.specs.Inner.Hall.{running_of}
 use Rattle.probe_core.proofs.Callers.{AreOrdered}
 use Rattle.probe_core.specs.History.{empty_table}
 use Rattle.probe_core.specs.Showing.{table_of}

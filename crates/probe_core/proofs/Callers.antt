@@ -10,7 +10,7 @@ use Rattle.probe_core.specs.declared.events.Finished.{Finished}
 use Rattle.probe_core.specs.declared.halls.UnderWay.{UnderWay}
 use Rattle.probe_core.specs.Machine.{Machine, Followed, Runs, Answers, begun, follows, place_in}
 use Rattle.probe_core.specs.World.{World, Running, began, settled, stepped, words_after}
-use Rattle.probe_core.specs.Hall.{call_of, running_of}
+use Rattle.probe_core.specs.Inner.Hall.{call_of, running_of}
 
 get_set_same : {X : Type 0} (xs : List X) (i : ℕ) (x : X) → i < length xs → slice_get (slice_set xs i x) i ≡ Some x
 get_set_same xs i x h =

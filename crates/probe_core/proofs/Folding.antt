@@ -5,7 +5,7 @@ use Rattle.std.proofs.lemmas.List.Sums.{sum_by-drop_more}
 use Rattle.std.proofs.lemmas.List.{take_more}
 use Rattle.probe_core.specs.declared.events.Event.{Event}
 use Rattle.probe_core.specs.World.{World, happened, counted, after_events}
-use Rattle.probe_core.specs.Hall.{is_step}
+use Rattle.probe_core.specs.Inner.Hall.{is_step}
 
 after_more : (n : ℕ) (place : ℕ → ℕ → ℕ) (world : World) (events : List Event) (e : Event)
     → after_events n place world (events ++ e ∷ []) ≡ counted (happened n place (after_events n place world events) e)

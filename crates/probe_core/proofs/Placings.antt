@@ -2,7 +2,8 @@
 use Rattle.std.proofs.Common.{◌≡◌, ℕ, ◌<◌, ◌⊎◌, List, slice_index_or, ap, ◌∙◌, sym, inl, inr, arith}
 use Rattle.probe_core.specs.Order.{IsOrder}
 use Rattle.probe_core.specs.Machine.{code_of}
-use Rattle.probe_core.specs.Placing.{HoldOthers, IsPlaced, IsNowhere, AreAllTaken}
+use Rattle.probe_core.specs.Placing.{HoldOthers, IsPlaced}
+use Rattle.probe_core.specs.Inner.Placing.{IsNowhere, AreAllTaken}
 
 pub three_ways : (i j : ℕ) → (i < j) ⊎ ((i ≡ j) ⊎ (j < i))
 three_ways i j = grind arith

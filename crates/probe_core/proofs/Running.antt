@@ -8,8 +8,9 @@ use Rattle.probe_core.specs.declared.halls.Hall.{Hall}
 use Rattle.probe_core.specs.Order.{IsOrder}
 use Rattle.probe_core.specs.Placed.{Placed}
 use Rattle.probe_core.specs.World.{World, after_events}
-use Rattle.probe_core.specs.Hall.{world_of}
-use Rattle.probe_core.specs.Lawful.{IsSound, GrowsAmong}
+use Rattle.probe_core.specs.Inner.Hall.{world_of}
+use Rattle.probe_core.specs.Lawful.{GrowsAmong}
+use Rattle.probe_core.specs.Inner.Lawful.{IsSound}
 use Rattle.probe_core.proofs.Soundness.{sound_after}
 use Rattle.probe_core.proofs.Tracking.{grows_after}
 

@@ -15,7 +15,8 @@ use Rattle.probe_core.specs.Placing.{IsOrderly}
 use Rattle.probe_core.specs.Showing.{key_in, table_of, words_showing}
 use Rattle.probe_core.specs.Way.{IsOnWay, GoesOnWay, Tells}
 use Rattle.probe_core.specs.World.{World, Running, happened, counted, after_events, history_of, new_world}
-use Rattle.probe_core.specs.Lawful.{AreTimed, AreRising, AreOnWay, IsSound, IsLawful}
+use Rattle.probe_core.specs.Lawful.{AreTimed, AreRising, IsLawful}
+use Rattle.probe_core.specs.Inner.Lawful.{AreOnWay, IsSound}
 use Rattle.probe_core.proofs.Telling.{shown, may_load, step_tells, step_keeps_order, step_keeps_way, step_is_change}
 use Rattle.probe_core.proofs.Callers.{get_set_other, set_shows}
 use Rattle.probe_core.proofs.Happening.{Happens, Nothing, Begins, GoesOn, Ends, happens, next_of, words_of}

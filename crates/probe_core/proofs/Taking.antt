@@ -5,7 +5,8 @@ use Rattle.probe_core.specs.declared.calls.Call.TheVariants as call
 use Rattle.probe_core.specs.declared.calls.Answer.{Answer}
 use Rattle.probe_core.specs.declared.probes.Turn.TheVariants as turn
 use Rattle.probe_core.specs.Order.{IsOrder}
-use Rattle.probe_core.specs.Machine.{Machine, Followed, Runs, Answers, key_of, follows, place_in, next_step, place_wanted, words_wanted}
+use Rattle.probe_core.specs.Machine.{Machine, Followed, Runs, Answers, key_of, follows, place_in, next_step, place_wanted}
+use Rattle.probe_core.specs.Inner.Machine.{words_wanted}
 use Rattle.probe_core.specs.Probing.{Probing}
 use Rattle.probe_core.specs.Turn.{turn_of}
 use Rattle.probe_core.specs.Sequential.{Table, Step}

@@ -11,7 +11,8 @@ use Rattle.probe_core.specs.declared.calls.Answer.TheVariants as answer
 use Rattle.probe_core.specs.Order.{IsOrder}
 use Rattle.probe_core.specs.Machine.{Machine, Decision, Swaps, GoesOn, Ends, Followed, Runs, Answers, code_of, key_of, followed_by, follows, place_in}
 use Rattle.probe_core.specs.Sequential.{Table, Step, IsNumber, IsFree, IsAbsent, IsFull}
-use Rattle.probe_core.specs.Placing.{IsOther, HoldOthers, IsNowhere, AreAllTaken, IsOrderly}
+use Rattle.probe_core.specs.Placing.{IsOther, HoldOthers, IsOrderly}
+use Rattle.probe_core.specs.Inner.Placing.{IsNowhere, AreAllTaken}
 use Rattle.probe_core.specs.Showing.{key_in, table_of}
 use Rattle.probe_core.specs.Way.{MaySwap, IsOnWay, Tells}
 use Rattle.probe_core.specs.World.{words_after}

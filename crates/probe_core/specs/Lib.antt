@@ -10,6 +10,6 @@ pub mod Placing
 pub mod Showing
 pub mod Way
 pub mod Solo
-pub mod Hall
 pub mod Placed
 pub mod Lawful
+pub mod Inner

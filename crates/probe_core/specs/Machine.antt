@@ -1,6 +1,6 @@
 -- The decisions of a probe: what a call does at each place of its key's order, by what a word showed. This project's
 -- own.
-use Rattle.std.specs.Prelude.{ℕ, ◌+◌, ◌-◌, ◌*◌, Bool, true, false, ◌==◌, if◌then◌else◌, List, slice_index_or, slice_set}
+use Rattle.std.specs.Prelude.{ℕ, ◌+◌, ◌-◌, ◌*◌, Bool, true, false, ◌==◌, if◌then◌else◌}
 use Rattle.probe_core.specs.declared.calls.Call.{Call}
 use Rattle.probe_core.specs.declared.calls.Call.TheVariants as call
 use Rattle.probe_core.specs.declared.calls.Answer.{Answer}
@@ -89,8 +89,3 @@ left_of n machine = steps_of machine.call (n - machine.index) machine.swaps
 abbrev pub place_wanted : Want → ℕ
 place_wanted (want.Load p) = p
 place_wanted (want.Swap p value) = p
-
--- the words after a step: a swap that finds 0 writes its value
-abbrev pub words_wanted : List ℕ → Want → List ℕ
-words_wanted words (want.Load p) = words
-words_wanted words (want.Swap p value) = if slice_index_or words p 0 == 0 then slice_set words p value else words

@@ -16,14 +16,6 @@ abbrev pub IsPlaced : ℕ → (ℕ → ℕ → ℕ) → List ℕ → Type 0
 IsPlaced n place words =
     (key i : ℕ) → i < n → slice_index_or words (place key i) 0 ≡ code_of key → HoldOthers (place key) words key i
 
--- none of n places holds the key
-abbrev pub IsNowhere : ℕ → List ℕ → ℕ → Type 0
-IsNowhere n words key = (p : ℕ) → p < n → slice_index_or words p 0 ≢ code_of key
-
--- none of n places is free
-abbrev pub AreAllTaken : ℕ → List ℕ → Type 0
-AreAllTaken n words = (p : ℕ) → p < n → slice_index_or words p 0 ≢ 0
-
 -- n words, of which no key comes after a free place of its order
 pub record IsOrderly (n : ℕ) (place : ℕ → ℕ → ℕ) (words : List ℕ) : Type 0 where
   pub whole : length words ≡ n

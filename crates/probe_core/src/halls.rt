@@ -2,7 +2,7 @@
 ghost use Rattle.std.specs.Prelude.{◌≡◌, ℕ, ◌+◌, ◌<◌, ◌≤◌, ◌^◌, ◌↔◌, [], ◌∷◌, replicate, IsTrue};
 ghost use Rattle.std.specs.Prelude.{IfOk, Some, None, slice_get, count_by, vec_len, vec_capacity};
 ghost use Rattle.probe_core.specs.World.{new_world, began, stepped, happened, counted};
-ghost use Rattle.probe_core.specs.Hall.{world_of, call_of, IsFitted, is_step, HasRoom};
+ghost use Rattle.probe_core.specs.Inner.Hall.{world_of, call_of, IsFitted, is_step, HasRoom};
 
 use crate::calls::Call;
 use crate::events::{Event, Finished};

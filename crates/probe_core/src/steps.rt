@@ -1,6 +1,7 @@
 //! Steps on words: a load, or a compare-exchange, and what a probe is told by it.
 ghost use Rattle.std.specs.Prelude.{◌≡◌, ◌<◌, ◌≤◌, ◌^◌, length, slice_index};
-ghost use Rattle.probe_core.specs.Machine.{place_wanted, words_wanted, follows, place_in, left_of};
+ghost use Rattle.probe_core.specs.Machine.{place_wanted, follows, place_in, left_of};
+ghost use Rattle.probe_core.specs.Inner.Machine.{words_wanted};
 ghost use Rattle.probe_core.specs.Turn.{turn_of, HasFewer};
 ghost use Rattle.probe_core.specs.World.{words_after};
 

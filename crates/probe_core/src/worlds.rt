@@ -2,7 +2,7 @@
 ghost use Rattle.std.specs.Prelude.{◌≡◌, ◌+◌, ◌<◌, ◌^◌, ◌↔◌, IfOk, OnOk, OnErr, IsOkUnless};
 ghost use Rattle.std.specs.Prelude.{IsErrOf, length, count_by};
 ghost use Rattle.probe_core.specs.World.{new_world, after_events};
-ghost use Rattle.probe_core.specs.Hall.{is_step};
+ghost use Rattle.probe_core.specs.Inner.Hall.{is_step};
 ghost use Rattle.probe_core.specs.Lawful.{IsLawful, GrowsAmong};
 
 use crate::events::{Event, Finished};
@@ -25,8 +25,8 @@ pub struct World<O: ProbeOrder> {
 
 impl<O: ProbeOrder> Model for World<O> {
     ghost use Rattle.probe_core.specs.Placed.{Placed};
-    ghost use Rattle.probe_core.specs.Hall.{world_of};
-    ghost use Rattle.probe_core.specs.Lawful.{IsHeld};
+    ghost use Rattle.probe_core.specs.Inner.Hall.{world_of};
+    ghost use Rattle.probe_core.specs.Inner.Lawful.{IsHeld};
 
     ghost Value = { Placed O };
 

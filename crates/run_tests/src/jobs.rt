@@ -1,6 +1,7 @@
 //! Small collections, and each public call once.
 ghost use Rattle.std.specs.Prelude.{◌≡◌, OnOk};
-ghost use Rattle.job_core.specs.Rule.{IsInStep, MayPut, putting};
+ghost use Rattle.job_core.specs.Rule.{MayPut, putting};
+ghost use Rattle.job_core.specs.Inner.Rule.{IsInStep};
 
 use job_core::{Desk, Games, Item, Job, new_queue};
 use sgf_core::SgfFault;

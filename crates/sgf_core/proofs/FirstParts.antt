@@ -6,7 +6,7 @@ use Rattle.std.proofs.lemmas.Bool.Decides.{nat_tests}
 use Rattle.sgf_core.specs.Bytes.{is_white, is_letter, open_parenthesis, close_parenthesis, semicolon, open_bracket, close_bracket, backslash}
 use Rattle.sgf_core.specs.Tree.{PropertyValue}
 use Rattle.sgf_core.specs.Grammar.{Part, opens, begins_node, names, has_value, closes, IsPartText, WritesParts, is_text_after, is_value_text}
-use Rattle.sgf_core.specs.Pieces.{parts_of}
+use Rattle.sgf_core.specs.Inner.Pieces.{parts_of}
 use Rattle.sgf_core.specs.declared.marks.Mark.{Mark}
 use Rattle.sgf_core.specs.declared.marks.Mark.TheVariants as mark
 use Rattle.sgf_core.proofs.StateLemmas.{and-left, and-right}

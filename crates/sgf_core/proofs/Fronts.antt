@@ -7,7 +7,7 @@ use Rattle.sgf_core.specs.Bytes.{is_white, open_parenthesis, close_parenthesis, 
 use Rattle.sgf_core.specs.Tree.{GameTree}
 use Rattle.sgf_core.specs.Grammar.{Part, WritesParts, WritesTree, IsGoodFront, tree_parts}
 use Rattle.sgf_core.specs.Marks.{marks_of}
-use Rattle.sgf_core.specs.Pieces.{Wrote, mark_parts, parts_of, IsAllowed}
+use Rattle.sgf_core.specs.Inner.Pieces.{Wrote, mark_parts, parts_of, IsAllowed}
 use Rattle.sgf_core.specs.declared.marks.Mark.{Mark}
 use Rattle.sgf_core.specs.declared.marks.Mark.TheVariants as mark
 use Rattle.sgf_core.specs.declared.marks.Expects.{Expects}

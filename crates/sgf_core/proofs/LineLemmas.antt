@@ -4,7 +4,7 @@ use Rattle.std.proofs.lemmas.List.{append-nil}
 use Rattle.std.specs.List.{flat_map}
 use Rattle.sgf_core.specs.Tree.{Property, Node, Forest, no_trees, a_tree, GameTree, first_line, main_line_of}
 use Rattle.sgf_core.specs.Marks.{node_marks, forest_marks, marks_of}
-use Rattle.sgf_core.specs.Lines.{leading_properties, line_of}
+use Rattle.sgf_core.specs.Inner.Lines.{leading_properties, line_of}
 use Rattle.sgf_core.specs.declared.marks.Mark.{Mark}
 use Rattle.sgf_core.specs.declared.marks.Mark.TheVariants as mark
 

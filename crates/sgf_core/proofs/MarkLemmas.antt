@@ -6,7 +6,7 @@ use Rattle.std.proofs.lemmas.List.{drop_all}
 use Rattle.std.proofs.lemmas.List.Edits.{between_more, between_none}
 use Rattle.sgf_core.specs.Bytes.{is_white, close_parenthesis, semicolon}
 use Rattle.sgf_core.specs.Grammar.{Part, IsPartText, WritesParts}
-use Rattle.sgf_core.specs.Pieces.{Wrote, mark_parts, IsAllowed, IsWhole, IsMarkText, ReadsMark, EndsInMark, IsNameAlone, MarkFault}
+use Rattle.sgf_core.specs.Inner.Pieces.{Wrote, mark_parts, IsAllowed, IsWhole, IsMarkText, ReadsMark, EndsInMark, IsNameAlone, MarkFault}
 use Rattle.sgf_core.specs.declared.marks.Mark.{Mark}
 use Rattle.sgf_core.specs.declared.marks.Mark.TheVariants as mark
 use Rattle.sgf_core.specs.declared.marks.Expects.{Expects}

@@ -6,7 +6,7 @@ use Rattle.sgf_core.specs.Bytes.{open_parenthesis}
 use Rattle.sgf_core.specs.Tree.{GameTree}
 use Rattle.sgf_core.specs.Grammar.{WritesTree, IsGoodFront, WritesParts}
 use Rattle.sgf_core.specs.Next.{IsFirstBegin, IsNextTree, IsUnwritten, IsTruncated, TurnsBad, EndsWithIdentifier, IsNoValue, IsBadByte}
-use Rattle.sgf_core.specs.Pieces.{parts_of}
+use Rattle.sgf_core.specs.Inner.Pieces.{parts_of}
 use Rattle.sgf_core.specs.Reading.{IsFaultAt}
 use Rattle.sgf_core.specs.declared.marks.Expects.TheVariants as expects
 use Rattle.sgf_core.specs.declared.faults.SgfFault.{SgfFault}

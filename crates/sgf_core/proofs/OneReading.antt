@@ -6,7 +6,7 @@ use Rattle.std.proofs.lemmas.Bool.Decides.{nat_tests}
 use Rattle.sgf_core.specs.Bytes.{is_white, is_letter, open_parenthesis, close_parenthesis, semicolon, open_bracket, close_bracket}
 use Rattle.sgf_core.specs.Tree.{PropertyValue, Property}
 use Rattle.sgf_core.specs.Grammar.{Part, opens, begins_node, has_value, closes, WritesParts}
-use Rattle.sgf_core.specs.Pieces.{parts_of}
+use Rattle.sgf_core.specs.Inner.Pieces.{parts_of}
 use Rattle.sgf_core.specs.declared.marks.Mark.{Mark}
 use Rattle.sgf_core.specs.declared.marks.Mark.TheVariants as mark
 use Rattle.sgf_core.specs.declared.marks.Expects.TheVariants as expects

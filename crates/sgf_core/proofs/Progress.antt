@@ -11,7 +11,7 @@ use Rattle.sgf_core.specs.Grammar.{names, has_value, WritesParts, WritesTree, Is
 use Rattle.sgf_core.specs.Next.{BeginsTree, IsFirstBegin, EndsWithIdentifier}
 use Rattle.sgf_core.specs.Marks.{marks_of}
 use Rattle.sgf_core.specs.Reading.{IsFaultAt, IsFaultOrMemory}
-use Rattle.sgf_core.specs.Pieces.{Wrote, mark_parts, parts_of, IsAllowed, is_fitting, IsWhole, ReadsMark, EndsInMark, IsMisfit, IsNameAlone, MarkFault}
+use Rattle.sgf_core.specs.Inner.Pieces.{Wrote, mark_parts, parts_of, IsAllowed, is_fitting, IsWhole, ReadsMark, EndsInMark, IsMisfit, IsNameAlone, MarkFault}
 use Rattle.sgf_core.specs.declared.marks.Mark.{Mark}
 use Rattle.sgf_core.specs.declared.marks.Mark.TheVariants as mark
 use Rattle.sgf_core.specs.declared.marks.Expects.{Expects}

@@ -8,7 +8,7 @@ use Rattle.std.proofs.lemmas.List.Edits.{between_more}
 use Rattle.sgf_core.specs.Bytes.{is_white, is_letter, open_bracket, close_bracket}
 use Rattle.sgf_core.specs.Tree.{PropertyValue}
 use Rattle.sgf_core.specs.Grammar.{Part, names, has_value, is_value_text, WritesParts}
-use Rattle.sgf_core.specs.Pieces.{Wrote, ReadsMark, EndsInMark, IsNameAlone}
+use Rattle.sgf_core.specs.Inner.Pieces.{Wrote, ReadsMark, EndsInMark, IsNameAlone}
 use Rattle.sgf_core.specs.Values.{value_of}
 use Rattle.sgf_core.specs.declared.marks.Value.{Value}
 use Rattle.sgf_core.specs.declared.marks.Mark.TheVariants as mark

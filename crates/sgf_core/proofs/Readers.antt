@@ -1,7 +1,8 @@
 -- What a fault leaves of a reader.
 use Rattle.std.proofs.Common.{◌≡◌, ℕ, List, Option, Some, subst}
 use Rattle.std.specs.Prelude.{IfSome}
-use Rattle.sgf_core.specs.Reading.{Reading, IsReading, IsFaultAt, IsFaultOrMemory, kept_fault}
+use Rattle.sgf_core.specs.Reading.{Reading, IsFaultAt, IsFaultOrMemory}
+use Rattle.sgf_core.specs.Inner.Reading.{IsReading, kept_fault}
 use Rattle.sgf_core.specs.declared.faults.SgfFault.{SgfFault}
 use Rattle.sgf_core.specs.declared.faults.SgfFault.TheVariants as fault
 

@@ -5,7 +5,7 @@ use Rattle.std.proofs.lemmas.List.{append-nil}
 use Rattle.sgf_core.specs.Bytes.{is_letter, open_parenthesis, close_parenthesis, semicolon, open_bracket, close_bracket}
 use Rattle.sgf_core.specs.Tree.{PropertyValue, Property}
 use Rattle.sgf_core.specs.Grammar.{Part, opens, begins_node, has_value, closes, property_parts, is_value_text, IsPartText, WritesParts}
-use Rattle.sgf_core.specs.Pieces.{mark_parts, parts_of, IsAllowed}
+use Rattle.sgf_core.specs.Inner.Pieces.{mark_parts, parts_of, IsAllowed}
 use Rattle.sgf_core.specs.declared.marks.Mark.{Mark}
 use Rattle.sgf_core.specs.declared.marks.Mark.TheVariants as mark
 use Rattle.sgf_core.specs.declared.marks.Expects.{Expects}

@@ -5,7 +5,7 @@ use Rattle.std.proofs.lemmas.List.Concat.{flat_map-append}
 use Rattle.sgf_core.specs.Tree.{PropertyValue, Node, Forest, no_trees, a_tree, GameTree}
 use Rattle.sgf_core.specs.Grammar.{Part, opens, begins_node, closes, HasValues, AreComplete, IsComplete, property_parts, node_parts, forest_parts, tree_parts}
 use Rattle.sgf_core.specs.Marks.{node_marks, forest_marks}
-use Rattle.sgf_core.specs.Pieces.{mark_parts, parts_of}
+use Rattle.sgf_core.specs.Inner.Pieces.{mark_parts, parts_of}
 use Rattle.sgf_core.specs.declared.marks.Mark.{Mark}
 use Rattle.sgf_core.specs.declared.marks.Mark.TheVariants as mark
 use Rattle.sgf_core.specs.declared.marks.Expects.{Expects}

@@ -4,7 +4,7 @@ use Rattle.std.specs.List.{list_all}
 use Rattle.std.proofs.lemmas.List.{append-nil}
 use Rattle.sgf_core.specs.Bytes.{is_white}
 use Rattle.sgf_core.specs.Grammar.{Part, IsPartText, WritesParts}
-use Rattle.sgf_core.specs.Pieces.{Wrote, mark_parts}
+use Rattle.sgf_core.specs.Inner.Pieces.{Wrote, mark_parts}
 use Rattle.sgf_core.specs.declared.marks.Mark.{Mark}
 use Rattle.sgf_core.specs.declared.marks.Mark.TheVariants as mark
 use Rattle.sgf_core.proofs.Slices.{all-append}

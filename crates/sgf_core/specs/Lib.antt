@@ -5,8 +5,7 @@ pub mod Grammar
 pub mod Next
 pub mod Values
 pub mod Marks
-pub mod Lines
 pub mod Written
 pub mod Reading
-pub mod Pieces
 pub mod Counts
+pub mod Inner

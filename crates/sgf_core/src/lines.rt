@@ -1,7 +1,7 @@
 //! The main line of a tree, its nodes and their properties, each read from the tree's marks.
 ghost use Rattle.std.specs.Prelude.{◌≡◌, ◌+◌, ◌<◌, ◌∷◌, [], length, drop, MatchOption};
 ghost use Rattle.std.specs.Iterator.{YieldsFirst, YieldsFirstRef, item_count};
-ghost use Rattle.sgf_core.specs.Lines.{line_of, leading_properties};
+ghost use Rattle.sgf_core.specs.Inner.Lines.{line_of, leading_properties};
 
 use crate::marks::{Mark, Prop};
 use std::iter::FusedIterator;
@@ -16,7 +16,7 @@ pub struct MainLine<'t, 'a> {
 impl<'t, 'a> Model for MainLine<'t, 'a> {
     ghost use Rattle.std.specs.Prelude.{List};
     ghost use Rattle.sgf_core.specs.Tree.{Node};
-    ghost use Rattle.sgf_core.specs.Lines.{line_of};
+    ghost use Rattle.sgf_core.specs.Inner.Lines.{line_of};
 
     ghost Value = { List Node };
 
@@ -75,7 +75,7 @@ pub struct Node<'t, 'a> {
 
 impl<'t, 'a> Model for Node<'t, 'a> {
     ghost use Rattle.sgf_core.specs.Tree.{Node};
-    ghost use Rattle.sgf_core.specs.Lines.{leading_properties};
+    ghost use Rattle.sgf_core.specs.Inner.Lines.{leading_properties};
 
     ghost Value = { Node };
 
@@ -100,7 +100,7 @@ pub struct Props<'t, 'a> {
 impl<'t, 'a> Model for Props<'t, 'a> {
     ghost use Rattle.std.specs.Prelude.{List};
     ghost use Rattle.sgf_core.specs.Tree.{Property};
-    ghost use Rattle.sgf_core.specs.Lines.{leading_properties};
+    ghost use Rattle.sgf_core.specs.Inner.Lines.{leading_properties};
 
     ghost Value = { List Property };
 

@@ -6,7 +6,7 @@ ghost use Rattle.sgf_core.specs.Grammar.{WritesTree};
 ghost use Rattle.sgf_core.specs.Next.{BeginsTree, IsFirstBegin};
 ghost use Rattle.sgf_core.specs.Marks.{marks_of};
 ghost use Rattle.sgf_core.specs.Reading.{IsFaultOrMemory};
-ghost use Rattle.sgf_core.specs.Pieces.{ReadsMark, MarkFault};
+ghost use Rattle.sgf_core.specs.Inner.Pieces.{ReadsMark, MarkFault};
 
 use crate::bytes::is_letter;
 use crate::faults::SgfFault;

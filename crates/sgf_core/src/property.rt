@@ -1,7 +1,7 @@
 //! Reads a property: an identifier and its values.
 ghost use Rattle.std.specs.Prelude.{◌<◌, IfOk, IfErr, IsTrue, length, slice_index};
 ghost use Rattle.sgf_core.specs.Bytes.{is_letter};
-ghost use Rattle.sgf_core.specs.Pieces.{ReadsMark, MarkFault};
+ghost use Rattle.sgf_core.specs.Inner.Pieces.{ReadsMark, MarkFault};
 
 use crate::faults::SgfFault;
 use crate::marks::{Expects, Mark, Prop, Value};

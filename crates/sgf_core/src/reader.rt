@@ -5,7 +5,8 @@ ghost use Rattle.sgf_core.specs.Limit.{most_bytes};
 ghost use Rattle.sgf_core.specs.Tree.{GameTree};
 ghost use Rattle.sgf_core.specs.Next.{IsFirstBegin, HasNoTree, IsNextTree};
 ghost use Rattle.sgf_core.specs.Marks.{marks_of};
-ghost use Rattle.sgf_core.specs.Reading.{IsFaultOrMemory, IsAfterFault, kept_fault};
+ghost use Rattle.sgf_core.specs.Reading.{IsFaultOrMemory, IsAfterFault};
+ghost use Rattle.sgf_core.specs.Inner.Reading.{kept_fault};
 ghost use Rattle.sgf_core.specs.declared.faults.SgfFault.TheVariants.{TooLarge};
 
 use crate::faults::SgfFault;
@@ -29,7 +30,8 @@ pub struct Trees<'a> {
 }
 
 impl<'a> Model for Trees<'a> {
-    ghost use Rattle.sgf_core.specs.Reading.{Reading, IsReading};
+    ghost use Rattle.sgf_core.specs.Reading.{Reading};
+    ghost use Rattle.sgf_core.specs.Inner.Reading.{IsReading};
 
     ghost Value = { Reading };
 

@@ -12,11 +12,11 @@ use Rattle.go_board.specs.declared.points.Stone.TheVariants as stone
 use Rattle.shape_core.specs.declared.words.Kind.{Kind}
 use Rattle.shape_core.specs.declared.words.Kind.TheVariants as kind
 use Rattle.shape_core.specs.Offset.{offsets_of}
-use Rattle.shape_core.specs.Table.{offset_of}
+use Rattle.shape_core.specs.Inner.Table.{offset_of}
 use Rattle.shape_core.specs.Word.{word_of, code_at}
 use Rattle.shape_core.specs.Around.{shifted, stone_code, code_there, code_around, word_around}
-use Rattle.shape_core.specs.KeptLists.{AreWords}
-use Rattle.shape_core.specs.Keeping.{Follows}
+use Rattle.shape_core.specs.Inner.KeptLists.{AreWords}
+use Rattle.shape_core.specs.Inner.Keeping.{Follows}
 use Rattle.shape_core.specs.declared.kept.KeptWords.{KeptWords}
 use Rattle.shape_core.proofs.Codes.{code_at-word_of}
 use Rattle.shape_core.proofs.Reach.{codes_round, get_or-codes_round, AreCodes-codes_round, word_around_is, code_around_on}

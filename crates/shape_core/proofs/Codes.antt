@@ -4,7 +4,8 @@ use Rattle.std.proofs.lemmas.Bool.{cases_lt}
 use Rattle.std.proofs.lemmas.List.Elements.{All-set}
 use Rattle.shape_core.specs.declared.words.Kind.{Kind}
 use Rattle.shape_core.specs.declared.words.Kind.TheVariants as kind
-use Rattle.shape_core.specs.Word.{sum_of, word_of, kind_of, code_at, codes_of, recoded}
+use Rattle.shape_core.specs.Word.{sum_of, word_of, kind_of, code_at, codes_of}
+use Rattle.shape_core.specs.Inner.Word.{recoded}
 use Rattle.shape_core.proofs.Digits.{digits, length-digits, digits-lt, get_or-digits, codes_from, sum_of-digits, sum_of-lt, digits-sum_of, sum_of-set}
 
 -- what the codes of a word are like

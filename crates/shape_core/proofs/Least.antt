@@ -6,7 +6,7 @@ use Rattle.go_board.specs.declared.points.Colour.TheVariants as colour
 use Rattle.go_board.specs.Play.{other}
 use Rattle.shape_core.specs.declared.symmetries.Symmetry.{Symmetry}
 use Rattle.shape_core.specs.declared.symmetries.Symmetry.TheVariants as symmetry
-use Rattle.shape_core.specs.Flips.{flips}
+use Rattle.shape_core.specs.Inner.Flips.{flips}
 use Rattle.shape_core.specs.Symmetry.{image_of, exchange_of, least_image, canonical_of, IsImageOf}
 use Rattle.shape_core.proofs.Images.{image_of_small, images_compose, images_return, image-same, image-half_turn, image-right_turn, image-left_turn, image-rising}
 use Rattle.shape_core.proofs.Exchanges.{exchange_of_small, exchange-exchange, exchange-image}

@@ -10,10 +10,11 @@ use Rattle.go_board.specs.declared.points.Point.{Point}
 use Rattle.go_board.specs.declared.points.Stone.{Stone}
 use Rattle.shape_core.specs.declared.words.Kind.{Kind}
 use Rattle.shape_core.specs.Offset.{offsets_of}
-use Rattle.shape_core.specs.Table.{offset_of}
-use Rattle.shape_core.specs.Word.{word_of, recoded}
+use Rattle.shape_core.specs.Inner.Table.{offset_of}
+use Rattle.shape_core.specs.Word.{word_of}
+use Rattle.shape_core.specs.Inner.Word.{recoded}
 use Rattle.shape_core.specs.Around.{stone_code, code_around, word_around}
-use Rattle.shape_core.specs.Table.{Sees}
+use Rattle.shape_core.specs.Inner.Table.{Sees}
 use Rattle.shape_core.proofs.Codes.{AreCodes, recoded-word_of}
 use Rattle.shape_core.proofs.Reach.{codes_round, get_or-codes_round, AreCodes-codes_round, code_around_on, code_around_off, point_away, word_around_is}
 

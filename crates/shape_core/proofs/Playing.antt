@@ -11,8 +11,8 @@ use Rattle.shape_core.specs.declared.words.Kinds.{Kinds}
 use Rattle.shape_core.specs.declared.words.Kinds.TheVariants as kinds
 use Rattle.shape_core.specs.Around.{word_around}
 use Rattle.shape_core.specs.Field.{Includes, IsMarked, MarksChanges}
-use Rattle.shape_core.specs.KeptLists.{AreWords, DifferingAreMarked}
-use Rattle.shape_core.specs.Keeping.{Follows, Changes}
+use Rattle.shape_core.specs.Inner.KeptLists.{AreWords, DifferingAreMarked}
+use Rattle.shape_core.specs.Inner.Keeping.{Follows, Changes}
 use Rattle.shape_core.specs.declared.kept.KeptWords.{KeptWords}
 use Rattle.shape_core.proofs.Agreeing.{Agree}
 

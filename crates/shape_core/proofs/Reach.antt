@@ -11,10 +11,10 @@ use Rattle.go_board.specs.declared.points.Stone.{Stone}
 use Rattle.go_board.specs.declared.points.Stone.TheVariants as stone
 use Rattle.shape_core.specs.declared.words.Kind.{Kind}
 use Rattle.shape_core.specs.Offset.{Offset, offsets_of}
-use Rattle.shape_core.specs.Table.{less_three, offset_of}
+use Rattle.shape_core.specs.Inner.Table.{less_three, offset_of}
 use Rattle.shape_core.specs.Word.{word_of}
 use Rattle.shape_core.specs.Around.{shifted, stone_code, code_there, code_around, word_around}
-use Rattle.shape_core.specs.Table.{Sees}
+use Rattle.shape_core.specs.Inner.Table.{Sees}
 use Rattle.shape_core.proofs.Codes.{AreCodes}
 
 shifted_there : (n a m : ℕ) → m + 3 ≡ n + a → shifted n (less_three a) ≡ Some m

@@ -10,7 +10,7 @@ use Rattle.go_board.specs.declared.points.Colour.{Colour}
 use Rattle.go_board.specs.declared.points.Point.{Point}
 use Rattle.go_board.specs.declared.points.Stone.{Stone}
 use Rattle.go_board.specs.declared.points.Stone.TheVariants as stone
-use Rattle.shape_core.specs.KeptLists.{emptied}
+use Rattle.shape_core.specs.Inner.KeptLists.{emptied}
 use Rattle.shape_core.proofs.Marking.{same_point_from}
 use Rattle.shape_core.proofs.Agreeing.{Agree}
 

@@ -4,7 +4,8 @@ use Rattle.std.proofs.Math.Nat.{pow-le-pow_right}
 use Rattle.std.proofs.lemmas.Nat.{mul-le}
 use Rattle.std.proofs.lemmas.List.{take_more}
 use Rattle.std.proofs.lemmas.List.Elements.{All-take, All-get_or}
-use Rattle.shape_core.specs.Word.{sum_of, code_at, recoded}
+use Rattle.shape_core.specs.Word.{sum_of, code_at}
+use Rattle.shape_core.specs.Inner.Word.{recoded}
 use Rattle.shape_core.proofs.Digits.{sum_of-lt, code_at-lt}
 use Rattle.shape_core.proofs.Codes.{AreCodes, recoded_sum}
 use Rattle.shape_core.proofs.Moves.{four_pow}

@@ -1,31 +1,8 @@
 -- Lists that keep a word or a mark for each point of a board.
-use Rattle.std.specs.Prelude.{◌≡◌, ℕ, ◌*◌, ◌^◌, ◌<◌, ◌⊎◌, List, [], ◌∷◌, length, slice_index, All}
+use Rattle.std.specs.Prelude.{◌≡◌, ℕ, ◌^◌, ◌<◌, List, length, All}
 use Rattle.go_board.specs.Extent.{Extent}
-use Rattle.go_board.specs.Point.{IsOn, index_of}
-use Rattle.go_board.specs.Position.{Position, placed}
-use Rattle.go_board.specs.declared.points.Point.{Point}
-use Rattle.go_board.specs.declared.points.Stone.TheVariants as stone
-use Rattle.shape_core.specs.declared.words.Kind.{Kind}
-use Rattle.shape_core.specs.Around.{word_around}
-use Rattle.shape_core.specs.Field.{IsMarked}
 
 -- a number for each row, with bits for its columns alone
 pub record AreMarks (size : Extent) (changed : List ℕ) : Type 0 where
   pub rows : length changed ≡ size.rows
   pub within : All (λ row. row < 2 ^ size.columns) changed
-
--- the words are those of the points, row by row from the top, each row from the left
-pub record AreWords (kind : Kind) (size : Extent) (position : Position) (words : List ℕ) : Type 0 where
-  pub count : length words ≡ size.columns * size.rows
-  pub each : (q : Point) → IsOn size q → slice_index words (index_of size q) ≡ word_around kind size position q
-
--- the position with these points emptied
-unfoldable pub emptied : Position → List Point → Position
-emptied position [] = position
-emptied position (p ∷ points) = emptied (placed position p stone.Empty) points
-
--- each point whose word is another than before is marked
-abbrev pub DifferingAreMarked : Extent → List ℕ → List ℕ → List ℕ → Type 0
-DifferingAreMarked size before after changed =
-    (q : Point) → IsOn size q →
-    (slice_index after (index_of size q) ≡ slice_index before (index_of size q)) ⊎ IsMarked changed q

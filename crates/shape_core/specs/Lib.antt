@@ -1,11 +1,9 @@
 pub mod Offset
 pub mod Word
 pub mod Symmetry
-pub mod Flips
 pub mod Around
-pub mod Table
 pub mod Glyph
 pub mod Field
 pub mod Tracks
 pub mod KeptLists
-pub mod Keeping
+pub mod Inner

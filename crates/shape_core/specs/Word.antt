@@ -1,6 +1,6 @@
 -- Pattern words (this project's own): the sum over the 25 cells of code * 4 ^ cell, and 2 ^ 50 more for a diamond.
 -- Codes: 0 empty, 1 black, 2 white, 3 off the board.
-use Rattle.std.specs.Prelude.{ℕ, zero, suc, ◌+◌, ◌*◌, ◌/◌, ◌%◌, ◌^◌, nat_lt, List, [], ◌∷◌, map, slice_set, if◌then◌else◌}
+use Rattle.std.specs.Prelude.{ℕ, zero, suc, ◌+◌, ◌*◌, ◌/◌, ◌%◌, ◌^◌, nat_lt, List, [], ◌∷◌, map, if◌then◌else◌}
 use Rattle.shape_core.specs.declared.words.Kind.{Kind}
 use Rattle.shape_core.specs.declared.words.Kind.TheVariants as kind
 
@@ -34,7 +34,3 @@ count_from first (suc n) = first ∷ count_from (suc first) n
 -- the codes of the 25 cells
 abbrev pub codes_of : ℕ → List ℕ
 codes_of word = map (code_at word) (count_from 0 25)
-
--- the word with one code changed
-unfoldable pub recoded : ℕ → ℕ → ℕ → ℕ
-recoded word cell code = word_of (kind_of word) (slice_set (codes_of word) cell code)

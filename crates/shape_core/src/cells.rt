@@ -2,7 +2,7 @@
 ghost use Rattle.std.specs.Prelude.{◌≡◌, ◌<◌, ◌≤◌, ◌+◌, ℕ, MatchOption};
 ghost use Rattle.go_board.specs.declared.points.Point.{Point};
 ghost use Rattle.go_board.specs.Point.{IsOn};
-ghost use Rattle.shape_core.specs.Table.{Sees};
+ghost use Rattle.shape_core.specs.Inner.Table.{Sees};
 
 use go_board::{Point, Size};
 

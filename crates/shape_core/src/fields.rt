@@ -17,7 +17,7 @@ pub struct Field {
 
 impl Model for Field {
     ghost use Rattle.shape_core.specs.Field.{Kept};
-    ghost use Rattle.shape_core.specs.Keeping.{IsField};
+    ghost use Rattle.shape_core.specs.Inner.Keeping.{IsField};
 
     ghost Value = { Kept };
 

@@ -8,12 +8,13 @@ ghost use Rattle.go_board.specs.Point.{IsOn, index_of};
 ghost use Rattle.go_board.specs.Position.{Position, placed};
 ghost use Rattle.shape_core.specs.declared.words.Kind.{Kind};
 ghost use Rattle.shape_core.specs.Offset.{offsets_of};
-ghost use Rattle.shape_core.specs.Table.{offset_of};
-ghost use Rattle.shape_core.specs.Word.{recoded};
+ghost use Rattle.shape_core.specs.Inner.Table.{offset_of};
+ghost use Rattle.shape_core.specs.Inner.Word.{recoded};
 ghost use Rattle.shape_core.specs.Around.{stone_code};
-ghost use Rattle.shape_core.specs.Table.{Sees};
+ghost use Rattle.shape_core.specs.Inner.Table.{Sees};
 ghost use Rattle.shape_core.specs.Field.{IsMarked};
-ghost use Rattle.shape_core.specs.KeptLists.{AreMarks, AreWords, DifferingAreMarked};
+ghost use Rattle.shape_core.specs.KeptLists.{AreMarks};
+ghost use Rattle.shape_core.specs.Inner.KeptLists.{AreWords, DifferingAreMarked};
 
 use crate::cells::{Away, reached};
 use crate::marks::mark;

@@ -6,7 +6,7 @@ ghost use Rattle.go_board.specs.Point.{IsOn};
 ghost use Rattle.go_board.specs.Position.{Position, placed};
 ghost use Rattle.shape_core.specs.Around.{word_around};
 ghost use Rattle.shape_core.specs.Field.{IsMarked};
-ghost use Rattle.shape_core.specs.KeptLists.{AreWords, emptied};
+ghost use Rattle.shape_core.specs.Inner.KeptLists.{AreWords, emptied};
 
 use crate::cells::{DIAMOND_CELLS, SQUARE_CELLS};
 use crate::keeping::recode;
@@ -32,7 +32,7 @@ pub struct KeptWords {
 }
 
 impl KeptWords {
-    ghost use Rattle.shape_core.specs.Keeping.{HasRoom, Follows, Changes};
+    ghost use Rattle.shape_core.specs.Inner.Keeping.{HasRoom, Follows, Changes};
 
     /// The words of a board as it is, with no mark. It takes memory for each point of the board.
     pub fn new(alloc: Global, board: &Board, kinds: Kinds) -> Result<KeptWords, AllocError>

@@ -1,7 +1,7 @@
 //! The cells of two words of one kind moved at once, each word in a lane of a vector.
 ghost use Rattle.std.specs.Prelude.{◌≡◌, ◌<◌, ◌*◌, ◌/◌, ◌%◌, ◌^◌, ℕ, [], ◌∷◌, bit_and, bit_or, min};
 ghost use Rattle.shape_core.specs.Word.{kind_of};
-ghost use Rattle.shape_core.specs.Flips.{flips};
+ghost use Rattle.shape_core.specs.Inner.Flips.{flips};
 ghost use Rattle.shape_core.specs.Symmetry.{image_of};
 ghost use Rattle.shape_core.specs.declared.words.Kind.TheVariants as kind;
 ghost use Rattle.shape_core.specs.declared.symmetries.Symmetry.TheVariants as symmetry;

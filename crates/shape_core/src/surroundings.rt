@@ -3,7 +3,7 @@ ghost use Rattle.std.specs.Prelude.{◌≡◌, ◌<◌, ◌≤◌, ◌^◌, leng
 ghost use Rattle.go_board.specs.Point.{IsOn};
 ghost use Rattle.go_board.specs.Board.{position_of};
 ghost use Rattle.shape_core.specs.declared.words.Kind.TheVariants as kind;
-ghost use Rattle.shape_core.specs.Table.{offset_of};
+ghost use Rattle.shape_core.specs.Inner.Table.{offset_of};
 ghost use Rattle.shape_core.specs.Word.{sum_of};
 ghost use Rattle.shape_core.specs.Around.{stone_code, code_around, word_around};
 

@@ -45,7 +45,8 @@ pub const DIAMOND: u64 = 1 << 50;
 
 impl Word {
     ghost use Rattle.std.specs.Prelude.{◌≡◌, ◌<◌, ◌^◌, SomeIff};
-    ghost use Rattle.shape_core.specs.Word.{code_at, kind_of, recoded};
+    ghost use Rattle.shape_core.specs.Word.{code_at, kind_of};
+    ghost use Rattle.shape_core.specs.Inner.Word.{recoded};
 
     /// The word of this number, or None where it is 2^51 or more.
     pub fn new(bits: u64) -> Option<Word>

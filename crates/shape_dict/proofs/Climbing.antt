@@ -5,7 +5,7 @@ use Rattle.std.proofs.lemmas.List.{get_or-map, drop_more}
 use Rattle.std.specs.List.Sorted.{IsStrictlyIncreasing}
 use Rattle.shape_dict.specs.declared.entries.Entry.{Entry}
 use Rattle.shape_dict.specs.Contents.{entry_of}
-use Rattle.shape_dict.specs.Merging.{Climbs}
+use Rattle.shape_dict.specs.Inner.Merging.{Climbs}
 
 abbrev pub shapes_of : List Entry → List ℕ
 shapes_of es = map (λ (e : Entry). e.shape) es

@@ -6,7 +6,7 @@ use Rattle.std.proofs.lemmas.Str.Parse.{IsNumeralModel, numerals_by_fold}
 use Rattle.std.proofs.lemmas.List.{take-append-drop, length-take-le, get_or-take, append_cancel_left}
 use denote.Ref.{Bor}
 use Rattle.shape_dict.specs.Text.{optional_number}
-use Rattle.shape_dict.specs.Parsing.{IsEnded, AreDigits, read_on}
+use Rattle.shape_dict.specs.Inner.Parsing.{IsEnded, AreDigits, read_on}
 
 pub own : IsNumeralModel AreDigits (read_on 0)
 own = numerals_by_fold AreDigits (search rules) read_on (search rules)

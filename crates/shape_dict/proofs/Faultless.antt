@@ -10,8 +10,9 @@ use Rattle.shape_dict.specs.declared.faults.DictFault.TheVariants as fault
 use Rattle.shape_dict.specs.Contents.{Contents, HasTotals}
 use Rattle.shape_dict.specs.Text.{header_text, line_text}
 use Rattle.shape_core.specs.Symmetry.{least_image}
-use Rattle.shape_dict.specs.Reading.{IsLine, AreLines, BeginsWith, HasAllLines, IsRead, IsTextOf, IsFrontFault, IsTextFault, IsBadLine, IsNotRising, IsNotCanonical, HasWrongTotals, HasMore, lines_after, counts_of}
-use Rattle.shape_dict.specs.Merging.{Climbs}
+use Rattle.shape_dict.specs.Reading.{IsLine, AreLines, BeginsWith, HasAllLines, IsTextOf, IsFrontFault, IsTextFault, IsBadLine, IsNotRising, IsNotCanonical, HasWrongTotals, HasMore, lines_after, counts_of}
+use Rattle.shape_dict.specs.Inner.Reading.{IsRead}
+use Rattle.shape_dict.specs.Inner.Merging.{Climbs}
 use Rattle.shape_dict.proofs.Climbing.{climbs_from_rises}
 use Rattle.shape_dict.proofs.Unique.{begun_unique, header_same, line_unique, spelled}
 use Rattle.shape_dict.proofs.Known.{all_lines_unique, known, read_unique}

@@ -8,7 +8,8 @@ use Rattle.std.proofs.lemmas.List.{drop_more, drop_all, append-nil}
 use Rattle.shape_dict.specs.declared.entries.Entry.{Entry}
 use Rattle.shape_dict.specs.Contents.{Contents, entry_of, diamonds_of, played_in, IsEntry, IsDictionary, HasTotals}
 use Rattle.shape_dict.specs.Join.{joined_entry, IsJoin, IsOverflow}
-use Rattle.shape_dict.specs.Merging.{placed, merged, moved_entry, summed_entry}
+use Rattle.shape_dict.specs.Merging.{moved_entry, summed_entry}
+use Rattle.shape_dict.specs.Inner.Merging.{placed, merged}
 use Rattle.shape_dict.proofs.Climbing.{climbs_from_rises, rises_from_climbs}
 use Rattle.shape_dict.proofs.Merging.{placed_left, placed_right, placed_both, three_ways, merged_nil, climbs_merged, each_merged, found_merged}
 

@@ -13,8 +13,9 @@ use Rattle.shape_dict.specs.declared.entries.Text.TheVariants as text
 use Rattle.shape_dict.specs.declared.headers.Header.{Header}
 use Rattle.shape_dict.specs.Contents.{Contents, HasTotals, IsEntry, squares_of, diamonds_of}
 use Rattle.shape_dict.specs.Text.{header_text, line_text, header_of, IsWhole, IsSmallEntry, diamonds_counted}
-use Rattle.shape_dict.specs.Reading.{IsFirst, AreLines, HasAllLines, HasMore, IsRead, IsTextOf, lines_after, counts_of, kind_at}
-use Rattle.shape_dict.specs.Merging.{Climbs}
+use Rattle.shape_dict.specs.Reading.{IsFirst, AreLines, HasAllLines, HasMore, IsTextOf, lines_after, counts_of, kind_at}
+use Rattle.shape_dict.specs.Inner.Reading.{IsRead}
+use Rattle.shape_dict.specs.Inner.Merging.{Climbs}
 use Rattle.shape_dict.proofs.Climbing.{climbs_from_rises}
 use Rattle.shape_dict.proofs.Read.{entries_are, both_kinds}
 use Rattle.shape_dict.proofs.Unique.{begun_unique}

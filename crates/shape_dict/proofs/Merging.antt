@@ -6,7 +6,8 @@ use Rattle.std.proofs.lemmas.Bool.{cases_lt}
 use Rattle.shape_dict.specs.declared.entries.Entry.{Entry}
 use Rattle.shape_dict.specs.Contents.{entry_of}
 use Rattle.shape_dict.specs.Join.{joined_entry}
-use Rattle.shape_dict.specs.Merging.{Climbs, placed, merged, moved_entry, summed_entry}
+use Rattle.shape_dict.specs.Merging.{moved_entry, summed_entry}
+use Rattle.shape_dict.specs.Inner.Merging.{Climbs, placed, merged}
 use Rattle.shape_dict.proofs.Climbing.{absent_below, climbs_lower}
 
 pub placed_left : (games : ℕ) (e f : Entry) (rest : List Entry → List Entry) (r : List Entry) → e.shape < f.shape → placed games e rest (f ∷ r) ≡ e ∷ rest (f ∷ r)

@@ -12,7 +12,8 @@ use Rattle.shape_dict.specs.declared.entries.Text.TheVariants as text
 use Rattle.shape_dict.specs.declared.headers.Header.{Header}
 use Rattle.shape_dict.specs.Contents.{Contents, IsDictionary, HasTotals, IsEntry, squares_of, diamonds_of}
 use Rattle.shape_dict.specs.Text.{header_text, line_text, text_of, entries_of, header_of, IsWhole, IsSmallEntry, diamonds_counted}
-use Rattle.shape_dict.specs.Reading.{IsFirst, AreLines, HasAllLines, IsRead, IsTextOf, IsFrontFault, IsTextFault, counts_of}
+use Rattle.shape_dict.specs.Reading.{IsFirst, AreLines, HasAllLines, IsTextOf, IsFrontFault, IsTextFault, counts_of}
+use Rattle.shape_dict.specs.Inner.Reading.{IsRead}
 use Rattle.shape_dict.specs.declared.faults.DictFault.{DictFault}
 use Rattle.shape_dict.specs.declared.faults.DictFault.TheVariants as fault
 

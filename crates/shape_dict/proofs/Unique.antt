@@ -8,7 +8,7 @@ use Rattle.shape_dict.specs.declared.entries.Text.{Text}
 use Rattle.shape_dict.specs.declared.entries.Text.TheVariants as text
 use Rattle.shape_dict.specs.declared.headers.Header.{Header}
 use Rattle.shape_dict.specs.Text.{header_text, front_text, counts_text, line_text, word_text, first_text, line_feed, optional_number}
-use Rattle.shape_dict.specs.Parsing.{IsEnded, IsPlain, IsSpelled}
+use Rattle.shape_dict.specs.Inner.Parsing.{IsEnded, IsPlain, IsSpelled}
 use Rattle.shape_dict.specs.Reading.{IsHeader, IsLine, IsFirst, AreLines, BeginsWith}
 use Rattle.shape_dict.proofs.Decimals.{number_unique, no_dash}
 use Rattle.shape_dict.proofs.Hexadecimal.{word_unique}

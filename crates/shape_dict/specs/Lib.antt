@@ -4,4 +4,4 @@ pub mod Reading
 pub mod Join
 pub mod Writing
 pub mod Merging
-pub mod Parsing
+pub mod Inner

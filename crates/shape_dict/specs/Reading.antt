@@ -162,12 +162,3 @@ IsFrontFault bytes fault.MixedKinds = ⊥
 abbrev pub IsTextFault : List ℕ → DictFault → Type 0
 IsTextFault bytes (fault.BadLine line) = IsBadLine bytes line ⊎ HasMore bytes line
 IsTextFault bytes found = IsFrontFault bytes found
-
--- the dictionary that a text at the front of the bytes says, and what follows it
-pub record IsRead (bytes : List ℕ) (contents : Contents) (left : List ℕ) : Type 0 where
-  pub header : Header
-  pub lines : HasAllLines bytes header contents.entries left
-  pub totals : HasTotals header.games header.moves contents.entries (counts_of header)
-  pub games : contents.games ≡ header.games
-  pub moves : contents.moves ≡ header.moves
-  pub kinds : contents.counts_diamonds ≡ counts_of header

@@ -3,7 +3,7 @@ ghost use Rattle.std.specs.Prelude.{◌≡◌, ◌++◌, ◌<◌, ◌^◌, ℕ, 
 ghost use Rattle.std.specs.Prelude.{Option, None, codes};
 ghost use Rattle.std.specs.Fmt.{decimal};
 ghost use Rattle.shape_dict.specs.Text.{front_text, counts_text, header_text};
-ghost use Rattle.shape_dict.specs.Parsing.{IsEnded};
+ghost use Rattle.shape_dict.specs.Inner.Parsing.{IsEnded};
 ghost use Rattle.shape_dict.specs.Reading.{IsHeader, HasNoHeader};
 ghost use Rattle.shape_dict.specs.declared.entries.Text.{Text as Kind};
 ghost use Rattle.shape_dict.specs.declared.entries.Text.TheVariants as kind;

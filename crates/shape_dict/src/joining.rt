@@ -2,7 +2,8 @@
 ghost use Rattle.std.specs.Prelude.{◌≡◌, ◌++◌, ◌∷◌, [], ◌+◌, ◌^◌, ◌<◌, ◌≤◌, ◌⊎◌, All, map, OnOk};
 ghost use Rattle.std.specs.Prelude.{IfOk, IfErr, IfSome};
 ghost use Rattle.std.specs.List.Sorted.{IsStrictlyIncreasing};
-ghost use Rattle.shape_dict.specs.Merging.{moved_entry, summed_entry, merged};
+ghost use Rattle.shape_dict.specs.Merging.{moved_entry, summed_entry};
+ghost use Rattle.shape_dict.specs.Inner.Merging.{merged};
 ghost use Rattle.shape_dict.specs.Join.{HasLargeEntry};
 ghost use Rattle.shape_dict.specs.declared.faults.DictFault.TheVariants as fault;
 

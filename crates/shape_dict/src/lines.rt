@@ -3,7 +3,7 @@ ghost use Rattle.std.specs.Prelude.{◌≡◌, ◌++◌, ◌<◌, ◌≤◌, ◌
 ghost use Rattle.std.specs.Prelude.{IsSomeAnd, MatchBool, codes, Option};
 ghost use Rattle.std.specs.Fmt.{decimal};
 ghost use Rattle.shape_dict.specs.Text.{first_text, line_text, line_feed, optional_number};
-ghost use Rattle.shape_dict.specs.Parsing.{IsEnded, IsPlain, IsSpelled, MayStand, entry_of_line};
+ghost use Rattle.shape_dict.specs.Inner.Parsing.{IsEnded, IsPlain, IsSpelled, MayStand, entry_of_line};
 ghost use Rattle.shape_dict.specs.Reading.{kind_at, IsLine, HasNoLine};
 ghost use Rattle.shape_dict.specs.declared.entries.Entry.{Entry};
 

@@ -3,7 +3,7 @@ ghost use Rattle.std.specs.Prelude.{◌≡◌, ◌++◌, ◌+◌, ◌<◌, ◌�
 ghost use Rattle.std.specs.Prelude.{SomeIff, IfSome, IsSomeAnd, Option};
 ghost use Rattle.std.specs.Fmt.{decimal};
 ghost use Rattle.shape_dict.specs.Text.{optional_number};
-ghost use Rattle.shape_dict.specs.Parsing.{IsEnded, AreDigits, read_on};
+ghost use Rattle.shape_dict.specs.Inner.Parsing.{IsEnded, AreDigits, read_on};
 
 /// What follows these bytes, or None where the input does not begin with them.
 pub(crate) fn after<'a>(bytes: &'a [u8], literal: &[u8]) -> Option<&'a [u8]>

@@ -6,7 +6,7 @@ use Rattle.std.proofs.lemmas.Bool.Decides.{nat_tests}
 use Rattle.std.proofs.lemmas.List.{map-append}
 use Rattle.std.proofs.Common.{All}
 use Rattle.std.proofs.lemmas.List.Elements.{All-head, All-tail}
-use Rattle.share_core.specs.Raising.{meeting_at}
+use Rattle.share_core.specs.Inner.Raising.{meeting_at}
 use Rattle.std.proofs.lemmas.List.Sums.{sum_by-append, sum_by_push, sum_by-cons}
 use Rattle.go_record.specs.Actions.{Actions}
 use Rattle.shape_core.specs.declared.words.Kinds.{Kinds}
@@ -16,8 +16,8 @@ use Rattle.tally_core.specs.Counts.{kinds_of, there_in, played_in}
 use Rattle.tally_core.specs.Walk.{IsWalk, IsAmong, there_among}
 use Rattle.share_core.specs.declared.rows.Row.{Row}
 use Rattle.share_core.specs.Rows.{row_at, blank, there_of, played_of, first_of, earlier}
-use Rattle.share_core.specs.Raising.{game_met}
-use Rattle.share_core.specs.Ledgers.{CountsIn}
+use Rattle.share_core.specs.Inner.Raising.{game_met}
+use Rattle.share_core.specs.Inner.Ledgers.{CountsIn}
 use Rattle.share_core.specs.Shares.{Held, Added, replayed_of, game_of, first_in, IsShareOf, IsShare}
 use Rattle.share_core.specs.Adding.{IsAdded}
 use Rattle.share_core.proofs.Raised.{earlier_none, earlier_assoc}

@@ -14,10 +14,12 @@ use Rattle.share_core.specs.declared.faults.HarvestFault.TheVariants as fault
 use Rattle.share_core.specs.declared.agreeing.Differs.{Differs}
 use Rattle.share_core.specs.Shares.{Held}
 use Rattle.share_core.specs.Covering.{all_games, Covers}
-use Rattle.share_core.specs.Checking.{all_rows, Stand, StandBelow, AreBelow, IsBeyondFault}
-use Rattle.share_core.specs.Gathering.{AreOneEach, IsLargeSum}
+use Rattle.share_core.specs.Checking.{all_rows, Stand, StandBelow}
+use Rattle.share_core.specs.Inner.Checking.{AreBelow, IsBeyondFault}
+use Rattle.share_core.specs.Gathering.{IsLargeSum}
+use Rattle.share_core.specs.Inner.Gathering.{AreOneEach}
 use Rattle.share_core.specs.GatherFaults.{IsGatherFault}
-use Rattle.share_core.specs.Visiting.{AgreeBelow, HasLarge, IsNumbersFault}
+use Rattle.share_core.specs.Inner.Visiting.{AgreeBelow, HasLarge, IsNumbersFault}
 use Rattle.share_core.proofs.Listed.{large_pattern}
 use Rattle.share_core.proofs.Stood.{stand_all, beyond_fault}
 

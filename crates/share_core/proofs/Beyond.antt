@@ -5,7 +5,8 @@ use Rattle.std.proofs.lemmas.Bool.Decides.{nat_tests}
 use Rattle.std.proofs.lemmas.List.Folds.{find-append}
 use Rattle.std.proofs.lemmas.List.Elements.{Contains-push_cases, Contains-get_or}
 use Rattle.share_core.specs.declared.rows.Row.{Row}
-use Rattle.share_core.specs.Rows.{row_at, row_of, blank, HasNoRow}
+use Rattle.share_core.specs.Rows.{row_at, row_of, blank}
+use Rattle.share_core.specs.Inner.Rows.{HasNoRow}
 use Rattle.share_core.specs.Checking.{IsLeastFrom}
 use Rattle.share_core.proofs.Found.{found_none}
 

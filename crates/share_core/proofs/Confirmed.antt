@@ -15,7 +15,8 @@ use Rattle.share_core.specs.declared.faults.HarvestFault.TheVariants as fault
 use Rattle.share_core.specs.Rows.{row_of}
 use Rattle.share_core.specs.Shares.{Held}
 use Rattle.share_core.specs.Checking.{all_rows, shape_at}
-use Rattle.share_core.specs.Confirming.{HasShape, HasShapeAt, AreFrom, IsLeastOf, IsOfRow, IsKnown, IsUnknown, first_shape, IsUnconfirmed, IsConfirmation}
+use Rattle.share_core.specs.Confirming.{HasShape, HasShapeAt, IsKnown, IsUnknown, first_shape, IsUnconfirmed, IsConfirmation}
+use Rattle.share_core.specs.Inner.Confirming.{AreFrom, IsLeastOf, IsOfRow}
 use Rattle.share_core.proofs.Stood.{nothing_at}
 
 -- ---- the least number of a pattern, row by row

@@ -6,7 +6,8 @@ use Rattle.std.proofs.lemmas.Bool.Decides.{nat_tests}
 use Rattle.std.proofs.lemmas.List.{get_or-set_same, get_or-set_other, length-set}
 use Rattle.std.proofs.lemmas.List.Sums.{sum_by_push}
 use Rattle.share_core.specs.declared.covering.Seen.{Seen}
-use Rattle.share_core.specs.Covering.{times_of, IsLeastDouble, AreNoted}
+use Rattle.share_core.specs.Covering.{times_of, IsLeastDouble}
+use Rattle.share_core.specs.Inner.Covering.{AreNoted}
 
 -- ---- how often a game is in a list with one more
 times_here : (list : List ℕ) (game : ℕ) → times_of (list ++ game ∷ []) game ≡ times_of list game + 1

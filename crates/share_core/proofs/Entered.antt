@@ -12,9 +12,10 @@ use Rattle.slot_table.specs.Passes.{Known, IsLater}
 use Rattle.slot_table.proofs.Later.{later_self, later_through}
 use Rattle.share_core.specs.declared.making.Entered.{Entered}
 use Rattle.tally_core.specs.declared.meetings.Meeting.{Meeting}
-use Rattle.share_core.specs.Raising.{meeting_at}
-use Rattle.share_core.specs.Making.{entered_at}
-use Rattle.share_core.specs.Entering.{entered_by, marked_by, CallsOnly, IsEntered, AreEntered}
+use Rattle.share_core.specs.Inner.Raising.{meeting_at}
+use Rattle.share_core.specs.Inner.Making.{entered_at}
+use Rattle.share_core.specs.Entering.{entered_by, marked_by, CallsOnly}
+use Rattle.share_core.specs.Inner.Entering.{IsEntered, AreEntered}
 
 entered-append : (made more : List Happened) → entered_by (made ++ more) ≡ entered_by made ++ entered_by more
 entered-append [] more = refl

@@ -6,7 +6,8 @@ use Rattle.std.proofs.lemmas.Bool.Decides.{nat_tests}
 use Rattle.std.proofs.lemmas.List.{get_or_past, length-map}
 use Rattle.std.proofs.lemmas.Map.Steps.{length-le_from_distinct_below}
 use Rattle.share_core.specs.declared.rows.Row.{Row}
-use Rattle.share_core.specs.Rows.{row_at, place_in, IsIndexed, HasNoRow, AreOfNumbers}
+use Rattle.share_core.specs.Rows.{row_at, AreOfNumbers}
+use Rattle.share_core.specs.Inner.Rows.{place_in, IsIndexed, HasNoRow}
 use Rattle.share_core.proofs.Found.{tail_none, tail_numbers, others_differ}
 
 abbrev numbers_of : List Row → List ℕ

@@ -2,7 +2,8 @@
 use Rattle.std.proofs.Common.{◌≡◌, ℕ, ◌<◌, ◌==◌, true, false, cond, zero, suc, List, [], ◌∷◌, length, Some, None, refl, ap, sym, ◌∙◌, arith}
 use Rattle.std.proofs.lemmas.Bool.Decides.{nat_tests}
 use Rattle.share_core.specs.declared.rows.Row.{Row}
-use Rattle.share_core.specs.Rows.{row_at, row_of, HasNoRow, AreOfNumbers}
+use Rattle.share_core.specs.Rows.{row_at, row_of, AreOfNumbers}
+use Rattle.share_core.specs.Inner.Rows.{HasNoRow}
 
 -- ---- rows of different numbers
 pub tail_numbers : (row : Row) (rows : List Row) → AreOfNumbers (row ∷ rows) → AreOfNumbers rows

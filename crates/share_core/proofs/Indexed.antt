@@ -6,7 +6,8 @@ use Rattle.std.proofs.Math.Seq.{get_or-append_seam}
 use Rattle.std.proofs.lemmas.List.{get_or-set_same, get_or-set_other}
 use Rattle.std.proofs.lemmas.Bool.{cases_lt, cases_eq}
 use Rattle.share_core.specs.declared.rows.Row.{Row}
-use Rattle.share_core.specs.Rows.{row_at, place_in, blank, IsIndexed, HasNoRow}
+use Rattle.share_core.specs.Rows.{row_at, blank}
+use Rattle.share_core.specs.Inner.Rows.{place_in, IsIndexed, HasNoRow}
 
 -- an index that has the same at each number is one of the same rows
 pub widened : (index wider : List (Option ℕ)) (rows : List Row) → ((number : ℕ) → place_in wider number ≡ place_in index number)

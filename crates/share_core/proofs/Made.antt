@@ -11,11 +11,13 @@ use Rattle.tally_core.specs.declared.meetings.Meeting.{Meeting}
 use Rattle.share_core.specs.Rows.{row_at, blank}
 use Rattle.std.proofs.Common.{ap₂, suc}
 use Rattle.std.proofs.lemmas.List.Sums.{sum_by-cons, sum_by-append}
-use Rattle.share_core.specs.Raising.{AreRowsOf, meeting_at, weight_of}
+use Rattle.share_core.specs.Raising.{weight_of}
+use Rattle.share_core.specs.Inner.Raising.{AreRowsOf, meeting_at}
 use Rattle.std.proofs.Common.{Some}
 use Rattle.share_core.specs.declared.faults.HarvestFault.{HarvestFault}
 use Rattle.share_core.specs.declared.faults.HarvestFault.TheVariants as fault
-use Rattle.share_core.specs.Making.{IsMade, Gained, HasRow, IsRowFault, IsMakingFault, AreNumbered, entered_at}
+use Rattle.share_core.specs.Making.{HasRow}
+use Rattle.share_core.specs.Inner.Making.{IsMade, Gained, IsRowFault, IsMakingFault, AreNumbered, entered_at}
 
 -- one more row
 gained_row : (meetings : List Meeting) (entered : List Entered) (old rows new : List Row) (i : ℕ) → i < length entered →

@@ -5,9 +5,10 @@ use Rattle.share_core.specs.declared.rows.Row.{Row}
 use Rattle.share_core.specs.declared.numbers.NumberSums.{NumberSums}
 use Rattle.share_core.specs.Rows.{row_of, first_at, earlier, AreOfNumbers}
 use Rattle.share_core.specs.Shares.{Held}
-use Rattle.share_core.specs.Checking.{all_rows, stranger_in, unlike_of}
-use Rattle.share_core.specs.Totals.{with_row, IsTooMuch, IsTotalAt, IsLargeAt}
-use Rattle.share_core.specs.Numbers.{AreSums}
+use Rattle.share_core.specs.Checking.{all_rows, stranger_in}
+use Rattle.share_core.specs.Inner.Checking.{unlike_of}
+use Rattle.share_core.specs.Inner.Totals.{with_row, IsTooMuch, IsTotalAt, IsLargeAt}
+use Rattle.share_core.specs.Inner.Numbers.{AreSums}
 use Rattle.share_core.proofs.Raised.{earlier_none}
 use Rattle.share_core.proofs.Strangers.{asked, more_rows, stranger_append, stranger_of_row}
 use Rattle.share_core.proofs.Totalled.{first_none, first_one, first_more, total_kept, total_with, large_with, large_more}

@@ -15,12 +15,14 @@ use Rattle.share_core.specs.declared.making.Entered.{Entered}
 use Rattle.share_core.specs.declared.faults.HarvestFault.{HarvestFault}
 use Rattle.share_core.specs.declared.faults.HarvestFault.TheVariants as fault
 use Rattle.share_core.specs.Rows.{row_at, blank}
-use Rattle.share_core.specs.Raising.{Numbered, AreRaised, AreRowsOf, meeting_at, numbered_of, weight_of, weight_among}
-use Rattle.share_core.specs.Making.{AreNumbered, entered_at}
-use Rattle.share_core.specs.Entering.{AreEntered, AreMarked}
-use Rattle.share_core.specs.Ledgers.{Totals, IsCountFault}
+use Rattle.share_core.specs.Raising.{Numbered, numbered_of, weight_of, weight_among}
+use Rattle.share_core.specs.Inner.Raising.{AreRaised, AreRowsOf, meeting_at}
+use Rattle.share_core.specs.Inner.Making.{AreNumbered, entered_at}
+use Rattle.share_core.specs.Inner.Entering.{AreEntered, AreMarked}
+use Rattle.share_core.specs.Inner.Ledgers.{Totals, IsCountFault}
 use Rattle.share_core.specs.Shares.{Held}
-use Rattle.share_core.specs.Adding.{AreFresh, HasFresh, HasGrown, IsKept, IsMarked, IsAddFault}
+use Rattle.share_core.specs.Adding.{AreFresh, HasGrown, IsKept, IsMarked, IsAddFault}
+use Rattle.share_core.specs.Inner.Adding.{HasFresh}
 use Rattle.share_core.proofs.Raised.{same_shape, same_number}
 use Rattle.share_core.proofs.Made.{light}
 use Rattle.share_core.proofs.Added.{met_at}

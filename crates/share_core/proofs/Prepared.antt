@@ -15,12 +15,14 @@ use Rattle.share_core.specs.declared.making.Entered.{Entered}
 use Rattle.share_core.specs.declared.faults.HarvestFault.{HarvestFault}
 use Rattle.share_core.specs.declared.faults.HarvestFault.TheVariants as fault
 use Rattle.share_core.specs.Rows.{row_at, blank}
-use Rattle.share_core.specs.Raising.{meeting_at}
-use Rattle.share_core.specs.Making.{Gained, IsMakingFault, entered_at}
-use Rattle.share_core.specs.Entering.{AreEntered, IsRefused, EntersOnly, IsMetIn}
+use Rattle.share_core.specs.Inner.Raising.{meeting_at}
+use Rattle.share_core.specs.Inner.Making.{Gained, IsMakingFault, entered_at}
+use Rattle.share_core.specs.Entering.{EntersOnly}
+use Rattle.share_core.specs.Inner.Entering.{AreEntered, IsRefused, IsMetIn}
 use Rattle.share_core.specs.Shares.{IsPatternOf}
 use Rattle.share_core.proofs.Entered.{calls_weaker}
-use Rattle.share_core.specs.Adding.{HasFresh, IsPrepareFault}
+use Rattle.share_core.specs.Adding.{IsPrepareFault}
+use Rattle.share_core.specs.Inner.Adding.{HasFresh}
 
 -- what is met in a game is a pattern of it
 met_pattern : (kinds : Kinds) (actions : Actions) (meetings : List Meeting) (moves i : ℕ) → IsWalk kinds actions meetings moves → i < length meetings → IsPatternOf kinds actions (meeting_at meetings i).shape

@@ -8,7 +8,8 @@ use Rattle.std.specs.Prelude.{slice_index}
 use Rattle.share_core.specs.declared.rows.Row.{Row}
 use Rattle.tally_core.specs.declared.meetings.Meeting.{Meeting}
 use Rattle.share_core.specs.Rows.{row_at, blank, there_of, played_of, first_of, earlier}
-use Rattle.share_core.specs.Raising.{Numbered, numbered_of, raised, weight_of, weight_among, game_met, meeting_at, AreRaised, IsAmongFirst}
+use Rattle.share_core.specs.Raising.{Numbered, numbered_of, weight_of, weight_among}
+use Rattle.share_core.specs.Inner.Raising.{raised, game_met, meeting_at, AreRaised, IsAmongFirst}
 
 -- ---- the lesser of two games
 pub earlier_none : (a : Option ℕ) → earlier a None ≡ a

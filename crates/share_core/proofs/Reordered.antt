@@ -7,7 +7,8 @@ use Rattle.std.proofs.lemmas.List.{get_or_default}
 use Rattle.std.proofs.lemmas.List.Sums.{sum_by-cons}
 use Rattle.std.proofs.lemmas.List.Sorted.{sum_by-IsPermutation, All-permutation}
 use Rattle.share_core.specs.declared.rows.Row.{Row}
-use Rattle.share_core.specs.Rows.{row_at, blank, first_of, earlier, IsIndexed}
+use Rattle.share_core.specs.Rows.{row_at, blank, first_of, earlier}
+use Rattle.share_core.specs.Inner.Rows.{IsIndexed}
 use Rattle.share_core.specs.Shares.{Held, Added, IsShareOf, IsShare}
 use Rattle.share_core.proofs.Few.{number_within}
 use Rattle.share_core.proofs.FirstGames.{IsFirst, first_same, first_with}

@@ -3,7 +3,8 @@ use Rattle.std.proofs.Common.{◌≡◌, ℕ, ◌+◌, ◌<◌, ◌≤◌, List,
 use Rattle.std.proofs.lemmas.Bool.{cases_lt}
 use Rattle.std.proofs.lemmas.List.{get_or_default}
 use Rattle.share_core.specs.declared.rows.Row.{Row}
-use Rattle.share_core.specs.Rows.{row_at, blank, HasNoRow, AreOfNumbers, IsIndexed}
+use Rattle.share_core.specs.Rows.{row_at, blank, AreOfNumbers}
+use Rattle.share_core.specs.Inner.Rows.{HasNoRow, IsIndexed}
 use Rattle.share_core.specs.Checking.{IsLeastFrom}
 use Rattle.share_core.proofs.Found.{found_row}
 use Rattle.share_core.proofs.Few.{number_within}

@@ -11,7 +11,8 @@ use Rattle.slot_table.proofs.Histories.{length-content}
 use Rattle.share_core.specs.declared.rows.Row.{Row}
 use Rattle.share_core.specs.declared.faults.HarvestFault.{HarvestFault}
 use Rattle.share_core.specs.declared.faults.HarvestFault.TheVariants as fault
-use Rattle.share_core.specs.Checking.{stranger_in, is_stranger, is_shape, shape_at, IsFound, Stand, StandBelow, IsStandFault, AreBelow, IsBeyondFault}
+use Rattle.share_core.specs.Checking.{stranger_in, is_stranger, is_shape, shape_at, Stand, StandBelow}
+use Rattle.share_core.specs.Inner.Checking.{IsFound, IsStandFault, AreBelow, IsBeyondFault}
 
 -- ---- no stranger is found
 none_found : (p : Row → Bool) (rows : List Row) (k : ℕ) (d : Row) → k < length rows → option_map (λ (r : Row). r.shape) (find p rows) ≡ None → p (get_or rows k d) ≡ false

@@ -6,9 +6,11 @@ use Rattle.std.proofs.lemmas.List.{take_more}
 use Rattle.std.proofs.lemmas.List.Folds.{find-append}
 use Rattle.std.proofs.lemmas.Grind.{flat_map-append}
 use Rattle.share_core.specs.declared.rows.Row.{Row}
-use Rattle.share_core.specs.Rows.{row_of, HasNoRow, AreOfNumbers}
+use Rattle.share_core.specs.Rows.{row_of, AreOfNumbers}
+use Rattle.share_core.specs.Inner.Rows.{HasNoRow}
 use Rattle.share_core.specs.Shares.{Held}
-use Rattle.share_core.specs.Checking.{all_rows, is_shape, is_stranger, stranger_in, unlike_of}
+use Rattle.share_core.specs.Checking.{all_rows, is_shape, is_stranger, stranger_in}
+use Rattle.share_core.specs.Inner.Checking.{unlike_of}
 use Rattle.share_core.proofs.Found.{tail_numbers, others_differ}
 
 -- ---- the rows of one share more

@@ -16,7 +16,7 @@ use Rattle.share_core.specs.Rows.{ArePlayedThere}
 use Rattle.share_core.specs.Shares.{Held, Added, IsShareOf, IsShare}
 use Rattle.share_core.specs.Covering.{all_games, Covers}
 use Rattle.share_core.specs.Checking.{all_rows}
-use Rattle.share_core.specs.Totals.{AreEntriesBelow}
+use Rattle.share_core.specs.Inner.Totals.{AreEntriesBelow}
 use Rattle.share_core.specs.Gathering.{all_moves, all_added, replayed_games, AreWithin, HaveGames, IsGathered}
 use Rattle.share_core.proofs.Numbered.{length-numbered}
 use Rattle.share_core.proofs.Gathered.{there_gathered, played_gathered, moves_gathered, entry_gathered}

@@ -4,8 +4,9 @@ use Rattle.std.specs.Prelude.{sum_by}
 use Rattle.std.proofs.lemmas.Bool.Decides.{nat_tests}
 use Rattle.std.proofs.lemmas.List.Sums.{sum_by-cons, sum_by-append}
 use Rattle.share_core.specs.declared.rows.Row.{Row}
-use Rattle.share_core.specs.Rows.{row_of, first_at, earlier, AreOfNumbers, HasNoRow}
-use Rattle.share_core.specs.Totals.{there_at, played_at, with_row, IsTooMuch, IsTotalAt, IsLargeAt}
+use Rattle.share_core.specs.Rows.{row_of, first_at, earlier, AreOfNumbers}
+use Rattle.share_core.specs.Inner.Rows.{HasNoRow}
+use Rattle.share_core.specs.Inner.Totals.{there_at, played_at, with_row, IsTooMuch, IsTotalAt, IsLargeAt}
 use Rattle.share_core.proofs.Raised.{earlier_none, earlier_assoc}
 use Rattle.share_core.proofs.Found.{tail_numbers, others_differ, found_none}
 

@@ -14,10 +14,11 @@ use Rattle.share_core.specs.declared.numbers.NumberSums.{NumberSums}
 use Rattle.share_core.specs.declared.visiting.Visited.{Visited}
 use Rattle.share_core.specs.Rows.{first_at}
 use Rattle.share_core.specs.Agreeing.{agreeing_firsts}
-use Rattle.share_core.specs.Checking.{stranger_in, shape_at, IsFound, StandBelow, IsStranger}
-use Rattle.share_core.specs.Totals.{entries_of_total, AreEntriesBelow}
-use Rattle.share_core.specs.Numbers.{AreSums}
-use Rattle.share_core.specs.Visiting.{AgreeBelow, AreVisited}
+use Rattle.share_core.specs.Checking.{stranger_in, shape_at, StandBelow, IsStranger}
+use Rattle.share_core.specs.Inner.Checking.{IsFound}
+use Rattle.share_core.specs.Inner.Totals.{entries_of_total, AreEntriesBelow}
+use Rattle.share_core.specs.Inner.Numbers.{AreSums}
+use Rattle.share_core.specs.Inner.Visiting.{AgreeBelow, AreVisited}
 use Rattle.share_core.proofs.Stood.{stand_more}
 use Rattle.share_core.proofs.Ordered.{entries_more}
 

@@ -56,12 +56,6 @@ IsMarked n seen game kinds actions = (occasions : List Occasion) × AreOccasions
     × ((shape : ℕ) → 0 < there_in (kinds_of kinds) (record { size = actions.size; occasions = occasions }) shape
     → (p : ℕ) × IsNumber (content_of n seen) shape p × IsAtMost (least_at p seen) game)
 
--- rows of a game's patterns were added to these that count nothing yet
-pub record HasFresh (n : ℕ) (seen : List Happened) (kinds : Kinds) (actions : Actions) (old new : List Row) : Type 0 where
-  pub fresh : List Row
-  pub rows : new ≡ old ++ fresh
-  pub made : AreFresh n seen kinds actions fresh
-
 -- a share after a game was refused: rows may have come that count nothing
 pub record IsKept (n : ℕ) (seen : List Happened) (actions : Actions) (old new : Held) : Type 0 where
   pub fresh : List Row

@@ -1,5 +1,5 @@
 -- Whether a table that had no number for a pattern is full of patterns of rows, and what is wrong where it is not.
-use Rattle.std.specs.Prelude.{◌≡◌, ℕ, ◌<◌, ◌≤◌, ◌⊎◌, List, Option, Some, None, Contains}
+use Rattle.std.specs.Prelude.{◌≡◌, ℕ, ◌<◌, ◌⊎◌, List, Option, Contains}
 use Rattle.std.specs.Option.{option_map}
 use Rattle.probe_core.specs.Sequential.{IsNumber, IsFree}
 use Rattle.slot_table.specs.declared.entries.Happened.{Happened}
@@ -17,20 +17,6 @@ HasShape rows shape = (row : Row) × Contains rows row × (row.shape ≡ shape)
 -- some row of this number is of this pattern
 abbrev pub HasShapeAt : List Row → ℕ → ℕ → Type 0
 HasShapeAt rows number shape = (row : Row) × Contains rows row × (row.number ≡ number) × (row.shape ≡ shape)
-
--- all rows of this pattern are of this number or a greater one
-abbrev pub AreFrom : ℕ → List Row → ℕ → Type 0
-AreFrom shape rows low = (row : Row) → Contains rows row → row.shape ≡ shape → low ≤ row.number
-
--- the least number of a row of this pattern, or none where no row is of it
-abbrev pub IsLeastOf : ℕ → List Row → Option ℕ → Type 0
-IsLeastOf shape rows None = HasShape rows shape → ⊥
-IsLeastOf shape rows (Some least) = HasShapeAt rows least shape × AreFrom shape rows least
-
--- a key is given, and it is the pattern of some row
-abbrev pub IsOfRow : List Row → Option ℕ → Type 0
-IsOfRow rows None = ⊥
-IsOfRow rows (Some key) = HasShape rows key
 
 -- the number has a key, which is the pattern of some row
 abbrev pub IsKnown : ℕ → List Happened → List Row → ℕ → Type 0

@@ -1,10 +1,7 @@
 -- Games over several shares: how often each is in them, and which are missing or in them twice.
-use Rattle.std.specs.Prelude.{◌≡◌, ℕ, ◌<◌, ◌≤◌, ◌==◌, List, count_by, Option, Some, None, nat_lt, false, length, slice_index_or}
+use Rattle.std.specs.Prelude.{◌≡◌, ℕ, ◌<◌, ◌≤◌, ◌==◌, List, count_by, Option, Some, None}
 use Rattle.std.specs.List.{flat_map}
 use Rattle.share_core.specs.Shares.{Held}
-use Rattle.share_core.specs.declared.covering.Seen.{Seen}
-use Rattle.share_core.specs.declared.faults.HarvestFault.{HarvestFault}
-use Rattle.share_core.specs.declared.faults.HarvestFault.TheVariants as fault
 
 -- the games of all shares
 abbrev pub all_games : List Held → List ℕ
@@ -33,15 +30,3 @@ pub record IsMissing (games : ℕ) (list : List ℕ) (game : ℕ) : Type 0 where
   pub within : game < games
   pub none : times_of list game ≡ 0
   pub least : (other : ℕ) → other < game → times_of list other ≡ 1
-
--- of each game below some number it is known whether it is in a list, and the least one that is in it twice
-pub record AreNoted (list : List ℕ) (seen : Seen) : Type 0 where
-  pub each : (game : ℕ) → game < length seen.games.items → slice_index_or seen.games.items game false ≡ nat_lt 0 (times_of list game)
-  pub least : IsLeastDouble list seen.twice
-
--- why the games of shares are not the numbers below this one, each once; or memory was refused
-abbrev pub IsCoverFault : ℕ → List ℕ → HarvestFault → Type 0
-IsCoverFault games list (fault.Twice game) = IsTwice list game
-IsCoverFault games list (fault.Missing game) = IsMissing games list game
-IsCoverFault games list fault.Memory = Unit {0}
-IsCoverFault games list found = ⊥

@@ -1,6 +1,6 @@
 -- What the dictionary of all shares has: for each pattern the sums of its rows, and the least of their games. Which games
 -- these are: those of all shares, by their numbers.
-use Rattle.std.specs.Prelude.{◌≡◌, ℕ, ◌^◌, ◌<◌, ◌≤◌, ◌==◌, ◌⊎◌, ◌↔◌, nat_lt, if◌then◌else◌, List, [], ◌∷◌, map, sum_by, Option, Some, None, All, Contains}
+use Rattle.std.specs.Prelude.{◌≡◌, ℕ, ◌^◌, ◌<◌, ◌≤◌, ◌==◌, ◌⊎◌, nat_lt, if◌then◌else◌, List, [], ◌∷◌, map, sum_by, Option, Some, None, All}
 use Rattle.std.specs.List.{flat_map, AllZip}
 use Rattle.shape_core.specs.declared.words.Kinds.{Kinds}
 use Rattle.shape_core.specs.Word.{count_from}
@@ -21,11 +21,6 @@ gathered_entry rows shape =
     if nat_lt 0 (there_of rows shape)
     then Some (record { shape = shape; there = there_of rows shape; played = played_of rows shape; first = first_of rows shape })
     else None
-
--- two rows are of one number exactly where they are of one pattern
-abbrev pub AreOneEach : List Row → Type 0
-AreOneEach rows = (one other : Row) → Contains rows one → Contains rows other
-    → (one.number ≡ other.number) ↔ (one.shape ≡ other.shape)
 
 -- ---- shares
 -- the moves of all shares

@@ -1,6 +1,6 @@
 -- The rows of a share: for each number of the table that it met, the number's pattern, how often that was there and was
 -- played, and the least game in which it was there.
-use Rattle.std.specs.Prelude.{◌≡◌, ℕ, ◌^◌, ◌<◌, ◌≤◌, ◌==◌, if◌then◌else◌, min, List, [], ◌∷◌, length, sum_by, find, Option, Some, None, slice_index_or}
+use Rattle.std.specs.Prelude.{◌≡◌, ℕ, ◌<◌, ◌≤◌, ◌==◌, if◌then◌else◌, min, List, [], ◌∷◌, length, sum_by, find, Option, Some, None, slice_index_or}
 use Rattle.share_core.specs.declared.rows.Row.{Row}
 
 -- how often a pattern was there, all its rows together
@@ -38,21 +38,6 @@ blank number shape = record { number = number; shape = shape; there = 0; played 
 -- the row at a place, and past the end a blank one
 abbrev pub row_at : List Row → ℕ → Row
 row_at rows place = slice_index_or rows place (blank 0 0)
-
--- what an index has at a number
-abbrev pub place_in : List (Option ℕ) → ℕ → Option ℕ
-place_in index number = slice_index_or index number None
-
--- an index has for each number the place of its row, so that no number has two rows; it has no more slots than any table
-pub record IsIndexed (index : List (Option ℕ)) (rows : List Row) : Type 0 where
-  pub found : (number place : ℕ) → place_in index number ≡ Some place
-      → (place < length rows) × ((row_at rows place).number ≡ number)
-  pub listed : (place : ℕ) → place < length rows → place_in index (row_at rows place).number ≡ Some place
-  pub few : length index ≤ 2 ^ 22
-
--- a number has no row
-abbrev pub HasNoRow : List Row → ℕ → Type 0
-HasNoRow rows number = (place : ℕ) → place < length rows → (row_at rows place).number ≡ number → ⊥
 
 -- each number has one row at most
 abbrev pub AreOfNumbers : List Row → Type 0

@@ -2,12 +2,11 @@
 ghost use Rattle.std.specs.Prelude.{◌≡◌, ◌≤◌, ◌++◌, ◌^◌, All, IfOk, IfErr, OnOk};
 ghost use Rattle.std.specs.List.Sorted.{IsPermutation, IsNonDecreasingBy};
 ghost use Rattle.tally_core.specs.Entries.{IsShape};
-ghost use Rattle.tally_core.specs.Games.{counts_diamonds};
 ghost use Rattle.share_core.specs.declared.faults.HarvestFault.TheVariants as fault;
 ghost use Rattle.share_core.specs.Shares.{IsShare};
 ghost use Rattle.share_core.specs.Covering.{all_games, Covers};
 ghost use Rattle.share_core.specs.Checking.{all_rows};
-ghost use Rattle.share_core.specs.Totals.{entries_of_total, AreEntriesOf};
+ghost use Rattle.share_core.specs.Inner.Totals.{entries_of_total, AreEntriesOf};
 ghost use Rattle.share_core.specs.Gathering.{AreWithin, all_moves, IsGathered};
 
 use crate::faults::HarvestFault;
@@ -17,16 +16,7 @@ use rayon::prelude::*;
 use shape_core::{Kinds, kinds_stay};
 use shape_dict::{Dictionary, Entry};
 use std::thread::Threads;
-
-/// Whether diamonds are among these kinds.
-fn has_diamonds(kinds: Kinds) -> bool
-    ensures { result ≡ counts_diamonds kinds }
-{
-    match kinds {
-        Kinds::Squares => false,
-        Kinds::Both => true,
-    }
-}
+use tally_core::has_diamonds;
 
 /// A row as an entry. Its word is the least of its images, by the type of shapes.
 fn entry(row: Row) -> Entry

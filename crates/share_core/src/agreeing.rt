@@ -5,7 +5,7 @@ ghost use Rattle.share_core.specs.declared.rows.Row.{Row};
 ghost use Rattle.share_core.specs.declared.faults.HarvestFault.TheVariants as fault;
 ghost use Rattle.share_core.specs.Entering.{AsksOnly};
 ghost use Rattle.share_core.specs.Rows.{first_at};
-ghost use Rattle.share_core.specs.Visiting.{AgreeBelow};
+ghost use Rattle.share_core.specs.Inner.Visiting.{AgreeBelow};
 
 use crate::faults::HarvestFault;
 use probe_core::ProbeOrder;

@@ -4,7 +4,8 @@ ghost use Rattle.std.specs.Bool.{OnTrue, OnFalse};
 ghost use Rattle.slot_table.specs.Passes.{IsPassOf, IsLater};
 ghost use Rattle.share_core.specs.declared.rows.Row.{Row};
 ghost use Rattle.share_core.specs.Checking.{all_rows};
-ghost use Rattle.share_core.specs.Confirming.{HasShape, IsLeastOf, IsOfRow, first_shape};
+ghost use Rattle.share_core.specs.Confirming.{HasShape, first_shape};
+ghost use Rattle.share_core.specs.Inner.Confirming.{IsLeastOf, IsOfRow};
 ghost use Rattle.share_core.specs.Confirming.{IsConfirmation};
 ghost use Rattle.share_core.specs.declared.faults.HarvestFault.TheVariants as fault;
 

@@ -1,7 +1,8 @@
 //! Whether each game is in one share, and in one only.
 ghost use Rattle.std.specs.Prelude.{◌≡◌, ◌<◌, ℕ, List, ◌++◌, ◌∷◌, [], All, length, OnOk, IfOk};
 ghost use Rattle.std.specs.Prelude.{IfErr};
-ghost use Rattle.share_core.specs.Covering.{all_games, Covers, AreNoted, IsCoverFault};
+ghost use Rattle.share_core.specs.Covering.{all_games, Covers};
+ghost use Rattle.share_core.specs.Inner.Covering.{AreNoted, IsCoverFault};
 ghost use Rattle.share_core.specs.declared.faults.HarvestFault.TheVariants as fault;
 
 use crate::faults::HarvestFault;

@@ -4,8 +4,9 @@ ghost use Rattle.std.specs.Prelude.{IfOk, IfErr, OnOk};
 ghost use Rattle.probe_core.specs.Sequential.{IsAbsent, IsFull};
 ghost use Rattle.slot_table.specs.History.{content_of, least_at, IsAtMost};
 ghost use Rattle.slot_table.specs.Passes.{IsPassOf};
-ghost use Rattle.share_core.specs.Entering.{IsEntered, AreEntered, IsRefused, AreMarked};
-ghost use Rattle.share_core.specs.Entering.{EntersOnly, MarksOnly, IsMetIn};
+ghost use Rattle.share_core.specs.Inner.Entering.{IsEntered, AreEntered, IsRefused, AreMarked};
+ghost use Rattle.share_core.specs.Entering.{EntersOnly};
+ghost use Rattle.share_core.specs.Inner.Entering.{MarksOnly, IsMetIn};
 ghost use Rattle.share_core.specs.declared.faults.HarvestFault.TheVariants as fault;
 
 use crate::faults::HarvestFault;

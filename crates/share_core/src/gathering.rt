@@ -7,7 +7,7 @@ ghost use Rattle.share_core.specs.Covering.{all_games, Covers};
 ghost use Rattle.share_core.specs.Entering.{AsksOnly};
 ghost use Rattle.share_core.specs.Gathering.{IsGathered};
 ghost use Rattle.share_core.specs.GatherFaults.{IsGatherFault};
-ghost use Rattle.share_core.specs.Visiting.{IsNumbersFault};
+ghost use Rattle.share_core.specs.Inner.Visiting.{IsNumbersFault};
 
 use crate::adding_up::add_up;
 use crate::agreeing::{Differs, marks_fault};

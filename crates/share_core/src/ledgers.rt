@@ -1,8 +1,8 @@
 //! What a share has counted: its games, their moves, and the rows of their patterns.
 ghost use Rattle.std.specs.Prelude.{◌≡◌, ◌+◌, ◌^◌, ◌≤◌, ◌<◌, length, OnOk, OnErr, IfErr, take};
-ghost use Rattle.share_core.specs.Ledgers.{CountsIn, IsCountFault};
-ghost use Rattle.share_core.specs.Making.{AreBelow, AreNumbered, Gained, IsMakingFault};
-ghost use Rattle.share_core.specs.Raising.{AreRowsOf};
+ghost use Rattle.share_core.specs.Inner.Ledgers.{CountsIn, IsCountFault};
+ghost use Rattle.share_core.specs.Inner.Making.{AreBelow, AreNumbered, Gained, IsMakingFault};
+ghost use Rattle.share_core.specs.Inner.Raising.{AreRowsOf};
 
 use crate::faults::HarvestFault;
 use crate::making::{Entered, make_all};
@@ -24,7 +24,7 @@ pub(crate) struct Ledger {
 
 impl Model for Ledger {
     ghost use Rattle.std.specs.Prelude.{◌≡◌};
-    ghost use Rattle.share_core.specs.Ledgers.{Totals};
+    ghost use Rattle.share_core.specs.Inner.Ledgers.{Totals};
     ghost use Rattle.share_core.specs.Raising.{weight_of};
 
     ghost Value = { Totals };

@@ -1,7 +1,7 @@
 //! Rows for the numbers that a game's patterns have in the table.
 ghost use Rattle.std.specs.Prelude.{◌≡◌, ◌^◌, ◌<◌, ◌≤◌, ℕ, length, take, OnOk, IfErr};
-ghost use Rattle.share_core.specs.Raising.{AreRowsOf};
-ghost use Rattle.share_core.specs.Making.{AreBelow, AreNumbered, Gained, IsMakingFault};
+ghost use Rattle.share_core.specs.Inner.Raising.{AreRowsOf};
+ghost use Rattle.share_core.specs.Inner.Making.{AreBelow, AreNumbered, Gained, IsMakingFault};
 
 use crate::faults::HarvestFault;
 use crate::rows::Rows;

@@ -2,9 +2,10 @@
 ghost use Rattle.std.specs.Prelude.{◌≡◌, ◌++◌, ℕ, List, Some, IfSome, IfNone};
 ghost use Rattle.share_core.specs.declared.rows.Row.{Row};
 ghost use Rattle.share_core.specs.Rows.{earlier, row_of, AreOfNumbers};
-ghost use Rattle.share_core.specs.Checking.{all_rows, unlike_of};
-ghost use Rattle.share_core.specs.Totals.{with_row, IsTooMuch};
-ghost use Rattle.share_core.specs.Numbers.{none_summed, AreSums};
+ghost use Rattle.share_core.specs.Checking.{all_rows};
+ghost use Rattle.share_core.specs.Inner.Checking.{unlike_of};
+ghost use Rattle.share_core.specs.Inner.Totals.{with_row, IsTooMuch};
+ghost use Rattle.share_core.specs.Inner.Numbers.{none_summed, AreSums};
 
 use crate::rows::Row;
 use crate::shares::Share;

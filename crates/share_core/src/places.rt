@@ -13,7 +13,7 @@ pub(crate) struct RowPlace {
 
 impl Model for RowPlace {
     ghost use Rattle.std.specs.Prelude.{ℕ, Option};
-    ghost use Rattle.share_core.specs.Places.{place_of, kept};
+    ghost use Rattle.share_core.specs.Inner.Places.{place_of, kept};
 
     ghost Value = { Option ℕ };
 

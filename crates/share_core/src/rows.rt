@@ -1,6 +1,6 @@
 //! Rows of a share, each found by its number.
 ghost use Rattle.std.specs.Prelude.{◌≡◌, ◌≤◌, ℕ, length, OnOk, Some};
-ghost use Rattle.share_core.specs.Rows.{place_in};
+ghost use Rattle.share_core.specs.Inner.Rows.{place_in};
 
 use crate::faults::HarvestFault;
 use crate::places::RowPlace;
@@ -45,7 +45,7 @@ pub(crate) struct Rows {
 impl Model for Rows {
     ghost use Rattle.std.specs.Prelude.{List};
     ghost use Rattle.share_core.specs.declared.rows.Row.{Row};
-    ghost use Rattle.share_core.specs.Rows.{IsIndexed};
+    ghost use Rattle.share_core.specs.Inner.Rows.{IsIndexed};
 
     ghost Value = { List Row };
 
@@ -59,10 +59,11 @@ impl Rows {
     ghost use Rattle.std.specs.Prelude.{IfSome, IfNone, IfOk, IfErr, OnErr, slice_set};
     ghost use Rattle.std.specs.List.{SwappedAt};
     ghost use Rattle.std.specs.List.Sorted.{IsPermutation, IsNonDecreasingBy};
-    ghost use Rattle.share_core.specs.Rows.{row_at, blank, HasNoRow, AreOfNumbers};
+    ghost use Rattle.share_core.specs.Rows.{row_at, blank, AreOfNumbers};
+    ghost use Rattle.share_core.specs.Inner.Rows.{HasNoRow};
     ghost use Rattle.share_core.specs.Checking.{IsLeastFrom};
-    ghost use Rattle.share_core.specs.Making.{IsMade, IsRowFault};
-    ghost use Rattle.share_core.specs.Raising.{raised};
+    ghost use Rattle.share_core.specs.Inner.Making.{IsMade, IsRowFault};
+    ghost use Rattle.share_core.specs.Inner.Raising.{raised};
 
     /// No rows yet. It takes no memory.
     pub fn begin(alloc: Global) -> Rows

@@ -1,7 +1,8 @@
 //! Rows of another pattern than the table has at their number, and rows of numbers that it does not have.
 ghost use Rattle.std.specs.Prelude.{◌≡◌, ◌^◌, ◌<◌, ◌++◌, ◌∷◌, [], List, Some, IfSome, OnOk, IfErr};
 ghost use Rattle.share_core.specs.declared.rows.Row.{Row};
-ghost use Rattle.share_core.specs.Checking.{all_rows, AreBelow, IsBeyondFault, IsLeastFrom};
+ghost use Rattle.share_core.specs.Checking.{all_rows, IsLeastFrom};
+ghost use Rattle.share_core.specs.Inner.Checking.{AreBelow, IsBeyondFault};
 
 use crate::faults::HarvestFault;
 use crate::rows::Row;

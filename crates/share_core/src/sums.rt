@@ -1,6 +1,7 @@
 //! A game's meetings are added to the rows of their patterns.
 ghost use Rattle.std.specs.Prelude.{◌≡◌, ◌+◌, ◌^◌, ◌<◌, ◌≤◌, length, IfSome, IfNone};
-ghost use Rattle.share_core.specs.Raising.{AreRowsOf, AreRaised, weight_of, weight_among};
+ghost use Rattle.share_core.specs.Raising.{weight_of, weight_among};
+ghost use Rattle.share_core.specs.Inner.Raising.{AreRowsOf, AreRaised};
 
 use crate::rows::Rows;
 use tally_core::Meeting;

@@ -4,10 +4,11 @@ ghost use Rattle.std.specs.Prelude.{IfOk, IfErr, OnOk};
 ghost use Rattle.slot_table.specs.Passes.{IsPassOf};
 ghost use Rattle.share_core.specs.declared.rows.Row.{Row};
 ghost use Rattle.share_core.specs.declared.faults.HarvestFault.TheVariants as fault;
-ghost use Rattle.share_core.specs.Checking.{all_rows, IsFound};
+ghost use Rattle.share_core.specs.Checking.{all_rows};
+ghost use Rattle.share_core.specs.Inner.Checking.{IsFound};
 ghost use Rattle.share_core.specs.Entering.{AsksOnly};
-ghost use Rattle.share_core.specs.Numbers.{AreSums};
-ghost use Rattle.share_core.specs.Visiting.{AreVisited, IsVisit, EndsVisit, IsVisitFault};
+ghost use Rattle.share_core.specs.Inner.Numbers.{AreSums};
+ghost use Rattle.share_core.specs.Inner.Visiting.{AreVisited, IsVisit, EndsVisit, IsVisitFault};
 
 use crate::adding_up::push;
 use crate::agreeing::{Differs, compare};

@@ -1,10 +1,11 @@
 //! What a share needs to count a game, kept from game to game.
 ghost use Rattle.std.specs.Prelude.{◌≡◌, ◌^◌, ◌<◌, IfOk, IfErr};
 ghost use Rattle.slot_table.specs.Passes.{IsPassOf};
-ghost use Rattle.share_core.specs.Adding.{HasFresh, IsPrepareFault};
+ghost use Rattle.share_core.specs.Adding.{IsPrepareFault};
+ghost use Rattle.share_core.specs.Inner.Adding.{HasFresh};
 ghost use Rattle.share_core.specs.Entering.{EntersOnly};
 ghost use Rattle.share_core.specs.Shares.{IsPatternOf};
-ghost use Rattle.share_core.specs.Preparing.{IsPrepared};
+ghost use Rattle.share_core.specs.Inner.Preparing.{IsPrepared};
 ghost use Rattle.share_core.specs.declared.faults.HarvestFault.TheVariants as fault;
 
 use crate::entering::enter_all;

@@ -14,8 +14,10 @@ use Rattle.shape_core.specs.declared.words.Kind.{Kind}
 use Rattle.shape_core.specs.declared.words.Kind.TheVariants as kind
 use Rattle.shape_dict.specs.declared.entries.Entry.{Entry}
 use Rattle.sheet_core.specs.declared.orders.Order.{Order}
-use Rattle.sheet_core.specs.Orders.{goes_before, GoesBefore}
-use Rattle.sheet_core.specs.Choice.{Qualifies, IsChoice, qualifies}
+use Rattle.sheet_core.specs.Orders.{GoesBefore}
+use Rattle.sheet_core.specs.Inner.Orders.{goes_before}
+use Rattle.sheet_core.specs.Choice.{Qualifies, IsChoice}
+use Rattle.sheet_core.specs.Inner.Choice.{qualifies}
 use Rattle.sheet_core.proofs.Ranking.{ranks, GoesBefore-from}
 
 contains_more : (b : Bool) (y x : Entry) (ys : List Entry) → Contains ys x → Contains (cond b (y ∷ ys) ys) x

@@ -6,7 +6,8 @@ use Rattle.std.proofs.lemmas.Bool.Decides.{nat_tests}
 use Rattle.shape_dict.specs.declared.entries.Entry.{Entry}
 use Rattle.sheet_core.specs.declared.orders.Order.{Order}
 use Rattle.sheet_core.specs.declared.orders.Order.TheVariants as order
-use Rattle.sheet_core.specs.Orders.{worth_of, scale_of, share_of, goes_before, GoesBefore}
+use Rattle.sheet_core.specs.Orders.{worth_of, scale_of, share_of, GoesBefore}
+use Rattle.sheet_core.specs.Inner.Orders.{goes_before}
 
 cross : (p q r a b c : ℕ) → 0 < b → p * b ≤ q * a → q * c ≤ r * b → p * c ≤ r * a
 cross p q r a b c h one two =

@@ -1,16 +1,11 @@
 -- The patterns that are chosen from a dictionary.
-use Rattle.std.specs.Prelude.{◌≡◌, ℕ, ◌≤◌, ◌⊎◌, nat_le, ◌&&◌, Bool, List, length, All}
+use Rattle.std.specs.Prelude.{◌≡◌, ℕ, ◌≤◌, ◌⊎◌, List, length, All}
 use Rattle.std.specs.List.{AllPairs, Contains}
 use Rattle.shape_core.specs.Word.{kind_of}
 use Rattle.shape_core.specs.declared.words.Kind.{Kind}
-use Rattle.shape_dict.specs.Contents.{is_of}
 use Rattle.shape_dict.specs.declared.entries.Entry.{Entry}
 use Rattle.sheet_core.specs.declared.orders.Order.{Order}
 use Rattle.sheet_core.specs.Orders.{GoesBefore}
-
--- whether it is of the kind and was there at least this often
-abbrev pub qualifies : Kind → ℕ → Entry → Bool
-qualifies kind least entry = is_of kind entry && nat_le least entry.there
 
 -- a pattern of the kind, that was there at least this often
 pub record Qualifies (kind : Kind) (least : ℕ) (entry : Entry) : Type 0 where

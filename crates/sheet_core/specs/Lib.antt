@@ -7,3 +7,4 @@ pub mod Drawing
 pub mod Page
 pub mod Sheets
 pub mod Runs
+pub mod Inner

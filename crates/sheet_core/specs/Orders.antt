@@ -1,5 +1,5 @@
 -- Which of two patterns goes before the other.
-use Rattle.std.specs.Prelude.{◌≡◌, ℕ, ◌*◌, ◌<◌, ◌⊎◌, max, Bool, nat_lt, ◌==◌, ◌&&◌, ◌||◌}
+use Rattle.std.specs.Prelude.{◌≡◌, ℕ, ◌*◌, ◌<◌, ◌⊎◌, max}
 use Rattle.shape_dict.specs.declared.entries.Entry.{Entry}
 use Rattle.sheet_core.specs.declared.orders.Order.{Order}
 use Rattle.sheet_core.specs.declared.orders.Order.TheVariants as order
@@ -29,9 +29,3 @@ abbrev pub GoesBefore : Order → Entry → Entry → Type 0
 GoesBefore order entry other =
     (share_of order other entry < share_of order entry other)
     ⊎ ((share_of order entry other ≡ share_of order other entry) × (entry.shape < other.shape))
-
--- the same, as a test
-abbrev pub goes_before : Order → Entry → Entry → Bool
-goes_before order entry other =
-    nat_lt (share_of order other entry) (share_of order entry other)
-    || (share_of order entry other == share_of order other entry && nat_lt entry.shape other.shape)

@@ -2,8 +2,9 @@
 ghost use Rattle.std.specs.Prelude.{◌≡◌, IfOk};
 ghost use Rattle.std.specs.List.{filter};
 ghost use Rattle.std.specs.List.Sorted.{IsPermutation, IsSortedBy};
-ghost use Rattle.sheet_core.specs.Orders.{goes_before};
-ghost use Rattle.sheet_core.specs.Choice.{IsChoice, qualifies};
+ghost use Rattle.sheet_core.specs.Inner.Orders.{goes_before};
+ghost use Rattle.sheet_core.specs.Choice.{IsChoice};
+ghost use Rattle.sheet_core.specs.Inner.Choice.{qualifies};
 
 use crate::orders::{Order, compare};
 use shape_core::Kind;

@@ -1,7 +1,8 @@
 //! The orders in which patterns are chosen.
 ghost use Rattle.std.specs.Prelude.{◌≡◌};
 ghost use Rattle.std.specs.Ordering.{is_lt};
-ghost use Rattle.sheet_core.specs.Orders.{worth_of, scale_of, goes_before};
+ghost use Rattle.sheet_core.specs.Orders.{worth_of, scale_of};
+ghost use Rattle.sheet_core.specs.Inner.Orders.{goes_before};
 
 use shape_dict::Entry;
 use std::cmp::Ordering;

@@ -25,7 +25,7 @@ pub(crate) struct OneHistory;
 
 impl<O: ProbeOrder> TableRule<(), View<O>, O> for OneHistory {
     ghost use Rattle.std.specs.Prelude.{◌^◌, []};
-    ghost use Rattle.slot_table.specs.Rule.{Kept, newcomer};
+    ghost use Rattle.slot_table.specs.Inner.Rule.{Kept, newcomer};
 
     ghost holds = { λ order s.
         Kept (2 ^ O.exponent order) (O.place_of order) order s.words s.views };
@@ -62,7 +62,7 @@ pub(crate) struct Told<A> {
 }
 
 impl<O: ProbeOrder, A: Ask> Play<(), View<O>> for Told<A> {
-    ghost use Rattle.slot_table.specs.Telling.{told};
+    ghost use Rattle.slot_table.specs.Inner.Telling.{told};
 
     ghost then = { told O.exponent A.machine };
 }
@@ -71,7 +71,7 @@ impl<O: ProbeOrder, A: Ask> Play<(), View<O>> for Told<A> {
 pub(crate) struct Looked;
 
 impl<O: ProbeOrder> Play<(), View<O>> for Looked {
-    ghost use Rattle.slot_table.specs.Telling.{looked};
+    ghost use Rattle.slot_table.specs.Inner.Telling.{looked};
 
     ghost then = { looked O.exponent };
 }
@@ -80,7 +80,7 @@ impl<O: ProbeOrder> Play<(), View<O>> for Looked {
 pub(crate) struct Marked;
 
 impl<O: ProbeOrder> Play<(), View<O>> for Marked {
-    ghost use Rattle.slot_table.specs.Telling.{marked};
+    ghost use Rattle.slot_table.specs.Inner.Telling.{marked};
 
     ghost then = { marked O.exponent };
 }
@@ -89,7 +89,7 @@ impl<O: ProbeOrder> Play<(), View<O>> for Marked {
 pub(crate) struct First;
 
 impl<O: ProbeOrder> Play<(), View<O>> for First {
-    ghost use Rattle.slot_table.specs.Telling.{first_told};
+    ghost use Rattle.slot_table.specs.Inner.Telling.{first_told};
 
     ghost then = { first_told O.exponent };
 }
@@ -98,7 +98,7 @@ impl<O: ProbeOrder> Play<(), View<O>> for First {
 pub(crate) struct Cut;
 
 impl<O> Split<View<O>> for Cut {
-    ghost use Rattle.slot_table.specs.Rule.{cut_off, parted};
+    ghost use Rattle.slot_table.specs.Inner.Rule.{cut_off, parted};
 
     ghost left = { parted };
 
@@ -109,7 +109,7 @@ impl<O> Split<View<O>> for Cut {
 pub(crate) struct Glue;
 
 impl<O> Join<View<O>> for Glue {
-    ghost use Rattle.slot_table.specs.Rule.{joined, spent};
+    ghost use Rattle.slot_table.specs.Inner.Rule.{joined, spent};
 
     ghost both = { joined };
 

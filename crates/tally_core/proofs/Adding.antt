@@ -3,7 +3,7 @@ use Rattle.std.proofs.Common.{◌≡◌, ℕ, ◌+◌, ◌≤◌, ◌<◌, ◌==
 use Rattle.std.proofs.lemmas.List.Sums.{sum_by_more_le}
 use Rattle.tally_core.specs.declared.counters.Count.{Count}
 use Rattle.tally_core.specs.declared.meetings.Meeting.{Meeting}
-use Rattle.tally_core.specs.Counter.{uses_at, one_pattern, used, CountsMeetings}
+use Rattle.tally_core.specs.Inner.Counter.{uses_at, one_pattern, used, CountsMeetings}
 use Rattle.tally_core.specs.Walk.{there_among, played_among}
 use Rattle.tally_core.proofs.Used.{again-uses}
 

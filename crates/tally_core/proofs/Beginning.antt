@@ -9,7 +9,7 @@ use Rattle.std.proofs.lemmas.Nat.{pow_pos, pow_below}
 use Rattle.std.proofs.lemmas.Nat.Bits.{bit_at_ones}
 use Rattle.go_board.specs.Extent.{Extent}
 use Rattle.shape_core.specs.KeptLists.{AreMarks}
-use Rattle.tally_core.specs.Standing.{AreStays, waits_at, no_stays, IsNewSide}
+use Rattle.tally_core.specs.Inner.Standing.{AreStays, waits_at, no_stays, IsNewSide}
 use Rattle.tally_core.specs.declared.stays.Stays.{Stays}
 use Rattle.tally_core.specs.declared.stays.Side.{Side}
 

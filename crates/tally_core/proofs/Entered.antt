@@ -9,7 +9,8 @@ use Rattle.std.proofs.lemmas.List.Elements.{All-append, All-cons, All-nil}
 use Rattle.shape_dict.specs.declared.entries.Entry.{Entry}
 use Rattle.tally_core.specs.declared.counters.Count.{Count}
 use Rattle.tally_core.specs.declared.dictionaries.FirstGames.{FirstGames}
-use Rattle.tally_core.specs.Entries.{entry_of_pair, IsShape}
+use Rattle.tally_core.specs.Entries.{IsShape}
+use Rattle.tally_core.specs.Inner.Entries.{entry_of_pair}
 
 pub shapes_more : (old new : List Entry) (entry : Entry) → new ≡ old ++ entry ∷ [] → IsShape entry → All IsShape old → All IsShape new
 shapes_more old new entry grown is all = subst (All IsShape) (sym grown) (All-append IsShape old (entry ∷ []) all (All-cons IsShape entry [] is (All-nil IsShape)))

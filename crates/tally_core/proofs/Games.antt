@@ -12,7 +12,7 @@ use Rattle.tally_core.specs.declared.counters.Count.{Count}
 use Rattle.go_record.specs.Actions.{Actions}
 use Rattle.shape_core.specs.declared.words.Kinds.{Kinds}
 use Rattle.tally_core.specs.Counts.{Replayed, kinds_of, there_in, played_in}
-use Rattle.tally_core.specs.Counter.{first_used, used_again, CountsGame, CountsGames}
+use Rattle.tally_core.specs.Inner.Counter.{first_used, used_again, CountsGame, CountsGames}
 
 -- what a pattern's count is after these sums, first seen in this game
 pub counted : ℕ → ℕ → ℕ → Option Count

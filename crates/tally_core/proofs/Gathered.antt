@@ -15,9 +15,10 @@ use Rattle.tally_core.specs.declared.counters.Count.{Count}
 use Rattle.tally_core.specs.declared.dictionaries.FirstGames.TheVariants as first_games
 use Rattle.tally_core.specs.Occasions.{Occasion}
 use Rattle.tally_core.specs.Counts.{Replayed, kinds_of, there_in, patterns_played}
-use Rattle.tally_core.specs.Counter.{count_in, CountsGames}
+use Rattle.tally_core.specs.Inner.Counter.{count_in, CountsGames}
 use Rattle.tally_core.specs.Games.{there_sum, played_sum, counts_diamonds, IsDictionaryOf}
-use Rattle.tally_core.specs.Entries.{entry_of_pair, IsShape}
+use Rattle.tally_core.specs.Entries.{IsShape}
+use Rattle.tally_core.specs.Inner.Entries.{entry_of_pair}
 use Rattle.tally_core.proofs.DoubleCounting.{counted_twice}
 use Rattle.tally_core.proofs.RisingEntries.{shapes_of, stands_once}
 use Rattle.tally_core.proofs.CountedEntries.{AreCounted, IsCounted, entry_there, counted_there, each_counted, plays_counted}

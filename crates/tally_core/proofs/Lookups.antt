@@ -15,8 +15,8 @@ use Rattle.shape_dict.specs.Contents.{entry_of}
 use Rattle.tally_core.specs.declared.counters.Count.{Count}
 use Rattle.tally_core.specs.declared.dictionaries.FirstGames.{FirstGames}
 use Rattle.tally_core.specs.declared.dictionaries.FirstGames.TheVariants as first_games
-use Rattle.tally_core.specs.Counter.{used_again, count_in, CountsGame}
-use Rattle.tally_core.specs.Entries.{entry_of_pair}
+use Rattle.tally_core.specs.Inner.Counter.{used_again, count_in, CountsGame}
+use Rattle.tally_core.specs.Inner.Entries.{entry_of_pair}
 
 -- the entry of a pattern with this count
 unfoldable pub entered : FirstGames → ℕ → Option Count → Option Entry

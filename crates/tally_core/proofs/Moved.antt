@@ -25,7 +25,7 @@ use Rattle.shape_core.specs.Tracks.{Tracks}
 use Rattle.shape_core.proofs.Agreeing.{middle, same_stones}
 use Rattle.tally_core.specs.Occasions.{is_empty}
 use Rattle.tally_core.specs.Counts.{kinds_of, patterns_at}
-use Rattle.tally_core.specs.Standing.{AreStays, StayThere, patterns_here, IsSide}
+use Rattle.tally_core.specs.Inner.Standing.{AreStays, StayThere, patterns_here, IsSide}
 use Rattle.tally_core.specs.declared.stays.Side.{Side}
 
 -- ---- sets that others join

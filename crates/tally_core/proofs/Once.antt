@@ -4,7 +4,7 @@ use Rattle.std.proofs.lemmas.Bool.Decides.{nat_tests}
 use Rattle.std.proofs.lemmas.List.{append-nil}
 use Rattle.std.proofs.lemmas.List.Elements.{filter-append, filter_agree}
 use Rattle.tally_core.specs.Walk.{once_each}
-use Rattle.tally_core.specs.Meeting.{Extends, Meets, IsMet}
+use Rattle.tally_core.specs.Inner.Meeting.{Extends, Meets, IsMet}
 
 -- whether a number is in a list
 abbrev pub is_in : ℕ → List ℕ → Bool

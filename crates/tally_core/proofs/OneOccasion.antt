@@ -16,10 +16,10 @@ use Rattle.shape_core.specs.declared.words.Kinds.{Kinds}
 use Rattle.shape_core.specs.Field.{IsMarked}
 use Rattle.tally_core.specs.Occasions.{Occasion, is_empty, occasion_of}
 use Rattle.tally_core.specs.Counts.{kinds_of, points_of, patterns_at, patterns_there, patterns_played}
-use Rattle.tally_core.specs.Counter.{times_in}
+use Rattle.tally_core.specs.Inner.Counter.{times_in}
 use Rattle.tally_core.specs.Walk.{shapes_of, played_among}
-use Rattle.tally_core.specs.Meeting.{Extends, Meets}
-use Rattle.tally_core.specs.Standing.{AreStays, StayThere, waiting, there_with, patterns_seen, IsSide, IsSeen, IsCountedOn}
+use Rattle.tally_core.specs.Inner.Meeting.{Extends, Meets}
+use Rattle.tally_core.specs.Inner.Standing.{AreStays, StayThere, waiting, there_with, patterns_seen, IsSide, IsSeen, IsCountedOn}
 use Rattle.tally_core.specs.declared.meetings.Meeting.{Meeting}
 use Rattle.tally_core.specs.declared.stays.Side.{Side}
 use Rattle.tally_core.specs.declared.occasions.Sides.{Sides}

@@ -18,8 +18,8 @@ use Rattle.shape_core.specs.declared.words.Kinds.{Kinds}
 use Rattle.tally_core.specs.Occasions.{is_empty}
 use Rattle.tally_core.specs.Counts.{kinds_of, patterns_at}
 use Rattle.tally_core.specs.Walk.{there_among, shapes_of}
-use Rattle.tally_core.specs.Meeting.{Extends}
-use Rattle.tally_core.specs.Standing.{AreStays, patterns_staying, waits_at, waiting, patterns_here, no_stays, StayThere}
+use Rattle.tally_core.specs.Inner.Meeting.{Extends}
+use Rattle.tally_core.specs.Inner.Standing.{AreStays, patterns_staying, waits_at, waiting, patterns_here, no_stays, StayThere}
 use Rattle.tally_core.specs.declared.meetings.Meeting.{Meeting}
 use Rattle.tally_core.specs.declared.stays.Stays.{Stays}
 use Rattle.tally_core.proofs.Lasting.{staying-extended, waits_at-extended, stays-extended, length-extended, waiting-extended}

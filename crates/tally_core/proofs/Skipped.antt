@@ -13,8 +13,8 @@ use Rattle.shape_core.specs.Field.{IsMarked}
 use Rattle.shape_core.specs.Word.{count_from}
 use Rattle.tally_core.specs.Counts.{row_of, points_of}
 use Rattle.tally_core.specs.Walk.{once_each}
-use Rattle.tally_core.specs.Meeting.{Meets}
-use Rattle.tally_core.specs.Standing.{IsStay, AreStays, patterns_of, patterns_staying, patterns_here, patterns_seen, no_stays, is_in_set, IsSide}
+use Rattle.tally_core.specs.Inner.Meeting.{Meets}
+use Rattle.tally_core.specs.Inner.Standing.{IsStay, AreStays, patterns_of, patterns_staying, patterns_here, patterns_seen, no_stays, is_in_set, IsSide}
 use Rattle.tally_core.specs.declared.stays.Stay.{Stay}
 use Rattle.tally_core.specs.declared.stays.Stays.{Stays}
 use Rattle.tally_core.specs.declared.stays.Side.{Side}

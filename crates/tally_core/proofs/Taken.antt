@@ -13,7 +13,7 @@ use Rattle.go_board.specs.Extent.{Extent}
 use Rattle.go_board.specs.declared.points.Point.{Point}
 use Rattle.shape_core.specs.Word.{count_from}
 use Rattle.tally_core.specs.Counts.{row_of}
-use Rattle.tally_core.specs.Standing.{is_in_set}
+use Rattle.tally_core.specs.Inner.Standing.{is_in_set}
 use Rattle.tally_core.proofs.Rows.{count_from-first}
 
 point : ℕ → ℕ → Point

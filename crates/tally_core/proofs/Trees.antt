@@ -20,9 +20,9 @@ use Rattle.tally_core.specs.declared.faults.HarvestFault.TheVariants as fault
 use Rattle.tally_core.specs.Counts.{Replayed}
 use Rattle.tally_core.specs.Occasions.{AreOccasions}
 use Rattle.tally_core.specs.Collection.{record_of_tree, games_among, others_among, refused_among, AreReplayed, AreTrees}
-use Rattle.tally_core.specs.Counter.{count_in, CountsGame, CountsGames}
+use Rattle.tally_core.specs.Inner.Counter.{count_in, CountsGame, CountsGames}
 use Rattle.tally_core.specs.Counted.{IsReport, IsCountFault}
-use Rattle.tally_core.specs.Counting.{CountsTrees, IsWithin, IsNextFault}
+use Rattle.tally_core.specs.Inner.Counting.{CountsTrees, IsWithin, IsNextFault}
 use Rattle.tally_core.proofs.Games.{games_more}
 
 -- how many games, how many of other games, how many with a fault

@@ -8,7 +8,7 @@ use Rattle.std.proofs.lemmas.List.Sums.{sum_by-append}
 use Rattle.tally_core.specs.declared.counters.Count.{Count}
 use Rattle.tally_core.specs.declared.faults.HarvestFault.{HarvestFault}
 use Rattle.tally_core.specs.declared.faults.HarvestFault.TheVariants as fault
-use Rattle.tally_core.specs.Counter.{first_used, used_again, used, uses_at, times_in, one_pattern, AreAmong, AreCounts, IsCountingFault}
+use Rattle.tally_core.specs.Inner.Counter.{first_used, used_again, used, uses_at, times_in, one_pattern, AreAmong, AreCounts, IsCountingFault}
 
 first_used-some : (game there played : ℕ) → 0 < there + played → first_used game there played ≡ Some (record { there = there; played = played; first = game })
 first_used-some game zero zero some = absurd (omega arith)

@@ -14,9 +14,9 @@ use Rattle.go_record.specs.declared.actions.Action.{Action}
 use Rattle.shape_core.specs.declared.words.Kinds.{Kinds}
 use Rattle.tally_core.specs.Occasions.{Occasion, HasOccasions, occasion_of}
 use Rattle.tally_core.specs.Counts.{kinds_of, patterns_there, patterns_played}
-use Rattle.tally_core.specs.Counter.{times_in, AreAmong, used_again, used, uses_at, CountsMeetings, CountsGame}
+use Rattle.tally_core.specs.Inner.Counter.{times_in, AreAmong, used_again, used, uses_at, CountsMeetings, CountsGame}
 use Rattle.tally_core.specs.Walk.{there_among, played_among, shapes_of, once_each, IsWalk, IsAmong, IsSmall}
-use Rattle.tally_core.specs.Standing.{IsWalkOf}
+use Rattle.tally_core.specs.Inner.Standing.{IsWalkOf}
 use Rattle.tally_core.specs.declared.counters.Count.{Count}
 use Rattle.tally_core.specs.declared.meetings.Meeting.{Meeting}
 use Rattle.tally_core.proofs.Among.{action_among}

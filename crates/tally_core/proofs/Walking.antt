@@ -10,9 +10,9 @@ use Rattle.go_record.specs.declared.actions.Action.{Action}
 use Rattle.shape_core.specs.declared.words.Kinds.{Kinds}
 use Rattle.tally_core.specs.Occasions.{HasOccasions, occasion_of}
 use Rattle.tally_core.specs.Counts.{kinds_of, patterns_there, patterns_played}
-use Rattle.tally_core.specs.Counter.{times_in}
+use Rattle.tally_core.specs.Inner.Counter.{times_in}
 use Rattle.tally_core.specs.Walk.{there_among, played_among, shapes_of, once_each}
-use Rattle.tally_core.specs.Standing.{there_both, HaveRoom, IsCountedOn, IsFront, IsWalkOf}
+use Rattle.tally_core.specs.Inner.Standing.{there_both, HaveRoom, IsCountedOn, IsFront, IsWalkOf}
 use Rattle.tally_core.specs.declared.meetings.Meeting.{Meeting}
 use Rattle.tally_core.specs.declared.occasions.Sides.{Sides}
 use Rattle.tally_core.proofs.Once.{once_same}

@@ -1,16 +1,10 @@
-pub mod Blank
 pub mod Occasions
 pub mod Counts
 pub mod Games
 pub mod Collection
-pub mod Counter
 pub mod Walk
-pub mod Meeting
-pub mod Place
-pub mod Standing
-pub mod Sight
 pub mod Entries
 pub mod Tally
 pub mod Limits
 pub mod Counted
-pub mod Counting
+pub mod Inner

@@ -1,6 +1,6 @@
 //! The empty field that a game begins with, kept for the games after it.
 ghost use Rattle.std.specs.Prelude.{◌≡◌, IfOk, IfErr};
-ghost use Rattle.tally_core.specs.Blank.{IsBlank};
+ghost use Rattle.tally_core.specs.Inner.Blank.{IsBlank};
 ghost use Rattle.shape_core.specs.declared.words.Kinds.{Kinds};
 ghost use Rattle.tally_core.specs.declared.faults.HarvestFault.TheVariants as fault;
 
@@ -21,7 +21,7 @@ pub(crate) struct Blank {
 impl Model for Blank {
     ghost use Rattle.std.specs.Prelude.{IfSome};
     ghost use Rattle.shape_core.specs.declared.words.Kinds.{Kinds};
-    ghost use Rattle.tally_core.specs.Blank.{IsBlank};
+    ghost use Rattle.tally_core.specs.Inner.Blank.{IsBlank};
 
     ghost Value = { Kinds };
 

@@ -1,6 +1,6 @@
 //! Counts of patterns in an ordered map.
 ghost use Rattle.std.specs.Prelude.{OnOk, IfErr};
-ghost use Rattle.tally_core.specs.Counter.{count_in, one_pattern, used, AreCounts, IsCountingFault};
+ghost use Rattle.tally_core.specs.Inner.Counter.{count_in, one_pattern, used, AreCounts, IsCountingFault};
 
 use crate::faults::HarvestFault;
 use shape_core::Shape;

@@ -7,8 +7,8 @@ ghost use Rattle.sgf_core.specs.Next.{IsNextTree, HasNoTree};
 ghost use Rattle.go_record.specs.declared.records.Kind.TheVariants as kind;
 ghost use Rattle.go_record.specs.declared.faults.RecordFault.TheVariants as record_fault;
 ghost use Rattle.tally_core.specs.Collection.{record_of_tree};
-ghost use Rattle.tally_core.specs.Counting.{CountsTrees, IsWithin, IsSmallTree, CountsAll};
-ghost use Rattle.tally_core.specs.Counting.{IsNextFault};
+ghost use Rattle.tally_core.specs.Inner.Counting.{CountsTrees, IsWithin, IsSmallTree, CountsAll};
+ghost use Rattle.tally_core.specs.Inner.Counting.{IsNextFault};
 ghost use Rattle.tally_core.specs.Counted.{IsCountFault};
 ghost use Rattle.tally_core.specs.declared.faults.HarvestFault.TheVariants as harvest_fault;
 ghost use Rattle.sgf_core.specs.Limit.{most_bytes};
@@ -35,7 +35,7 @@ pub struct Counter {
 impl Counter {
     ghost use Rattle.std.specs.Prelude.{[]};
     ghost use Rattle.shape_core.specs.declared.words.Kinds.{Kinds};
-    ghost use Rattle.tally_core.specs.Counting.{CountsTrees, IsWithin};
+    ghost use Rattle.tally_core.specs.Inner.Counting.{CountsTrees, IsWithin};
 
     /// Nothing was counted yet. It takes no memory.
     pub fn new(alloc: Global) -> Counter
@@ -59,21 +59,21 @@ impl Counter {
 fn count_record(
     walk: &mut Walk,
     counter: &mut Counter,
-    replayed: &Record,
+    game_record: &Record,
 ) -> Result<(), HarvestFault>
     requires { (place : ℕ) × IsWithin place counter.old
-        × (place + length replayed.now.actions < most_bytes) }
+        × (place + length game_record.now.actions < most_bytes) }
     ensures counted { (before : List GameTree) (game : GameTree)
-        → record_of_tree game ≡ Ok (kind.Go replayed.now)
+        → record_of_tree game ≡ Ok (kind.Go game_record.now)
         → CountsTrees walk.old.kinds before counter.old
         → OnOk result (CountsTrees walk.old.kinds (before ++ game ∷ []) counter.new) }
     ensures within { (place : ℕ) → IsWithin place counter.old
-        → OnOk result (IsWithin (place + length replayed.now.actions + 1) counter.new) }
+        → OnOk result (IsWithin (place + length game_record.now.actions + 1) counter.new) }
     ensures fault { IfErr result (λ found. found ≡ harvest_fault.Memory) }
     ensures kinds { walk.new.kinds ≡ walk.old.kinds }
 {
     let game = counter.report.games;
-    let moves = count_game(&mut counter.counts, walk, replayed, game)?;
+    let moves = count_game(&mut counter.counts, walk, game_record, game)?;
     counter.moves += moves;
     counter.report.games += 1;
     Ok(())

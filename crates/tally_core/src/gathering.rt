@@ -1,7 +1,7 @@
 //! The dictionary of the games that were counted.
 ghost use Rattle.std.specs.Prelude.{◌≡◌, List, length, IfOk, IfErr};
 ghost use Rattle.tally_core.specs.Counts.{Replayed};
-ghost use Rattle.tally_core.specs.Counter.{count_in, CountsGames};
+ghost use Rattle.tally_core.specs.Inner.Counter.{count_in, CountsGames};
 ghost use Rattle.tally_core.specs.Games.{counts_diamonds, IsDictionaryOf};
 ghost use Rattle.tally_core.specs.declared.faults.HarvestFault.TheVariants as fault;
 
@@ -14,7 +14,7 @@ use std::alloc::Global;
 use std::collections::BTreeMap;
 
 /// Whether diamonds are among these kinds.
-fn has_diamonds(kinds: Kinds) -> bool
+pub fn has_diamonds(kinds: Kinds) -> bool
     ensures { result ≡ counts_diamonds kinds }
 {
     match kinds {

@@ -21,6 +21,7 @@ mod walks;
 
 pub use collections::{Counted, Report, count_plain};
 pub use faults::HarvestFault;
+pub use gathering::has_diamonds;
 pub use laws::dictionaries_join;
 pub use meetings::Meeting;
 pub use settings::Settings;

@@ -2,9 +2,9 @@
 ghost use Rattle.std.specs.Prelude.{◌≡◌, ◌<◌, ◌+◌, ◌^◌, ℕ, length, [], ◌∷◌, IfOk, IfErr, IfSome};
 ghost use Rattle.std.specs.Prelude.{slice_index, OnOk};
 ghost use Rattle.tally_core.specs.Walk.{shapes_of, there_among, played_among};
-ghost use Rattle.tally_core.specs.Meeting.{Meets, CountsStay, IsMet};
-ghost use Rattle.tally_core.specs.Counter.{one_pattern};
-ghost use Rattle.tally_core.specs.Place.{IsPlaceOf};
+ghost use Rattle.tally_core.specs.Inner.Meeting.{Meets, CountsStay, IsMet};
+ghost use Rattle.tally_core.specs.Inner.Counter.{one_pattern};
+ghost use Rattle.tally_core.specs.Inner.Place.{IsPlaceOf};
 ghost use Rattle.tally_core.specs.declared.faults.HarvestFault.TheVariants as fault;
 
 use crate::faults::HarvestFault;

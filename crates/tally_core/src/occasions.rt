@@ -6,10 +6,10 @@ ghost use Rattle.go_board.specs.declared.points.Stone.TheVariants as stone;
 ghost use Rattle.go_record.specs.Actions.{IsActionOn};
 ghost use Rattle.go_record.specs.Replay.{Does};
 ghost use Rattle.tally_core.specs.Walk.{shapes_of, played_among};
-ghost use Rattle.tally_core.specs.Meeting.{Meets};
-ghost use Rattle.tally_core.specs.Standing.{there_with, AreSides, HaveRoom};
-ghost use Rattle.tally_core.specs.Sight.{Fit, seen_on, played_on, IsSideOn, IsSeenOn, AreSidesOn};
-ghost use Rattle.tally_core.specs.Sight.{AddsThere, AddsPlayed, CountsAction};
+ghost use Rattle.tally_core.specs.Inner.Meeting.{Meets};
+ghost use Rattle.tally_core.specs.Inner.Standing.{there_with, AreSides, HaveRoom};
+ghost use Rattle.tally_core.specs.Inner.Sight.{Fit, seen_on, played_on, IsSideOn, IsSeenOn, AreSidesOn};
+ghost use Rattle.tally_core.specs.Inner.Sight.{AddsThere, AddsPlayed, CountsAction};
 ghost use Rattle.tally_core.specs.declared.faults.HarvestFault.TheVariants as fault;
 
 use crate::faults::HarvestFault;

@@ -1,7 +1,7 @@
 //! A game, walked and counted.
 ghost use Rattle.std.specs.Prelude.{◌≡◌, ◌*◌, ◌≤◌, length, IfOk, IfErr, OnOk};
-ghost use Rattle.tally_core.specs.Counter.{count_in, CountsGame, CountsMeetings, IsMeetingsFault};
-ghost use Rattle.tally_core.specs.Counter.{GrowsBy, IsCountingFault};
+ghost use Rattle.tally_core.specs.Inner.Counter.{count_in, CountsGame, CountsMeetings, IsMeetingsFault};
+ghost use Rattle.tally_core.specs.Inner.Counter.{GrowsBy, IsCountingFault};
 
 use crate::counters::{Count, add};
 use crate::faults::HarvestFault;
@@ -31,19 +31,19 @@ fn count_meetings(
 pub(crate) fn count_game(
     counts: &mut BTreeMap<Shape, Count>,
     walk: &mut Walk,
-    replayed: &Record,
+    game_record: &Record,
     game: u64,
 ) -> Result<u64, HarvestFault>
     ensures counts { IfOk result
-        (CountsGame walk.old.kinds replayed.now game (count_in counts.old) (count_in counts.new)) }
-    ensures few { IfOk result (λ moves. moves ≤ length replayed.now.actions) }
+        (CountsGame walk.old.kinds game_record.now game (count_in counts.old) (count_in counts.new)) }
+    ensures few { IfOk result (λ moves. moves ≤ length game_record.now.actions) }
     ensures grows { OnOk result
-        (GrowsBy (5410 * length replayed.now.actions) (count_in counts.old) (count_in counts.new)) }
+        (GrowsBy (5410 * length game_record.now.actions) (count_in counts.old) (count_in counts.new)) }
     ensures fault { IfErr result
-        (IsCountingFault (5410 * length replayed.now.actions) (count_in counts.old)) }
+        (IsCountingFault (5410 * length game_record.now.actions) (count_in counts.old)) }
     ensures kinds { walk.new.kinds ≡ walk.old.kinds }
 {
-    let moves = walk.walk(replayed)?;
+    let moves = walk.walk(game_record)?;
     count_meetings(counts, walk.meetings(), game)?;
     Ok(moves)
 }

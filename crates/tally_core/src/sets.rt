@@ -3,7 +3,7 @@ ghost use Rattle.std.specs.Prelude.{◌≡◌, ◌<◌, ◌^◌, ◌++◌, ◌==
 ghost use Rattle.std.specs.Int.{bit_at};
 ghost use Rattle.shape_core.specs.KeptLists.{AreMarks};
 ghost use Rattle.tally_core.specs.Counts.{row_of, points_of};
-ghost use Rattle.tally_core.specs.Standing.{is_in_set};
+ghost use Rattle.tally_core.specs.Inner.Standing.{is_in_set};
 ghost use Rattle.tally_core.specs.declared.faults.HarvestFault.TheVariants as fault;
 
 use crate::faults::HarvestFault;

@@ -1,11 +1,11 @@
 //! What stays at the points of a board while a game is walked: most patterns do, and only what changes is looked up.
 ghost use Rattle.std.specs.Prelude.{◌≡◌, ◌+◌, ◌<◌, ◌*◌, ◌^◌, ◌∷◌, ℕ, [], length, IfOk, IfErr, OnOk};
 ghost use Rattle.std.specs.Prelude.{All};
-ghost use Rattle.tally_core.specs.Counter.{times_in};
+ghost use Rattle.tally_core.specs.Inner.Counter.{times_in};
 ghost use Rattle.tally_core.specs.Walk.{shapes_of, there_among, played_among};
-ghost use Rattle.tally_core.specs.Meeting.{Meets, CountsStay};
-ghost use Rattle.tally_core.specs.Standing.{IsStay, patterns_of, waits, waiting, AreStays};
-ghost use Rattle.tally_core.specs.Standing.{no_stays};
+ghost use Rattle.tally_core.specs.Inner.Meeting.{Meets, CountsStay};
+ghost use Rattle.tally_core.specs.Inner.Standing.{IsStay, patterns_of, waits, waiting, AreStays};
+ghost use Rattle.tally_core.specs.Inner.Standing.{no_stays};
 ghost use Rattle.tally_core.specs.declared.faults.HarvestFault.TheVariants as fault;
 
 use crate::faults::HarvestFault;

@@ -54,13 +54,13 @@ impl Tally {
 ///
 /// `HarvestFault::Memory` where memory for the board or the counts was refused. `HarvestFault::Overflow`, of a count that
 /// would pass 2^64 - 1, only where the game has more actions than any input.
-pub fn tally_plain(alloc: Global, kinds: Kinds, replayed: &Record) -> Result<Tally, HarvestFault>
-    ensures tally { IfOk result (IsTally kinds replayed.now) }
-    ensures fault { IfErr result (IsTallyFault replayed.now) }
+pub fn tally_plain(alloc: Global, kinds: Kinds, game_record: &Record) -> Result<Tally, HarvestFault>
+    ensures tally { IfOk result (IsTally kinds game_record.now) }
+    ensures fault { IfErr result (IsTallyFault game_record.now) }
 {
     let mut counts = BTreeMap::new(alloc);
     let mut walk = Walk::begin(alloc, kinds);
-    let moves = count_game(&mut counts, &mut walk, replayed, 0)?;
+    let moves = count_game(&mut counts, &mut walk, game_record, 0)?;
     let entries = entries_of(alloc, FirstGames::LeftOut, &counts)?;
     Ok(Tally { moves, entries })
 }

@@ -6,8 +6,8 @@ ghost use Rattle.go_board.specs.Extent.{IsExtent};
 ghost use Rattle.go_record.specs.Actions.{IsActionOn};
 ghost use Rattle.tally_core.specs.Tally.{IsTallyFault};
 ghost use Rattle.tally_core.specs.Walk.{IsWalk, IsAmong, IsSmall, shapes_of, there_among};
-ghost use Rattle.tally_core.specs.Sight.{PlayedStays};
-ghost use Rattle.tally_core.specs.Standing.{AreStays, there_with, IsNewSide, IsWalkOf};
+ghost use Rattle.tally_core.specs.Inner.Sight.{PlayedStays};
+ghost use Rattle.tally_core.specs.Inner.Standing.{AreStays, there_with, IsNewSide, IsWalkOf};
 ghost use Rattle.tally_core.specs.declared.faults.HarvestFault.TheVariants as fault;
 
 use crate::blanks::Blank;
@@ -125,30 +125,30 @@ impl Walk {
     ///
     /// `HarvestFault::Memory` where memory was refused, and `HarvestFault::Overflow` only where the game has more actions
     /// than any input. After a fault nothing is known of the meetings, and the walk can be used as before.
-    pub fn walk(&mut self, replayed: &Record) -> Result<u64, HarvestFault>
-        ensures walked { IfOk result (IsWalk self.old.kinds replayed.now self.new.meetings) }
+    pub fn walk(&mut self, game_record: &Record) -> Result<u64, HarvestFault>
+        ensures walked { IfOk result (IsWalk self.old.kinds game_record.now self.new.meetings) }
         ensures among { OnOk result (IsAmong self.new.meetings) }
-        ensures small { OnOk result (IsSmall (5410 * length replayed.now.actions)
+        ensures small { OnOk result (IsSmall (5410 * length game_record.now.actions)
             self.new.meetings) }
         ensures kinds { self.new.kinds ≡ self.old.kinds }
-        ensures few { IfOk result (λ moves. moves ≤ length replayed.now.actions) }
-        ensures fault { IfErr result (IsTallyFault replayed.now) }
+        ensures few { IfOk result (λ moves. moves ≤ length game_record.now.actions) }
+        ensures fault { IfErr result (IsTallyFault game_record.now) }
     {
-        if replayed.actions().len() >= MOST_ACTIONS {
+        if game_record.actions().len() >= MOST_ACTIONS {
             return Err(HarvestFault::Overflow);
         }
         self.meetings.clear()?;
         let mut sides = Sides {
-            black: new_side(self.alloc, replayed.size())?,
-            white: new_side(self.alloc, replayed.size())?,
+            black: new_side(self.alloc, game_record.size())?,
+            white: new_side(self.alloc, game_record.size())?,
             seen: Vec::new(self.alloc),
         };
-        let mut field = self.blank.field(replayed.size())?;
+        let mut field = self.blank.field(game_record.size())?;
         walk_actions(
             &mut self.meetings,
             &mut sides,
             &mut field,
-            replayed.actions(),
+            game_record.actions(),
         )
     }
 

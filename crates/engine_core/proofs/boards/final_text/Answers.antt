@@ -8,7 +8,7 @@ use Rattle.engine_core.proofs.boards.final_text.Goals as goal
 
 pub returns-clause-text : goal.returns-clause-text
 returns-clause-text c =
-    let game = c.args.replayed.now in
+    let game = c.args.game_record.now in
     let board = c.in_ok-board.board in
     let final = position_of c.replay.new.board in
     let empty = subst (λ (s : Extent). AreSame s (position_of board) empty_position) c.size.ensures c.in_ok-board.ensures.empty in

@@ -1,5 +1,5 @@
 use Rattle.std.proofs.Common.{subst, arith}
-use Rattle.engine_core.specs.Joins.{IsAdded, IsAddFault}
+use Rattle.engine_core.specs.Inner.Joins.{IsAdded, IsAddFault}
 use Rattle.engine_core.proofs.Joined.{rest_is, add_fault}
 use Rattle.engine_core.proofs.Batched.{batch_number, more_batch}
 use Rattle.engine_core.proofs.joins.add_one.Goals as goal

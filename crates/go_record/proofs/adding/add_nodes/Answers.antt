@@ -1,7 +1,7 @@
 use Rattle.std.proofs.Common.{◌++◌, ap, sym, refl, ◌∙◌, Ok, Err}
 use Rattle.std.proofs.lemmas.Result.{err_from_is_err_and}
 use Rattle.std.specs.List.{flat_map}
-use Rattle.go_record.specs.Adding.{behind, round_deeds}
+use Rattle.go_record.specs.Inner.Adding.{behind, round_deeds}
 use Rattle.go_record.specs.Record.{collected, node_deeds}
 use Rattle.go_record.specs.declared.names.Round.TheVariants as round
 use Rattle.go_record.proofs.Collected.{adds_step, adds_fault, adds_both}

@@ -1,7 +1,7 @@
 use Rattle.std.proofs.Common.{◌≡◌, All}
 use Rattle.std.specs.List.{flat_map}
 use Rattle.go_record.specs.Actions.{IsActionOn}
-use Rattle.go_record.specs.Adding.{behind}
+use Rattle.go_record.specs.Inner.Adding.{behind}
 use Rattle.go_record.specs.Record.{collected, node_deeds}
 use Rattle.go_record.proofs.adding.add_nodes.Given as goal
 

@@ -2,7 +2,7 @@ use Rattle.std.proofs.Common.{ap, sym, ◌∙◌, ◌++◌, subst, Ok, Err}
 use Rattle.std.proofs.lemmas.Result.{err_from_is_err_and}
 use Rattle.std.specs.List.{flat_map}
 use Rattle.sgf_core.specs.Values.{value_of}
-use Rattle.go_record.specs.Adding.{behind, action_of, round_deeds, Adds}
+use Rattle.go_record.specs.Inner.Adding.{behind, action_of, round_deeds, Adds}
 use Rattle.go_record.specs.Record.{collected}
 use Rattle.go_record.proofs.Collected.{adds_step, adds_fault, adds-views}
 use Rattle.go_record.proofs.adding.add_round.Goals as goal

@@ -1,7 +1,7 @@
 use Rattle.std.proofs.Common.{◌≡◌, All, map, drop}
 use Rattle.sgf_core.specs.Values.{value_of}
 use Rattle.go_record.specs.Actions.{IsActionOn}
-use Rattle.go_record.specs.Adding.{behind, action_of}
+use Rattle.go_record.specs.Inner.Adding.{behind, action_of}
 use Rattle.go_record.specs.Record.{collected}
 use Rattle.go_record.proofs.adding.add_values.Given as goal
 

@@ -3,8 +3,8 @@ use Rattle.std.proofs.lemmas.List.Elements.{All-contains}
 use Rattle.job_core.specs.Games.{HasReadAll}
 use Rattle.share_core.specs.GatherFaults.{IsGatherFault}
 use Rattle.harvest_core.specs.Working.{IsWorked, IsRefusal}
-use Rattle.harvest_core.specs.Parted.{IsWorst}
-use Rattle.harvest_core.specs.Harvest.{IsExplained}
+use Rattle.harvest_core.specs.Inner.Parted.{IsWorst}
+use Rattle.harvest_core.specs.Inner.Harvest.{IsExplained}
 use Rattle.harvest_core.proofs.Concluded.{told_none}
 use Rattle.harvest_core.proofs.Parted.{shares_worked, refusals_worked}
 use Rattle.harvest_core.proofs.harvesting.conclude.Goals as goal

@@ -1,5 +1,5 @@
 use Rattle.std.proofs.Common.{◌≡◌, ◌++◌}
-use Rattle.harvest_core.specs.Parted.{shares_of, refusals_of}
+use Rattle.harvest_core.specs.Inner.Parted.{shares_of, refusals_of}
 use Rattle.harvest_core.proofs.parting.part.Given as goal
 
 -- those so far are parted, and those of the others follow

@@ -1,7 +1,8 @@
 use Rattle.std.proofs.Common.{◌≡◌, ℕ, List, IfSome, IfNone, arith, sym, subst, ◌∙◌, ⊎_elim}
 use Rattle.job_core.specs.declared.jobs.Item.TheVariants.{Job}
 use Rattle.job_core.specs.Reading.{IsNextGame, HasNoGame}
-use Rattle.job_core.specs.Rule.{putting, IsInStep}
+use Rattle.job_core.specs.Rule.{putting}
+use Rattle.job_core.specs.Inner.Rule.{IsInStep}
 use Rattle.job_core.proofs.Turns.{in_step_put, in_step_back}
 use Rattle.harvest_core.specs.Working.{IsWorked, IsRefused, IsCounted}
 use Rattle.harvest_core.proofs.Dealt.{dealt_more, ends_offered}

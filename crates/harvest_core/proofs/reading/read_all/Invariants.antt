@@ -1,9 +1,9 @@
 use Rattle.std.proofs.Common.{◌≡◌, ◌^◌, ◌-◌}
 use Rattle.shape_core.specs.declared.words.Kinds.{Kinds}
-use Rattle.job_core.specs.Rule.{IsInStep}
+use Rattle.job_core.specs.Inner.Rule.{IsInStep}
 use Rattle.slot_table.specs.Passes.{IsPassOf}
 use Rattle.harvest_core.specs.Working.{IsWorked, IsRefused}
-use Rattle.harvest_core.specs.Reading.{AreDealt}
+use Rattle.harvest_core.specs.Inner.Reading.{AreDealt}
 use Rattle.harvest_core.proofs.reading.read_all.Given as goal
 
 -- the games so far

@@ -3,7 +3,7 @@ use Rattle.std.proofs.lemmas.Result.{on_ok_weaker}
 use Rattle.tally_core.specs.declared.collections.Report.{Report}
 use Rattle.job_core.specs.declared.hands.Hand.{Hand}
 use Rattle.harvest_core.specs.Working.{IsRefused}
-use Rattle.harvest_core.specs.Reading.{AreDealt}
+use Rattle.harvest_core.specs.Inner.Reading.{AreDealt}
 use Rattle.harvest_core.proofs.Dealt.{dealt_stays, none_where_ok}
 use Rattle.harvest_core.proofs.reading.read_games.Goals as goal
 

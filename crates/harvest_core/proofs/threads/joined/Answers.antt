@@ -2,7 +2,7 @@ use Rattle.std.proofs.Common.{List, sym, subst}
 use Rattle.std.specs.Prelude.{All, Contains}
 use Rattle.std.proofs.lemmas.List.Elements.{All-push, Contains-push}
 use Rattle.harvest_core.specs.declared.working.Worked.{Worked}
-use Rattle.harvest_core.specs.Working.{IsWorkOf}
+use Rattle.harvest_core.specs.Inner.Working.{IsWorkOf}
 use Rattle.harvest_core.proofs.threads.joined.Goals as goal
 
 pub returns-clause-crop : goal.returns-clause-crop

@@ -1,6 +1,6 @@
 use Rattle.std.proofs.Common.{rules, ◌<◌, length, subst, ap, ◌∙◌, ℕ, List}
 use Rattle.std.specs.Prelude.{slice_index_or, vec_len}
-use Rattle.harvest_core.specs.Working.{IsWorkOf}
+use Rattle.harvest_core.specs.Inner.Working.{IsWorkOf}
 use Rattle.harvest_core.proofs.threads.theirs.Goals as goal
 
 pub returns-clause-work : goal.returns-clause-work

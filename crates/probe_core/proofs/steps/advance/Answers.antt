@@ -1,5 +1,6 @@
 use Rattle.std.proofs.Common.{◌≡◌, ◌^◌, ℕ, arith, ap, ◌∙◌, slice_index_or}
-use Rattle.probe_core.specs.Machine.{Machine, place_in, place_wanted, words_wanted, follows}
+use Rattle.probe_core.specs.Machine.{Machine, place_in, place_wanted, follows}
+use Rattle.probe_core.specs.Inner.Machine.{words_wanted}
 use Rattle.probe_core.specs.Turn.{turn_of}
 use Rattle.probe_core.proofs.Taking.{wanted_place, wanted_words}
 use Rattle.probe_core.proofs.steps.advance.Goals as goal

@@ -1,5 +1,5 @@
 use Rattle.std.proofs.Common.{◌-◌, ◌^◌}
-use Rattle.job_core.specs.Rule.{IsInStep}
+use Rattle.job_core.specs.Inner.Rule.{IsInStep}
 use Rattle.run_tests.proofs.jobs.put_all.Given as goal
 
 abbrev pub invariant-loop-job : goal.invariant-loop-job

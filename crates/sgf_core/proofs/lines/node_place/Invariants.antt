@@ -1,5 +1,5 @@
 use Rattle.std.proofs.Common.{◌≡◌, drop}
-use Rattle.sgf_core.specs.Lines.{line_of}
+use Rattle.sgf_core.specs.Inner.Lines.{line_of}
 use Rattle.sgf_core.proofs.lines.node_place.Given as goal
 
 -- what was passed adds nothing to the line

@@ -2,7 +2,7 @@ use Rattle.std.proofs.Common.{refl, sym, subst, arith}
 use Rattle.std.proofs.lemmas.Result.{err_from_is_err_and}
 use Rattle.sgf_core.specs.Bytes.{open_parenthesis, close_parenthesis, semicolon}
 use Rattle.sgf_core.specs.Grammar.{opens, begins_node, closes}
-use Rattle.sgf_core.specs.Pieces.{ReadsMark, MarkFault}
+use Rattle.sgf_core.specs.Inner.Pieces.{ReadsMark, MarkFault}
 use Rattle.sgf_core.specs.declared.marks.Mark.TheVariants as mark
 use Rattle.sgf_core.specs.declared.marks.Expects.TheVariants as expects
 use Rattle.sgf_core.proofs.MarkLemmas.{reads_behind, fault_behind, reads_sign, writes_sign, ends_here}

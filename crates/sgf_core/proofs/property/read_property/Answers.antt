@@ -2,7 +2,7 @@ use Rattle.std.proofs.Common.{◌≡◌, ◌≢◌, ◌<◌, List, [], length, m
 use Rattle.std.specs.Prelude.{slice_index, slice_range}
 use Rattle.std.proofs.lemmas.List.{map_push}
 use Rattle.sgf_core.specs.Bytes.{open_bracket}
-use Rattle.sgf_core.specs.Pieces.{Wrote}
+use Rattle.sgf_core.specs.Inner.Pieces.{Wrote}
 use Rattle.sgf_core.specs.Values.{value_of}
 use Rattle.sgf_core.specs.Grammar.{has_value}
 use Rattle.sgf_core.specs.declared.marks.Value.{Value}

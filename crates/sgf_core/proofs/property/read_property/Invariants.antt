@@ -2,7 +2,7 @@ use Rattle.std.proofs.Common.{◌≡◌, ◌-◌, ◌<◌, ◌≤◌, length, ma
 use Rattle.std.specs.Prelude.{slice_range, slice_index}
 use Rattle.sgf_core.specs.Bytes.{is_white}
 use Rattle.sgf_core.specs.Grammar.{has_value}
-use Rattle.sgf_core.specs.Pieces.{Wrote}
+use Rattle.sgf_core.specs.Inner.Pieces.{Wrote}
 use Rattle.sgf_core.specs.Values.{value_of}
 use Rattle.sgf_core.proofs.property.read_property.Given as goal
 

@@ -1,8 +1,8 @@
 use Rattle.std.proofs.Common.{◌≡◌, get_or, slice_index, refl, ap, ◌∙◌, arith, inl, inr, ⊎_elim}
 use Rattle.go_board.specs.Point.{index_of}
-use Rattle.shape_core.specs.Word.{recoded}
+use Rattle.shape_core.specs.Inner.Word.{recoded}
 use Rattle.shape_core.specs.Field.{IsMarked}
-use Rattle.shape_core.specs.Table.{Sees}
+use Rattle.shape_core.specs.Inner.Table.{Sees}
 use Rattle.shape_core.proofs.Mixing.{sees_or_not, mixed_before, mixed_after, mixed_round_more}
 use Rattle.shape_core.proofs.keeping.recode.Goals as goal
 

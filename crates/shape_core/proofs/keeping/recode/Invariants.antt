@@ -5,11 +5,12 @@ use Rattle.go_board.specs.Point.{IsOn, index_of}
 use Rattle.go_board.specs.Position.{Position}
 use Rattle.shape_core.specs.declared.words.Kind.{Kind}
 use Rattle.shape_core.specs.Offset.{offsets_of}
-use Rattle.shape_core.specs.Table.{offset_of}
+use Rattle.shape_core.specs.Inner.Table.{offset_of}
 use Rattle.shape_core.specs.Word.{word_of}
 use Rattle.shape_core.specs.Around.{stone_code}
 use Rattle.shape_core.specs.Field.{IsMarked}
-use Rattle.shape_core.specs.KeptLists.{AreMarks, AreWords}
+use Rattle.shape_core.specs.KeptLists.{AreMarks}
+use Rattle.shape_core.specs.Inner.KeptLists.{AreWords}
 use Rattle.shape_core.proofs.Mixing.{mixed_round}
 use Rattle.shape_core.proofs.keeping.recode.Given as goal
 

@@ -2,7 +2,7 @@ use Rattle.std.proofs.Common.{◌≡◌, ◌<◌, length, sym, ap, ◌∙◌, ar
 use Rattle.std.proofs.lemmas.List.{get_or_read}
 use Rattle.go_board.specs.Point.{index_of}
 use Rattle.go_board.specs.declared.points.Point.{Point}
-use Rattle.shape_core.specs.Word.{recoded}
+use Rattle.shape_core.specs.Inner.Word.{recoded}
 use Rattle.shape_core.proofs.Marking.{same_point_from, same_from_index, AreMarks-marked, marked_there, marked_stay}
 use Rattle.shape_core.proofs.keeping.recode_cell.Goals as goal
 

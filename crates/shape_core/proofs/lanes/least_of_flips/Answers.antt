@@ -1,6 +1,6 @@
 use Rattle.std.proofs.Common.{refl, ◌∙◌, ap, ap₂, sym}
 use Rattle.shape_core.specs.declared.symmetries.Symmetry.TheVariants as symmetry
-use Rattle.shape_core.specs.Flips.{flips}
+use Rattle.shape_core.specs.Inner.Flips.{flips}
 use Rattle.shape_core.proofs.Images.{image_of_small, kind_of-image}
 use Rattle.shape_core.proofs.lanes.least_of_flips.Goals as goal
 

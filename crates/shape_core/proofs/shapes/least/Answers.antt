@@ -1,7 +1,7 @@
 use Rattle.std.proofs.Common.{◌≡◌, ap, ◌∙◌, sym, min}
 use Rattle.shape_core.specs.declared.symmetries.Symmetry.TheVariants as symmetry
 use Rattle.shape_core.specs.Symmetry.{image_of, least_image}
-use Rattle.shape_core.specs.Flips.{flips}
+use Rattle.shape_core.specs.Inner.Flips.{flips}
 use Rattle.shape_core.proofs.Images.{kind_of-image}
 use Rattle.shape_core.proofs.Least.{least_by_two, least_small, least-least}
 use Rattle.shape_core.proofs.shapes.least.Goals as goal

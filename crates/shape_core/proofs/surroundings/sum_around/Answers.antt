@@ -1,7 +1,7 @@
 use Rattle.std.proofs.Common.{◌≡◌, ◌+◌, ◌*◌, ◌%◌, ◌^◌, ℕ, List, map, take, get_or, sym, ap, ◌∙◌, arith}
 use Rattle.std.proofs.lemmas.List.{length-map, get_or-map, take_all}
 use Rattle.go_board.specs.Board.{position_of}
-use Rattle.shape_core.specs.Table.{offset_of}
+use Rattle.shape_core.specs.Inner.Table.{offset_of}
 use Rattle.shape_core.specs.Word.{sum_of}
 use Rattle.shape_core.specs.Around.{code_around}
 use Rattle.shape_core.proofs.Codes.{AreCodes, sum-lt}

@@ -1,6 +1,6 @@
 use Rattle.std.proofs.Common.{◌≡◌, map, take}
 use Rattle.go_board.specs.Board.{position_of}
-use Rattle.shape_core.specs.Table.{offset_of}
+use Rattle.shape_core.specs.Inner.Table.{offset_of}
 use Rattle.shape_core.specs.Word.{sum_of}
 use Rattle.shape_core.proofs.Reach.{codes_round}
 use Rattle.shape_core.proofs.surroundings.sum_around.Given as goal

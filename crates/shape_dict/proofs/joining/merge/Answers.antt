@@ -4,7 +4,8 @@ use Rattle.std.proofs.lemmas.List.{take_rest}
 use Rattle.std.proofs.lemmas.Result.{err_from_is_err_and}
 use Rattle.std.proofs.lemmas.List.Elements.{All-push}
 use Rattle.shape_dict.specs.declared.entries.Entry.{Entry}
-use Rattle.shape_dict.specs.Merging.{merged, moved_entry}
+use Rattle.shape_dict.specs.Merging.{moved_entry}
+use Rattle.shape_dict.specs.Inner.Merging.{merged}
 use Rattle.shape_dict.proofs.Climbing.{found_here}
 use Rattle.shape_dict.proofs.Joined.{join_both, join_end}
 use Rattle.shape_dict.proofs.joining.merge.Goals as goal

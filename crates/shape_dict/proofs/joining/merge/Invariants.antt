@@ -1,5 +1,5 @@
 use Rattle.std.proofs.Common.{◌≡◌, ◌<◌, ◌≤◌, ◌+◌, ◌-◌, ◌^◌, ◌++◌, drop, length, All}
-use Rattle.shape_dict.specs.Merging.{merged}
+use Rattle.shape_dict.specs.Inner.Merging.{merged}
 use Rattle.shape_dict.proofs.joining.merge.Given as goal
 
 abbrev pub invariant-loop-of_left : goal.invariant-loop-of_left

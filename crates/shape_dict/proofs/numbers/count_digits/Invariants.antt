@@ -1,5 +1,5 @@
 use Rattle.std.proofs.Common.{◌≤◌, ◌-◌, length, take}
-use Rattle.shape_dict.specs.Parsing.{AreDigits}
+use Rattle.shape_dict.specs.Inner.Parsing.{AreDigits}
 use Rattle.shape_dict.proofs.numbers.count_digits.Given as goal
 
 abbrev pub invariant-loop-count : goal.invariant-loop-count

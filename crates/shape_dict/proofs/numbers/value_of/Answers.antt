@@ -1,6 +1,6 @@
 use Rattle.std.proofs.Common.{◌+◌, ◌-◌, ◌*◌, get_or, drop, arith}
 use Rattle.std.proofs.lemmas.List.{at_drop_more}
-use Rattle.shape_dict.specs.Parsing.{read_on}
+use Rattle.shape_dict.specs.Inner.Parsing.{read_on}
 use Rattle.shape_dict.proofs.Decimals.{read_on_ge}
 use Rattle.shape_dict.proofs.numbers.value_of.Goals as goal
 

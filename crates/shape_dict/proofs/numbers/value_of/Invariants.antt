@@ -1,5 +1,5 @@
 use Rattle.std.proofs.Common.{◌≡◌, drop}
-use Rattle.shape_dict.specs.Parsing.{AreDigits, read_on}
+use Rattle.shape_dict.specs.Inner.Parsing.{AreDigits, read_on}
 use Rattle.shape_dict.proofs.numbers.value_of.Given as goal
 
 abbrev pub invariant-loop-byte : goal.invariant-loop-byte

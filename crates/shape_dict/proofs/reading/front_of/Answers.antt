@@ -1,7 +1,8 @@
 use Rattle.std.proofs.Common.{◌≡◌, sym, subst, List, ℕ, Bool, arith, rules}
 use Rattle.shape_dict.specs.declared.entries.Entry.{Entry}
 use Rattle.shape_dict.specs.Contents.{IsDictionary, HasTotals}
-use Rattle.shape_dict.specs.Reading.{HasAllLines, IsRead, counts_of}
+use Rattle.shape_dict.specs.Reading.{HasAllLines, counts_of}
+use Rattle.shape_dict.specs.Inner.Reading.{IsRead}
 use Rattle.shape_dict.proofs.Read.{dictionary_read, front_read}
 use Rattle.shape_dict.proofs.reading.front_of.Goals as goal
 

@@ -1,4 +1,4 @@
-use Rattle.shape_dict.specs.Parsing.{entry_of_line}
+use Rattle.shape_dict.specs.Inner.Parsing.{entry_of_line}
 use Rattle.shape_dict.proofs.Begun.{not_rising, not_canonical, begins_more, shapes_more}
 use Rattle.shape_dict.proofs.reading.next_entry.Goals as goal
 

@@ -2,7 +2,8 @@ use Rattle.std.proofs.Common.{◌≡◌, ◌^◌, [], sym, subst, ◌∙◌, ap,
 use Rattle.slot_table.specs.History.{TellsAt}
 use Rattle.slot_table.proofs.Later.{later_through}
 use Rattle.share_core.specs.Checking.{all_rows}
-use Rattle.share_core.specs.Confirming.{IsLeastOf, IsConfirmation, IsUnconfirmed, first_shape}
+use Rattle.share_core.specs.Confirming.{IsConfirmation, IsUnconfirmed, first_shape}
+use Rattle.share_core.specs.Inner.Confirming.{IsLeastOf}
 use Rattle.share_core.proofs.Confirmed.{AreConfirmed, confirmed_more, stopped, beyond}
 use Rattle.share_core.proofs.confirming.confirm_full.Goals as goal
 

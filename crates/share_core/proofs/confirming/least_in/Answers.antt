@@ -1,7 +1,7 @@
 use Rattle.std.proofs.Common.{◌∷◌, [], ◌++◌, List, take, ap, sym, subst, ◌∙◌, arith, append_assoc}
 use Rattle.std.proofs.lemmas.List.{take_more, take_all}
 use Rattle.share_core.specs.declared.rows.Row.{Row}
-use Rattle.share_core.specs.Confirming.{IsLeastOf}
+use Rattle.share_core.specs.Inner.Confirming.{IsLeastOf}
 use Rattle.share_core.proofs.confirming.least_in.Goals as goal
 
 pub loop-row-preserved : goal.loop-row-preserved

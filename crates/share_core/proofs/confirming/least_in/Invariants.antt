@@ -1,6 +1,6 @@
 use Rattle.std.proofs.Common.{List, ◌++◌, take}
 use Rattle.share_core.specs.declared.rows.Row.{Row}
-use Rattle.share_core.specs.Confirming.{IsLeastOf}
+use Rattle.share_core.specs.Inner.Confirming.{IsLeastOf}
 use Rattle.share_core.proofs.confirming.least_in.Given as goal
 
 -- the least number of the rows so far

@@ -3,7 +3,7 @@ use Rattle.std.proofs.lemmas.List.{take_all}
 use Rattle.share_core.specs.declared.rows.Row.{Row}
 use Rattle.share_core.specs.Shares.{Held}
 use Rattle.share_core.specs.Checking.{all_rows}
-use Rattle.share_core.specs.Confirming.{IsLeastOf}
+use Rattle.share_core.specs.Inner.Confirming.{IsLeastOf}
 use Rattle.share_core.proofs.Strangers.{more_rows}
 use Rattle.share_core.proofs.confirming.least_with.Goals as goal
 

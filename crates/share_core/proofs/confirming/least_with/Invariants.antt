@@ -1,6 +1,6 @@
 use Rattle.std.proofs.Common.{take}
 use Rattle.share_core.specs.Checking.{all_rows}
-use Rattle.share_core.specs.Confirming.{IsLeastOf}
+use Rattle.share_core.specs.Inner.Confirming.{IsLeastOf}
 use Rattle.share_core.proofs.confirming.least_with.Given as goal
 
 -- the least number of the rows of the shares so far

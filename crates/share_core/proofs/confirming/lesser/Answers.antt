@@ -1,5 +1,5 @@
 use Rattle.std.proofs.Common.{sym, subst, ◌∙◌}
-use Rattle.share_core.specs.Confirming.{IsLeastOf}
+use Rattle.share_core.specs.Inner.Confirming.{IsLeastOf}
 use Rattle.share_core.proofs.Confirmed.{least_other, least_first, least_lower, least_stays}
 use Rattle.share_core.proofs.confirming.lesser.Goals as goal
 

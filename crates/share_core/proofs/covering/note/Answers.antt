@@ -1,6 +1,6 @@
 use Rattle.std.proofs.Common.{◌∷◌, [], ◌++◌, Some, false, refl, ap, sym, ◌∙◌}
 use Rattle.std.proofs.lemmas.List.{get_or_default}
-use Rattle.share_core.specs.Covering.{AreNoted}
+use Rattle.share_core.specs.Inner.Covering.{AreNoted}
 use Rattle.share_core.proofs.Covered.{noted_new, noted_first, noted_again}
 use Rattle.share_core.proofs.covering.note.Goals as goal
 use Rattle.share_core.proofs.covering.note.Goals.{in-None, in-Some}

@@ -1,6 +1,6 @@
 use Rattle.std.proofs.Common.{◌≡◌, ◌<◌, ◌∷◌, [], ◌++◌, ℕ, List, length, take, get_or, ap, sym, subst, ◌∙◌, arith, append_assoc}
 use Rattle.std.proofs.lemmas.List.{take_more, take_all}
-use Rattle.share_core.specs.Covering.{AreNoted}
+use Rattle.share_core.specs.Inner.Covering.{AreNoted}
 use Rattle.share_core.proofs.covering.note_all.Goals as goal
 
 pub loop-game-preserved : goal.loop-game-preserved

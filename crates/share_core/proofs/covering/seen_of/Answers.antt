@@ -2,7 +2,8 @@ use Rattle.std.proofs.Common.{◌≡◌, ◌+◌, ◌<◌, ◌∷◌, [], ◌++�
 use Rattle.std.proofs.lemmas.Grind.{flat_map-append}
 use Rattle.std.proofs.lemmas.List.{take_more}
 use Rattle.share_core.specs.Shares.{Held}
-use Rattle.share_core.specs.Covering.{AreNoted, all_games}
+use Rattle.share_core.specs.Covering.{all_games}
+use Rattle.share_core.specs.Inner.Covering.{AreNoted}
 use Rattle.share_core.proofs.covering.seen_of.Goals as goal
 
 -- the games of one share more

@@ -1,5 +1,6 @@
 use Rattle.std.proofs.Common.{◌≡◌, length, take}
-use Rattle.share_core.specs.Covering.{AreNoted, all_games}
+use Rattle.share_core.specs.Covering.{all_games}
+use Rattle.share_core.specs.Inner.Covering.{AreNoted}
 use Rattle.share_core.proofs.covering.seen_of.Given as goal
 
 -- the games of the shares so far are noted

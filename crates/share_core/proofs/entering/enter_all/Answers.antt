@@ -3,8 +3,9 @@ use Rattle.std.proofs.lemmas.List.{get_or_default}
 use Rattle.slot_table.specs.Passes.{Known}
 use Rattle.share_core.specs.declared.making.Entered.{Entered}
 use Rattle.tally_core.specs.declared.meetings.Meeting.{Meeting}
-use Rattle.share_core.specs.Raising.{meeting_at}
-use Rattle.share_core.specs.Entering.{AreEntered, EntersOnly, IsMetIn}
+use Rattle.share_core.specs.Inner.Raising.{meeting_at}
+use Rattle.share_core.specs.Entering.{EntersOnly}
+use Rattle.share_core.specs.Inner.Entering.{AreEntered, IsMetIn}
 use Rattle.share_core.proofs.Entered.{calls_through, calls_weaker, all_kept, entered_more}
 use Rattle.share_core.proofs.entering.enter_all.Goals as goal
 

@@ -1,6 +1,7 @@
 use Rattle.std.proofs.Common.{◌≡◌, ◌^◌, length}
 use Rattle.slot_table.specs.Passes.{IsPassOf}
-use Rattle.share_core.specs.Entering.{AreEntered, EntersOnly, IsMetIn}
+use Rattle.share_core.specs.Entering.{EntersOnly}
+use Rattle.share_core.specs.Inner.Entering.{AreEntered, IsMetIn}
 use Rattle.share_core.proofs.entering.enter_all.Given as goal
 
 -- the meetings so far have numbers

@@ -1,7 +1,7 @@
 use Rattle.std.proofs.Common.{◌≡◌, ◌^◌, ◌<◌, ◌≤◌, length, subst, arith, ⊎_elim}
 use Rattle.std.proofs.lemmas.Bool.{cases_lt}
 use Rattle.slot_table.specs.History.{least_at, IsAtMost}
-use Rattle.share_core.specs.Making.{entered_at}
+use Rattle.share_core.specs.Inner.Making.{entered_at}
 use Rattle.share_core.proofs.Entered.{calls_through}
 use Rattle.share_core.proofs.entering.mark_all.Goals as goal
 

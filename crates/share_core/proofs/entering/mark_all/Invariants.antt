@@ -1,8 +1,8 @@
 use Rattle.std.proofs.Common.{◌^◌, ◌<◌, ℕ}
 use Rattle.slot_table.specs.Passes.{IsPassOf}
 use Rattle.slot_table.specs.History.{least_at, IsAtMost}
-use Rattle.share_core.specs.Making.{entered_at}
-use Rattle.share_core.specs.Entering.{MarksOnly}
+use Rattle.share_core.specs.Inner.Making.{entered_at}
+use Rattle.share_core.specs.Inner.Entering.{MarksOnly}
 use Rattle.share_core.proofs.entering.mark_all.Given as goal
 
 -- the numbers so far are marked

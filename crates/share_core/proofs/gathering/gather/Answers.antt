@@ -3,9 +3,9 @@ use Rattle.std.proofs.lemmas.Result.{err_from_is_err_and, IfErr-weaker}
 use Rattle.share_core.specs.declared.faults.HarvestFault.TheVariants as fault
 use Rattle.share_core.specs.Checking.{all_rows}
 use Rattle.share_core.specs.Gathering.{all_moves}
-use Rattle.share_core.specs.Totals.{AreEntriesOf}
+use Rattle.share_core.specs.Inner.Totals.{AreEntriesOf}
 use Rattle.share_core.specs.GatherFaults.{IsGatherFault}
-use Rattle.share_core.specs.Visiting.{AgreeBelow}
+use Rattle.share_core.specs.Inner.Visiting.{AgreeBelow}
 use Rattle.share_core.proofs.Agreed.{all_below, one_each, stand_below, beyond_table, numbers_fault, anyway}
 use Rattle.share_core.proofs.gathering.gather.Goals as goal
 

@@ -4,8 +4,8 @@ use Rattle.std.proofs.lemmas.Result.{err_from_is_err_and}
 use Rattle.share_core.specs.declared.rows.Row.{Row}
 use Rattle.tally_core.specs.declared.meetings.Meeting.{Meeting}
 use Rattle.share_core.specs.declared.making.Entered.{Entered}
-use Rattle.share_core.specs.Raising.{meeting_at, AreRowsOf}
-use Rattle.share_core.specs.Making.{IsMade, IsMakingFault, AreNumbered, entered_at}
+use Rattle.share_core.specs.Inner.Raising.{meeting_at, AreRowsOf}
+use Rattle.share_core.specs.Inner.Making.{IsMade, IsMakingFault, AreNumbered, entered_at}
 use Rattle.share_core.proofs.Made.{gained_more, rows_more, making_fault, numbered_more}
 use Rattle.share_core.proofs.making.make_all.Goals as goal
 

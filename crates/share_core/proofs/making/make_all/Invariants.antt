@@ -1,6 +1,6 @@
 use Rattle.std.proofs.Common.{take}
-use Rattle.share_core.specs.Raising.{AreRowsOf}
-use Rattle.share_core.specs.Making.{Gained, AreNumbered}
+use Rattle.share_core.specs.Inner.Raising.{AreRowsOf}
+use Rattle.share_core.specs.Inner.Making.{Gained, AreNumbered}
 use Rattle.share_core.proofs.making.make_all.Given as goal
 
 -- the meetings so far have rows

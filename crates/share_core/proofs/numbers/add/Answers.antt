@@ -1,6 +1,6 @@
 use Rattle.std.proofs.Common.{◌≡◌, true, false, not, ap, sym, ◌∙◌, inl, inr}
 use Rattle.std.specs.Option.{option_or}
-use Rattle.share_core.specs.Totals.{with_row, IsTooMuch}
+use Rattle.share_core.specs.Inner.Totals.{with_row, IsTooMuch}
 use Rattle.share_core.proofs.OfNumber.{sums_with, fitting, too_much}
 use Rattle.share_core.proofs.numbers.add.Goals as goal
 use Rattle.share_core.proofs.numbers.add.Goals.{then-sums, else-sums}

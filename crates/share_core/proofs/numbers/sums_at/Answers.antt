@@ -1,7 +1,7 @@
 use Rattle.std.proofs.Common.{◌<◌, ◌++◌, List, length, take, sym, subst}
 use Rattle.share_core.specs.declared.rows.Row.{Row}
 use Rattle.share_core.specs.Checking.{all_rows}
-use Rattle.share_core.specs.Numbers.{AreSums}
+use Rattle.share_core.specs.Inner.Numbers.{AreSums}
 use Rattle.share_core.proofs.OfNumber.{sums_kept, next_rows}
 use Rattle.share_core.proofs.numbers.sums_at.Goals as goal
 use Rattle.share_core.proofs.numbers.sums_at.Goals.{in-Some, in_default}

@@ -1,6 +1,6 @@
 use Rattle.std.proofs.Common.{take}
 use Rattle.share_core.specs.Checking.{all_rows}
-use Rattle.share_core.specs.Numbers.{AreSums}
+use Rattle.share_core.specs.Inner.Numbers.{AreSums}
 use Rattle.share_core.proofs.numbers.sums_at.Given as goal
 
 -- the rows of the shares so far

@@ -4,7 +4,7 @@ use Rattle.std.proofs.lemmas.List.{get_or_default}
 use Rattle.std.specs.Prelude.{slice_index}
 use Rattle.tally_core.specs.declared.meetings.Meeting.{Meeting}
 use Rattle.share_core.specs.Rows.{row_at}
-use Rattle.share_core.specs.Raising.{raised, meeting_at, AreRaised}
+use Rattle.share_core.specs.Inner.Raising.{raised, meeting_at, AreRaised}
 use Rattle.share_core.proofs.Raised.{raised_more, same_shape, same_length, fits}
 use Rattle.share_core.proofs.sums.raise_all.Goals as goal
 

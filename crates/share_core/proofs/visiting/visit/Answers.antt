@@ -2,7 +2,7 @@ use Rattle.std.proofs.Common.{◌^◌, sym, subst, ◌∙◌}
 use Rattle.std.proofs.lemmas.Result.{on_ok_weaker}
 use Rattle.slot_table.specs.History.{TellsAt}
 use Rattle.share_core.specs.Checking.{all_rows}
-use Rattle.share_core.specs.Visiting.{IsVisitFault}
+use Rattle.share_core.specs.Inner.Visiting.{IsVisitFault}
 use Rattle.share_core.proofs.Entered.{calls_seen, calls_through}
 use Rattle.share_core.proofs.Visits.{told_found, stranger_found, visited_later}
 use Rattle.share_core.proofs.visiting.visit.Goals as goal

@@ -2,7 +2,7 @@ use Rattle.std.proofs.Common.{ap, subst, refl, ◌∙◌, List, map}
 use Rattle.std.specs.List.{filter}
 use Rattle.std.specs.List.Sorted.{IsPermutation, IsStrictlyIncreasing}
 use Rattle.shape_dict.specs.declared.entries.Entry.{Entry}
-use Rattle.sheet_core.specs.Choice.{qualifies}
+use Rattle.sheet_core.specs.Inner.Choice.{qualifies}
 use Rattle.sheet_core.proofs.Chosen.{choice_made}
 use Rattle.sheet_core.proofs.choosing.choose.Goals as goal
 

@@ -1,6 +1,6 @@
 use Rattle.std.proofs.Common.{◌≡◌, take}
 use Rattle.std.specs.List.{filter}
-use Rattle.sheet_core.specs.Choice.{qualifies}
+use Rattle.sheet_core.specs.Inner.Choice.{qualifies}
 use Rattle.sheet_core.proofs.choosing.qualified.Given as goal
 
 abbrev pub invariant-loop-entry : goal.invariant-loop-entry

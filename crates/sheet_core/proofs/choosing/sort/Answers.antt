@@ -1,6 +1,6 @@
 use Rattle.std.proofs.Common.{rules}
 use Rattle.std.proofs.lemmas.Fn.{always_returns_same}
-use Rattle.sheet_core.specs.Orders.{goes_before}
+use Rattle.sheet_core.specs.Inner.Orders.{goes_before}
 use Rattle.sheet_core.proofs.Ranking.{ranks}
 use Rattle.sheet_core.proofs.choosing.sort.Goals as goal
 

@@ -2,7 +2,7 @@ use Rattle.std.proofs.Common.{◌≡◌, ◌≤◌, ◌^◌, ℕ, List, length, 
 use Rattle.sgf_core.specs.Reading.{Reading}
 use Rattle.shape_core.specs.declared.words.Kinds.{Kinds}
 use Rattle.tally_core.specs.Walk.{Walked}
-use Rattle.tally_core.specs.Counting.{CountsAll}
+use Rattle.tally_core.specs.Inner.Counting.{CountsAll}
 use Rattle.tally_core.proofs.Trees.{games_reported}
 use Rattle.tally_core.proofs.collections.count_plain.Goals as goal
 

@@ -3,7 +3,7 @@ use Rattle.std.specs.Option.{option_map}
 use Rattle.std.specs.Ordering.{nat_cmp}
 use Rattle.std.specs.BTreeMap.{is_at}
 use Rattle.tally_core.specs.declared.counters.Count.{Count}
-use Rattle.tally_core.specs.Counter.{count_in, uses_at, one_pattern}
+use Rattle.tally_core.specs.Inner.Counter.{count_in, uses_at, one_pattern}
 use Rattle.tally_core.proofs.Used.{again-uses, used_first}
 use Rattle.tally_core.proofs.Lasting.{all-of}
 use Rattle.tally_core.proofs.counters.add.Goals as goal

@@ -1,7 +1,7 @@
 use Rattle.std.proofs.Common.{◌≡◌, ◌∙◌, ◌<◌, ◌≤◌, [], ◌∷◌, ◌++◌, IfSome, ap, sym, subst, arith, length}
 use Rattle.sgf_core.specs.Reading.{Reading}
 use Rattle.shape_core.specs.declared.words.Kinds.{Kinds}
-use Rattle.tally_core.specs.Counting.{IsWithin, CountsTrees}
+use Rattle.tally_core.specs.Inner.Counting.{IsWithin, CountsTrees}
 use Rattle.tally_core.proofs.Trees.{CountsUpTo, IsRead, trees_push}
 use Rattle.tally_core.proofs.counting.count_trees.Goals as goal
 

@@ -1,5 +1,5 @@
 use Rattle.std.proofs.Common.{◌≡◌, ◌≤◌, ◌-◌, length}
-use Rattle.tally_core.specs.Counting.{IsWithin}
+use Rattle.tally_core.specs.Inner.Counting.{IsWithin}
 use Rattle.tally_core.proofs.Trees.{CountsUpTo}
 use Rattle.tally_core.proofs.counting.count_trees.Given as goal
 

@@ -1,5 +1,5 @@
 use Rattle.std.proofs.Common.{map}
-use Rattle.tally_core.specs.Entries.{entry_of_pair}
+use Rattle.tally_core.specs.Inner.Entries.{entry_of_pair}
 use Rattle.tally_core.proofs.Entered.{entry_moved, shapes_more, entries_rise}
 use Rattle.tally_core.proofs.dictionaries.entries_of.Goals as goal
 

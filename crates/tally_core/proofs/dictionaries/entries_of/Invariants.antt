@@ -1,5 +1,6 @@
 use Rattle.std.proofs.Common.{◌≡◌, ◌++◌, All, map}
-use Rattle.tally_core.specs.Entries.{entry_of_pair, IsShape}
+use Rattle.tally_core.specs.Entries.{IsShape}
+use Rattle.tally_core.specs.Inner.Entries.{entry_of_pair}
 use Rattle.tally_core.proofs.dictionaries.entries_of.Given as goal
 
 abbrev pub invariant-loop-shape : goal.invariant-loop-shape

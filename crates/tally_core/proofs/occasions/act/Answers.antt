@@ -7,7 +7,7 @@ use Rattle.go_board.specs.declared.points.Colour.TheVariants as colour
 use Rattle.shape_core.specs.Field.{AreJoined}
 use Rattle.shape_core.specs.KeptLists.{AreMarks}
 use Rattle.tally_core.specs.Walk.{shapes_of}
-use Rattle.tally_core.specs.Standing.{AreSides}
+use Rattle.tally_core.specs.Inner.Standing.{AreSides}
 use Rattle.tally_core.specs.declared.stays.Side.{Side}
 use Rattle.tally_core.specs.declared.occasions.Sides.{Sides}
 use Rattle.tally_core.proofs.Moved.{side-moved}

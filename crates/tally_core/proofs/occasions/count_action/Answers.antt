@@ -5,7 +5,7 @@ use Rattle.go_board.specs.declared.points.Colour.{Colour}
 use Rattle.go_board.specs.declared.points.Colour.TheVariants as colour
 use Rattle.go_record.specs.declared.actions.Action.TheVariants as deed
 use Rattle.tally_core.specs.Walk.{shapes_of}
-use Rattle.tally_core.specs.Standing.{IsSeen}
+use Rattle.tally_core.specs.Inner.Standing.{IsSeen}
 use Rattle.tally_core.proofs.OneOccasion.{IsOccasion, side-extended, side-seen, occasion-done, black-counted, white-counted}
 use Rattle.tally_core.proofs.occasions.count_action.Goals as goal
 

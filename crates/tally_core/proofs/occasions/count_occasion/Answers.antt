@@ -3,7 +3,7 @@ use Rattle.go_board.specs.Extent.{Extent}
 use Rattle.go_board.specs.Point.{index_of}
 use Rattle.go_board.specs.Board.{position_of}
 use Rattle.tally_core.specs.Walk.{shapes_of}
-use Rattle.tally_core.specs.Standing.{AreStays, waiting}
+use Rattle.tally_core.specs.Inner.Standing.{AreStays, waiting}
 use Rattle.tally_core.proofs.Lasting.{waiting-longer}
 use Rattle.tally_core.proofs.Seeing.{index-inside}
 use Rattle.tally_core.proofs.Summed.{seen-sum}

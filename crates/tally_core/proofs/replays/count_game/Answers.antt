@@ -1,5 +1,5 @@
 use Rattle.std.proofs.Common.{◌*◌, length, ap, arith}
-use Rattle.tally_core.specs.Counter.{count_in, uses_at, used, IsCountingFault, CountsMeetings}
+use Rattle.tally_core.specs.Inner.Counter.{count_in, uses_at, used, IsCountingFault, CountsMeetings}
 use Rattle.tally_core.specs.Walk.{there_among, played_among}
 use Rattle.tally_core.proofs.Used.{fault-later, passed_up}
 use Rattle.tally_core.proofs.Walked.{counts-walked, meetings-grow}
@@ -8,7 +8,7 @@ use Rattle.tally_core.proofs.replays.count_game.Goals as goal
 pub returns-in_err-count_meetings-clause-fault : goal.returns-in_err-count_meetings-clause-fault
 returns-in_err-count_meetings-clause-fault c =
     let game = c.args.game in
-    let most = 5410 * length c.args.replayed.now.actions in
+    let most = 5410 * length c.args.game_record.now.actions in
     let before = count_in c.args.counts.now in
     let meetings = c.walk.new.self.meetings in
     let found = c.in_err-count_meetings.field-0.0 in
@@ -19,7 +19,7 @@ returns-in_err-count_meetings-clause-fault c =
 
 pub returns-clause-counts : goal.returns-clause-counts
 returns-clause-counts c =
-    counts-walked c.args.walk.now.kinds c.args.replayed.now c.args.game (count_in c.args.counts.now) (count_in c.count_meetings.new.counts) c.walk.new.self.meetings c.in_ok-moves.moves
+    counts-walked c.args.walk.now.kinds c.args.game_record.now c.args.game (count_in c.args.counts.now) (count_in c.count_meetings.new.counts) c.walk.new.self.meetings c.in_ok-moves.moves
     c.in_ok-moves.ensures.walked c.in_ok-moves.ensures.among (rw c.meetings.ensures at c.in_ok-count_meetings.ensures.ok)
 
 pub returns-clause-grows : goal.returns-clause-grows
@@ -28,5 +28,5 @@ returns-clause-grows c shape =
     omega (
       arith,
       ap uses_at (counted shape),
-      meetings-grow c.args.game (5410 * length c.args.replayed.now.actions) c.walk.new.self.meetings (count_in c.args.counts.now) shape c.in_ok-moves.ensures.small,
+      meetings-grow c.args.game (5410 * length c.args.game_record.now.actions) c.walk.new.self.meetings (count_in c.args.counts.now) shape c.in_ok-moves.ensures.small,
     )

@@ -1,6 +1,6 @@
 use Rattle.std.proofs.Common.{List, subst}
 use Rattle.std.proofs.lemmas.List.{take_all}
-use Rattle.tally_core.specs.Counter.{count_in, one_pattern, used, IsMeetingsFault, CountsMeetings}
+use Rattle.tally_core.specs.Inner.Counter.{count_in, one_pattern, used, IsMeetingsFault, CountsMeetings}
 use Rattle.tally_core.specs.Walk.{there_among, played_among}
 use Rattle.tally_core.proofs.Used.{fault-later, passed_up}
 use Rattle.tally_core.proofs.Adding.{next-within}

@@ -1,5 +1,5 @@
 use Rattle.std.proofs.Common.{take}
-use Rattle.tally_core.specs.Counter.{count_in, CountsMeetings}
+use Rattle.tally_core.specs.Inner.Counter.{count_in, CountsMeetings}
 use Rattle.tally_core.proofs.replays.count_meetings.Given as goal
 
 abbrev pub invariant-loop-meeting : goal.invariant-loop-meeting

@@ -5,7 +5,7 @@ use Rattle.std.proofs.lemmas.List.Elements.{All-set}
 use Rattle.go_board.specs.declared.points.Point.{Point}
 use Rattle.shape_core.specs.Word.{count_from}
 use Rattle.tally_core.specs.Counts.{row_of}
-use Rattle.tally_core.specs.Standing.{is_in_set}
+use Rattle.tally_core.specs.Inner.Standing.{is_in_set}
 use Rattle.tally_core.proofs.Taken.{rows-first}
 use Rattle.tally_core.proofs.sets.take_points.Goals as goal
 

@@ -3,7 +3,7 @@ use Rattle.std.specs.List.{flat_map}
 use Rattle.shape_core.specs.KeptLists.{AreMarks}
 use Rattle.shape_core.specs.Word.{count_from}
 use Rattle.tally_core.specs.Counts.{row_of}
-use Rattle.tally_core.specs.Standing.{is_in_set}
+use Rattle.tally_core.specs.Inner.Standing.{is_in_set}
 use Rattle.tally_core.proofs.sets.take_points.Given as goal
 
 -- the list, and the points of the rows that are left, are all

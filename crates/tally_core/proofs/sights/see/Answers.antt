@@ -11,8 +11,8 @@ use Rattle.go_board.specs.declared.points.Point.{Point}
 use Rattle.shape_core.specs.Field.{IsMarked}
 use Rattle.tally_core.specs.Counts.{points_of}
 use Rattle.tally_core.specs.Walk.{shapes_of}
-use Rattle.tally_core.specs.Meeting.{Meets}
-use Rattle.tally_core.specs.Standing.{is_in_set, patterns_here, AreStanding, IsSeen, StayThere}
+use Rattle.tally_core.specs.Inner.Meeting.{Meets}
+use Rattle.tally_core.specs.Inner.Standing.{is_in_set, patterns_here, AreStanding, IsSeen, StayThere}
 use Rattle.tally_core.proofs.Among.{in-filter, in-points, contains-in}
 use Rattle.tally_core.proofs.Skipped.{points-on, meets-all}
 use Rattle.tally_core.proofs.sights.see.Goals as goal

@@ -7,8 +7,8 @@ use Rattle.go_board.specs.Point.{index_of}
 use Rattle.go_board.specs.Board.{position_of}
 use Rattle.go_board.specs.declared.points.Point.{Point}
 use Rattle.tally_core.specs.Walk.{shapes_of, there_among}
-use Rattle.tally_core.specs.Meeting.{Meets}
-use Rattle.tally_core.specs.Standing.{waits_at, patterns_here}
+use Rattle.tally_core.specs.Inner.Meeting.{Meets}
+use Rattle.tally_core.specs.Inner.Standing.{waits_at, patterns_here}
 use Rattle.tally_core.proofs.Once.{meets_on}
 use Rattle.tally_core.proofs.Seeing.{index-inside, there-step, stays-step, pending-step, points-more}
 use Rattle.tally_core.proofs.sights.see_points.Goals as goal

@@ -4,8 +4,8 @@ use Rattle.go_board.specs.Point.{IsOn}
 use Rattle.go_board.specs.Board.{position_of}
 use Rattle.go_board.specs.declared.points.Point.{Point}
 use Rattle.tally_core.specs.Walk.{shapes_of, played_among}
-use Rattle.tally_core.specs.Meeting.{Meets}
-use Rattle.tally_core.specs.Standing.{there_with, patterns_here, AreStanding, StayThere}
+use Rattle.tally_core.specs.Inner.Meeting.{Meets}
+use Rattle.tally_core.specs.Inner.Standing.{there_with, patterns_here, AreStanding, StayThere}
 use Rattle.tally_core.proofs.sights.see_points.Given as goal
 
 abbrev pub invariant-loop-point : goal.invariant-loop-point

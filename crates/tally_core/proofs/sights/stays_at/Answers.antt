@@ -5,7 +5,7 @@ use Rattle.shape_core.specs.declared.words.Kinds.{Kinds}
 use Rattle.shape_core.specs.declared.words.Kinds.TheVariants as which
 use Rattle.tally_core.specs.Counts.{kinds_of, patterns_at}
 use Rattle.tally_core.specs.Walk.{shapes_of}
-use Rattle.tally_core.specs.Meeting.{Meets}
+use Rattle.tally_core.specs.Inner.Meeting.{Meets}
 use Rattle.tally_core.proofs.Once.{meets_on}
 use Rattle.tally_core.proofs.Lasting.{waits-extended}
 use Rattle.tally_core.proofs.Seeing.{here-empty}

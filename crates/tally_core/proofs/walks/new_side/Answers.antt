@@ -1,5 +1,5 @@
 use Rattle.std.proofs.Common.{◌≡◌, ◌*◌, ◌-◌, ◌^◌, ◌%◌, replicate, refl, ap, ap₂, ◌∙◌}
-use Rattle.tally_core.specs.Standing.{no_stays}
+use Rattle.tally_core.specs.Inner.Standing.{no_stays}
 use Rattle.tally_core.proofs.Beginning.{row-full, new-side}
 use Rattle.tally_core.proofs.walks.new_side.Goals as goal
 

@@ -1,6 +1,6 @@
 use Rattle.std.proofs.Common.{◌≡◌, ◌+◌, ℕ, drop}
 use Rattle.tally_core.specs.Walk.{shapes_of, there_among, played_among}
-use Rattle.tally_core.specs.Standing.{waiting, there_with}
+use Rattle.tally_core.specs.Inner.Standing.{waiting, there_with}
 use Rattle.tally_core.proofs.walks.settle_side.Given as goal
 
 -- what was counted, and what stays at the points that are left, are what they were together

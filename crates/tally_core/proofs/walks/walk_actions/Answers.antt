@@ -7,7 +7,7 @@ use Rattle.go_record.specs.declared.actions.Action.TheVariants.{Set}
 use Rattle.shape_core.specs.declared.words.Kinds.{Kinds}
 use Rattle.tally_core.specs.Occasions.{occasion_of}
 use Rattle.tally_core.specs.Walk.{shapes_of}
-use Rattle.tally_core.specs.Standing.{waiting, AreSides, IsCountedOn}
+use Rattle.tally_core.specs.Inner.Standing.{waiting, AreSides, IsCountedOn}
 use Rattle.tally_core.proofs.Walking.{front-steps, front-few, front-room, front-ends}
 use Rattle.tally_core.proofs.walks.walk_actions.Goals as goal
 

@@ -1,7 +1,7 @@
 use Rattle.std.proofs.Common.{◌≡◌, ◌≤◌, drop}
 use Rattle.go_board.specs.Board.{position_of}
 use Rattle.tally_core.specs.Walk.{shapes_of}
-use Rattle.tally_core.specs.Standing.{AreSides, IsFront}
+use Rattle.tally_core.specs.Inner.Standing.{AreSides, IsFront}
 use Rattle.tally_core.proofs.walks.walk_actions.Given as goal
 
 abbrev pub invariant-loop-action : goal.invariant-loop-action

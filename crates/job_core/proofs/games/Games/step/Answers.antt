@@ -1,7 +1,8 @@
 use Rattle.std.proofs.Common.{◌≡◌, ◌∙◌, ap, sym, subst, IfSome}
 use Rattle.tally_core.specs.Counted.{IsCountFault}
-use Rattle.tally_core.specs.Counting.{IsNextFault}
-use Rattle.job_core.specs.Reading.{Reading, IsStage, IsNextRecord}
+use Rattle.tally_core.specs.Inner.Counting.{IsNextFault}
+use Rattle.job_core.specs.Reading.{Reading}
+use Rattle.job_core.specs.Inner.Reading.{IsStage, IsNextRecord}
 use Rattle.job_core.proofs.Reports.{moved, stops, reads_on}
 use Rattle.job_core.proofs.games.Games.step.Goals as goal
 

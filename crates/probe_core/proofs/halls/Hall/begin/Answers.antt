@@ -1,7 +1,7 @@
 use Rattle.std.proofs.Common.{◌≡◌, refl, ap, Some, slice_get, ◌∙◌, sym}
 use Rattle.std.proofs.lemmas.Bool.{iff_false}
 use Rattle.probe_core.specs.declared.halls.UnderWay.{UnderWay}
-use Rattle.probe_core.specs.Hall.{world_of}
+use Rattle.probe_core.specs.Inner.Hall.{world_of}
 use Rattle.probe_core.proofs.Callers.{began_shows, not_began, not_idle, ordered_after}
 use Rattle.probe_core.proofs.halls.Hall.begin.Goals as goal
 

@@ -5,7 +5,7 @@ use Rattle.probe_core.specs.declared.events.Finished.{Finished}
 use Rattle.probe_core.specs.declared.halls.UnderWay.{UnderWay}
 use Rattle.probe_core.specs.Machine.{Machine, Runs, Answers, follows, place_in}
 use Rattle.probe_core.specs.World.{words_after}
-use Rattle.probe_core.specs.Hall.{world_of, call_of, running_of}
+use Rattle.probe_core.specs.Inner.Hall.{world_of, call_of, running_of}
 use Rattle.probe_core.proofs.Callers.{settled_runs, settled_answers, ordered_after, shown_at}
 use Rattle.probe_core.proofs.Taking.{past_words, past_followed, on_is, done_is, followed_past}
 use Rattle.probe_core.proofs.Lending.{lent_whole}

@@ -2,7 +2,7 @@ use Rattle.std.proofs.Common.{◌≡◌, ◌^◌, ℕ, List, length, map, replic
 use Rattle.std.proofs.lemmas.List.{length-replicate}
 use Rattle.probe_core.specs.declared.events.Finished.{Finished}
 use Rattle.probe_core.specs.World.{Running, new_world}
-use Rattle.probe_core.specs.Hall.{running_of}
+use Rattle.probe_core.specs.Inner.Hall.{running_of}
 use Rattle.probe_core.proofs.Beginning.{idle_callers_show_none, idle_callers_are_ordered}
 use Rattle.probe_core.proofs.halls.Hall.new.Goals as goal
 

@@ -3,7 +3,7 @@ use Rattle.std.proofs.lemmas.List.{map-set, set-get_or}
 use Rattle.std.proofs.lemmas.Option.{slice_get_read}
 use Rattle.probe_core.specs.declared.halls.UnderWay.{UnderWay}
 use Rattle.probe_core.specs.World.{World, Running, stepped}
-use Rattle.probe_core.specs.Hall.{world_of, call_of, running_of}
+use Rattle.probe_core.specs.Inner.Hall.{world_of, call_of, running_of}
 use Rattle.probe_core.proofs.Callers.{shown_at, stepped_taken}
 use Rattle.probe_core.proofs.halls.Hall.step.Goals as goal
 

@@ -1,7 +1,8 @@
 use Rattle.std.proofs.Common.{◌≡◌, ◌^◌, ℕ, ap, sym, subst, arith}
 use Rattle.probe_core.specs.World.{World, new_world}
-use Rattle.probe_core.specs.Hall.{world_of}
-use Rattle.probe_core.specs.Lawful.{IsSound, IsLawful}
+use Rattle.probe_core.specs.Inner.Hall.{world_of}
+use Rattle.probe_core.specs.Lawful.{IsLawful}
+use Rattle.probe_core.specs.Inner.Lawful.{IsSound}
 use Rattle.probe_core.proofs.Soundness.{sound_new, sound_is_lawful}
 use Rattle.probe_core.proofs.worlds.World.new.Goals as goal
 

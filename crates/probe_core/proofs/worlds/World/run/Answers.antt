@@ -2,8 +2,9 @@ use Rattle.std.proofs.Common.{◌≡◌, ◌^◌, ℕ, List, take, ap, ◌∙◌
 use Rattle.probe_core.specs.declared.events.Finished.{Finished}
 use Rattle.probe_core.specs.Placed.{Placed}
 use Rattle.probe_core.specs.World.{happened, counted}
-use Rattle.probe_core.specs.Hall.{world_of}
-use Rattle.probe_core.specs.Lawful.{IsSound, IsLawful}
+use Rattle.probe_core.specs.Inner.Hall.{world_of}
+use Rattle.probe_core.specs.Lawful.{IsLawful}
+use Rattle.probe_core.specs.Inner.Lawful.{IsSound}
 use Rattle.probe_core.proofs.Folding.{after_taken, steps_left}
 use Rattle.probe_core.proofs.Soundness.{sound_is_lawful}
 use Rattle.probe_core.proofs.Running.{sound_now, sound_ran, grows_ran}

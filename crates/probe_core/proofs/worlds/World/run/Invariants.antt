@@ -1,6 +1,6 @@
 use Rattle.std.proofs.Common.{◌≡◌, ◌+◌, ◌^◌, ◌≤◌, length, take, drop}
 use Rattle.probe_core.specs.World.{after_events}
-use Rattle.probe_core.specs.Hall.{world_of, IsFitted, HasRoom}
+use Rattle.probe_core.specs.Inner.Hall.{world_of, IsFitted, HasRoom}
 use Rattle.probe_core.proofs.worlds.World.run.Given as goal
 
 abbrev pub invariant-loop-event : goal.invariant-loop-event

@@ -1,5 +1,6 @@
 use Rattle.std.proofs.Common.{sym, subst}
-use Rattle.sgf_core.specs.Reading.{Reading, IsReading, IsFaultOrMemory}
+use Rattle.sgf_core.specs.Reading.{Reading, IsFaultOrMemory}
+use Rattle.sgf_core.specs.Inner.Reading.{IsReading}
 use Rattle.sgf_core.proofs.Readers.{met_again, reading_on}
 use Rattle.sgf_core.proofs.reader.Trees.next_tree.Goals as goal
 

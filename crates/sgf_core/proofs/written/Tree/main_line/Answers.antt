@@ -1,5 +1,5 @@
 use Rattle.std.proofs.Common.{◌∙◌, ap}
-use Rattle.sgf_core.specs.Lines.{line_of}
+use Rattle.sgf_core.specs.Inner.Lines.{line_of}
 use Rattle.sgf_core.proofs.LineLemmas.{line-marks}
 use Rattle.sgf_core.proofs.written.Tree.main_line.Goals as goal
 

@@ -2,8 +2,8 @@ use Rattle.std.proofs.Common.{◌≡◌, ◌∙◌, sym, ap₂, subst}
 use Rattle.go_board.specs.Position.{placed}
 use Rattle.go_board.specs.Play.{stone_of}
 use Rattle.go_board.specs.Board.{position_of}
-use Rattle.shape_core.specs.KeptLists.{emptied}
-use Rattle.shape_core.specs.Keeping.{Follows, Changes}
+use Rattle.shape_core.specs.Inner.KeptLists.{emptied}
+use Rattle.shape_core.specs.Inner.Keeping.{Follows, Changes}
 use Rattle.shape_core.proofs.Agreeing.{Follows-agree}
 use Rattle.shape_core.proofs.Playing.{Agree-at, Changes-twice, marks_changes}
 use Rattle.shape_core.proofs.Removing.{removed_is}

@@ -1,7 +1,7 @@
 use Rattle.std.proofs.Common.{◌≡◌, ◌∙◌, sym}
 use Rattle.go_board.specs.Position.{placed}
 use Rattle.go_board.specs.Board.{position_of}
-use Rattle.shape_core.specs.Keeping.{Follows}
+use Rattle.shape_core.specs.Inner.Keeping.{Follows}
 use Rattle.shape_core.proofs.Agreeing.{Follows-agree}
 use Rattle.shape_core.proofs.Playing.{Agree-at, marks_changes}
 use Rattle.shape_core.proofs.fields.Field.set.Goals as goal

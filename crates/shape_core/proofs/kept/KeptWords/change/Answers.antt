@@ -3,7 +3,7 @@ use Rattle.std.proofs.lemmas.List.{with_items_is, get_or_read}
 use Rattle.go_board.specs.Position.{placed}
 use Rattle.shape_core.specs.declared.words.Kind.TheVariants as kind
 use Rattle.shape_core.specs.Word.{code_at}
-use Rattle.shape_core.specs.KeptLists.{AreWords}
+use Rattle.shape_core.specs.Inner.KeptLists.{AreWords}
 use Rattle.std.specs.Vec.{with_items}
 use Rattle.shape_core.proofs.Playing.{Changes-of_both}
 use Rattle.shape_core.proofs.Agreeing.{Follows-agree, placed_again, same_stones, middle}

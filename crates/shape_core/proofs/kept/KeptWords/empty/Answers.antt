@@ -1,8 +1,8 @@
 use Rattle.std.proofs.Common.{get_or, take, sym, ap, subst, ◌∙◌, arith}
 use Rattle.std.proofs.lemmas.List.{take_more, take_all}
 use Rattle.go_board.specs.declared.points.Point.{Point}
-use Rattle.shape_core.specs.KeptLists.{emptied}
-use Rattle.shape_core.specs.Keeping.{Follows}
+use Rattle.shape_core.specs.Inner.KeptLists.{emptied}
+use Rattle.shape_core.specs.Inner.Keeping.{Follows}
 use Rattle.shape_core.proofs.Playing.{Changes-twice, Changes-same}
 use Rattle.shape_core.proofs.Removing.{emptied_none, emptied-push}
 use Rattle.shape_core.proofs.kept.KeptWords.empty.Goals as goal

@@ -1,7 +1,7 @@
 use Rattle.std.proofs.Common.{take}
 use Rattle.go_board.specs.Position.{Position}
-use Rattle.shape_core.specs.KeptLists.{emptied}
-use Rattle.shape_core.specs.Keeping.{HasRoom, Follows, Changes}
+use Rattle.shape_core.specs.Inner.KeptLists.{emptied}
+use Rattle.shape_core.specs.Inner.Keeping.{HasRoom, Follows, Changes}
 use Rattle.shape_core.proofs.kept.KeptWords.empty.Given as goal
 
 abbrev pub invariant-loop-point : goal.invariant-loop-point

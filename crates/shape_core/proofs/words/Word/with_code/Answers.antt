@@ -1,5 +1,6 @@
 use Rattle.std.proofs.Common.{◌≡◌, ◌+◌, ◌-◌, ◌*◌, ◌%◌, ◌^◌, ap, ◌∙◌, sym, arith}
-use Rattle.shape_core.specs.Word.{code_at, recoded}
+use Rattle.shape_core.specs.Word.{code_at}
+use Rattle.shape_core.specs.Inner.Word.{recoded}
 use Rattle.shape_core.proofs.Codes.{recoded_small}
 use Rattle.shape_core.proofs.Sums.{exchanged_code_is}
 use Rattle.shape_core.proofs.words.Word.with_code.Goals as goal

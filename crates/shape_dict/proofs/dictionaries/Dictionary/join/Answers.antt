@@ -1,7 +1,7 @@
 use Rattle.std.proofs.Common.{◌≡◌, ◌+◌, ◌<◌, ◌^◌, subst, All, List, arith, rules}
 use Rattle.shape_dict.specs.declared.entries.Entry.{Entry}
 use Rattle.shape_dict.specs.Contents.{IsDictionary}
-use Rattle.shape_dict.specs.Merging.{merged}
+use Rattle.shape_dict.specs.Inner.Merging.{merged}
 use Rattle.shape_dict.proofs.Joined.{dictionary_of, join_of, fits_of}
 use Rattle.shape_dict.proofs.dictionaries.Dictionary.join.Goals as goal
 

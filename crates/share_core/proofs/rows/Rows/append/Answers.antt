@@ -1,7 +1,8 @@
 use Rattle.std.proofs.Common.{◌^◌, sym, ap, subst, List, Some, ◌∷◌, [], ◌++◌, arith, length}
 use Rattle.std.proofs.Math.ListN.{set}
 use Rattle.share_core.specs.declared.rows.Row.{Row}
-use Rattle.share_core.specs.Rows.{IsIndexed, HasNoRow, blank}
+use Rattle.share_core.specs.Rows.{blank}
+use Rattle.share_core.specs.Inner.Rows.{IsIndexed, HasNoRow}
 use Rattle.share_core.proofs.Indexed.{widened, appended}
 use Rattle.share_core.proofs.Few.{few_rows}
 use Rattle.share_core.proofs.rows.Rows.append.Goals as goal

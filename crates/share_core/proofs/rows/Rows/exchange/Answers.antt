@@ -5,7 +5,8 @@ use Rattle.std.proofs.lemmas.List.Edits.{length-swap}
 use Rattle.std.proofs.lemmas.List.Sorted.{IsPermutation-swap}
 use Rattle.std.specs.List.Sorted.{IsPermutation}
 use Rattle.share_core.specs.declared.rows.Row.{Row}
-use Rattle.share_core.specs.Rows.{row_at, blank, IsIndexed}
+use Rattle.share_core.specs.Rows.{row_at, blank}
+use Rattle.share_core.specs.Inner.Rows.{IsIndexed}
 use Rattle.share_core.proofs.Few.{few_rows}
 use Rattle.share_core.proofs.Exchanged.{exchanged, first_low, second_low}
 use Rattle.share_core.proofs.rows.Rows.exchange.Goals as goal

@@ -1,7 +1,8 @@
 use Rattle.std.proofs.Common.{◌≤◌, List, Some, get_or, ap, sym, subst, ◌∙◌, arith}
 use Rattle.std.proofs.lemmas.List.{get_or_default}
 use Rattle.share_core.specs.declared.rows.Row.{Row}
-use Rattle.share_core.specs.Rows.{row_at, blank, AreOfNumbers, IsIndexed}
+use Rattle.share_core.specs.Rows.{row_at, blank, AreOfNumbers}
+use Rattle.share_core.specs.Inner.Rows.{IsIndexed}
 use Rattle.share_core.specs.Checking.{IsLeastFrom}
 use Rattle.share_core.proofs.Few.{of_numbers}
 use Rattle.share_core.proofs.Rising.{AreBeyond, step_beyond, first_row, no_row}

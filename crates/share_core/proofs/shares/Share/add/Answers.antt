@@ -4,10 +4,11 @@ use Rattle.tally_core.specs.declared.meetings.Meeting.{Meeting}
 use Rattle.tally_core.specs.Walk.{IsWalk, IsAmong}
 use Rattle.share_core.specs.declared.rows.Row.{Row}
 use Rattle.share_core.specs.declared.making.Entered.{Entered}
-use Rattle.share_core.specs.Raising.{AreRowsOf}
-use Rattle.share_core.specs.Making.{AreNumbered}
-use Rattle.share_core.specs.Entering.{AreEntered, EntersOnly}
-use Rattle.share_core.specs.Ledgers.{Totals, CountsIn, IsCountFault}
+use Rattle.share_core.specs.Inner.Raising.{AreRowsOf}
+use Rattle.share_core.specs.Inner.Making.{AreNumbered}
+use Rattle.share_core.specs.Entering.{EntersOnly}
+use Rattle.share_core.specs.Inner.Entering.{AreEntered}
+use Rattle.share_core.specs.Inner.Ledgers.{Totals, CountsIn, IsCountFault}
 use Rattle.share_core.specs.Shares.{Held, IsShare, IsPatternOf}
 use Rattle.share_core.specs.Adding.{IsAdded, HasGrown, IsMarked, IsKept, IsAddFault}
 use Rattle.share_core.proofs.Entered.{calls_through, calls_weaker}

@@ -2,7 +2,8 @@ use Rattle.std.proofs.Common.{◌<◌, List, Some, get_or, length, ap, sym, subs
 use Rattle.std.proofs.lemmas.List.{get_or_default}
 use Rattle.share_core.specs.declared.rows.Row.{Row}
 use Rattle.share_core.specs.Shares.{Held}
-use Rattle.share_core.specs.Rows.{row_at, blank, HasNoRow}
+use Rattle.share_core.specs.Rows.{row_at, blank}
+use Rattle.share_core.specs.Inner.Rows.{HasNoRow}
 use Rattle.share_core.proofs.Found.{found_none, found_row}
 use Rattle.share_core.proofs.shares.Share.row_at.Goals as goal
 

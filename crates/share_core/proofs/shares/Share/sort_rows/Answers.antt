@@ -1,5 +1,5 @@
 use Rattle.std.proofs.Common.{sym, subst}
-use Rattle.share_core.specs.Ledgers.{Totals}
+use Rattle.share_core.specs.Inner.Ledgers.{Totals}
 use Rattle.share_core.specs.Shares.{Held, IsShare}
 use Rattle.share_core.proofs.Reordered.{share_stays}
 use Rattle.share_core.proofs.shares.Share.sort_rows.Goals as goal

@@ -5,9 +5,9 @@ use Rattle.tally_core.specs.declared.meetings.Meeting.{Meeting}
 use Rattle.tally_core.specs.Walk.{IsWalk}
 use Rattle.share_core.specs.declared.making.Entered.{Entered}
 use Rattle.share_core.specs.declared.faults.HarvestFault.TheVariants as fault
-use Rattle.share_core.specs.Raising.{AreRowsOf}
-use Rattle.share_core.specs.Making.{AreNumbered}
-use Rattle.share_core.specs.Entering.{AreEntered, IsRefused}
+use Rattle.share_core.specs.Inner.Raising.{AreRowsOf}
+use Rattle.share_core.specs.Inner.Making.{AreNumbered}
+use Rattle.share_core.specs.Inner.Entering.{AreEntered, IsRefused}
 use Rattle.share_core.specs.Adding.{IsPrepareFault}
 use Rattle.share_core.proofs.Prepared.{entered_patterns, fresh_of, stranger_of, full_of}
 use Rattle.share_core.proofs.workings.Workings.prepare.Goals as goal

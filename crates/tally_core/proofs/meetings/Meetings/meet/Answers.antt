@@ -1,6 +1,6 @@
 use Rattle.std.proofs.Common.{subst}
 use Rattle.tally_core.specs.Walk.{shapes_of}
-use Rattle.tally_core.specs.Place.{IsPlaceOf}
+use Rattle.tally_core.specs.Inner.Place.{IsPlaceOf}
 use Rattle.tally_core.proofs.Once.{meets_met}
 use Rattle.tally_core.proofs.meetings.Meetings.meet.Goals as goal
 

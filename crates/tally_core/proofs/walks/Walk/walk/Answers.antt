@@ -9,7 +9,7 @@ use Rattle.go_record.specs.Actions.{IsActionOn}
 use Rattle.go_record.specs.Replay.{AreSame, empty_position}
 use Rattle.shape_core.specs.declared.words.Kinds.{Kinds}
 use Rattle.tally_core.specs.Walk.{Walked, IsSmall}
-use Rattle.tally_core.specs.Standing.{IsWalkOf}
+use Rattle.tally_core.specs.Inner.Standing.{IsWalkOf}
 use Rattle.tally_core.proofs.Walked.{walk-of, among-of, small-of}
 use Rattle.tally_core.proofs.walks.Walk.walk.Goals as goal
 
@@ -21,7 +21,7 @@ small (Err found) kinds size actions start meetings most extent fits few walked 
 pub returns-clause-walked : goal.returns-clause-walked
 returns-clause-walked c =
     let field = c.in_ok-field.field in
-    let game = c.args.replayed.now in
+    let game = c.args.game_record.now in
     let start = position_of field.board in
     let meetings = c.walk_actions.new.meetings in
     let size = c.in_ok-field.ensures.size ∙ c.size-3.ensures in
@@ -46,6 +46,6 @@ pub returns-clause-small : goal.returns-clause-small
 returns-clause-small c =
     let field = c.in_ok-field.field in
     let actions = c.actions-2.result.now in
-    let most : length actions ≤ length c.args.replayed.now.actions = omega (arith, ap length c.actions-2.ensures.value) in
-    small c.walk_actions.result field.kinds field.board.size actions (position_of field.board) c.walk_actions.new.meetings (length c.args.replayed.now.actions)
+    let most : length actions ≤ length c.args.game_record.now.actions = omega (arith, ap length c.actions-2.ensures.value) in
+    small c.walk_actions.result field.kinds field.board.size actions (position_of field.board) c.walk_actions.new.meetings (length c.args.game_record.now.actions)
     c.in_ok-field.ensures.blank.board.extent most c.walk_actions.ensures.few c.walk_actions.ensures.walked

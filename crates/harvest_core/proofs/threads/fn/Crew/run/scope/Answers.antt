@@ -7,7 +7,7 @@ use Rattle.shape_core.specs.declared.words.Kinds.{Kinds}
 use Rattle.harvest_core.specs.declared.threads.WorkOf.{WorkOf}
 use Rattle.harvest_core.specs.declared.working.Worked.{Worked}
 use Rattle.harvest_core.specs.declared.reading.Reading.{Reading}
-use Rattle.harvest_core.specs.Crew.{IsHandleOf, IsReadingOf}
+use Rattle.harvest_core.specs.Inner.Crew.{IsHandleOf, IsReadingOf}
 use Rattle.harvest_core.proofs.threads.fn.Crew.run.scope.Goals as goal
 use Rattle.harvest_core.proofs.threads.fn.Crew.run.scope.Goals.{else-loop-test, then-loop-test+then-is_err, then-loop-test+else-is_err+in-Err}
 

@@ -1,6 +1,6 @@
 use Rattle.std.proofs.Common.{◌≡◌, ◌≤◌, length}
 use Rattle.std.specs.Prelude.{All}
-use Rattle.harvest_core.specs.Crew.{IsCrew, IsHandleOf}
+use Rattle.harvest_core.specs.Inner.Crew.{IsCrew, IsHandleOf}
 use Rattle.harvest_core.proofs.threads.fn.Crew.run.scope.Given as goal
 
 -- the workers that were started so far have promised their work

@@ -3,7 +3,7 @@ use Rattle.std.specs.Prelude.{◌≡◌, ◌⊎◌, ℕ, ◌+◌, ◌^◌, List,
 use Rattle.std.specs.declared.thread.PromisedHandle.{PromisedHandle}
 use Rattle.shape_core.specs.declared.words.Kinds.{Kinds}
 use Rattle.slot_table.specs.Passes.{IsPassOf}
-use Rattle.job_core.specs.Rule.{IsInStep}
+use Rattle.job_core.specs.Inner.Rule.{IsInStep}
 use Rattle.share_core.specs.declared.faults.HarvestFault.TheVariants as fault
 use Rattle.harvest_core.specs.declared.threads.Bench.{Bench}
 use Rattle.harvest_core.specs.declared.threads.Crew.{Crew}
@@ -11,8 +11,8 @@ use Rattle.harvest_core.specs.declared.threads.Crop.{Crop}
 use Rattle.harvest_core.specs.declared.threads.WorkOf.{WorkOf}
 use Rattle.harvest_core.specs.declared.reading.Reading.{Reading}
 use Rattle.harvest_core.specs.declared.working.Worked.{Worked}
-use Rattle.harvest_core.specs.Working.{IsWorkOf}
-use Rattle.harvest_core.specs.Reading.{IsReadFault}
+use Rattle.harvest_core.specs.Inner.Working.{IsWorkOf}
+use Rattle.harvest_core.specs.Inner.Reading.{IsReadFault}
 use Rattle.job_core.specs.Games.{HasReadAll}
 
 -- a worker's bench, for this input and these kinds, with a pass of its table

@@ -4,7 +4,7 @@ use Rattle.share_core.specs.declared.rows.Row.{Row}
 use Rattle.share_core.specs.declared.numbers.NumberSums.{NumberSums}
 use Rattle.share_core.specs.Rows.{first_at}
 use Rattle.share_core.specs.Checking.{stranger_in}
-use Rattle.share_core.specs.Totals.{IsTotalAt, IsLargeAt}
+use Rattle.share_core.specs.Inner.Totals.{IsTotalAt, IsLargeAt}
 
 -- what no rows are together
 abbrev pub none_summed : NumberSums

@@ -5,9 +5,9 @@ use Rattle.slot_table.specs.declared.entries.Happened.{Happened}
 use Rattle.tally_core.specs.Walk.{IsWalk, IsAmong}
 use Rattle.share_core.specs.declared.rows.Row.{Row}
 use Rattle.share_core.specs.declared.workings.Workings.{Workings}
-use Rattle.share_core.specs.Raising.{AreRowsOf}
-use Rattle.share_core.specs.Making.{AreNumbered}
-use Rattle.share_core.specs.Entering.{AreEntered}
+use Rattle.share_core.specs.Inner.Raising.{AreRowsOf}
+use Rattle.share_core.specs.Inner.Making.{AreNumbered}
+use Rattle.share_core.specs.Inner.Entering.{AreEntered}
 
 -- the game was walked, its patterns have numbers, and these have rows
 pub record IsPrepared (n : ℕ) (seen : List Happened) (game : ℕ) (actions : Actions) (workings : Workings) (rows : List Row) (moves : ℕ) : Type 0 where

@@ -9,7 +9,8 @@ use Rattle.shape_core.specs.declared.kept.KeptWords.{KeptWords}
 use Rattle.shape_core.specs.declared.words.Kind.TheVariants as kind
 use Rattle.shape_core.specs.declared.words.Kinds.TheVariants as which
 use Rattle.shape_core.specs.Field.{IsMarked}
-use Rattle.shape_core.specs.KeptLists.{AreMarks, AreWords, DifferingAreMarked}
+use Rattle.shape_core.specs.KeptLists.{AreMarks}
+use Rattle.shape_core.specs.Inner.KeptLists.{AreWords, DifferingAreMarked}
 
 -- a word and a mark for each point of a board
 pub record HasRoom (kept : KeptWords) : Type 0 where

@@ -8,9 +8,9 @@ use Rattle.go_record.specs.declared.actions.Action.{Action}
 use Rattle.shape_core.specs.Field.{Kept}
 use Rattle.tally_core.specs.Occasions.{occasion_of}
 use Rattle.tally_core.specs.Counts.{kinds_of, patterns_at}
-use Rattle.tally_core.specs.Counter.{times_in}
+use Rattle.tally_core.specs.Inner.Counter.{times_in}
 use Rattle.tally_core.specs.Walk.{there_among, played_among, shapes_of}
-use Rattle.tally_core.specs.Standing.{waits_at, there_with, patterns_here, patterns_seen, StayThere, IsSide, IsSeen, AreSides, IsCountedOn}
+use Rattle.tally_core.specs.Inner.Standing.{waits_at, there_with, patterns_here, patterns_seen, StayThere, IsSide, IsSeen, AreSides, IsCountedOn}
 use Rattle.tally_core.specs.declared.meetings.Meeting.{Meeting}
 use Rattle.tally_core.specs.declared.stays.Stays.{Stays}
 use Rattle.tally_core.specs.declared.stays.Side.{Side}

@@ -1,6 +1,6 @@
 -- Where a shape is looked up among meetings.
 use Rattle.std.specs.Prelude.{ℕ, List}
-use Rattle.tally_core.specs.Meeting.{IsMet}
+use Rattle.tally_core.specs.Inner.Meeting.{IsMet}
 use Rattle.tally_core.specs.declared.meetings.Place.{Place}
 use Rattle.tally_core.specs.declared.meetings.Place.TheVariants as place
 

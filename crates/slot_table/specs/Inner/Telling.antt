@@ -90,8 +90,6 @@ pub record Joined {O : Type 0} (n : ℕ) (old other new : View O) : Type 0 where
   pub stake : new.stake ≡ old.stake ++ other.stake
   pub lone : IsLone new
 
--- A slot word is at twice its number, and a mark word one place further: half the place is the number in both.
-
 -- what a step of this machine on a slot word tells a seat, whose view has the order
 abbrev pub told : {O S : Type 0} → (O → ℕ) → Machine → Step S → Me S (View O) → ℕ → Me S (View O) → Type 0
 told {O = O} exponent machine st me found me' = (me'.1 ≡ me.1) ×

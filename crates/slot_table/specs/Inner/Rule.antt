@@ -8,7 +8,8 @@ use Rattle.probe_core.specs.Placing.{IsPlaced}
 use Rattle.slot_table.specs.declared.entries.Happened.{Happened}
 use Rattle.slot_table.specs.declared.views.View.{View}
 use Rattle.slot_table.specs.History.{IsLegal, content_of, least_at, Begins}
-use Rattle.slot_table.specs.Places.{times, below, IsRising, merged}
+use Rattle.slot_table.specs.Places.{times, IsRising}
+use Rattle.slot_table.specs.Inner.Places.{below, merged}
 use Rattle.slot_table.specs.Stakes.{IsWhole, halved, half_of}
 
 -- what the first seat knows: it has made no call, and has the whole stake
@@ -60,8 +61,6 @@ IsView views view = (seat : ℕ) × (get_elem? views seat ≡ some view)
 pub record IsLongest {O : Type 0} (views : List (View O)) (log : List Happened) : Type 0 where
   pub is_seen : (view : View O) × IsView views view × (view.seen ≡ log)
   pub begun : (seat : ℕ) (view : View O) → get_elem? views seat ≡ some view → Begins view.seen log × Begins view.met log
-
--- A number has two words, which lie side by side: that of its slot, and then that of its mark.
 
 -- the words of slots: those at even places
 abbrev pub slot_words : List ℕ → List ℕ

@@ -4,7 +4,8 @@ use Rattle.tally_core.specs.declared.meetings.Meeting.{Meeting}
 use Rattle.share_core.specs.declared.rows.Row.{Row}
 use Rattle.share_core.specs.declared.faults.HarvestFault.{HarvestFault}
 use Rattle.share_core.specs.declared.faults.HarvestFault.TheVariants as fault
-use Rattle.share_core.specs.Raising.{AreRaised, weight_of, weight_among}
+use Rattle.share_core.specs.Raising.{weight_of, weight_among}
+use Rattle.share_core.specs.Inner.Raising.{AreRaised}
 
 pub record Totals : Type 0 where
   pub games : List ℕ

@@ -8,9 +8,10 @@ use Rattle.share_core.specs.declared.visiting.Visited.{Visited}
 use Rattle.share_core.specs.declared.faults.HarvestFault.{HarvestFault}
 use Rattle.share_core.specs.declared.faults.HarvestFault.TheVariants as fault
 use Rattle.share_core.specs.Agreeing.{AskedFirst, IsMarksFault}
-use Rattle.share_core.specs.Checking.{StandBelow, IsStandFault}
-use Rattle.share_core.specs.Gathering.{AreOneEach}
-use Rattle.share_core.specs.Totals.{AreEntriesBelow, IsLargeAt}
+use Rattle.share_core.specs.Checking.{StandBelow}
+use Rattle.share_core.specs.Inner.Checking.{IsStandFault}
+use Rattle.share_core.specs.Inner.Gathering.{AreOneEach}
+use Rattle.share_core.specs.Inner.Totals.{AreEntriesBelow, IsLargeAt}
 
 -- a pass asked the least games of the numbers below this one, and each answer agreed with the rows; or one differed, and it was
 -- the last that was asked

@@ -1,5 +1,5 @@
 -- What a counter holds once some trees of a collection were counted.
-use Rattle.std.specs.Prelude.{◌≡◌, ℕ, ◌+◌, ◌*◌, ◌^◌, ◌<◌, ◌≤◌, List, map}
+use Rattle.std.specs.Prelude.{◌≡◌, ℕ, ◌+◌, ◌*◌, ◌<◌, ◌≤◌, List, map}
 use Rattle.sgf_core.specs.Tree.{GameTree, main_line_of}
 use Rattle.sgf_core.specs.Counts.{value_count}
 use Rattle.sgf_core.specs.Marks.{marks_of}
@@ -9,7 +9,7 @@ use Rattle.sgf_core.specs.Reading.{IsFaultAt}
 use Rattle.shape_core.specs.declared.words.Kinds.{Kinds}
 use Rattle.tally_core.specs.Counts.{Replayed}
 use Rattle.tally_core.specs.Collection.{AreTrees, record_of_tree, games_among, AreReplayed}
-use Rattle.tally_core.specs.Counter.{CountsGames, count_in, uses_at}
+use Rattle.tally_core.specs.Inner.Counter.{CountsGames, count_in, uses_at}
 use Rattle.tally_core.specs.Counted.{IsReport}
 use Rattle.tally_core.specs.declared.counting.Counter.{Counter}
 use Rattle.tally_core.specs.declared.faults.HarvestFault.{HarvestFault}

@@ -1,0 +1,45 @@
+-- What the definitions of `Reading` serve inside the crate.
+use Rattle.std.specs.Prelude.{◌≡◌, ◌⊎◌, ℕ, ◌+◌, ◌<◌, ◌≤◌, List, length, Option, Some, None, Result, Ok, Err}
+use Rattle.sgf_core.specs.Tree.{GameTree}
+use Rattle.sgf_core.specs.Next.{IsNextTree, HasNoTree}
+use Rattle.go_record.specs.Actions.{Actions}
+use Rattle.go_record.specs.declared.records.Kind.{Kind}
+use Rattle.go_record.specs.declared.records.Kind.TheVariants as kind
+use Rattle.go_record.specs.declared.faults.RecordFault.{RecordFault}
+use Rattle.tally_core.specs.Collection.{record_of_tree}
+use Rattle.tally_core.specs.Counted.{IsCountFault}
+use Rattle.tally_core.specs.declared.collections.Report.{Report}
+use Rattle.job_core.specs.declared.games.Stage.{Stage}
+use Rattle.job_core.specs.declared.games.Stage.TheVariants as stage
+use Rattle.job_core.specs.declared.games.Recorded.{Recorded}
+use Rattle.job_core.specs.declared.games.Step.{Step}
+use Rattle.job_core.specs.declared.games.Step.TheVariants as step
+use Rattle.job_core.specs.Reading.{Reading, IsNextGame, HasNoGame}
+
+-- where the next tree is looked for, or why none is
+abbrev pub IsStage : List ℕ → ℕ → ℕ → Stage → Type 0
+IsStage bytes from place stage.Trees = place ≡ from
+IsStage bytes from place stage.End = HasNoTree bytes from
+IsStage bytes from place (stage.Fault found) = IsCountFault bytes found
+
+-- one tree was read, or none was left
+abbrev pub IsStep : Reading → Reading → Step → Type 0
+IsStep before after (step.Job job) = IsNextGame before after job
+IsStep before after step.Passed = (after.report.games ≡ before.report.games)
+    × (before.from < after.from) × (after.from ≤ length after.bytes)
+IsStep before after step.End = HasNoGame before after
+
+-- the tree that is next, with its record
+pub record IsNextRecord (bytes : List ℕ) (from : ℕ) (read : Recorded) : Type 0 where
+  pub tree : GameTree
+  pub next : IsNextTree bytes from read.at read.end tree
+  pub recorded : read.recorded ≡ record_of_tree tree
+  pub forward : from < read.end
+
+-- a tree with this record was counted, and the record came back where it is a game's
+abbrev pub Counts : Report → Result Kind RecordFault → Report → Option Actions → Type 0
+Counts before recorded after (Some game) =
+    (recorded ≡ Ok (kind.Go game)) × (after ≡ record before { games = before.games + 1 })
+Counts before recorded after None =
+    ((recorded ≡ Ok kind.Other) × (after ≡ record before { others = before.others + 1 }))
+    ⊎ ((found : RecordFault) × (recorded ≡ Err found) × (after ≡ record before { refused = before.refused + 1 }))

@@ -1,0 +1,5 @@
+-- What serves the contracts of private functions, and invariants: nothing here has to be believed.
+pub mod Hall
+pub mod Lawful
+pub mod Machine
+pub mod Placing

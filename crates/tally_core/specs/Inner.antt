@@ -1,0 +1,9 @@
+-- What serves the contracts of private functions, and invariants: nothing here has to be believed.
+pub mod Blank
+pub mod Counter
+pub mod Counting
+pub mod Entries
+pub mod Meeting
+pub mod Place
+pub mod Sight
+pub mod Standing

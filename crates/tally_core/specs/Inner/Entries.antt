@@ -1,0 +1,15 @@
+-- What the definitions of `Entries` serve inside the crate.
+use Rattle.std.specs.Prelude.{ℕ, Option, Some, None}
+use Rattle.shape_dict.specs.declared.entries.Entry.{Entry}
+use Rattle.tally_core.specs.declared.counters.Count.{Count}
+use Rattle.tally_core.specs.declared.dictionaries.FirstGames.{FirstGames}
+use Rattle.tally_core.specs.declared.dictionaries.FirstGames.TheVariants as first_games
+
+-- a count's first game, where entries have it
+abbrev pub first_kept : FirstGames → ℕ → Option ℕ
+first_kept first_games.Kept game = Some game
+first_kept first_games.LeftOut game = None
+
+abbrev pub entry_of_pair : FirstGames → ℕ × Count → Entry
+entry_of_pair firsts pair =
+    record { shape = pair.0; there = pair.1.there; played = pair.1.played; first = first_kept firsts pair.1.first }
