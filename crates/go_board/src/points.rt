@@ -68,7 +68,7 @@ impl Model for Size {
 }
 
 impl Size {
-    ghost use Rattle.std.specs.Prelude.{◌≡◌, ◌*◌, ◌<◌, ◌↔◌, IsTrue, IsSome, IfSome};
+    ghost use Rattle.std.specs.Prelude.{◌≡◌, ◌*◌, ◌<◌, ◌/◌, ◌%◌, ◌↔◌, IsTrue, IsSome, IfSome};
     ghost use Rattle.go_board.specs.Extent.{IsExtent};
     ghost use Rattle.go_board.specs.Point.{IsOn, index_of};
 
@@ -116,6 +116,20 @@ impl Size {
         ensures below { result < self.columns * self.rows }
     {
         point.row as usize * self.columns as usize + point.column as usize
+    }
+
+    /// The point at this place of such a list, which is below `area`.
+    pub fn point(self, index: usize) -> Point
+        requires { index < self.columns * self.rows }
+        ensures on_board { IsOn self result }
+        ensures value { result
+            ≡ record { column = index % self.columns; row = index / self.columns } }
+    {
+        let columns = usize::from(self.columns);
+        Point {
+            column: (index % columns) as u8,
+            row: (index / columns) as u8,
+        }
     }
 
     /// Whether the point is on a board of this size.

@@ -139,15 +139,10 @@ fn words_of(alloc: Global, board: &Board, kind: Kind) -> Result<Vec<Word>, Alloc
     ensures { IfOk result (λ words. AreWords kind board.now.size (position_of board.now)
         words.items) }
 {
-    let columns = usize::from(board.size().columns());
-    let count = columns * usize::from(board.size().rows());
-    let mut words = Vec::with_capacity(alloc, count)?;
-    for index in 0..count {
-        let point = Point {
-            column: (index % columns) as u8,
-            row: (index / columns) as u8,
-        };
-        words.push(word_at(board, point, kind))?;
+    let size = board.size();
+    let mut words = Vec::with_capacity(alloc, size.area())?;
+    for index in 0..size.area() {
+        words.push(word_at(board, size.point(index), kind))?;
     }
     Ok(words)
 }

@@ -1,5 +1,6 @@
-use Rattle.std.proofs.Common.{◌≡◌, ◌*◌, ◌%◌, ◌/◌, ◌<◌, ap, ap₂, ◌∙◌, arith}
+use Rattle.std.proofs.Common.{◌≡◌, ◌*◌, ◌%◌, ◌/◌, ◌<◌, ap, ◌∙◌, arith}
 use Rattle.std.proofs.lemmas.Nat.{mod-mul-add, div-mul-add, mul-add-lt}
+use Rattle.go_board.specs.Extent.{Extent}
 use Rattle.go_board.specs.Board.{position_of}
 use Rattle.go_board.specs.Point.{index_of}
 use Rattle.shape_core.specs.Around.{word_around}
@@ -9,9 +10,7 @@ use Rattle.shape_core.proofs.kept.words_of.Goals as goal
 pub returns : goal.returns
 returns c =
     let size = c.args.board.now.size in
-    let columns : c.from-columns.result ≡ size.columns = c.from-columns.ensures ∙ c.columns.ensures.value ∙ ap (λ s. s.columns) c.size.ensures.value in
-    let rows : c.from.result ≡ size.rows = c.from.ensures ∙ c.rows.ensures.value ∙ ap (λ s. s.rows) c.size-2.ensures.value in
-    let whole : c.from-columns.result * c.from.result ≡ size.columns * size.rows = ap₂ ◌*◌ columns rows in
+    let whole : c.area.result ≡ size.columns * size.rows = c.area.ensures.value ∙ ap (λ (s : Extent). s.columns * s.rows) c.size-size.ensures.value in
     let all : c.loop-index.index ≡ size.columns * size.rows = omega (arith, whole) in
     record {
       count = c.loop-index.invariant.0 ∙ all;
