@@ -50,7 +50,7 @@ fn first_text(alloc: Global, input: &[u8]) -> Result<Option<Vec<u8>>, RunFault>
         return Ok(None);
     };
     match read_record(alloc, &tree)? {
-        Kind::Go(replayed) => Ok(Some(final_text(alloc, &replayed)?)),
+        Kind::Go(game_record) => Ok(Some(final_text(alloc, &game_record)?)),
         Kind::Other => Ok(None),
     }
 }

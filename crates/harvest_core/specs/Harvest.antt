@@ -9,7 +9,7 @@ use Rattle.shape_core.specs.declared.words.Kinds.{Kinds}
 use Rattle.shape_dict.specs.declared.entries.Entry.{Entry}
 use Rattle.tally_core.specs.Counted.{IsCounted, IsCountFault}
 use Rattle.tally_core.specs.declared.collections.Counted.{Counted}
-use Rattle.tally_core.specs.declared.collections.Report.{Report}
+use Rattle.tally_core.specs.declared.reports.Report.{Report}
 use Rattle.job_core.specs.Games.{HasReadAll}
 use Rattle.tally_core.specs.declared.faults.HarvestFault.TheVariants as tally
 use Rattle.share_core.specs.declared.faults.HarvestFault.{HarvestFault}

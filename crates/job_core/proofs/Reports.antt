@@ -12,7 +12,7 @@ use Rattle.tally_core.specs.Counted.{IsReport, IsCountFault}
 use Rattle.tally_core.specs.Inner.Counting.{IsNextFault}
 use Rattle.tally_core.specs.declared.faults.HarvestFault.{HarvestFault}
 use Rattle.tally_core.specs.declared.faults.HarvestFault.TheVariants as fault
-use Rattle.tally_core.specs.declared.collections.Report.{Report}
+use Rattle.tally_core.specs.declared.reports.Report.{Report}
 use Rattle.tally_core.proofs.Trees.{trees_push}
 use Rattle.job_core.specs.declared.games.Recorded.{Recorded}
 use Rattle.job_core.specs.Games.{HasRead}

@@ -6,7 +6,7 @@ use Rattle.go_record.specs.Actions.{Actions}
 use Rattle.go_record.specs.declared.records.Kind.TheVariants as kind
 use Rattle.tally_core.specs.Collection.{AreTrees, record_of_tree, games_among}
 use Rattle.tally_core.specs.Counted.{IsReport}
-use Rattle.tally_core.specs.declared.collections.Report.{Report}
+use Rattle.tally_core.specs.declared.reports.Report.{Report}
 use Rattle.sgf_core.specs.Limit.{most_bytes}
 
 -- a game as it is written in an input: its number, where its tree begins and ends, and its record

@@ -1,6 +1,6 @@
 -- What the reader of games has read, and what a step of it does.
 use Rattle.std.specs.Prelude.{◌≡◌, ℕ, ◌+◌, ◌≤◌, List}
-use Rattle.tally_core.specs.declared.collections.Report.{Report}
+use Rattle.tally_core.specs.declared.reports.Report.{Report}
 use Rattle.job_core.specs.Games.{WrittenGame, HasReadAll}
 use Rattle.sgf_core.specs.Limit.{most_bytes}
 

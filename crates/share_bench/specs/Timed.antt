@@ -3,7 +3,7 @@ use Rattle.std.specs.Prelude.{◌≡◌, ℕ, ◌⊎◌, List, length, map, sum_
 use Rattle.std.specs.List.{AllByRecursion}
 use Rattle.shape_core.specs.declared.words.Kinds.{Kinds}
 use Rattle.tally_core.specs.Occasions.{AreOccasions}
-use Rattle.tally_core.specs.declared.collections.Report.{Report}
+use Rattle.tally_core.specs.declared.reports.Report.{Report}
 use Rattle.job_core.specs.Games.{WrittenGame, HasReadAll}
 use Rattle.tally_core.specs.declared.faults.HarvestFault.{HarvestFault as TallyFault}
 use Rattle.tally_core.specs.Counted.{IsCountFault}

@@ -104,6 +104,7 @@ pub(crate) fn add_up<R: Threads + Sync>(
     ensures fault { IfErr result (λ found. (found ≡ fault.Overflow)
         × (2 ^ 64 ≤ all_moves shares.now)) }
 {
+    // A canonical word is of the kind that was looked at.
     kinds_stay();
     let moves = moves_of(shares)?;
     sort(rt, &mut entries, shares.len() > 2);

@@ -14,7 +14,7 @@ use Rattle.go_record.specs.declared.faults.RecordFault.TheVariants as record_fau
 use Rattle.go_record.specs.Adding.{IsUnlessMemory}
 use Rattle.shape_core.specs.declared.words.Kinds.{Kinds}
 use Rattle.tally_core.specs.declared.counting.Counter.{Counter}
-use Rattle.tally_core.specs.declared.collections.Report.{Report}
+use Rattle.tally_core.specs.declared.reports.Report.{Report}
 use Rattle.tally_core.specs.declared.faults.HarvestFault.{HarvestFault}
 use Rattle.tally_core.specs.declared.faults.HarvestFault.TheVariants as fault
 use Rattle.tally_core.specs.Counts.{Replayed}

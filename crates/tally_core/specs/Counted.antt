@@ -11,7 +11,7 @@ use Rattle.tally_core.specs.Counts.{Replayed}
 use Rattle.tally_core.specs.Games.{IsDictionaryOf}
 use Rattle.tally_core.specs.Collection.{AreTrees, record_of_tree, games_among, others_among, refused_among, AreReplayed}
 use Rattle.tally_core.specs.declared.collections.Counted.{Counted}
-use Rattle.tally_core.specs.declared.collections.Report.{Report}
+use Rattle.tally_core.specs.declared.reports.Report.{Report}
 use Rattle.tally_core.specs.declared.faults.HarvestFault.{HarvestFault}
 use Rattle.tally_core.specs.declared.faults.HarvestFault.TheVariants as fault
 use Rattle.sgf_core.specs.Limit.{most_bytes}

@@ -5,7 +5,7 @@ ghost use Rattle.shape_core.specs.declared.words.Kinds.{Kinds};
 ghost use Rattle.tally_core.specs.declared.faults.HarvestFault.TheVariants as fault;
 
 use crate::faults::HarvestFault;
-use go_board::{BoardFault, Size};
+use go_board::Size;
 use shape_core::{Field, Kinds};
 use std::alloc::Global;
 use std::marker::Model;
@@ -58,26 +58,12 @@ impl Blank {
     {
         if let Some(blank) = &self.field {
             if blank.size() == size {
-                return copy(self.alloc, blank);
+                return Ok(blank.copied(self.alloc)?);
             }
         }
-        let Ok(blank) = Field::with_kinds(self.alloc, size, self.kinds) else {
-            return Err(HarvestFault::Memory);
-        };
-        let field = copy(self.alloc, &blank)?;
+        let blank = Field::with_kinds(self.alloc, size, self.kinds)?;
+        let field = blank.copied(self.alloc)?;
         self.field = Some(blank);
         Ok(field)
-    }
-}
-
-/// Another field with the same stones.
-fn copy(alloc: Global, blank: &Field) -> Result<Field, HarvestFault>
-    ensures blank { (kinds : Kinds) → IsBlank kinds blank.now → IfOk result (IsBlank kinds) }
-    ensures size { IfOk result (λ field. field.board.size ≡ blank.now.board.size) }
-    ensures fault { IfErr result (λ found. found ≡ fault.Memory) }
-{
-    match blank.copied(alloc) {
-        Ok(field) => Ok(field),
-        Err(BoardFault::Memory) => Err(HarvestFault::Memory),
     }
 }

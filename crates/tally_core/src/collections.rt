@@ -8,22 +8,12 @@ ghost use Rattle.sgf_core.specs.Limit.{most_bytes};
 use crate::counting::{Counter, count_trees};
 use crate::faults::HarvestFault;
 use crate::gathering::dictionary_of;
+use crate::reports::Report;
 use crate::walks::Walk;
 use sgf_core::Trees;
 use shape_core::Kinds;
 use shape_dict::Dictionary;
 use std::alloc::Global;
-
-/// How many trees a collection has of each sort.
-#[derive(Clone, Copy, Debug, PartialEq, Eq)]
-pub struct Report {
-    /// Games: trees of Go whose records have no fault.
-    pub games: u64,
-    /// Trees of other games. They are passed over.
-    pub others: u64,
-    /// Trees whose records have a fault. They are passed over.
-    pub refused: u64,
-}
 
 /// A collection that was counted.
 #[derive(Drop)]

@@ -13,10 +13,10 @@ ghost use Rattle.tally_core.specs.Counted.{IsCountFault};
 ghost use Rattle.tally_core.specs.declared.faults.HarvestFault.TheVariants as harvest_fault;
 ghost use Rattle.sgf_core.specs.Limit.{most_bytes};
 
-use crate::collections::Report;
 use crate::counters::Count;
 use crate::faults::HarvestFault;
 use crate::replays::count_game;
+use crate::reports::Report;
 use crate::walks::Walk;
 use go_record::{Kind, Record, RecordFault, few_actions, read_record};
 use sgf_core::{SgfFault, Tree, Trees, few_values};
@@ -106,9 +106,10 @@ fn count_tree(
     ensures fault { IfErr result (λ found. found ≡ harvest_fault.Memory) }
     ensures kinds { walk.new.kinds ≡ walk.old.kinds }
 {
+    // A record has no more actions than its main line has values.
     few_actions();
     match read_record(alloc, tree) {
-        Ok(Kind::Go(replayed)) => return count_record(walk, counter, &replayed),
+        Ok(Kind::Go(game_record)) => return count_record(walk, counter, &game_record),
         Ok(Kind::Other) => counter.report.others += 1,
         Err(fault) => {
             unless_memory(fault)?;
@@ -152,6 +153,7 @@ pub(crate) fn count_trees(
     ensures within { OnOk result (IsWithin (most_bytes) counter.new) }
     ensures fault { IfErr result (IsCountFault trees.old.bytes) }
 {
+    // The main line of a tree has fewer values than the tree has bytes.
     few_values();
     while let Some(tree) = next(alloc, trees)? {
         count_tree(alloc, walk, counter, &tree)?;

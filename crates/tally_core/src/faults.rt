@@ -2,6 +2,7 @@
 ghost use Rattle.std.specs.Prelude.{◌≡◌};
 ghost use Rattle.tally_core.specs.declared.faults.HarvestFault.TheVariants.{Memory};
 
+use go_board::BoardFault;
 use sgf_core::SgfFault;
 use std::alloc::{AllocError, AllocFailed};
 use thiserror::Error;
@@ -36,5 +37,15 @@ impl<T: Drop> From<AllocFailed<T>> for HarvestFault {
 
     fn from(_: AllocFailed<T>) -> HarvestFault {
         HarvestFault::Memory
+    }
+}
+
+impl From<BoardFault> for HarvestFault {
+    ghost from_gives = { λ _ fault. fault ≡ Memory };
+
+    fn from(fault: BoardFault) -> HarvestFault {
+        match fault {
+            BoardFault::Memory => HarvestFault::Memory,
+        }
     }
 }

@@ -39,6 +39,7 @@ pub(crate) fn dictionary_of(
         → IsDictionaryOf kinds replayed d) }
     ensures fault { IfErr result (λ found. found ≡ fault.Memory) }
 {
+    // A canonical word is of the kind that was looked at.
     kinds_stay();
     let entries = entries_of(alloc, FirstGames::Kept, counts)?;
     Ok(Dictionary::new(games, moves, entries, has_diamonds(kinds)))

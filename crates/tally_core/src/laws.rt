@@ -19,5 +19,6 @@ pub fn dictionaries_join()
         → IsDictionaryOf kinds left of_left → IsDictionaryOf kinds right of_right
         → IsJoin of_left of_right both → IsDictionaryOf kinds (left ++ right) both }
 {
+    // A canonical word is of the kind that was looked at.
     kinds_stay();
 }

@@ -8,7 +8,7 @@ use Rattle.go_record.specs.declared.records.Kind.TheVariants as kind
 use Rattle.go_record.specs.declared.faults.RecordFault.{RecordFault}
 use Rattle.tally_core.specs.Collection.{record_of_tree}
 use Rattle.tally_core.specs.Counted.{IsCountFault}
-use Rattle.tally_core.specs.declared.collections.Report.{Report}
+use Rattle.tally_core.specs.declared.reports.Report.{Report}
 use Rattle.job_core.specs.declared.games.Stage.{Stage}
 use Rattle.job_core.specs.declared.games.Stage.TheVariants as stage
 use Rattle.job_core.specs.declared.games.Recorded.{Recorded}

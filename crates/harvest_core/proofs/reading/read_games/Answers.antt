@@ -1,6 +1,6 @@
 use Rattle.std.proofs.Common.{IfNone, ap, sym, subst}
 use Rattle.std.proofs.lemmas.Result.{on_ok_weaker}
-use Rattle.tally_core.specs.declared.collections.Report.{Report}
+use Rattle.tally_core.specs.declared.reports.Report.{Report}
 use Rattle.job_core.specs.declared.hands.Hand.{Hand}
 use Rattle.harvest_core.specs.Working.{IsRefused}
 use Rattle.harvest_core.specs.Inner.Reading.{AreDealt}

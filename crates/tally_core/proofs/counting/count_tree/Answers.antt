@@ -8,7 +8,7 @@ pub returns-in-Ok-Go-clause-within : goal.returns-in-Ok-Go-clause-within
 returns-in-Ok-Go-clause-within c =
     let game = c.requires.small.0 in
     let is = sym (c.in-Ok-Go.ensures game c.requires.small.1.marks) ∙ ap Ok c.in-Ok-Go.field-0-is in
-    let few = c.few_actions.ensures (main_line_of game) c.in-Ok-Go.replayed is in
+    let few = c.few_actions.ensures (main_line_of game) c.in-Ok-Go.game_record is in
     on_ok_weaker c.count_record.result
     (within_later _ c.args.tree.now.end c.count_record.new.counter (omega (arith, few, c.requires.small.1.values)))
     (c.count_record.ensures.within c.args.tree.now.at c.requires.within)

@@ -1,0 +1,11 @@
+//! What the trees of a collection are.
+/// How many trees a collection has of each sort.
+#[derive(Clone, Copy, Debug, PartialEq, Eq)]
+pub struct Report {
+    /// Games: trees of Go whose records have no fault.
+    pub games: u64,
+    /// Trees of other games. They are passed over.
+    pub others: u64,
+    /// Trees whose records have a fault. They are passed over.
+    pub refused: u64,
+}
