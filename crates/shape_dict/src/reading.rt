@@ -157,7 +157,8 @@ impl Dictionary {
             → length bytes.now ≤ most_bytes
             → MatchResult result (λ d. d ≡ contents) (λ found. found ≡ fault.Memory) }
         ensures fault { IfErr result (IsTextFault bytes.now) }
-        ensures large { most_bytes < length bytes.now → IfErr result (λ found. found ≡ fault.TooLarge) }
+        ensures large { most_bytes < length bytes.now
+            → IfErr result (λ found. found ≡ fault.TooLarge) }
     {
         read_whole(alloc, bytes)
     }
@@ -175,7 +176,8 @@ impl Dictionary {
             → MatchResult result (λ p. (p.0 ≡ contents) × (p.1 ≡ count))
             (λ found. found ≡ fault.Memory) }
         ensures fault { IfErr result (IsFrontFault bytes.now) }
-        ensures large { most_bytes < length bytes.now → IfErr result (λ found. found ≡ fault.TooLarge) }
+        ensures large { most_bytes < length bytes.now
+            → IfErr result (λ found. found ≡ fault.TooLarge) }
     {
         front_of(alloc, bytes)
     }
