@@ -46,6 +46,20 @@ fn assert_shows(rt: &impl Abort, board: &Board, cells: &[u8]) {
 }
 
 #[test]
+fn copied_board_has_the_stones(rt: HostRuntime) -> Result<(), Fail> {
+    let mut board = board_of(&rt, 3, 2)?;
+    set(&rt, &mut board, Stone::White, 0, 0);
+    set(&rt, &mut board, Stone::Black, 1, 0);
+    play(&rt, &mut board, Colour::Black, 0, 1);
+    set(&rt, &mut board, Stone::White, 2, 1);
+    assert_eq!(&rt; board.removed().len(), 1);
+    let copied = board.copied(rt.alloc())?;
+    assert_shows(&rt, &copied, b".X.X.O");
+    assert_eq!(&rt; copied.removed().len(), 0);
+    Ok(())
+}
+
+#[test]
 fn sizes_are_from_1_to_52(rt: HostRuntime) {
     for (columns, rows, some) in [
         (1, 1, true),

@@ -216,6 +216,21 @@ fn field_from_scratch(rt: HostRuntime) -> Result<(), Fail> {
 }
 
 #[test]
+fn copied_field_has_the_stones(rt: HostRuntime) -> Result<(), Fail> {
+    let size = size_of(3, 3)?;
+    let mut field = Field::with_kinds(rt.alloc(), size, Kinds::Squares)?;
+    let corner = Point { column: 0, row: 0 };
+    assert!(&rt; field.size().has(corner));
+    field.set(corner, Stone::White);
+    let copied = field.copied(rt.alloc())?;
+    assert!(&rt; copied.size().has(corner));
+    assert_eq!(&rt; copied.cell(corner), Stone::White);
+    assert_eq!(&rt; copied.word(corner), field.word(corner));
+    assert!(&rt; copied.is_changed(corner));
+    Ok(())
+}
+
+#[test]
 fn set_stones_change_words(rt: HostRuntime) -> Result<(), Fail> {
     let size = size_of(3, 3)?;
     let mut field = Field::with_kinds(rt.alloc(), size, Kinds::Squares)?;
