@@ -3,7 +3,8 @@ use Rattle.std.proofs.Common.{◌≡◌, List, subst}
 use Rattle.go_board.specs.Extent.{Extent}
 use Rattle.go_board.specs.Position.{Position}
 use Rattle.go_record.specs.Actions.{Actions}
-use Rattle.go_record.specs.Replay.{AreSame, empty_position, Replays}
+use Rattle.go_record.specs.Replay.{empty_position, Replays}
+use Rattle.go_board.specs.Position.{AreSame}
 use Rattle.go_record.specs.declared.actions.Action.{Action}
 use Rattle.engine_core.specs.Boards.{IsFinal}
 

@@ -10,7 +10,8 @@ use Rattle.go_board.specs.declared.points.Stone.{Stone}
 use Rattle.go_board.specs.declared.points.Stone.TheVariants as stone
 use Rattle.go_record.specs.Actions.{Actions}
 use Rattle.go_record.specs.Record.{record_of}
-use Rattle.go_record.specs.Replay.{empty_position, AreSame, Replays}
+use Rattle.go_record.specs.Replay.{empty_position, Replays}
+use Rattle.go_board.specs.Position.{AreSame}
 use Rattle.go_record.specs.declared.records.Kind.{Kind}
 use Rattle.go_record.specs.declared.records.Kind.TheVariants as kind
 use Rattle.go_record.specs.declared.faults.RecordFault.{RecordFault}

@@ -8,17 +8,14 @@ use Rattle.go_board.specs.declared.points.Stone.{Stone}
 use Rattle.go_board.specs.declared.points.Stone.TheVariants as stone
 use Rattle.go_board.specs.Extent.{Extent}
 use Rattle.go_board.specs.Point.{IsOn, index_of}
-use Rattle.go_board.specs.Position.{Position, placed, position_in, AreJoined, IsAlive}
+use Rattle.go_board.specs.Position.{Position, AreSame, placed, position_in, AreJoined, IsAlive}
 use Rattle.go_board.specs.Play.{Removes, IsCaptured, IsSuicide, Plays, stone_of}
 use Rattle.go_board.proofs.Places.{same_index, index_below}
 use Rattle.go_board.proofs.Paths.{along, AreJoined-refl, AreJoined-step}
 use Rattle.go_board.proofs.Captures.{Removes-same}
 
-abbrev pub Agree : Extent → Position → Position → Type 0
-Agree size a b = (q : Point) → IsOn size q → a q ≡ b q
-
-pub Agree-sym : (size : Extent) (a b : Position) → Agree size a b → Agree size b a
-Agree-sym size a b h = λ q on. sym (h q on)
+pub AreSame-sym : (size : Extent) (a b : Position) → AreSame size a b → AreSame size b a
+AreSame-sym size a b h = λ q on. sym (h q on)
 
 -- a stone placed at a point
 pub placed_cases : (position : Position) (p : Point) (kind : Stone) (q : Point) →
@@ -37,7 +34,7 @@ placed_cases position p kind q = elim (eqb_tells q.column p.column) [
 -- a write to the list of stones places a stone
 pub write_places : (size : Extent) (stones : List Stone) (p : Point) (kind : Stone) → IsOn size p →
     length stones ≡ size.columns * size.rows →
-    Agree size (position_in size (set stones (index_of size p) kind)) (placed (position_in size stones) p kind)
+    AreSame size (position_in size (set stones (index_of size p) kind)) (placed (position_in size stones) p kind)
 write_places size stones p kind on board q q_on = elim (placed_cases (position_in size stones) p kind q) [
   | inl h ↦ ap (λ (x : Point). get_or (set stones (index_of size p) kind) (index_of size x) stone.Empty) h.0
       ∙ get_or-set_same stones (index_of size p) kind stone.Empty (subst (λ n. index_of size p < n) (sym board) (index_below size p on))
@@ -46,7 +43,7 @@ write_places size stones p kind on board q q_on = elim (placed_cases (position_i
       ∙ sym h.1
 ]
 
-module _ (size : Extent) (a b : Position) (agree : Agree size a b) where
+module _ (size : Extent) (a b : Position) (agree : AreSame size a b) where
   pub joined_agree : (p q : Point) → IsOn size p → AreJoined size a p q → AreJoined size b p q
   joined_agree p q on j = along size a p (AreJoined size b p)
       (λ x y s next y_on same. AreJoined-step size b p x y s next y_on (sym (agree y y_on) ∙ same ∙ agree p on))
@@ -62,7 +59,7 @@ module _ (size : Extent) (a b : Position) (agree : Agree size a b) where
     empty = sym (agree h.liberty h.on_board) ∙ h.empty;
   }
 
-module _ (size : Extent) (a b : Position) (agree : Agree size a b) where
+module _ (size : Extent) (a b : Position) (agree : AreSame size a b) where
   captured_agree : (mover : Colour) (at q : Point) → IsCaptured size a mover at q → IsCaptured size b mover at q
   captured_agree mover at q c = record {
     neighbour = c.neighbour;
@@ -70,39 +67,39 @@ module _ (size : Extent) (a b : Position) (agree : Agree size a b) where
     next_to = c.next_to;
     of_other = sym (agree c.neighbour c.on_board) ∙ c.of_other;
     joined = joined_agree size a b agree c.neighbour q c.on_board c.joined;
-    dead = λ alive. c.dead (alive_agree size b a (Agree-sym size a b agree) c.neighbour c.on_board alive);
+    dead = λ alive. c.dead (alive_agree size b a (AreSame-sym size a b agree) c.neighbour c.on_board alive);
   }
 
   suicide_agree : (at q : Point) → IsOn size at → IsSuicide size a at q → IsSuicide size b at q
-  suicide_agree at q on s = (joined_agree size a b agree at q on s.0, (λ alive. s.1 (alive_agree size b a (Agree-sym size a b agree) at on alive)))
+  suicide_agree at q on s = (joined_agree size a b agree at q on s.0, (λ alive. s.1 (alive_agree size b a (AreSame-sym size a b agree) at on alive)))
 
 -- what is removed of positions that agree
-pub Removes-agree : (size : Extent) (A : Point → Type 0) (before before' after after' : Position) → Agree size before before' → Agree size after after' →
+pub Removes-agree : (size : Extent) (A : Point → Type 0) (before before' after after' : Position) → AreSame size before before' → AreSame size after after' →
     Removes size A before after → Removes size A before' after'
 Removes-agree size A before before' after after' same_before same_after r = λ q on. elim (r q on) [
   | inl h ↦ inl (h.0, sym (same_after q on) ∙ h.1)
   | inr h ↦ inr (h.0, sym (same_after q on) ∙ h.1 ∙ same_before q on)
 ]
 
-pub Removes-captured : (size : Extent) (a b after : Position) (mover : Colour) (at : Point) → Agree size a b →
+pub Removes-captured : (size : Extent) (a b after : Position) (mover : Colour) (at : Point) → AreSame size a b →
     Removes size (IsCaptured size a mover at) a after → Removes size (IsCaptured size b mover at) b after
 Removes-captured size a b after mover at agree r =
     Removes-same size (IsCaptured size a mover at) (IsCaptured size b mover at) b after
     (λ q on. captured_agree size a b agree mover at q)
-    (λ q on. captured_agree size b a (Agree-sym size a b agree) mover at q)
+    (λ q on. captured_agree size b a (AreSame-sym size a b agree) mover at q)
     (Removes-agree size (IsCaptured size a mover at) a b after after agree (λ q on. refl) r)
 
-Removes-suicide : (size : Extent) (a b after : Position) (at : Point) → IsOn size at → Agree size a b →
+Removes-suicide : (size : Extent) (a b after : Position) (at : Point) → IsOn size at → AreSame size a b →
     Removes size (IsSuicide size a at) a after → Removes size (IsSuicide size b at) b after
 Removes-suicide size a b after at on agree r =
     Removes-same size (IsSuicide size a at) (IsSuicide size b at) b after
     (λ q q_on. suicide_agree size a b agree at q on)
-    (λ q q_on. suicide_agree size b a (Agree-sym size a b agree) at q on)
+    (λ q q_on. suicide_agree size b a (AreSame-sym size a b agree) at q on)
     (Removes-agree size (IsSuicide size a at) a b after after agree (λ q on. refl) r)
 
 -- one thing is left
 Removes-one : (size : Extent) (A : Point → Type 0) (before first second : Position) → Removes size A before first → Removes size A before second →
-    Agree size first second
+    AreSame size first second
 Removes-one size A before first second r s q on = elim (r q on) [
   | inl h ↦ elim (s q on) [
     | inl k ↦ h.1 ∙ sym k.1
@@ -114,11 +111,26 @@ Removes-one size A before first second r s q on = elim (r q on) [
   ]
 ]
 
-pub Plays-one : (size : Extent) (before : Position) (mover : Colour) (at : Point) (first second : Position) → IsOn size at →
-    Plays size before mover at first → Plays size before mover at second → Agree size first second
-Plays-one size before mover at first second on p s =
+-- a stone placed on positions that agree
+placed_same : (size : Extent) (a b : Position) (p : Point) (kind : Stone) → AreSame size a b → AreSame size (placed a p kind) (placed b p kind)
+placed_same size a b p kind same q on = elim (placed_cases a p kind q) [
+  | inl h ↦ elim (placed_cases b p kind q) [
+    | inl k ↦ h.1 ∙ sym k.1
+    | inr k ↦ absurd (k.0 h.0)
+  ]
+  | inr h ↦ elim (placed_cases b p kind q) [
+    | inl k ↦ absurd (h.0 k.0)
+    | inr k ↦ h.1 ∙ same q on ∙ sym k.1
+  ]
+]
+
+pub Plays-one : (size : Extent) (before again : Position) (mover : Colour) (at : Point) (first second : Position) → IsOn size at → AreSame size before again →
+    Plays size before mover at first → Plays size again mover at second → AreSame size first second
+Plays-one size before again mover at first second on same p s =
     let start = placed before at (stone_of mover) in
-    let cleared = Removes-one size (IsCaptured size start mover at) start p.cleared s.cleared p.captures s.captures in
+    let restart = placed again at (stone_of mover) in
+    let starts = placed_same size before again at (stone_of mover) same in
+    let cleared = Removes-one size (IsCaptured size restart mover at) restart p.cleared s.cleared (Removes-captured size start restart p.cleared mover at starts p.captures) s.captures in
     Removes-one size (IsSuicide size s.cleared at) s.cleared first second
     (Removes-suicide size p.cleared s.cleared first at on cleared p.suicide) s.suicide
 

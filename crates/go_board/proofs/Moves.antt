@@ -10,13 +10,13 @@ use Rattle.go_board.specs.declared.points.Stone.TheVariants as stone
 use Rattle.go_board.specs.Extent.{Extent}
 use Rattle.go_board.specs.Gathered.{IsGathered}
 use Rattle.go_board.specs.Point.{IsOn}
-use Rattle.go_board.specs.Position.{Position, placed, IsAlive}
+use Rattle.go_board.specs.Position.{Position, placed, IsAlive, AreSame}
 use Rattle.go_board.specs.Play.{Removes, IsCaptured, IsSuicide, Plays, IsRemoved, ListsOnce, stone_of, other, same_stone, count_of}
 use Rattle.go_board.specs.Inner.Groups.{IsDead}
 use Rattle.go_board.proofs.Paths.{AreJoined-refl, joined_on, joined_same}
 use Rattle.go_board.proofs.Captures.{Removes-same}
 use Rattle.go_board.proofs.Capturing.{stone_solid}
-use Rattle.go_board.proofs.Agreement.{Agree, placed_cases, Removes-captured}
+use Rattle.go_board.proofs.Agreement.{placed_cases, Removes-captured}
 
 other_differs : (c : Colour) → stone_of c ≢ stone_of (other c)
 other_differs colour.Black = λ e. cc
@@ -75,7 +75,7 @@ count_none position kind counted (q ∷ points) ne all =
 -- the steps of a move: `start` with the stone placed, `cleared` without the captured, `after` without a group lost
 pub record Steps (size : Extent) (before : Position) (mover : Colour) (at : Point) (start cleared after : Position) (taken listed : List Point) : Type 0 where
   pub on_board : IsOn size at
-  pub start_is : Agree size start (placed before at (stone_of mover))
+  pub start_is : AreSame size start (placed before at (stone_of mover))
   pub captures : Removes size (IsCaptured size start mover at) start cleared
   pub captured : (q : Point) → (Contains taken q → IsCaptured size start mover at q) × (IsCaptured size start mover at q → Contains taken q)
   pub suicide : Removes size (IsDead size cleared (stone_of mover) at) cleared after
@@ -109,7 +109,7 @@ captor_lives size mover at start cleared taken captures captured some =
 
 -- the two ways a move goes on after its captures
 module _ (size : Extent) (before : Position) (mover : Colour) (at : Point) (start cleared : Position) (taken : List Point)
-    (on_board : IsOn size at) (start_is : Agree size start (placed before at (stone_of mover)))
+    (on_board : IsOn size at) (start_is : AreSame size start (placed before at (stone_of mover)))
     (captures : Removes size (IsCaptured size start mover at) start cleared)
     (captured : (q : Point) → (Contains taken q → IsCaptured size start mover at q) × (IsCaptured size start mover at q → Contains taken q)) where
   pub Steps-capture : length taken ≢ 0 → Steps size before mover at start cleared cleared taken taken

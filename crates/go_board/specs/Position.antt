@@ -10,6 +10,10 @@ use Rattle.go_board.specs.Point.{IsOn, AreNeighbours, same_point, index_of}
 abbrev pub Position : Type 0
 Position = Point → Stone
 
+-- two positions are the same on a board
+abbrev pub AreSame : Extent → Position → Position → Type 0
+AreSame size p q = (point : Point) → IsOn size point → p point ≡ q point
+
 -- the position that a list of stones is, row by row from the top, each row from the left
 abbrev pub position_in : Extent → List Stone → Position
 position_in size stones p = slice_index_or stones (index_of size p) stone.Empty

@@ -1,7 +1,7 @@
 //! What a game is replayed on.
-ghost use Rattle.std.specs.Prelude.{◌≡◌};
+ghost use Rattle.std.specs.Prelude.{◌≡◌, ◌+◌, ◌⊎◌, length};
 ghost use Rattle.go_board.specs.Board.{Stones, position_of};
-ghost use Rattle.go_board.specs.Play.{Plays};
+ghost use Rattle.go_board.specs.Play.{Plays, IsRemoved, ListsOnce, count_of, stone_of, other};
 ghost use Rattle.go_board.specs.Point.{IsOn};
 ghost use Rattle.go_board.specs.Position.{placed};
 ghost use Rattle.go_board.specs.declared.points.Point.{Point};
@@ -32,6 +32,7 @@ pub trait Replayable {
         ensures position { (q : Point) → IsOn (board_of self.old).size q
             → position_of (board_of self.new) q
             ≡ placed (position_of (board_of self.old)) point stone q }
+        ensures removed { (board_of self.new).removed ≡ (board_of self.old).removed }
         ensures stays { Stays self.old self.new };
 
     /// Plays a move by the rule of capture. The point is on the board. It takes no memory.
@@ -40,6 +41,17 @@ pub trait Replayable {
         ensures size { (board_of self.new).size ≡ (board_of self.old).size }
         ensures position { Plays (board_of self.old).size (position_of (board_of self.old)) colour
             point (position_of (board_of self.new)) }
+        ensures removed { ListsOnce
+            (IsRemoved (board_of self.old).size (position_of (board_of self.old)) colour point
+            (position_of (board_of self.new))) (board_of self.new).removed }
+        ensures all { result.taken + result.own_lost ≡ length (board_of self.new).removed }
+        ensures taken { result.taken
+            ≡ count_of (placed (position_of (board_of self.old)) point (stone_of colour))
+            (stone_of (other colour)) (board_of self.new).removed }
+        ensures own_lost { result.own_lost
+            ≡ count_of (placed (position_of (board_of self.old)) point (stone_of colour))
+            (stone_of colour) (board_of self.new).removed }
+        ensures one { (result.taken ≡ 0) ⊎ (result.own_lost ≡ 0) }
         ensures stays { Stays self.old self.new };
 }
 

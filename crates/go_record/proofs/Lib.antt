@@ -4,3 +4,4 @@ pub mod Collected
 mod Worked
 pub mod Rectangles
 pub mod Few
+mod OneResult

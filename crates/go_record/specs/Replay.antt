@@ -1,8 +1,7 @@
 -- What the actions of a record do to a position, one after another.
-use Rattle.std.specs.Prelude.{◌≡◌, nat_le, ◌&&◌, Bool, List, [], ◌∷◌, if◌then◌else◌}
+use Rattle.std.specs.Prelude.{nat_le, ◌&&◌, Bool, List, [], ◌∷◌, if◌then◌else◌}
 use Rattle.go_board.specs.Extent.{Extent}
-use Rattle.go_board.specs.Point.{IsOn}
-use Rattle.go_board.specs.Position.{Position}
+use Rattle.go_board.specs.Position.{Position, AreSame}
 use Rattle.go_board.specs.Play.{Plays}
 use Rattle.go_board.specs.declared.points.Point.{Point}
 use Rattle.go_board.specs.declared.points.Stone.{Stone}
@@ -18,10 +17,6 @@ empty_position point = stone.Empty
 abbrev pub is_within : Point → Point → Point → Bool
 is_within low high point =
     nat_le low.column point.column && nat_le point.column high.column && nat_le low.row point.row && nat_le point.row high.row
-
--- two positions are the same on a board
-abbrev pub AreSame : Extent → Position → Position → Type 0
-AreSame size p q = (point : Point) → IsOn size point → p point ≡ q point
 
 -- the position with this stone on each point of a rectangle, whatever stood there, and nothing else removed
 abbrev pub filled : Position → Point → Point → Stone → Position

@@ -14,7 +14,7 @@ mod spelling;
 
 pub use actions::Action;
 pub use faults::RecordFault;
-pub use laws::few_actions;
+pub use laws::{few_actions, replays_have_one_result};
 pub use reading::read_record;
 pub use records::{Kind, Record};
 pub use replaying::{apply, replay};

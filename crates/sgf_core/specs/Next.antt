@@ -48,7 +48,8 @@ pub record TurnsBad (bytes : List ℕ) (from at bad : ℕ) : Type 0 where
   pub good : IsGoodFront at (slice_range bytes at bad)
   pub turns : IsGoodFront at (slice_range bytes at (bad + 1)) → ⊥
 
--- the text ends with an identifier and white bytes
+-- the text ends with a letter and white bytes. Of a good front this means an identifier: a letter at the end of a value
+-- would be followed by a byte that the value may have, so no byte there turns the front into one that is not good
 pub record EndsWithIdentifier (text : List ℕ) : Type 0 where
   pub before : List ℕ
   pub letter : ℕ

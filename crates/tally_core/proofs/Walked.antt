@@ -9,7 +9,8 @@ use Rattle.std.proofs.lemmas.List.Sums.{sum_by-cons}
 use Rattle.go_board.specs.Extent.{Extent, IsExtent}
 use Rattle.go_board.specs.Position.{Position}
 use Rattle.go_record.specs.Actions.{Actions, IsActionOn}
-use Rattle.go_record.specs.Replay.{AreSame, empty_position}
+use Rattle.go_record.specs.Replay.{empty_position}
+use Rattle.go_board.specs.Position.{AreSame}
 use Rattle.go_record.specs.declared.actions.Action.{Action}
 use Rattle.shape_core.specs.declared.words.Kinds.{Kinds}
 use Rattle.tally_core.specs.Occasions.{Occasion, HasOccasions, occasion_of}

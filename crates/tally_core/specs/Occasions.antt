@@ -9,7 +9,8 @@ use Rattle.go_board.specs.declared.points.Stone.TheVariants as stone
 use Rattle.go_record.specs.declared.actions.Action.{Action}
 use Rattle.go_record.specs.declared.actions.Action.TheVariants as action
 use Rattle.go_record.specs.Actions.{Actions}
-use Rattle.go_record.specs.Replay.{empty_position, AreSame, Does}
+use Rattle.go_record.specs.Replay.{empty_position, Does}
+use Rattle.go_board.specs.Position.{AreSame}
 
 pub record Occasion : Type 0 where
   pub position : Position

@@ -1,7 +1,8 @@
 use Rattle.std.proofs.Common.{◌∙◌, subst, ap}
 use Rattle.go_board.specs.Extent.{Extent}
 use Rattle.go_board.specs.Board.{position_of}
-use Rattle.go_record.specs.Replay.{AreSame, empty_position}
+use Rattle.go_record.specs.Replay.{empty_position}
+use Rattle.go_board.specs.Position.{AreSame}
 use Rattle.engine_core.specs.Boards.{position_text}
 use Rattle.engine_core.proofs.Finals.{final_of}
 use Rattle.engine_core.proofs.boards.final_text.Goals as goal

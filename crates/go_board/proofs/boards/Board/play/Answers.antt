@@ -2,9 +2,9 @@
 use Rattle.std.proofs.Common.{◌≡◌, ◌≢◌, ◌∙◌, ap, sym, length, List}
 use Rattle.std.proofs.lemmas.List.{take_at}
 use Rattle.go_board.specs.declared.points.Stone.{Stone}
-use Rattle.go_board.specs.Position.{position_in, placed}
+use Rattle.go_board.specs.Position.{position_in, placed, AreSame}
 use Rattle.go_board.specs.Play.{stone_of}
-use Rattle.go_board.proofs.Agreement.{Agree, write_places}
+use Rattle.go_board.proofs.Agreement.{write_places}
 use Rattle.go_board.proofs.Moves.{Steps, Steps-capture, Steps-quiet, Steps-plays, Steps-lists, Steps-taken, Steps-own, Steps-kept}
 use Rattle.go_board.proofs.boards.Board.play.Goals as goal
 use Rattle.go_board.proofs.boards.Board.play.Goals.{then-taken-eq0, else-taken-eq0}
@@ -14,7 +14,7 @@ steps : (c : goal.After-len) → Steps c.self.inside.size (position_in c.self.in
     (position_in c.if-taken-eq0.self-inside.size c.if-taken-eq0.self-inside.stones.items)
     c.capture.new.removed.points c.if-taken-eq0.self-inside.removed.points
 steps c =
-    let agree : Agree c.self.inside.size (position_in c.self.inside.size c.deref_mut.result.now)
+    let agree : AreSame c.self.inside.size (position_in c.self.inside.size c.deref_mut.result.now)
     (placed (position_in c.self.inside.size c.self.inside.stones.items) c.args.point (stone_of c.args.colour)) =
     rw (c.deref_mut.ensures.value, c.index.ensures.value, c.stone.ensures)
     (write_places c.self.inside.size c.self.inside.stones.items c.args.point (stone_of c.args.colour) (rw (← c.self.view_is) at c.requires) c.self.invariant.whole) in

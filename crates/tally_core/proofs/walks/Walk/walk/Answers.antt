@@ -6,7 +6,8 @@ use Rattle.go_record.specs.declared.actions.Action.{Action}
 use Rattle.tally_core.specs.declared.meetings.Meeting.{Meeting}
 use Rattle.go_board.specs.Board.{position_of}
 use Rattle.go_record.specs.Actions.{IsActionOn}
-use Rattle.go_record.specs.Replay.{AreSame, empty_position}
+use Rattle.go_record.specs.Replay.{empty_position}
+use Rattle.go_board.specs.Position.{AreSame}
 use Rattle.shape_core.specs.declared.words.Kinds.{Kinds}
 use Rattle.tally_core.specs.Walk.{Walked, IsSmall}
 use Rattle.tally_core.specs.Inner.Standing.{IsWalkOf}
