@@ -10,7 +10,7 @@ use Rattle.go_board.specs.Extent.{Extent}
 use Rattle.go_board.specs.Point.{IsOn, index_of}
 use Rattle.go_board.specs.Position.{Position, AreSame, placed, position_in, AreJoined, IsAlive}
 use Rattle.go_board.specs.Play.{Removes, IsCaptured, IsSuicide, Plays, stone_of}
-use Rattle.go_board.proofs.Places.{same_index, index_below}
+use Rattle.go_board.proofs.Places.{same_index, index_below, shown_on}
 use Rattle.go_board.proofs.Paths.{along, AreJoined-refl, AreJoined-step}
 use Rattle.go_board.proofs.Captures.{Removes-same}
 
@@ -35,12 +35,12 @@ placed_cases position p kind q = elim (eqb_tells q.column p.column) [
 pub write_places : (size : Extent) (stones : List Stone) (p : Point) (kind : Stone) → IsOn size p →
     length stones ≡ size.columns * size.rows →
     AreSame size (position_in size (set stones (index_of size p) kind)) (placed (position_in size stones) p kind)
-write_places size stones p kind on board q q_on = elim (placed_cases (position_in size stones) p kind q) [
+write_places size stones p kind on board q q_on = shown_on size (set stones (index_of size p) kind) q q_on ∙ elim (placed_cases (position_in size stones) p kind q) [
   | inl h ↦ ap (λ (x : Point). get_or (set stones (index_of size p) kind) (index_of size x) stone.Empty) h.0
       ∙ get_or-set_same stones (index_of size p) kind stone.Empty (subst (λ n. index_of size p < n) (sym board) (index_below size p on))
       ∙ sym h.1
   | inr h ↦ get_or-set_other stones (index_of size p) (index_of size q) kind stone.Empty (λ e. h.0 (same_index size q p q_on on e))
-      ∙ sym h.1
+      ∙ sym (shown_on size stones q q_on) ∙ sym h.1
 ]
 
 module _ (size : Extent) (a b : Position) (agree : AreSame size a b) where
@@ -138,5 +138,6 @@ Plays-one size before again mover at first second on same p s =
 pub empty_at : (size : Extent) (stones : List Stone) (q : Point) → IsOn size q → stones ≡ replicate (size.columns * size.rows) stone.Empty →
     position_in size stones q ≡ stone.Empty
 empty_at size stones q on e =
-    ap (λ (l : List Stone). get_or l (index_of size q) stone.Empty) e
+    shown_on size stones q on
+    ∙ ap (λ (l : List Stone). get_or l (index_of size q) stone.Empty) e
     ∙ get_or-replicate (size.columns * size.rows) (index_of size q) stone.Empty stone.Empty (index_below size q on)

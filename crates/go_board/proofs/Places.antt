@@ -1,5 +1,6 @@
--- The places of points in a list of a board's points, and how many points a list without repeats can have.
-use Rattle.std.proofs.Common.{◌≡◌, ◌≢◌, ◌<◌, ◌≤◌, ◌*◌, ◌∙◌, ℕ, suc, true, eqb, List, [], ◌∷◌, map, length, get_or, ap, subst, sym, inl, inr, arith, All}
+-- The places of points in a list of a board's points, what a position shows there, and how many points a list without
+-- repeats can have.
+use Rattle.std.proofs.Common.{◌≡◌, ◌≢◌, ◌<◌, ◌≤◌, ◌*◌, ◌∙◌, ℕ, suc, true, eqb, List, [], ◌∷◌, map, length, get_or, ap, subst, sym, inl, inr, refl, arith, All}
 use Rattle.std.specs.List.{AllPairs, list_any}
 use Rattle.std.proofs.lemmas.Nat.{mul-add-lt, same_from_place}
 use Rattle.std.proofs.lemmas.List.{length-map}
@@ -7,10 +8,14 @@ use Rattle.std.proofs.lemmas.List.Elements.{All-map, All-head, All-tail}
 use Rattle.std.proofs.lemmas.List.Kept.{AllPairs-cons}
 use Rattle.std.proofs.lemmas.Map.Made.{IsDistinct-from_AllPairs}
 use Rattle.std.proofs.lemmas.Map.Steps.{length-le_from_distinct_below}
+use Rattle.std.proofs.lemmas.Bool.{lt-ltb}
 use Rattle.std.proofs.lemmas.Bool.Decides.{Decides-eqb, eqb_tells}
 use Rattle.go_board.specs.declared.points.Point.{Point}
 use Rattle.go_board.specs.Extent.{Extent}
+use Rattle.go_board.specs.declared.points.Stone.{Stone}
+use Rattle.go_board.specs.declared.points.Stone.TheVariants as stone
 use Rattle.go_board.specs.Point.{IsOn, index_of}
+use Rattle.go_board.specs.Position.{position_in}
 
 pub index_below : (size : Extent) (p : Point) → IsOn size p → index_of size p < size.columns * size.rows
 index_below size p on = mul-add-lt p.row size.columns p.column size.rows on.1 on.0
@@ -19,6 +24,11 @@ pub same_index : (size : Extent) (p q : Point) → IsOn size p → IsOn size q �
 same_index size p q a b e =
     let h = same_from_place p.row p.column q.row q.column size.columns a.0 b.0 e in
     ap (λ c. record { column = c; row = p.row }) h.1 ∙ ap (λ r. record { column = q.column; row = r }) h.0
+
+-- on the board a position shows the stone at the point's place
+pub shown_on : (size : Extent) (stones : List Stone) (p : Point) → IsOn size p →
+    position_in size stones p ≡ get_or stones (index_of size p) stone.Empty
+shown_on size stones p on = rw (lt-ltb p.column size.columns on.0, lt-ltb p.row size.rows on.1) refl
 
 pairs_head : {X : Type 0} (R : X → X → Type 0) (x : X) (xs : List X) → AllPairs R (x ∷ xs) → All (R x) xs
 pairs_head R x xs h = λ k d in'. h 0 (suc k) d (omega arith) (omega arith)

@@ -11,7 +11,7 @@ use Rattle.go_board.specs.Point.{IsOn, index_of}
 use Rattle.go_board.specs.Position.{position_in}
 use Rattle.go_board.specs.Play.{Removes}
 use Rattle.go_board.specs.Gathered.{IsGathered}
-use Rattle.go_board.proofs.Places.{same_index, index_below}
+use Rattle.go_board.proofs.Places.{same_index, index_below, shown_on}
 
 -- the first i points of the group are empty, and in the list
 pub record Removing (size : Extent) (group : List Point) (i : ℕ) (before now : List Stone) (first listed : List Point) : Type 0 where
@@ -55,11 +55,14 @@ module _ (size : Extent) (before : List Stone) (first : List Point) where
       | inl e ↦ (let same = same_index size p q on q_on (sym e) in
           inl (
             subst (Contains (group ++ p ∷ [])) same (Contains-push group p),
-            ap (λ i. get_or (set now (index_of size p) stone.Empty) i stone.Empty) e
+            shown_on size (set now (index_of size p) stone.Empty) q q_on
+                ∙ ap (λ i. get_or (set now (index_of size p) stone.Empty) i stone.Empty) e
                 ∙ get_or-set_same now (index_of size p) stone.Empty stone.Empty
                 (subst (λ n. index_of size p < n) (sym board) (index_below size p on)),
           ))
-      | inr ne ↦ (let kept = get_or-set_other now (index_of size p) (index_of size q) stone.Empty stone.Empty ne in
+      | inr ne ↦ (let kept = shown_on size (set now (index_of size p) stone.Empty) q q_on
+          ∙ get_or-set_other now (index_of size p) (index_of size q) stone.Empty stone.Empty ne
+          ∙ sym (shown_on size now q q_on) in
           elim (r.gone q q_on) [
             | inl h ↦ inl (Contains-append_left group (p ∷ []) q h.0, kept ∙ h.1)
             | inr h ↦ inr (

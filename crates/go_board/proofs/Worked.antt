@@ -46,6 +46,10 @@ black_stands_in_the_center = refl
 corner_is_empty : position_in square two (point 2 2) ≡ stone.Empty
 corner_is_empty = refl
 
+-- its place would be that of the stone at the left
+off_the_board_is_empty : position_in square two (point 3 0) ≡ stone.Empty
+off_the_board_is_empty = refl
+
 placed_stands : placed empty (point 1 1) stone.Black (point 1 1) ≡ stone.Black
 placed_stands = refl
 

@@ -1,6 +1,6 @@
 -- What a move does, by the rule of capture: the stone is placed, then the other colour's stones next to it that have
 -- no liberty are removed, then its own group if that has none.
-use Rattle.std.specs.Prelude.{◌≡◌, ◌≢◌, ℕ, List, ◌⊎◌, Bool, true, false, count_by, All, Contains}
+use Rattle.std.specs.Prelude.{◌≡◌, ◌≢◌, ℕ, ◌+◌, List, length, ◌⊎◌, Bool, true, false, count_by, All, Contains}
 use Rattle.std.specs.List.{AllPairs}
 use Rattle.go_board.specs.declared.points.Point.{Point}
 use Rattle.go_board.specs.Extent.{Extent}
@@ -8,8 +8,10 @@ use Rattle.go_board.specs.declared.points.Colour.{Colour}
 use Rattle.go_board.specs.declared.points.Colour.TheVariants as colour
 use Rattle.go_board.specs.declared.points.Stone.{Stone}
 use Rattle.go_board.specs.declared.points.Stone.TheVariants as stone
+use Rattle.go_board.specs.declared.boards.Played.{Played}
 use Rattle.go_board.specs.Point.{IsOn, AreNeighbours}
 use Rattle.go_board.specs.Position.{Position, placed, AreJoined, IsAlive}
+use Rattle.go_board.specs.Board.{Stones, position_of}
 
 -- the stone that a colour plays
 abbrev pub stone_of : Colour → Stone
@@ -68,3 +70,21 @@ same_stone _ _ = false
 -- on how many of the points such a stone stands
 abbrev pub count_of : Position → Stone → List Point → ℕ
 count_of position kind points = count_by (λ p. same_stone (position p) kind) points
+
+-- what setting a stone on a point, or emptying it, makes of a board: nothing else changes, and nothing is captured
+pub record SetsOn (before : Stones) (at : Point) (kind : Stone) (after : Stones) : Type 0 where
+  pub size : after.size ≡ before.size
+  pub removed : after.removed ≡ before.removed
+  pub position : (q : Point) → IsOn before.size q → position_of after q ≡ placed (position_of before) at kind q
+
+-- what a move by the rule of capture makes of a board, and how many stones of each colour it removed: the points that
+-- it lists are those of the removed stones, and each other point is as it was with the move's stone placed
+pub record PlaysOn (before : Stones) (mover : Colour) (at : Point) (after : Stones) (played : Played) : Type 0 where
+  pub size : after.size ≡ before.size
+  pub position : Plays before.size (position_of before) mover at (position_of after)
+  pub removed : ListsOnce (IsRemoved before.size (position_of before) mover at (position_of after)) after.removed
+  pub kept : (q : Point) → IsOn before.size q → (Contains after.removed q → ⊥) → position_of after q ≡ placed (position_of before) at (stone_of mover) q
+  pub all : played.taken + played.own_lost ≡ length after.removed
+  pub taken : played.taken ≡ count_of (placed (position_of before) at (stone_of mover)) (stone_of (other mover)) after.removed
+  pub own_lost : played.own_lost ≡ count_of (placed (position_of before) at (stone_of mover)) (stone_of mover) after.removed
+  pub one : (played.taken ≡ 0) ⊎ (played.own_lost ≡ 0)

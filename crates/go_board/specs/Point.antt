@@ -1,11 +1,15 @@
 -- Points of a board: columns from the left and rows from the top, both from 0.
-use Rattle.std.specs.Prelude.{◌≡◌, ℕ, ◌+◌, ◌*◌, ◌<◌, ◌⊎◌, ◌==◌, ◌&&◌, Bool}
+use Rattle.std.specs.Prelude.{◌≡◌, ℕ, ◌+◌, ◌*◌, ◌<◌, ◌⊎◌, ◌==◌, nat_lt, ◌&&◌, Bool}
 use Rattle.go_board.specs.declared.points.Point.{Point}
 use Rattle.go_board.specs.Extent.{Extent}
 
 -- the point is on a board of this size
 abbrev pub IsOn : Extent → Point → Type 0
 IsOn size point = (point.column < size.columns) × (point.row < size.rows)
+
+-- whether the point is on a board of this size
+abbrev pub is_on : Extent → Point → Bool
+is_on size point = nat_lt point.column size.columns && nat_lt point.row size.rows
 
 -- one apart
 abbrev pub AreAdjacent : ℕ → ℕ → Type 0

@@ -4,7 +4,7 @@ use Rattle.go_board.specs.declared.points.Point.{Point}
 use Rattle.go_board.specs.Extent.{Extent}
 use Rattle.go_board.specs.declared.points.Stone.{Stone}
 use Rattle.go_board.specs.declared.points.Stone.TheVariants as stone
-use Rattle.go_board.specs.Point.{IsOn, AreNeighbours, same_point, index_of}
+use Rattle.go_board.specs.Point.{IsOn, is_on, AreNeighbours, same_point, index_of}
 
 -- what stands on each point; only the points of the board matter
 abbrev pub Position : Type 0
@@ -14,9 +14,11 @@ Position = Point → Stone
 abbrev pub AreSame : Extent → Position → Position → Type 0
 AreSame size p q = (point : Point) → IsOn size point → p point ≡ q point
 
--- the position that a list of stones is, row by row from the top, each row from the left
+-- the position that a list of stones is, row by row from the top, each row from the left; each point off the board is
+-- empty
 abbrev pub position_in : Extent → List Stone → Position
-position_in size stones p = slice_index_or stones (index_of size p) stone.Empty
+position_in size stones p =
+    if is_on size p then slice_index_or stones (index_of size p) stone.Empty else stone.Empty
 
 -- the position with this stone at a point, whatever stood there
 abbrev pub placed : Position → Point → Stone → Position

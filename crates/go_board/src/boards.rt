@@ -42,13 +42,12 @@ impl Model for Board {
 }
 
 impl Board {
-    ghost use Rattle.std.specs.Prelude.{◌≡◌, ◌≢◌, ◌+◌, ◌⊎◌, ◌↔◌, [], length, Contains, IsTrue};
-    ghost use Rattle.std.specs.Prelude.{IfOk};
+    ghost use Rattle.std.specs.Prelude.{◌≡◌, ◌≢◌, ◌↔◌, [], IsTrue, IfOk};
     ghost use Rattle.go_board.specs.declared.points.Point.{Point};
     ghost use Rattle.go_board.specs.declared.points.Stone.TheVariants as kind;
     ghost use Rattle.go_board.specs.Point.{IsOn};
-    ghost use Rattle.go_board.specs.Position.{placed, IsAlive};
-    ghost use Rattle.go_board.specs.Play.{stone_of, other, count_of, Plays, IsRemoved, ListsOnce};
+    ghost use Rattle.go_board.specs.Position.{IsAlive};
+    ghost use Rattle.go_board.specs.Play.{SetsOn, PlaysOn};
     ghost use Rattle.go_board.specs.Board.{position_of, IsBoard};
 
     /// An empty board of this size, from which nothing was removed. It takes memory for each point of the board.
@@ -110,11 +109,7 @@ impl Board {
     /// Puts a stone on a point, or empties it, whatever stood there; nothing is captured. The point is on the board.
     pub fn set(&mut self, point: Point, stone: Stone)
         requires { IsOn self.old.size point }
-        ensures size { self.new.size ≡ self.old.size }
-        ensures removed { self.new.removed ≡ self.old.removed }
-        ensures position { (q : Point) →
-            IsOn self.old.size q →
-            position_of self.new q ≡ placed (position_of self.old) point stone q }
+        ensures sets { SetsOn self.old point stone self.new }
         ensures board { IsBoard self.new }
     {
         let index = self.size.index(point);
@@ -128,28 +123,7 @@ impl Board {
     /// It takes no memory, and its time is that of the groups that it looks at.
     pub fn play(&mut self, colour: Colour, point: Point) -> Played
         requires { IsOn self.old.size point }
-        ensures size { self.new.size ≡ self.old.size }
-        ensures position { Plays self.old.size (position_of self.old) colour point
-            (position_of self.new) }
-        ensures removed { ListsOnce
-            (IsRemoved self.old.size (position_of self.old) colour point (position_of self.new))
-            self.new.removed }
-        ensures kept { (q : Point) →
-            IsOn self.old.size q →
-            ¬ Contains self.new.removed q →
-            position_of self.new q ≡ placed (position_of self.old) point (stone_of colour) q }
-        ensures all { result.taken + result.own_lost ≡ length self.new.removed }
-        ensures taken { result.taken
-            ≡ count_of
-            (placed (position_of self.old) point (stone_of colour))
-            (stone_of (other colour))
-            self.new.removed }
-        ensures own_lost { result.own_lost
-            ≡ count_of
-            (placed (position_of self.old) point (stone_of colour))
-            (stone_of colour)
-            self.new.removed }
-        ensures one { (result.taken ≡ 0) ⊎ (result.own_lost ≡ 0) }
+        ensures plays { PlaysOn self.old colour point self.new result }
         ensures board { IsBoard self.new }
     {
         let size = self.size;

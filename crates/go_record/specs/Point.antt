@@ -1,8 +1,7 @@
 -- How points are spelled: two letters, the column from the left and the row from the top, of which `a` to `z` are the
 -- first to the 26th and `A` to `Z` the 27th to the 52nd (SGF FF[4], GM[1]). Columns and rows count from 0.
-use Rattle.std.specs.Prelude.{ℕ, ◌+◌, ◌-◌, nat_lt, ◌&&◌, Bool, Option, Some, None, List, [], ◌∷◌, if◌then◌else◌}
+use Rattle.std.specs.Prelude.{ℕ, ◌+◌, ◌-◌, Option, Some, None, List, [], ◌∷◌, if◌then◌else◌}
 use Rattle.sgf_core.specs.Bytes.{is_upper, is_lower}
-use Rattle.go_board.specs.Extent.{Extent}
 use Rattle.go_board.specs.declared.points.Point.{Point}
 
 abbrev pub coordinate_of : ℕ → Option ℕ
@@ -16,6 +15,3 @@ point_at _ _ = None
 abbrev pub point_of : List ℕ → Option Point
 point_of (column ∷ row ∷ []) = point_at (coordinate_of column) (coordinate_of row)
 point_of _ = None
-
-abbrev pub is_on : Extent → Point → Bool
-is_on size point = nat_lt point.column size.columns && nat_lt point.row size.rows

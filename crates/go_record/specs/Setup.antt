@@ -3,6 +3,7 @@ use Rattle.std.specs.Prelude.{ℕ, ◌==◌, nat_le, min, max, ◌&&◌, Bool, t
 use Rattle.std.specs.List.{list_any, before_first, after_first}
 use Rattle.sgf_core.specs.Tree.{PropertyValue}
 use Rattle.go_board.specs.Extent.{Extent}
+use Rattle.go_board.specs.Point.{is_on}
 use Rattle.go_board.specs.declared.points.Point.{Point}
 use Rattle.go_board.specs.declared.points.Colour.{Colour}
 use Rattle.go_board.specs.declared.points.Stone.{Stone}
@@ -11,7 +12,7 @@ use Rattle.go_record.specs.declared.actions.Action.TheVariants as action
 use Rattle.go_record.specs.declared.faults.RecordFault.{RecordFault}
 use Rattle.go_record.specs.declared.faults.RecordFault.TheVariants as fault
 use Rattle.go_record.specs.Spelling.{trimmed, is_colon}
-use Rattle.go_record.specs.Point.{point_of, is_on}
+use Rattle.go_record.specs.Point.{point_of}
 
 -- a pass: nothing, and where both sides are at most 19 also `tt` (SGF FF[3] and before)
 abbrev pub is_pass : Extent → List ℕ → Bool

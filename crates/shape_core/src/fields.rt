@@ -31,13 +31,11 @@ impl Model for Field {
 }
 
 impl Field {
-    ghost use Rattle.std.specs.Prelude.{◌≡◌, ◌+◌, ◌⊎◌, ◌↔◌, [], length, Contains, IsTrue, IfOk};
-    ghost use Rattle.std.specs.Prelude.{MatchOption};
+    ghost use Rattle.std.specs.Prelude.{◌≡◌, ◌↔◌, [], length, IsTrue, IfOk, MatchOption};
     ghost use Rattle.go_board.specs.declared.points.Point.{Point};
     ghost use Rattle.go_board.specs.declared.points.Stone.TheVariants as stone;
     ghost use Rattle.go_board.specs.Point.{IsOn};
-    ghost use Rattle.go_board.specs.Position.{placed};
-    ghost use Rattle.go_board.specs.Play.{stone_of, other, count_of, Plays, IsRemoved, ListsOnce};
+    ghost use Rattle.go_board.specs.Play.{SetsOn, PlaysOn};
     ghost use Rattle.go_board.specs.Board.{position_of, IsBoard};
     ghost use Rattle.shape_core.specs.declared.words.Kind.TheVariants as kind;
     ghost use Rattle.shape_core.specs.Around.{word_around};
@@ -197,11 +195,7 @@ impl Field {
     /// Each point of which a kept word changes is marked. Takes no memory.
     pub fn set(&mut self, point: Point, stone: Stone)
         requires { IsOn self.old.board.size point }
-        ensures size { self.new.board.size ≡ self.old.board.size }
-        ensures removed { self.new.board.removed ≡ self.old.board.removed }
-        ensures position { (q : Point) →
-            IsOn self.old.board.size q →
-            position_of self.new.board q ≡ placed (position_of self.old.board) point stone q }
+        ensures sets { SetsOn self.old.board point stone self.new.board }
         ensures board { IsBoard self.new.board }
         ensures kinds { self.new.kinds ≡ self.old.kinds }
         ensures marks { MarksChanges self.old self.new }
@@ -215,38 +209,7 @@ impl Field {
     /// point of which a kept word changes is marked. Takes no memory.
     pub fn play(&mut self, colour: Colour, point: Point) -> Played
         requires { IsOn self.old.board.size point }
-        ensures size { self.new.board.size ≡ self.old.board.size }
-        ensures position { Plays
-            self.old.board.size
-            (position_of self.old.board)
-            colour
-            point
-            (position_of self.new.board) }
-        ensures removed { ListsOnce
-            (IsRemoved
-            self.old.board.size
-            (position_of self.old.board)
-            colour
-            point
-            (position_of self.new.board))
-            self.new.board.removed }
-        ensures kept { (q : Point) →
-            IsOn self.old.board.size q →
-            ¬ Contains self.new.board.removed q →
-            position_of self.new.board q
-            ≡ placed (position_of self.old.board) point (stone_of colour) q }
-        ensures all { result.taken + result.own_lost ≡ length self.new.board.removed }
-        ensures taken { result.taken
-            ≡ count_of
-            (placed (position_of self.old.board) point (stone_of colour))
-            (stone_of (other colour))
-            self.new.board.removed }
-        ensures own_lost { result.own_lost
-            ≡ count_of
-            (placed (position_of self.old.board) point (stone_of colour))
-            (stone_of colour)
-            self.new.board.removed }
-        ensures one { (result.taken ≡ 0) ⊎ (result.own_lost ≡ 0) }
+        ensures plays { PlaysOn self.old.board colour point self.new.board result }
         ensures board { IsBoard self.new.board }
         ensures kinds { self.new.kinds ≡ self.old.kinds }
         ensures marks { MarksChanges self.old self.new }

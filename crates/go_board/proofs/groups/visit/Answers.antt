@@ -2,6 +2,7 @@
 use Rattle.std.proofs.Common.{◌≡◌, ◌≢◌, ◌∙◌, ◌<◌, length, slice_index_or}
 use Rattle.go_board.specs.Position.{position_in}
 use Rattle.go_board.specs.declared.points.Stone.TheVariants as stone
+use Rattle.go_board.proofs.Places.{shown_on}
 use Rattle.go_board.proofs.Stones.{same_stone, other_stone}
 use Rattle.go_board.proofs.Visits.{Visiting-start, Visiting-none, Visiting-other, Visiting-add, Visiting-end, neighbour_at}
 use Rattle.go_board.proofs.groups.visit.Goals as goal
@@ -27,9 +28,9 @@ loop-next-preserved c = elim c.match-next.branch [
       let in' : c.loop-next.next-index < length c.neighbours.result = rw c.neighbours.ensures.four c.loop-next-test.true in
       let found = neighbour_at c.args.size c.args.point c.neighbours.result c.loop-next.next-index w.in-Some.next in' c.neighbours.ensures.only w.in-Some.is in
       let full : position_in c.args.size c.args.stones.now w.in-Some.next ≢ stone.Empty =
-      rw (← w.index.ensures.value) (other_stone (slice_index_or c.args.stones.now w.index.result stone.Empty) stone.Empty w.eq.result w.eq.ensures w.if-eq.false) in
+      rw (shown_on c.args.size c.args.stones.now w.in-Some.next found.0, ← w.index.ensures.value) (other_stone (slice_index_or c.args.stones.now w.index.result stone.Empty) stone.Empty w.eq.result w.eq.ensures w.if-eq.false) in
       let same : position_in c.args.size c.args.stones.now w.in-Some.next ≡ c.args.stone =
-      rw (← w.index.ensures.value) (same_stone (slice_index_or c.args.stones.now w.index.result stone.Empty) c.args.stone w.eq-in-Some.result w.eq-in-Some.ensures w.if-eq-2.true) in
+      rw (shown_on c.args.size c.args.stones.now w.in-Some.next found.0, ← w.index.ensures.value) (same_stone (slice_index_or c.args.stones.now w.index.result stone.Empty) c.args.stone w.eq-in-Some.result w.eq-in-Some.ensures w.if-eq-2.true) in
       rw w.group-is (
         w.add.ensures.size ∙ c.loop-next.invariant.0,
         Visiting-add c.args.size (position_in c.args.size c.args.stones.now) c.args.stone c.args.point c.neighbours.result c.loop-next.next-index
@@ -38,10 +39,11 @@ loop-next-preserved c = elim c.match-next.branch [
       ))
   | in-Some+else-eq+else-eq-2 w ↦ (
       let in' : c.loop-next.next-index < length c.neighbours.result = rw c.neighbours.ensures.four c.loop-next-test.true in
+      let found = neighbour_at c.args.size c.args.point c.neighbours.result c.loop-next.next-index w.in-Some.next in' c.neighbours.ensures.only w.in-Some.is in
       let full : position_in c.args.size c.args.stones.now w.in-Some.next ≢ stone.Empty =
-      rw (← w.index.ensures.value) (other_stone (slice_index_or c.args.stones.now w.index.result stone.Empty) stone.Empty w.eq.result w.eq.ensures w.if-eq.false) in
+      rw (shown_on c.args.size c.args.stones.now w.in-Some.next found.0, ← w.index.ensures.value) (other_stone (slice_index_or c.args.stones.now w.index.result stone.Empty) stone.Empty w.eq.result w.eq.ensures w.if-eq.false) in
       let other : position_in c.args.size c.args.stones.now w.in-Some.next ≢ c.args.stone =
-      rw (← w.index.ensures.value) (other_stone (slice_index_or c.args.stones.now w.index.result stone.Empty) c.args.stone w.eq-in-Some.result w.eq-in-Some.ensures w.if-eq-2.false) in
+      rw (shown_on c.args.size c.args.stones.now w.in-Some.next found.0, ← w.index.ensures.value) (other_stone (slice_index_or c.args.stones.now w.index.result stone.Empty) c.args.stone w.eq-in-Some.result w.eq-in-Some.ensures w.if-eq-2.false) in
       rw w.group-is (
         c.loop-next.invariant.0,
         Visiting-other c.args.size (position_in c.args.size c.args.stones.now) c.args.stone c.args.point c.neighbours.result c.loop-next.next-index

@@ -1,6 +1,7 @@
 -- The steps of the move, in the order in which the code takes them.
-use Rattle.std.proofs.Common.{◌≡◌, ◌≢◌, ◌∙◌, ap, sym, length, List}
+use Rattle.std.proofs.Common.{◌≡◌, ◌≢◌, ◌∙◌, ap, sym, length, List, arith}
 use Rattle.std.proofs.lemmas.List.{take_at}
+use Rattle.std.proofs.lemmas.Grind.{common_steps}
 use Rattle.go_board.specs.declared.points.Stone.{Stone}
 use Rattle.go_board.specs.Position.{position_in, placed, AreSame}
 use Rattle.go_board.specs.Play.{stone_of}
@@ -39,17 +40,16 @@ steps c =
           c.capture.new.removed.points (rw (← c.self.view_is) at c.requires) agree c.capture.ensures.stones c.capture.ensures.removed some))
     ]
 
-pub returns-clause-position : goal.returns-clause-position
-returns-clause-position c = rw (← c.self.view_is) (Steps-plays _ _ _ _ _ _ _ _ _ (steps c))
-
-pub returns-clause-removed : goal.returns-clause-removed
-returns-clause-removed c = rw (← c.self.view_is) (Steps-lists _ _ _ _ _ _ _ _ _ (steps c) c.if-taken-eq0.self-inside.removed.size c.len.ensures.gathered)
-
-pub returns-clause-taken : goal.returns-clause-taken
-returns-clause-taken c = rw (← c.self.view_is) (c.len-taken.ensures.value ∙ Steps-taken _ _ _ _ _ _ _ _ _ (steps c))
-
-pub returns-clause-own_lost : goal.returns-clause-own_lost
-returns-clause-own_lost c = rw (← c.self.view_is, c.len.ensures.value, c.len-taken.ensures.value) (Steps-own _ _ _ _ _ _ _ _ _ (steps c))
-
-pub returns-clause-kept : goal.returns-clause-kept
-returns-clause-kept c = rw (← c.self.view_is) (Steps-kept _ _ _ _ _ _ _ _ _ (steps c))
+pub returns-clause-plays : goal.returns-clause-plays
+returns-clause-plays c =
+    let did = steps c in
+    rw (← c.self.view_is) (record {
+      size = grind (arith, common_steps);
+      position = Steps-plays _ _ _ _ _ _ _ _ _ did;
+      removed = Steps-lists _ _ _ _ _ _ _ _ _ did c.if-taken-eq0.self-inside.removed.size c.len.ensures.gathered;
+      kept = Steps-kept _ _ _ _ _ _ _ _ _ did;
+      all = grind (arith, common_steps);
+      taken = c.len-taken.ensures.value ∙ Steps-taken _ _ _ _ _ _ _ _ _ did;
+      own_lost = rw (c.len.ensures.value, c.len-taken.ensures.value) (Steps-own _ _ _ _ _ _ _ _ _ did);
+      one = grind (arith, common_steps);
+    })

@@ -28,13 +28,13 @@ following c =
     let same : emptied (placed old point c.stone.result) c.removed.result.now ≡ emptied stood removed =
     ap₂ (λ s points. emptied (placed old point s) points) c.stone.ensures c.removed.ensures.value in
     Follows-agree kept (emptied stood removed) new
-    (Agree-at board.size kept.size (emptied stood removed) new (sym (same_size c)) (removed_is board.size old c.args.colour point new removed c.play-played.ensures.position c.play-played.ensures.removed))
+    (Agree-at board.size kept.size (emptied stood removed) new (sym (same_size c)) (removed_is board.size old c.args.colour point new removed c.play-played.ensures.plays.position c.play-played.ensures.plays.removed))
     (subst (Follows kept) same (c.empty.ensures.follow (placed old point c.stone.result) (c.change.ensures.follow old c.self.invariant.follow)))
 
 pub invariant_of-self : goal.invariant_of-self
 invariant_of-self c = record {
   is_board = c.play-played.ensures.board;
-  same_size = same_size c ∙ sym c.play-played.ensures.size;
+  same_size = same_size c ∙ sym c.play-played.ensures.plays.size;
   room = c.empty.ensures.room;
   follow = following c;
 }

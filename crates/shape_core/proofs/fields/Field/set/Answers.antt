@@ -13,13 +13,13 @@ following c =
     let same : board.size ≡ kept.size = sym (c.change.ensures.change.size ∙ c.self.invariant.same_size) in
     let stone = placed (position_of board) c.args.point c.args.stone in
     Follows-agree kept stone (position_of c.set.new.self)
-    (Agree-at board.size kept.size stone (position_of c.set.new.self) same (λ r on. sym (c.set.ensures.position r on)))
+    (Agree-at board.size kept.size stone (position_of c.set.new.self) same (λ r on. sym (c.set.ensures.sets.position r on)))
     (c.change.ensures.follow (position_of board) c.self.invariant.follow)
 
 pub invariant_of-self : goal.invariant_of-self
 invariant_of-self c = record {
   is_board = c.set.ensures.board;
-  same_size = c.change.ensures.change.size ∙ c.self.invariant.same_size ∙ sym c.set.ensures.size;
+  same_size = c.change.ensures.change.size ∙ c.self.invariant.same_size ∙ sym c.set.ensures.sets.size;
   room = c.change.ensures.room;
   follow = following c;
 }
