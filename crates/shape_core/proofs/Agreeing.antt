@@ -1,10 +1,10 @@
 -- Words of positions that agree on the board; the cell in the middle; a stone placed where it is already.
-use Rattle.std.proofs.Common.{◌≡◌, ℕ, List, [], ◌∷◌, map, Bool, true, false, cond, ltb, ◌&&◌, Option, Some, None, sym, refl, ap, ap₂, ◌∙◌, arith, ⊎_elim}
+use Rattle.std.proofs.Common.{◌≡◌, ℕ, List, slice_index, [], ◌∷◌, map, Bool, true, false, cond, ltb, ◌&&◌, Option, Some, None, sym, refl, ap, ap₂, ◌∙◌, arith, ⊎_elim}
 use Rattle.std.proofs.lemmas.Bool.{and_parts, ltb-true, cases_eq}
 use Rattle.shape_core.proofs.Marking.{same_point_from}
 use Rattle.shape_core.proofs.Mixing.{placed_there, placed_other}
 use Rattle.go_board.specs.Extent.{Extent}
-use Rattle.go_board.specs.Point.{IsOn}
+use Rattle.go_board.specs.Point.{IsOn, index_of}
 use Rattle.go_board.specs.Position.{Position, placed}
 use Rattle.go_board.specs.declared.points.Point.{Point}
 use Rattle.go_board.specs.declared.points.Stone.{Stone}
@@ -64,6 +64,10 @@ middle size position p on =
     ∙ code_at-word_of kind.Square (codes_round size position p (offsets_of kind.Square)) 12 (AreCodes-codes_round size position p (offsets_of kind.Square) refl) (omega arith)
     ∙ get_or-codes_round size position p (offsets_of kind.Square) 12 (offset_of (0, 0)) (omega arith)
     ∙ code_around_on size position p p (3, 3) on (refl, refl)
+
+-- so the kept words say what is on a point
+pub middle_code : (kept : KeptWords) (position : Position) (p : Point) → IsOn kept.size p → Follows kept position → code_at (slice_index kept.squares.items (index_of kept.size p)) 12 ≡ stone_code (position p)
+middle_code kept position p on follow = ap (λ w. code_at w 12) (follow.squares_follow.each p on) ∙ middle kept.size position p on
 
 -- stones with the same code are the same
 pub same_stones : (a b : Stone) → stone_code a ≡ stone_code b → a ≡ b

@@ -2,6 +2,7 @@ mod Worked
 mod Digits
 mod Codes
 mod Moves
+mod Nearness
 mod Images
 mod Exchanges
 mod Least

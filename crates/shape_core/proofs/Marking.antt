@@ -1,11 +1,11 @@
 -- Marks of points, and their places in lists of a board's points.
-use Rattle.std.proofs.Common.{◌≡◌, ◌≢◌, ℕ, ◌*◌, ◌^◌, ◌<◌, ◌≤◌, List, length, slice_index, slice_set, bit_or, sym, ap, ap₂, ◌∙◌, arith, ⊎_elim, length-set, get_or-set_same, get_or-set_other}
+use Rattle.std.proofs.Common.{◌≡◌, ◌≢◌, ℕ, ◌*◌, ◌^◌, ◌<◌, ◌≤◌, List, length, slice_index, slice_set, bit_or, sym, ap, ap₂, ◌∙◌, arith, ⊎_elim, ◌⊎◌, inl, inr, length-set, get_or-set_same, get_or-set_other}
 use Rattle.std.proofs.Common.{Option, Some, None, MatchOption, subst, w64, bit_and, ◌%◌}
 use Rattle.std.specs.Int.{bit_at, bit_not, trailing_zeros}
 use Rattle.std.proofs.lemmas.Bool.{cases_eq, cases_lt}
 use Rattle.std.proofs.lemmas.Nat.{or_lt, and_le_l, pow_below, pow_pos, same_from_place}
 use Rattle.std.proofs.lemmas.List.{get_or_past}
-use Rattle.std.proofs.lemmas.Nat.Bits.{bit_at_or, bit_at-lt, bit_at-pow_same, bit_at-trailing_zeros, bit_at_clear_same, bit_at_clear_other, bit_at_above, bit_at-zero}
+use Rattle.std.proofs.lemmas.Nat.Bits.{bit_at_or, bit_at-lt, bit_at-pow_same, bit_at-pow_other, bit_at-trailing_zeros, bit_at_clear_same, bit_at_clear_other, bit_at_above, bit_at-zero}
 use Rattle.std.proofs.lemmas.List.Elements.{All-set, All-get_or, All-from_get_or}
 use Rattle.go_board.specs.Extent.{Extent}
 use Rattle.go_board.specs.Point.{IsOn, index_of}
@@ -54,6 +54,25 @@ marked_stay changed p q h was =
     ∙ (omega (arith, old, bit_at-lt (2 ^ p.column) q.column)))
     (λ (other : q.row ≡ p.row → ⊥).
     ap (λ n. bit_at n q.column) (get_or-set_other changed p.row q.row (bit_or (slice_index changed p.row) (2 ^ p.column)) 0 other) ∙ was)
+    (cases_eq q.row p.row)
+
+-- no other is marked besides
+pub marked_only : (changed : List ℕ) (p q : Point) → p.row < length changed → IsMarked (marked changed p) q → IsMarked changed q ⊎ (q ≡ p)
+marked_only changed p q h is =
+    ⊎_elim
+    (λ (row : q.row ≡ p.row). ⊎_elim
+    (λ (column : q.column ≡ p.column). inr (same_point_from q p column row))
+    (λ (apart : q.column ≡ p.column → ⊥).
+    let both =
+        sym
+        (ap (λ r. bit_at (slice_index (marked changed p) r) q.column) row
+        ∙ ap (λ n. bit_at n q.column) (get_or-set_same changed p.row (bit_or (slice_index changed p.row) (2 ^ p.column)) 0 h)
+        ∙ bit_at_or (slice_index changed p.row) (2 ^ p.column) q.column)
+        ∙ is in
+    inl (ap (λ r. bit_at (slice_index changed r) q.column) row ∙ (omega (arith, both, bit_at-pow_other p.column q.column apart))))
+    (cases_eq q.column p.column))
+    (λ (other : q.row ≡ p.row → ⊥).
+    inl (sym (ap (λ n. bit_at n q.column) (get_or-set_other changed p.row q.row (bit_or (slice_index changed p.row) (2 ^ p.column)) 0 other)) ∙ is))
     (cases_eq q.row p.row)
 
 -- ---- the first mark, and the marks without it

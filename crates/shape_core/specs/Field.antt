@@ -1,5 +1,5 @@
 -- What a field is, and what its words and marks are.
-use Rattle.std.specs.Prelude.{◌≡◌, ℕ, ◌<◌, ◌⊎◌, List, length, slice_index, bit_or}
+use Rattle.std.specs.Prelude.{◌≡◌, ℕ, ◌+◌, ◌<◌, ◌≤◌, ◌⊎◌, List, length, slice_index, bit_or, Contains}
 use Rattle.std.specs.Int.{bit_at}
 use Rattle.go_board.specs.Extent.{Extent}
 use Rattle.go_board.specs.Point.{IsOn}
@@ -34,6 +34,24 @@ pub record MarksChanges (before after : Kept) : Type 0 where
       (kind : Kind) → Includes before.kinds kind → (q : Point) → IsOn before.board.size q →
       (word_around kind before.board.size (position_of after.board) q ≡ word_around kind before.board.size (position_of before.board) q)
       ⊎ IsMarked after.changed q
+
+-- how many columns, and how many rows, the cells of these kinds are away from their point at most
+abbrev pub reach_of : Kinds → ℕ
+reach_of kinds.Squares = 2
+reach_of kinds.Both = 3
+
+-- two points are at most this number of columns apart, and of rows
+abbrev pub AreWithin : ℕ → Point → Point → Type 0
+AreWithin reach p q =
+    (p.column ≤ q.column + reach) × (q.column ≤ p.column + reach) × (p.row ≤ q.row + reach) × (q.row ≤ p.row + reach)
+
+-- one of these points is within this reach of q
+abbrev pub IsNear : ℕ → List Point → Point → Type 0
+IsNear reach points q = (p : Point) × Contains points p × AreWithin reach p q
+
+-- each point that is marked was marked before, or is within this reach of one of these points
+abbrev pub MarksNear : ℕ → List Point → List ℕ → List ℕ → Type 0
+MarksNear reach points before after = (q : Point) → IsMarked after q → IsMarked before q ⊎ IsNear reach points q
 
 -- p comes before q: its row is further up, or it is further left in the same
 abbrev pub ComesBefore : Point → Point → Type 0

@@ -31,16 +31,16 @@ impl Model for Field {
 }
 
 impl Field {
-    ghost use Rattle.std.specs.Prelude.{◌≡◌, ◌↔◌, [], length, IsTrue, IfOk, MatchOption};
+    ghost use Rattle.std.specs.Prelude.{◌≡◌, ◌↔◌, [], ◌∷◌, length, IsTrue, IfOk, MatchOption};
     ghost use Rattle.go_board.specs.declared.points.Point.{Point};
     ghost use Rattle.go_board.specs.declared.points.Stone.TheVariants as stone;
     ghost use Rattle.go_board.specs.Point.{IsOn};
-    ghost use Rattle.go_board.specs.Play.{SetsOn, PlaysOn};
+    ghost use Rattle.go_board.specs.Play.{SetsOn, PlaysOn, stone_of};
     ghost use Rattle.go_board.specs.Board.{position_of, IsBoard};
     ghost use Rattle.shape_core.specs.declared.words.Kind.TheVariants as kind;
     ghost use Rattle.shape_core.specs.Around.{word_around};
     ghost use Rattle.shape_core.specs.Field.{IsMarked, MarksChanges, IsFirstMarked, Unmarks};
-    ghost use Rattle.shape_core.specs.Field.{AreJoined};
+    ghost use Rattle.shape_core.specs.Field.{AreJoined, MarksNear, reach_of};
     ghost use Rattle.shape_core.specs.KeptLists.{AreMarks};
 
     /// An empty board of this size, with the words of both kinds kept and no point marked.
@@ -192,13 +192,18 @@ impl Field {
     }
 
     /// Puts a stone on a point, or empties it, whatever stood there; nothing is captured. The point is on the board.
-    /// Each point of which a kept word changes is marked. Takes no memory.
+    /// Each point of which a kept word changes is marked, and none that is more than two columns or rows away, three
+    /// where diamonds are kept; none at all where the stone was there. Takes no memory.
     pub fn set(&mut self, point: Point, stone: Stone)
         requires { IsOn self.old.board.size point }
         ensures sets { SetsOn self.old.board point stone self.new.board }
         ensures board { IsBoard self.new.board }
         ensures kinds { self.new.kinds ≡ self.old.kinds }
         ensures marks { MarksChanges self.old self.new }
+        ensures near { MarksNear (reach_of self.old.kinds) (point ∷ [])
+            self.old.changed self.new.changed }
+        ensures still { position_of self.old.board point ≡ stone
+            → self.new.changed ≡ self.old.changed }
     {
         self.board.set(point, stone);
         self.kept.change(point, stone);
@@ -206,13 +211,19 @@ impl Field {
 
     /// Plays a move, as the board does: the stone is placed, whatever stood there; then the stones of the other colour
     /// next to it without a liberty are removed; then its own group if that has none. The point is on the board. Each
-    /// point of which a kept word changes is marked. Takes no memory.
+    /// point of which a kept word changes is marked, and none that is more than two columns or rows away, three where
+    /// diamonds are kept, from the move's point and all that it emptied. Takes no memory.
     pub fn play(&mut self, colour: Colour, point: Point) -> Played
         requires { IsOn self.old.board.size point }
         ensures plays { PlaysOn self.old.board colour point self.new.board result }
         ensures board { IsBoard self.new.board }
         ensures kinds { self.new.kinds ≡ self.old.kinds }
         ensures marks { MarksChanges self.old self.new }
+        ensures near { MarksNear (reach_of self.old.kinds) (point ∷ self.new.board.removed)
+            self.old.changed self.new.changed }
+        ensures still { position_of self.old.board point ≡ stone_of colour
+            → MarksNear (reach_of self.old.kinds) self.new.board.removed
+            self.old.changed self.new.changed }
     {
         let played = self.board.play(colour, point);
         self.kept.change(point, colour.stone());

@@ -1,6 +1,7 @@
 //! Words kept as a stone changes: one code exchanged in each word that has the point among its cells, and marks.
 ghost use Rattle.std.specs.Prelude.{◌≡◌, ◌<◌, ◌≤◌, ◌+◌, ◌*◌, ◌^◌, ◌⊎◌, ℕ, length, map, slice_index};
-ghost use Rattle.std.specs.Prelude.{slice_set, bit_or, All};
+ghost use Rattle.std.specs.Prelude.{slice_set, bit_or, All, [], ◌∷◌, true};
+ghost use Rattle.std.specs.List.{list_all};
 ghost use Rattle.go_board.specs.declared.points.Point.{Point};
 ghost use Rattle.go_board.specs.declared.points.Stone.{Stone};
 ghost use Rattle.go_board.specs.Extent.{IsExtent};
@@ -11,8 +12,8 @@ ghost use Rattle.shape_core.specs.Offset.{offsets_of};
 ghost use Rattle.shape_core.specs.Inner.Table.{offset_of};
 ghost use Rattle.shape_core.specs.Inner.Word.{recoded};
 ghost use Rattle.shape_core.specs.Around.{stone_code};
-ghost use Rattle.shape_core.specs.Inner.Table.{Sees};
-ghost use Rattle.shape_core.specs.Field.{IsMarked};
+ghost use Rattle.shape_core.specs.Inner.Table.{Sees, is_away_within};
+ghost use Rattle.shape_core.specs.Field.{IsMarked, MarksNear};
 ghost use Rattle.shape_core.specs.KeptLists.{AreMarks};
 ghost use Rattle.shape_core.specs.Inner.KeptLists.{AreWords, DifferingAreMarked};
 
@@ -42,6 +43,8 @@ fn recode_cell(
     requires marks { AreMarks size changed.old }
     ensures marks { AreMarks size changed.new }
     ensures stay { (q : Point) → IsMarked changed.old q → IsMarked changed.new q }
+    ensures only { (q : Point) → IsMarked changed.new q →
+        IsMarked changed.old q ⊎ Sees q away point }
     ensures there { (q : Point) →
         IsOn size q →
         Sees q away point →
@@ -79,6 +82,8 @@ pub fn recode(
     requires marks { AreMarks size changed.old }
     ensures marks { AreMarks size changed.new }
     ensures stay { (q : Point) → IsMarked changed.old q → IsMarked changed.new q }
+    ensures near { (reach : ℕ) → list_all (is_away_within reach) cells.now ≡ true →
+        MarksNear reach (point ∷ []) changed.old changed.new }
     ensures differing { DifferingAreMarked size words.old words.new changed.new }
     ensures follow { (kind : Kind) (position : Position) (stone : Stone) →
         map offset_of cells.now ≡ offsets_of kind →

@@ -1,11 +1,12 @@
 //! The words of all points of a board, kept as stones change, and the marks of the points whose words have changed.
 ghost use Rattle.std.specs.Prelude.{◌≡◌, ◌<◌, ◌*◌, ◌%◌, ◌/◌, ℕ, length, slice_index, IfOk, All};
+ghost use Rattle.std.specs.Prelude.{[], ◌∷◌};
 ghost use Rattle.go_board.specs.declared.points.Point.{Point};
 ghost use Rattle.go_board.specs.Board.{position_of};
 ghost use Rattle.go_board.specs.Point.{IsOn};
 ghost use Rattle.go_board.specs.Position.{Position, placed};
 ghost use Rattle.shape_core.specs.Around.{word_around};
-ghost use Rattle.shape_core.specs.Field.{IsMarked};
+ghost use Rattle.shape_core.specs.Field.{IsMarked, MarksNear, reach_of};
 ghost use Rattle.shape_core.specs.Inner.KeptLists.{AreWords, emptied};
 
 use crate::cells::{DIAMOND_CELLS, SQUARE_CELLS};
@@ -86,6 +87,10 @@ impl KeptWords {
         ensures change { Changes self.old self.new }
         ensures follow { (position : Position) →
             Follows self.old position → Follows self.new (placed position point stone) }
+        ensures near { MarksNear (reach_of self.old.kinds) (point ∷ [])
+            self.old.changed.items self.new.changed.items }
+        ensures still { (position : Position) →
+            Follows self.old position → position point ≡ stone → self.new ≡ self.old }
     {
         let code = code_of(stone);
         if self.squares[self.size.index(point)].code(MIDDLE) != code {
@@ -118,6 +123,8 @@ impl KeptWords {
         ensures change { Changes self.old self.new }
         ensures follow { (position : Position) →
             Follows self.old position → Follows self.new (emptied position points.now) }
+        ensures near { MarksNear (reach_of self.old.kinds) points.now
+            self.old.changed.items self.new.changed.items }
     {
         for point in points {
             self.change(*point, Stone::Empty);

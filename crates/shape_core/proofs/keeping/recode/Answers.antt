@@ -1,9 +1,11 @@
 use Rattle.std.proofs.Common.{◌≡◌, get_or, slice_index, refl, ap, ◌∙◌, arith, inl, inr, ⊎_elim}
+use Rattle.std.proofs.lemmas.List.Sums.{AllPass-from_list_all}
 use Rattle.go_board.specs.Point.{index_of}
 use Rattle.shape_core.specs.Inner.Word.{recoded}
 use Rattle.shape_core.specs.Field.{IsMarked}
-use Rattle.shape_core.specs.Inner.Table.{Sees}
+use Rattle.shape_core.specs.Inner.Table.{Sees, is_away_within}
 use Rattle.shape_core.proofs.Mixing.{sees_or_not, mixed_before, mixed_after, mixed_round_more}
+use Rattle.shape_core.proofs.Nearness.{within_reach, near_one}
 use Rattle.shape_core.proofs.keeping.recode.Goals as goal
 
 pub loop-cell-init : goal.loop-cell-init
@@ -11,6 +13,7 @@ loop-cell-init c = record {
   count = c.requires.words;
   marks = c.requires.marks;
   stay = λ q was. was;
+  near = λ reach within q was. inl was;
   differing = λ q on. inl refl;
   mixing = λ kind position stone offsets code words q on.
       words.each q on ∙ mixed_before kind c.args.size position c.args.point stone q c.args.cells.now (omega arith) offsets;
@@ -24,6 +27,12 @@ loop-cell-preserved c =
       count = c.recode_cell.auto.words ∙ c.loop-cell.invariant.count;
       marks = c.recode_cell.ensures.marks;
       stay = λ q was. c.recode_cell.ensures.stay q (c.loop-cell.invariant.stay q was);
+      near = λ reach within q is. ⊎_elim
+          (λ (was : IsMarked c.loop-cell.changed q). c.loop-cell.invariant.near reach within q was)
+          (λ (sees : Sees q away c.args.point).
+          let cell = AllPass-from_list_all (is_away_within reach) c.args.cells.now within c.loop-cell.cell (0, 0) (omega arith) in
+          inr (near_one reach c.args.point q (within_reach reach c.args.point q away sees cell)))
+          (c.recode_cell.ensures.only q is);
       differing = λ q on. ⊎_elim
           (λ (sees : Sees q away c.args.point). inr (c.recode_cell.ensures.there q on sees).1)
           (λ (blind : Sees q away c.args.point → ⊥). ⊎_elim

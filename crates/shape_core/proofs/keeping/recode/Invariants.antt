@@ -1,14 +1,15 @@
-use Rattle.std.proofs.Common.{◌≡◌, ◌*◌, ◌⊎◌, length, map, slice_index}
+use Rattle.std.proofs.Common.{◌≡◌, ℕ, ◌*◌, ◌⊎◌, [], ◌∷◌, true, length, map, slice_index}
+use Rattle.std.specs.List.{list_all}
 use Rattle.go_board.specs.declared.points.Point.{Point}
 use Rattle.go_board.specs.declared.points.Stone.{Stone}
 use Rattle.go_board.specs.Point.{IsOn, index_of}
 use Rattle.go_board.specs.Position.{Position}
 use Rattle.shape_core.specs.declared.words.Kind.{Kind}
 use Rattle.shape_core.specs.Offset.{offsets_of}
-use Rattle.shape_core.specs.Inner.Table.{offset_of}
+use Rattle.shape_core.specs.Inner.Table.{offset_of, is_away_within}
 use Rattle.shape_core.specs.Word.{word_of}
 use Rattle.shape_core.specs.Around.{stone_code}
-use Rattle.shape_core.specs.Field.{IsMarked}
+use Rattle.shape_core.specs.Field.{IsMarked, MarksNear}
 use Rattle.shape_core.specs.KeptLists.{AreMarks}
 use Rattle.shape_core.specs.Inner.KeptLists.{AreWords}
 use Rattle.shape_core.proofs.Mixing.{mixed_round}
@@ -19,6 +20,7 @@ invariant-loop-cell l = record {
   count : length l.words ≡ l.size.columns * l.size.rows;
   marks : AreMarks l.size l.changed;
   stay : (q : Point) → IsMarked l.initial.changed q → IsMarked l.changed q;
+  near : (reach : ℕ) → list_all (is_away_within reach) l.cells ≡ true → MarksNear reach (l.point ∷ []) l.initial.changed l.changed;
   differing : (q : Point) → IsOn l.size q → (slice_index l.words (index_of l.size q) ≡ slice_index l.initial.words (index_of l.size q)) ⊎ IsMarked l.changed q;
   mixing : (kind : Kind) (position : Position) (stone : Stone) → map offset_of l.cells ≡ offsets_of kind → l.code ≡ stone_code stone →
       AreWords kind l.size position l.initial.words → (q : Point) → IsOn l.size q →

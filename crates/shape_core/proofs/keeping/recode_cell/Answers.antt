@@ -1,9 +1,10 @@
-use Rattle.std.proofs.Common.{◌≡◌, ◌<◌, length, sym, ap, ◌∙◌, arith, get_or-set_same, get_or-set_other}
+use Rattle.std.proofs.Common.{◌≡◌, ◌<◌, inl, inr, ⊎_elim, length, sym, ap, ◌∙◌, arith, get_or-set_same, get_or-set_other}
 use Rattle.std.proofs.lemmas.List.{get_or_read}
 use Rattle.go_board.specs.Point.{index_of}
 use Rattle.go_board.specs.declared.points.Point.{Point}
+use Rattle.shape_core.specs.Field.{IsMarked}
 use Rattle.shape_core.specs.Inner.Word.{recoded}
-use Rattle.shape_core.proofs.Marking.{same_point_from, same_from_index, AreMarks-marked, marked_there, marked_stay}
+use Rattle.shape_core.proofs.Marking.{same_point_from, same_from_index, AreMarks-marked, marked_there, marked_stay, marked_only}
 use Rattle.shape_core.proofs.keeping.recode_cell.Goals as goal
 
 pub returns-in-Some-clause-marks : goal.returns-in-Some-clause-marks
@@ -13,6 +14,17 @@ returns-in-Some-clause-marks c =
 pub returns-in-Some-clause-stay : goal.returns-in-Some-clause-stay
 returns-in-Some-clause-stay c =
     rw c.mark.ensures (λ q was. marked_stay c.args.changed.now c.in-Some.near q (omega (arith, c.requires.marks.rows, c.in-Some.ensures.0.1)) was)
+
+pub returns-in-Some-clause-only : goal.returns-in-Some-clause-only
+returns-in-Some-clause-only c =
+    rw c.mark.ensures
+    (λ q is.
+    let near = c.in-Some.ensures in
+    ⊎_elim
+    (λ (was : IsMarked c.args.changed.now q). inl was)
+    (λ (same : q ≡ c.in-Some.near).
+    inr ((omega (arith, near.1.0, ap (λ (p : Point). p.column) same)), (omega (arith, near.1.1, ap (λ (p : Point). p.row) same))))
+    (marked_only c.args.changed.now c.in-Some.near q (omega (arith, c.requires.marks.rows, near.0.1)) is))
 
 pub returns-in-Some-clause-there : goal.returns-in-Some-clause-there
 returns-in-Some-clause-there c = λ q on sees.

@@ -1,9 +1,13 @@
-use Rattle.std.proofs.Common.{◌≡◌, ◌∙◌, sym, ap₂, subst}
+use Rattle.std.proofs.Common.{◌≡◌, ◌∙◌, [], ◌∷◌, ◌++◌, sym, ap, ap₂, subst}
+use Rattle.std.proofs.lemmas.List.Elements.{Contains-append_left, Contains-append_right}
 use Rattle.go_board.specs.Position.{placed}
 use Rattle.go_board.specs.Play.{stone_of}
 use Rattle.go_board.specs.Board.{position_of}
 use Rattle.shape_core.specs.Inner.KeptLists.{emptied}
 use Rattle.shape_core.specs.Inner.Keeping.{Follows, Changes}
+use Rattle.shape_core.specs.declared.kept.KeptWords.{KeptWords}
+use Rattle.shape_core.specs.Field.{MarksNear, reach_of}
+use Rattle.shape_core.proofs.Nearness.{MarksNear-twice}
 use Rattle.shape_core.proofs.Agreeing.{Follows-agree}
 use Rattle.shape_core.proofs.Playing.{Agree-at, Changes-twice, marks_changes}
 use Rattle.shape_core.proofs.Removing.{removed_is}
@@ -43,3 +47,25 @@ pub returns-clause-marks : goal.returns-clause-marks
 returns-clause-marks c =
     rw (sym c.self.view_is)
     (marks_changes c.self.inside.board c.play-played.new.self c.self.inside.kept c.empty.new.self c.self.invariant.same_size c.self.invariant.follow (following c) (change c))
+
+-- the marks that came with the removed points
+near_removed : (c : goal.After-empty) → MarksNear (reach_of c.self.inside.kept.kinds) c.play-played.new.self.removed c.change.new.self.changed.items c.empty.new.self.changed.items
+near_removed c = rw (c.change.ensures.change.kinds, c.removed.ensures.value) at c.empty.ensures.near
+
+pub returns-clause-near : goal.returns-clause-near
+returns-clause-near c =
+    let kept = c.self.inside.kept in
+    let one = c.args.point ∷ [] in
+    let removed = c.play-played.new.self.removed in
+    rw (sym c.self.view_is)
+    (MarksNear-twice (reach_of kept.kinds) one removed (one ++ removed) kept.changed.items c.change.new.self.changed.items c.empty.new.self.changed.items
+    (λ p held. Contains-append_left one removed p held) (λ p held. Contains-append_right one removed p held) c.change.ensures.near (near_removed c))
+
+pub returns-clause-still : goal.returns-clause-still
+returns-clause-still c =
+    let kept = c.self.inside.kept in
+    let removed = c.play-played.new.self.removed in
+    rw (sym c.self.view_is)
+    (λ stands. subst (λ before. MarksNear (reach_of kept.kinds) removed before c.empty.new.self.changed.items)
+    (ap (λ (words : KeptWords). words.changed.items) (c.change.ensures.still (position_of c.self.inside.board) c.self.invariant.follow (stands ∙ sym c.stone.ensures)))
+    (near_removed c))

@@ -1,7 +1,8 @@
-use Rattle.std.proofs.Common.{◌≡◌, ◌∙◌, sym}
+use Rattle.std.proofs.Common.{◌≡◌, ◌∙◌, sym, ap}
 use Rattle.go_board.specs.Position.{placed}
 use Rattle.go_board.specs.Board.{position_of}
 use Rattle.shape_core.specs.Inner.Keeping.{Follows}
+use Rattle.shape_core.specs.declared.kept.KeptWords.{KeptWords}
 use Rattle.shape_core.proofs.Agreeing.{Follows-agree}
 use Rattle.shape_core.proofs.Playing.{Agree-at, marks_changes}
 use Rattle.shape_core.proofs.fields.Field.set.Goals as goal
@@ -28,3 +29,11 @@ pub returns-clause-marks : goal.returns-clause-marks
 returns-clause-marks c =
     rw (sym c.self.view_is)
     (marks_changes c.self.inside.board c.set.new.self c.self.inside.kept c.change.new.self c.self.invariant.same_size c.self.invariant.follow (following c) c.change.ensures.change)
+
+pub returns-clause-near : goal.returns-clause-near
+returns-clause-near c = rw (sym c.self.view_is) c.change.ensures.near
+
+pub returns-clause-still : goal.returns-clause-still
+returns-clause-still c =
+    rw (sym c.self.view_is)
+    (λ stands. ap (λ (kept : KeptWords). kept.changed.items) (c.change.ensures.still (position_of c.self.inside.board) c.self.invariant.follow stands))

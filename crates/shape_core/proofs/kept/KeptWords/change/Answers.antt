@@ -1,12 +1,15 @@
-use Rattle.std.proofs.Common.{◌≡◌, ◌<◌, length, slice_index, refl, sym, ap, subst, ◌∙◌, arith}
+use Rattle.std.proofs.Common.{◌≡◌, ◌<◌, [], ◌∷◌, length, slice_index, refl, sym, ap, subst, ◌∙◌, arith}
 use Rattle.std.proofs.lemmas.List.{with_items_is, get_or_read}
 use Rattle.go_board.specs.Position.{placed}
 use Rattle.shape_core.specs.declared.words.Kind.TheVariants as kind
 use Rattle.shape_core.specs.Word.{code_at}
+use Rattle.shape_core.specs.Around.{stone_code}
+use Rattle.shape_core.specs.Field.{MarksNear, reach_of}
+use Rattle.shape_core.proofs.Nearness.{MarksNear-twice}
 use Rattle.shape_core.specs.Inner.KeptLists.{AreWords}
 use Rattle.std.specs.Vec.{with_items}
 use Rattle.shape_core.proofs.Playing.{Changes-of_both}
-use Rattle.shape_core.proofs.Agreeing.{Follows-agree, placed_again, same_stones, middle}
+use Rattle.shape_core.proofs.Agreeing.{Follows-agree, placed_again, same_stones, middle, middle_code}
 use Rattle.shape_core.proofs.kept.KeptWords.change.Goals as goal
 
 pub returns-in-Both-clause-follow : goal.returns-in-Both-clause-follow
@@ -69,3 +72,55 @@ returns-in-Both-clause-change c =
     (rw c.deref_mut.ensures.value at c.recode.ensures.differing)
     (rw (c.deref_mut-in-Both-2.ensures.value ∙ once) at c.recode-in-Both.ensures.stay)
     (rw c.deref_mut-in-Both.ensures.value at c.recode-in-Both.ensures.differing)
+
+
+pub returns-in-Both-clause-near : goal.returns-in-Both-clause-near
+returns-in-Both-clause-near c =
+    let kept = c.args.self.now in
+    let marked = c.recode.new.changed in
+    let later = c.recode-in-Both.new.changed in
+    let points = c.args.point ∷ [] in
+    let once = with_items_is kept.changed marked (c.recode.auto.changed ∙ c.deref_mut-then-code.ensures.len) in
+    let twice = with_items_is (with_items kept.changed marked) later (c.recode-in-Both.auto.changed ∙ c.deref_mut-in-Both-2.ensures.len) in
+    subst (λ after. MarksNear (reach_of kept.kinds) points kept.changed.items after) (sym twice)
+    (subst (λ kinds. MarksNear (reach_of kinds) points kept.changed.items later) (sym c.in-Both.is)
+    (MarksNear-twice 3 points points points kept.changed.items marked later (λ p held. held) (λ p held. held)
+    (rw c.deref_mut-then-code.ensures.value at c.recode.ensures.near 3 refl)
+    (rw (c.deref_mut-in-Both-2.ensures.value ∙ once) at c.recode-in-Both.ensures.near 3 refl)))
+
+pub returns-in_default-clause-near : goal.returns-in_default-clause-near
+returns-in_default-clause-near c =
+    let kept = c.args.self.now in
+    let marked = c.recode.new.changed in
+    let points = c.args.point ∷ [] in
+    let once = with_items_is kept.changed marked (c.recode.auto.changed ∙ c.deref_mut-then-code.ensures.len) in
+    subst (λ after. MarksNear (reach_of kept.kinds) points kept.changed.items after) (sym once)
+    (subst (λ kinds. MarksNear (reach_of kinds) points kept.changed.items marked) (sym c.in_default.is)
+    (rw c.deref_mut-then-code.ensures.value at c.recode.ensures.near 2 refl))
+
+-- the code that is found is not that of the stone on the point
+pub returns-in-Both-clause-still : goal.returns-in-Both-clause-still
+returns-in-Both-clause-still c = λ position old stands.
+    let kept = c.args.self.now in
+    let items = kept.squares.items in
+    let within : c.index.result < length items = omega (arith, c.index.ensures.below, old.squares_follow.count) in
+    let read = get_or_read items c.index.result c.index-2.result.now within c.index-2.ensures 0 in
+    absurd (c.if-code.true
+    (c.code.ensures.value
+    ∙ ap (λ w. code_at w 12) (read ∙ ap (slice_index items) c.index.ensures.value)
+    ∙ middle_code kept position c.args.point c.requires.on_board old
+    ∙ ap stone_code stands
+    ∙ sym c.code_of-code.ensures.value))
+
+pub returns-in_default-clause-still : goal.returns-in_default-clause-still
+returns-in_default-clause-still c = λ position old stands.
+    let kept = c.args.self.now in
+    let items = kept.squares.items in
+    let within : c.index.result < length items = omega (arith, c.index.ensures.below, old.squares_follow.count) in
+    let read = get_or_read items c.index.result c.index-2.result.now within c.index-2.ensures 0 in
+    absurd (c.if-code.true
+    (c.code.ensures.value
+    ∙ ap (λ w. code_at w 12) (read ∙ ap (slice_index items) c.index.ensures.value)
+    ∙ middle_code kept position c.args.point c.requires.on_board old
+    ∙ ap stone_code stands
+    ∙ sym c.code_of-code.ensures.value))
