@@ -1,5 +1,5 @@
 -- Words as lists of 25 codes.
-use Rattle.std.proofs.Common.{◌≡◌, ℕ, ◌+◌, ◌*◌, ◌^◌, ◌<◌, ◌≤◌, List, length, get_or, set, sym, refl, ap, ◌∙◌, arith, All, div-one, le-ltb, lt-ltb, ext_get_or, ⊎_elim, length-set}
+use Rattle.std.proofs.Common.{◌≡◌, ◌≢◌, get_or-set_same, get_or-set_other, ℕ, ◌+◌, ◌*◌, ◌^◌, ◌<◌, ◌≤◌, List, length, get_or, set, sym, refl, ap, ◌∙◌, arith, All, div-one, le-ltb, lt-ltb, ext_get_or, ⊎_elim, length-set}
 use Rattle.std.proofs.lemmas.Bool.{cases_lt}
 use Rattle.std.proofs.lemmas.List.Elements.{All-set}
 use Rattle.shape_core.specs.declared.words.Kind.{Kind}
@@ -78,6 +78,25 @@ recoded_is w i c = ap (λ cs. word_of (kind_of w) (set cs i c)) (codes_as_digits
 pub recoded_small : (w i c : ℕ) → c < 4 → recoded w i c < 2 ^ 51
 recoded_small w i c h =
     rw (recoded_is w i c) (word_of-lt (kind_of w) (set (digits 25 w) i c) (AreCodes-set (digits 25 w) i c (AreCodes-digits w) h))
+
+pub kind_of-recoded : (w i c : ℕ) → c < 4 → kind_of (recoded w i c) ≡ kind_of w
+kind_of-recoded w i c h =
+    ap kind_of (recoded_is w i c)
+    ∙ kind_of-word_of (kind_of w) (set (digits 25 w) i c) (AreCodes-set (digits 25 w) i c (AreCodes-digits w) h)
+
+recoded_at : (w i c j : ℕ) → c < 4 → j < 25 → code_at (recoded w i c) j ≡ get_or (set (digits 25 w) i c) j 0
+recoded_at w i c j h l =
+    ap (λ v. code_at v j) (recoded_is w i c)
+    ∙ code_at-word_of (kind_of w) (set (digits 25 w) i c) j (AreCodes-set (digits 25 w) i c (AreCodes-digits w) h) l
+
+-- the cell has the new code, and each other cell its old one
+pub recoded_here : (w i c : ℕ) → c < 4 → i < 25 → code_at (recoded w i c) i ≡ c
+recoded_here w i c h l =
+    recoded_at w i c i h l ∙ get_or-set_same (digits 25 w) i c 0 (omega (arith, length-digits 25 w))
+
+pub recoded_other : (w i c j : ℕ) → c < 4 → j < 25 → j ≢ i → code_at (recoded w i c) j ≡ code_at w j
+recoded_other w i c j h l apart =
+    recoded_at w i c j h l ∙ get_or-set_other (digits 25 w) i j c 0 apart ∙ get_or-digits 25 w j l
 
 -- a code changed in a word is a code changed in the list
 pub recoded-word_of : (k : Kind) (xs : List ℕ) (i c : ℕ) → AreCodes xs → recoded (word_of k xs) i c ≡ word_of k (set xs i c)

@@ -22,7 +22,7 @@ map-map : {A B C : Type 0} (f : B → C) (g : A → B) (xs : List A) → map f (
 map-map f g [] = refl
 map-map f g (x ∷ xs) = ap (λ ys. f (g x) ∷ ys) (map-map f g xs)
 
-length-sources : (k : Kind) (s : Symmetry) → length (sources k s) ≡ 25
+pub length-sources : (k : Kind) (s : Symmetry) → length (sources k s) ≡ 25
 unfolding sources
 length-sources kind.Square s = refl
 length-sources kind.Diamond s = refl

@@ -3,6 +3,7 @@ mod Digits
 mod Codes
 mod Moves
 mod Nearness
+mod Recoding
 mod Images
 mod Exchanges
 mod Least

@@ -64,11 +64,11 @@ marked_only changed p q h is =
     (λ (column : q.column ≡ p.column). inr (same_point_from q p column row))
     (λ (apart : q.column ≡ p.column → ⊥).
     let both =
-        sym
-        (ap (λ r. bit_at (slice_index (marked changed p) r) q.column) row
-        ∙ ap (λ n. bit_at n q.column) (get_or-set_same changed p.row (bit_or (slice_index changed p.row) (2 ^ p.column)) 0 h)
-        ∙ bit_at_or (slice_index changed p.row) (2 ^ p.column) q.column)
-        ∙ is in
+    sym
+    (ap (λ r. bit_at (slice_index (marked changed p) r) q.column) row
+    ∙ ap (λ n. bit_at n q.column) (get_or-set_same changed p.row (bit_or (slice_index changed p.row) (2 ^ p.column)) 0 h)
+    ∙ bit_at_or (slice_index changed p.row) (2 ^ p.column) q.column)
+    ∙ is in
     inl (ap (λ r. bit_at (slice_index changed r) q.column) row ∙ (omega (arith, both, bit_at-pow_other p.column q.column apart))))
     (cases_eq q.column p.column))
     (λ (other : q.row ≡ p.row → ⊥).

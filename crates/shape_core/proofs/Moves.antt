@@ -53,7 +53,7 @@ masked_bit b zero p q = omega arith
 masked_bit b (suc zero) p q = omega arith
 masked_bit b (suc (suc m)) p q = absurd (omega arith)
 
-bit_at-lowered : (n s i : ℕ) → bit_at (n / 2 ^ s) i ≡ bit_at n (s + i)
+pub bit_at-lowered : (n s i : ℕ) → bit_at (n / 2 ^ s) i ≡ bit_at n (s + i)
 bit_at-lowered n s i = ap (λ q. q % 2) (shr-shr n s i)
 
 bit_at-narrowed : (n i : ℕ) → i < 64 → bit_at (n % 2 ^ 64) i ≡ bit_at n i

@@ -1,6 +1,7 @@
 //! Fields: boards that keep the words of all their points.
 use crate::kept::KeptWords;
 use crate::marks::{is_marked, move_marks, take_first};
+use crate::shapes::{Shape, least_seen};
 use crate::words::{Kinds, Word};
 use go_board::{Board, BoardFault, Colour, Played, Point, Replayable, Size, Stone};
 use std::alloc::Global;
@@ -39,6 +40,7 @@ impl Field {
     ghost use Rattle.go_board.specs.Board.{position_of, IsBoard};
     ghost use Rattle.shape_core.specs.declared.words.Kind.TheVariants as kind;
     ghost use Rattle.shape_core.specs.Around.{word_around};
+    ghost use Rattle.shape_core.specs.Symmetry.{canonical_of};
     ghost use Rattle.shape_core.specs.Field.{IsMarked, MarksChanges, IsFirstMarked, Unmarks};
     ghost use Rattle.shape_core.specs.Field.{AreJoined, MarksNear, reach_of};
     ghost use Rattle.shape_core.specs.KeptLists.{AreMarks};
@@ -139,7 +141,7 @@ impl Field {
         ensures { result
             ≡ word_around kind.Square self.now.board.size (position_of self.now.board) point }
     {
-        self.kept.squares[self.kept.size.index(point)]
+        self.kept.squares[self.kept.size.index(point)].word()
     }
 
     /// The diamond of a point, as it is now. The point is on the board, and diamonds are kept.
@@ -149,7 +151,30 @@ impl Field {
         ensures { result
             ≡ word_around kind.Diamond self.now.board.size (position_of self.now.board) point }
     {
-        self.kept.diamonds[self.kept.size.index(point)]
+        self.kept.diamonds[self.kept.size.index(point)].word()
+    }
+
+    /// The canonical pattern of a point's square with this colour to move: the least of the eight images that are kept,
+    /// for White with the colours exchanged. The point is on the board. Takes no memory.
+    #[inline(always)]
+    pub fn canonical(&self, point: Point, mover: Colour) -> Shape
+        requires { IsOn self.now.board.size point }
+        ensures { result ≡ canonical_of
+            (word_around kind.Square self.now.board.size (position_of self.now.board) point)
+            mover }
+    {
+        least_seen(self.kept.squares[self.kept.size.index(point)], mover)
+    }
+
+    /// That of its diamond. The point is on the board, and diamonds are kept. Takes no memory.
+    pub fn canonical_diamond(&self, point: Point, mover: Colour) -> Shape
+        requires on_board { IsOn self.now.board.size point }
+        requires kept { self.now.kinds ≡ Kinds.Both }
+        ensures { result ≡ canonical_of
+            (word_around kind.Diamond self.now.board.size (position_of self.now.board) point)
+            mover }
+    {
+        least_seen(self.kept.diamonds[self.kept.size.index(point)], mover)
     }
 
     /// Whether a point is marked: some kept word of it may be another than when it was last unmarked. The point is on

@@ -18,15 +18,15 @@ ghost use Rattle.shape_core.specs.KeptLists.{AreMarks};
 ghost use Rattle.shape_core.specs.Inner.KeptLists.{AreWords, DifferingAreMarked};
 
 use crate::cells::{Away, reached};
+use crate::imaged::ImagedWord;
 use crate::marks::mark;
-use crate::words::Word;
 use go_board::{Point, Size};
 
 /// Gives the point that has this one at this distance another code at that cell, and marks it. Where such a point would be
 /// off the board, nothing changes.
 fn recode_cell(
     size: Size,
-    words: &mut [Word],
+    words: &mut [ImagedWord],
     changed: &mut [u64],
     point: Point,
     away: Away,
@@ -67,7 +67,7 @@ fn recode_cell(
 /// cell's code exchanged, and is marked.
 pub fn recode(
     size: Size,
-    words: &mut [Word],
+    words: &mut [ImagedWord],
     changed: &mut [u64],
     cells: &[Away; 25],
     point: Point,

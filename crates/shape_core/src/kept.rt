@@ -10,6 +10,7 @@ ghost use Rattle.shape_core.specs.Field.{IsMarked, MarksNear, reach_of};
 ghost use Rattle.shape_core.specs.Inner.KeptLists.{AreWords, emptied};
 
 use crate::cells::{DIAMOND_CELLS, SQUARE_CELLS};
+use crate::imaged::ImagedWord;
 use crate::keeping::recode;
 use crate::surroundings::{around, code_of, diamond};
 use crate::words::{Kind, Kinds, Word};
@@ -24,10 +25,10 @@ const MIDDLE: usize = 12;
 pub struct KeptWords {
     pub size: Size,
     pub kinds: Kinds,
-    /// The words of the squares, row by row from the top, each row from the left.
-    pub squares: Vec<Word>,
+    /// The words of the squares with their images, row by row from the top, each row from the left.
+    pub squares: Vec<ImagedWord>,
     /// Those of the diamonds, or none where diamonds are not kept.
-    pub diamonds: Vec<Word>,
+    pub diamonds: Vec<ImagedWord>,
     /// For each row a bit for each column, set where the point is marked.
     pub changed: Vec<u64>,
 }
@@ -93,7 +94,7 @@ impl KeptWords {
             Follows self.old position → position point ≡ stone → self.new ≡ self.old }
     {
         let code = code_of(stone);
-        if self.squares[self.size.index(point)].code(MIDDLE) != code {
+        if self.squares[self.size.index(point)].word().code(MIDDLE) != code {
             recode(
                 self.size,
                 &mut self.squares,
@@ -142,14 +143,14 @@ fn list_of<T: Copy>(alloc: Global, items: &[T]) -> Result<Vec<T>, AllocError>
 }
 
 /// The words of this kind of all points of a board, row by row from the top, each row from the left.
-fn words_of(alloc: Global, board: &Board, kind: Kind) -> Result<Vec<Word>, AllocError>
+fn words_of(alloc: Global, board: &Board, kind: Kind) -> Result<Vec<ImagedWord>, AllocError>
     ensures { IfOk result (λ words. AreWords kind board.now.size (position_of board.now)
         words.items) }
 {
     let size = board.size();
     let mut words = Vec::with_capacity(alloc, size.area())?;
     for index in 0..size.area() {
-        words.push(word_at(board, size.point(index), kind))?;
+        words.push(ImagedWord::new(word_at(board, size.point(index), kind)))?;
     }
     Ok(words)
 }

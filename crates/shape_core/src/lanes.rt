@@ -1,12 +1,11 @@
 //! The cells of two words of one kind moved at once, each word in a lane of a vector.
 ghost use Rattle.std.specs.Prelude.{◌≡◌, ◌<◌, ◌*◌, ◌/◌, ◌%◌, ◌^◌, ℕ, [], ◌∷◌, bit_and, bit_or, min};
 ghost use Rattle.shape_core.specs.Word.{kind_of};
-ghost use Rattle.shape_core.specs.Inner.Flips.{flips};
-ghost use Rattle.shape_core.specs.Symmetry.{image_of};
+ghost use Rattle.shape_core.specs.Symmetry.{image_of, exchange_of};
 ghost use Rattle.shape_core.specs.declared.words.Kind.TheVariants as kind;
 ghost use Rattle.shape_core.specs.declared.symmetries.Symmetry.TheVariants as symmetry;
 
-use crate::words::Kind;
+use crate::words::{DIAMOND, Kind};
 use std::simd::prelude::*;
 
 /// The bits of the mask and those `places` places above them, each in the other's place; no other bit.
@@ -89,34 +88,18 @@ pub fn top_bottom(words: u64x2, kind: Kind) -> u64x2
     }
 }
 
+/// Words with black for white and white for black: the two bits of each cell exchanged.
+pub fn exchanged(words: u64x2) -> u64x2
+    ensures { (a b : ℕ) → words ≡ a ∷ b ∷ [] → a < 2 ^ 51 → b < 2 ^ 51
+        → result ≡ exchange_of a ∷ exchange_of b ∷ [] }
+{
+    (words & u64x2::splat(DIAMOND)) | swapped(words, 0x1555555555555, 1)
+}
+
 /// In each lane the lesser of two words.
-fn lesser(words: u64x2, others: u64x2) -> u64x2
+pub fn lesser(words: u64x2, others: u64x2) -> u64x2
     ensures { (a b c d : ℕ) → words ≡ a ∷ b ∷ [] → others ≡ c ∷ d ∷ []
         → result ≡ min a c ∷ min b d ∷ [] }
 {
     words.simd_min(others)
-}
-
-/// In each lane the least of its word and of that word's images with left and right exchanged, or top and bottom, or both.
-fn least_of_flips(words: u64x2, kind: Kind) -> u64x2
-    ensures { (a b : ℕ) → words ≡ a ∷ b ∷ [] → a < 2 ^ 51 → b < 2 ^ 51
-        → kind_of a ≡ kind → kind_of b ≡ kind
-        → result ≡ flips a ∷ flips b ∷ [] }
-{
-    let flipped = left_right(words, kind);
-    let least = lesser(words, flipped);
-    let least = lesser(least, top_bottom(words, kind));
-    lesser(least, top_bottom(flipped, kind))
-}
-
-/// The least of two words of a kind and of their images with left and right exchanged, or top and bottom, or both.
-pub fn least_of_two(one: u64, other: u64, kind: Kind) -> u64
-    requires one { one < 2 ^ 51 }
-    requires other { other < 2 ^ 51 }
-    requires kind { kind_of one ≡ kind }
-    requires same { kind_of other ≡ kind }
-    ensures { result ≡ min (flips one) (flips other) }
-{
-    let [one, other] = least_of_flips(u64x2::from_array([one, other]), kind).to_array();
-    one.min(other)
 }

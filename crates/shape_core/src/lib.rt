@@ -1,8 +1,11 @@
 //! Pattern words, their symmetries, and a field that keeps them.
 #![tactic(auto)]
 
+mod cell_bits;
 mod cells;
+mod diamond_bits;
 mod fields;
+mod imaged;
 mod keeping;
 mod kept;
 mod lanes;
@@ -11,6 +14,7 @@ mod marks;
 mod masks;
 mod shapes;
 mod spelling;
+mod square_bits;
 mod surroundings;
 mod symmetries;
 mod words;

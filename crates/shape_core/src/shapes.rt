@@ -2,9 +2,7 @@
 ghost use Rattle.std.specs.Prelude.{◌≡◌, ◌<◌, ◌^◌, SomeIff};
 ghost use Rattle.shape_core.specs.Symmetry.{least_image, canonical_of};
 
-use crate::lanes::least_of_two;
-use crate::masks::diagonal;
-use crate::symmetries::exchange;
+use crate::imaged::ImagedWord;
 use crate::words::Word;
 use go_board::Colour;
 use std::marker::Model;
@@ -42,7 +40,7 @@ impl Shape {
     pub fn of_word(word: Word) -> Option<Shape>
         ensures { SomeIff result (least_image word ≡ word) word }
     {
-        if least(word) == word {
+        if ImagedWord::new(word).least() == word {
             Some(Shape { word })
         } else {
             None
@@ -55,18 +53,17 @@ impl Shape {
 pub fn canonical(word: Word, mover: Colour) -> Shape
     ensures { result ≡ canonical_of word mover }
 {
-    let seen = match mover {
-        Colour::Black => word,
-        Colour::White => exchange(word),
-    };
-    Shape { word: least(seen) }
+    least_seen(ImagedWord::new(word), mover)
 }
 
-/// The least of the eight images: of the flips of the word, and of those of the word with rows for columns.
-fn least(word: Word) -> Word
-    ensures value { result ≡ least_image word }
-    ensures least { least_image result ≡ result }
+/// The shape of a word whose images are at hand.
+#[inline(always)]
+pub fn least_seen(word: ImagedWord, mover: Colour) -> Shape
+    ensures { result ≡ canonical_of word mover }
 {
-    let bits = word.bits();
-    Word::of_bits(least_of_two(bits, diagonal(bits), word.kind()))
+    let seen = match mover {
+        Colour::Black => word,
+        Colour::White => word.exchanged(),
+    };
+    Shape { word: seen.least() }
 }

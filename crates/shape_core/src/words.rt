@@ -46,7 +46,6 @@ pub const DIAMOND: u64 = 1 << 50;
 impl Word {
     ghost use Rattle.std.specs.Prelude.{◌≡◌, ◌<◌, ◌^◌, SomeIff};
     ghost use Rattle.shape_core.specs.Word.{code_at, kind_of};
-    ghost use Rattle.shape_core.specs.Inner.Word.{recoded};
 
     /// The word of this number, or None where it is 2^51 or more.
     pub fn new(bits: u64) -> Option<Word>
@@ -82,19 +81,6 @@ impl Word {
         ensures small { result < 4 }
     {
         ((self.bits >> (2 * cell)) & 3) as u8
-    }
-
-    /// The word with another code at one cell.
-    pub(crate) fn with_code(self, cell: usize, code: u8) -> Word
-        requires cell { cell < 25 }
-        requires code { code < 4 }
-        ensures { result ≡ recoded self cell code }
-    {
-        let place = 2 * cell;
-        let without = self.bits - (u64::from(self.code(cell)) << place);
-        Word {
-            bits: without + (u64::from(code) << place),
-        }
     }
 
     /// Whether it is the word of a square or of a diamond.

@@ -124,6 +124,7 @@ impl Meetings {
     }
 
     /// Makes the index twice as long, and enters all meetings again. It takes memory.
+    #[inline(never)]
     fn grow(&mut self) -> Result<(), HarvestFault>
         ensures same { self.new ≡ self.old }
         ensures fault { IfErr result (λ found. found ≡ fault.Memory) }
@@ -158,7 +159,9 @@ impl Meetings {
         }
     }
 
-    /// The index of a meeting of this shape: one that is there, or a new one.
+    /// The index of a meeting of this shape: one that is there, or a new one. It is called for each point that changes, so
+    /// it is no call in the program.
+    #[inline(always)]
     pub fn meet(&mut self, shape: Shape) -> Result<usize, HarvestFault>
         ensures met { IfOk result (IsMet (shapes_of self.new) shape) }
         ensures meets { OnOk result (Meets (shapes_of self.old) (shape ∷ []) (shapes_of self.new)) }

@@ -19,7 +19,7 @@ use crate::meetings::Meetings;
 use crate::sets::take_points;
 use crate::stays::{Side, Stays, begin, play, settle};
 use go_board::{Colour, Point, Stone};
-use shape_core::{Field, Kinds, canonical};
+use shape_core::{Field, Kinds};
 
 /// Settles what stays at a point.
 pub(crate) fn settle_point(meetings: &mut Meetings, stays: Stays, occasions: u64)
@@ -55,10 +55,10 @@ fn stays_at(
     ensures counts { OnOk result (CountsStay meetings.old meetings.new) }
     ensures fault { IfErr result (λ found. found ≡ fault.Memory) }
 {
-    let square = begin(meetings, canonical(field.word(point), mover), occasions)?;
+    let square = begin(meetings, field.canonical(point, mover), occasions)?;
     let diamond = match field.kinds() {
         Kinds::Squares => None,
-        Kinds::Both => begin(meetings, canonical(field.diamond(point), mover), occasions)?,
+        Kinds::Both => begin(meetings, field.canonical_diamond(point, mover), occasions)?,
     };
     Ok(Stays { square, diamond })
 }

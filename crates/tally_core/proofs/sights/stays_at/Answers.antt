@@ -1,6 +1,5 @@
 use Rattle.std.proofs.Common.{◌≡◌, [], ◌∷◌, ap, ap₂, sym, subst, ◌∙◌, arith}
 use Rattle.go_board.specs.Board.{position_of}
-use Rattle.shape_core.specs.Symmetry.{canonical_of}
 use Rattle.shape_core.specs.declared.words.Kinds.{Kinds}
 use Rattle.shape_core.specs.declared.words.Kinds.TheVariants as which
 use Rattle.tally_core.specs.Counts.{kinds_of, patterns_at}
@@ -30,12 +29,11 @@ returns-in_ok-diamond-in-Both-clause-meets c =
     let between = shapes_of c.begin.new.meetings in
     let after = shapes_of c.begin-in-Both.new.meetings in
     let square = c.canonical.result in
-    let diamond = c.canonical-in-Both.result in
+    let diamond = c.canonical_diamond.result in
     let both : which.Both ≡ field.kinds = sym c.in-Both.is ∙ c.kinds.ensures in
     let words : square ∷ diamond ∷ [] ≡ patterns_at (kinds_of which.Both) field.board.size position mover c.args.point =
     ap₂ (λ a b. a ∷ b ∷ [])
-    (c.canonical.ensures ∙ ap (λ w. canonical_of w mover) c.word.ensures)
-    (c.canonical-in-Both.ensures ∙ ap (λ w. canonical_of w mover) c.diamond.ensures) in
+    c.canonical.ensures c.canonical_diamond.ensures in
     subst (λ patterns. Meets before patterns after)
     (words ∙ ap (λ (kinds : Kinds). patterns_at (kinds_of kinds) field.board.size position mover c.args.point) both
     ∙ sym (here-empty field.kinds field.board.size position mover c.args.point c.requires.empty))

@@ -53,6 +53,7 @@ returns-else-code-clause-follow c = λ position old.
     ∙ ap (λ w. code_at w 12) (sym (old.squares_follow.each point c.requires.on_board))
     ∙ ap (λ i. code_at (slice_index items i) 12) (sym c.index.ensures.value)
     ∙ ap (λ w. code_at w 12) (sym read)
+    ∙ ap (λ w. code_at w 12) (sym c.word.ensures)
     ∙ sym c.code.ensures.value
     ∙ c.if-code.false
     ∙ c.code_of-code.ensures.value) in
@@ -72,7 +73,6 @@ returns-in-Both-clause-change c =
     (rw c.deref_mut.ensures.value at c.recode.ensures.differing)
     (rw (c.deref_mut-in-Both-2.ensures.value ∙ once) at c.recode-in-Both.ensures.stay)
     (rw c.deref_mut-in-Both.ensures.value at c.recode-in-Both.ensures.differing)
-
 
 pub returns-in-Both-clause-near : goal.returns-in-Both-clause-near
 returns-in-Both-clause-near c =
@@ -107,7 +107,7 @@ returns-in-Both-clause-still c = λ position old stands.
     let read = get_or_read items c.index.result c.index-2.result.now within c.index-2.ensures 0 in
     absurd (c.if-code.true
     (c.code.ensures.value
-    ∙ ap (λ w. code_at w 12) (read ∙ ap (slice_index items) c.index.ensures.value)
+    ∙ ap (λ w. code_at w 12) (c.word.ensures ∙ read ∙ ap (slice_index items) c.index.ensures.value)
     ∙ middle_code kept position c.args.point c.requires.on_board old
     ∙ ap stone_code stands
     ∙ sym c.code_of-code.ensures.value))
@@ -120,7 +120,7 @@ returns-in_default-clause-still c = λ position old stands.
     let read = get_or_read items c.index.result c.index-2.result.now within c.index-2.ensures 0 in
     absurd (c.if-code.true
     (c.code.ensures.value
-    ∙ ap (λ w. code_at w 12) (read ∙ ap (slice_index items) c.index.ensures.value)
+    ∙ ap (λ w. code_at w 12) (c.word.ensures ∙ read ∙ ap (slice_index items) c.index.ensures.value)
     ∙ middle_code kept position c.args.point c.requires.on_board old
     ∙ ap stone_code stands
     ∙ sym c.code_of-code.ensures.value))

@@ -1,0 +1,174 @@
+-- A code changed in a word is changed in each of its images.
+use Rattle.std.proofs.Common.{◌≡◌, ◌≢◌, ℕ, zero, suc, ◌+◌, ◌-◌, ◌*◌, ◌/◌, ◌%◌, ◌^◌, ◌<◌, ◌≤◌, List, [], ◌∷◌, map, get_or, min, bit_and, sym, refl, ap, ap₂, subst, ◌∙◌, arith, ⊎_elim}
+use Rattle.std.specs.Int.{bit_at}
+use Rattle.std.proofs.lemmas.Bool.{cases_eq, cases_lt}
+use Rattle.std.proofs.lemmas.List.{get_or-map}
+use Rattle.std.proofs.lemmas.Nat.{and_mask, pow_pos}
+use Rattle.std.proofs.lemmas.Nat.Bits.{bit_at_and, bit_at_cat_low, bit_at_cat_high, bit_at-zero, same_from_bits, bit_at-lt}
+use Rattle.shape_core.specs.declared.words.Kind.{Kind}
+use Rattle.shape_core.specs.declared.words.Kind.TheVariants as kind
+use Rattle.shape_core.specs.declared.symmetries.Symmetry.{Symmetry}
+use Rattle.shape_core.specs.declared.symmetries.Symmetry.TheVariants as symmetry
+use Rattle.shape_core.specs.Offset.{offsets_of}
+use Rattle.shape_core.specs.Symmetry.{image_of, source_cell}
+use Rattle.shape_core.specs.Word.{kind_of, code_at, count_from}
+use Rattle.shape_core.specs.Inner.Word.{recoded}
+use Rattle.shape_core.specs.Inner.Images.{AreImages, bits_of_cell, cell_from, bits_row}
+use Rattle.shape_core.proofs.Codes.{same_words, recoded_small, kind_of-recoded, recoded_here, recoded_other, recoded_sum}
+use Rattle.shape_core.proofs.Images.{sources, length-sources, image_of_small, kind_of-image, code_at-image, cell-lt, count_from-at}
+use Rattle.shape_core.proofs.Moves.{four_pow, bit_at-lowered}
+
+-- a symmetry that, made twice, moves nothing
+abbrev pub ComesBack : Kind → Symmetry → Type 0
+ComesBack k s = map (λ j. get_or (sources k s) j 0) (sources k s) ≡ count_from 0 25
+
+pub falling_back : (k : Kind) → ComesBack k symmetry.FallingDiagonal
+unfolding sources
+falling_back kind.Square = refl
+falling_back kind.Diamond = refl
+
+pub left_right_back : (k : Kind) → ComesBack k symmetry.LeftRight
+unfolding sources
+left_right_back kind.Square = refl
+left_right_back kind.Diamond = refl
+
+pub top_bottom_back : (k : Kind) → ComesBack k symmetry.TopBottom
+unfolding sources
+top_bottom_back kind.Square = refl
+top_bottom_back kind.Diamond = refl
+
+twice : (k : Kind) (s : Symmetry) (j : ℕ) → ComesBack k s → j < 25 → get_or (sources k s) (get_or (sources k s) j 0) 0 ≡ j
+twice k s j back h =
+    sym (get_or-map (λ i. get_or (sources k s) i 0) (sources k s) j 0 0 (omega (arith, length-sources k s)))
+    ∙ ap (λ xs. get_or xs j 0) back
+    ∙ count_from-at 25 0 j h
+    ∙ (omega arith)
+
+-- the image of a word with a code changed is its image with the code changed where the symmetry moves it
+pub image-recoded : (s : Symmetry) (w i c : ℕ) → ComesBack (kind_of w) s → i < 25 → c < 4 →
+    image_of s (recoded w i c) ≡ recoded (image_of s w) (get_or (sources (kind_of w) s) i 0) c
+image-recoded s w i c back l h =
+    let k = kind_of w in
+    let t = get_or (sources k s) i 0 in
+    same_words (image_of s (recoded w i c)) (recoded (image_of s w) t c) (image_of_small s (recoded w i c)) (recoded_small (image_of s w) t c h)
+    (kind_of-image s (recoded w i c) ∙ kind_of-recoded w i c h ∙ sym (kind_of-image s w) ∙ sym (kind_of-recoded (image_of s w) t c h))
+    (λ j m.
+    let from = get_or (sources k s) j 0 in
+    code_at-image s (recoded w i c) j m
+    ∙ ap (λ q. code_at (recoded w i c) (get_or (sources q s) j 0)) (kind_of-recoded w i c h)
+    ∙ ⊎_elim
+    (λ (here : from ≡ i).
+    let at : t ≡ j = ap (λ x. get_or (sources k s) x 0) (sym here) ∙ twice k s j back m in
+    ap (code_at (recoded w i c)) here ∙ recoded_here w i c h l
+    ∙ sym (ap (λ x. code_at (recoded (image_of s w) x c) j) at ∙ recoded_here (image_of s w) j c h m))
+    (λ (other : from ≡ i → ⊥).
+    let apart : j ≡ t → ⊥ = λ e. other (ap (λ x. get_or (sources k s) x 0) e ∙ twice k s i back l) in
+    recoded_other w i c from h (cell-lt k s j m) other
+    ∙ sym (recoded_other (image_of s w) t c j h m apart ∙ code_at-image s w j m))
+    (cases_eq from i))
+
+-- ---- the bits of a cell
+
+-- two bits next to one another, taken out of a number
+pub and_code : (w k : ℕ) → bit_and w (3 * 2 ^ k) ≡ w / 2 ^ k % 4 * 2 ^ k
+and_code w k =
+    same_from_bits (bit_and w (3 * 2 ^ k)) (w / 2 ^ k % 4 * 2 ^ k)
+    (λ i. ⊎_elim
+    (λ (low : i < k).
+    bit_at_and w (3 * 2 ^ k) i
+    ∙ ap (min (bit_at w i)) (ap (λ n. bit_at n i) (omega arith) ∙ bit_at_cat_low 3 k 0 i low ∙ bit_at-zero i)
+    ∙ (omega arith)
+    ∙ sym (ap (λ n. bit_at n i) (omega arith) ∙ bit_at_cat_low (w / 2 ^ k % 4) k 0 i low ∙ bit_at-zero i))
+    (λ (high : k ≤ i).
+    bit_at_and w (3 * 2 ^ k) i
+    ∙ ap₂ min
+    (ap (bit_at w) (omega arith) ∙ sym (bit_at-lowered w k (i - k)))
+    (ap (λ n. bit_at n i) (omega arith) ∙ bit_at_cat_high 3 k 0 i (pow_pos k) high)
+    ∙ sym (bit_at_and (w / 2 ^ k) 3 (i - k))
+    ∙ ap (λ n. bit_at n (i - k)) (and_mask (w / 2 ^ k) 2)
+    ∙ sym (ap (λ n. bit_at n i) (omega arith) ∙ bit_at_cat_high (w / 2 ^ k % 4) k 0 i (pow_pos k) high))
+    (cases_lt i k))
+
+-- this code in each of the 25 cells
+abbrev pub filled : ℕ → ℕ
+filled code = code * 0x1555555555555
+
+all_filled : (c : ℕ) → c < 4 → map (code_at (filled c)) (count_from 0 25) ≡ map (λ t. c) (count_from 0 25)
+all_filled zero h = refl
+all_filled (suc zero) h = refl
+all_filled (suc (suc zero)) h = refl
+all_filled (suc (suc (suc zero))) h = refl
+all_filled (suc (suc (suc (suc c)))) h = absurd (omega arith)
+
+filled_codes : (c t : ℕ) → c < 4 → t < 25 → code_at (filled c) t ≡ c
+filled_codes c t h l =
+    let at : get_or (count_from 0 25) t 0 ≡ t = count_from-at 25 0 t l ∙ (omega arith) in
+    ap (code_at (filled c)) (sym at)
+    ∙ sym (get_or-map (code_at (filled c)) (count_from 0 25) t 0 0 l)
+    ∙ ap (λ xs. get_or xs t 0) (all_filled c h)
+    ∙ get_or-map (λ t. c) (count_from 0 25) t 0 0 l
+
+and_cell : (w t : ℕ) → bit_and w (bits_of_cell t) ≡ code_at w t * 4 ^ t
+and_cell w t = rw (four_pow t) (and_code w (2 * t))
+
+-- the word with the bits of a cell taken off and those of a code put in
+pub masked_code : (w t c : ℕ) → w < 2 ^ 51 → t < 25 → c < 4 → w - bit_and w (bits_of_cell t) + bit_and (filled c) (bits_of_cell t) ≡ recoded w t c
+masked_code w t c small l h =
+    let sum = recoded_sum w t c small l in
+    let taken = and_cell w t in
+    let put = and_cell (filled c) t ∙ ap (λ x. x * 4 ^ t) (filled_codes c t h l) in
+    omega (arith, sum.0, sum.1, taken, put)
+
+-- ---- the four pairs
+
+step : (k : Kind) (s : Symmetry) (v j c : ℕ) → kind_of v ≡ k → ComesBack k s → j < 25 → c < 4 →
+    image_of s (recoded v j c) ≡ recoded (image_of s v) (get_or (sources k s) j 0) c
+step k s v j c e back l h =
+    subst (λ q. ComesBack q s → image_of s (recoded v j c) ≡ recoded (image_of s v) (get_or (sources q s) j 0) c) e
+    (λ b. image-recoded s v j c b l h) back
+
+-- pairs in which the code of the cell was changed are those of the word with the code changed
+pub AreImages-recoded : (k : Kind) (w i c : ℕ) (pair flipped turned both : List ℕ) → kind_of w ≡ k → i < 25 → c < 4 →
+    pair ≡ recoded w i c ∷ recoded (image_of symmetry.FallingDiagonal w) (get_or (sources k symmetry.FallingDiagonal) i 0) c ∷ [] →
+    flipped ≡ recoded (image_of symmetry.LeftRight w) (get_or (sources k symmetry.LeftRight) i 0) c
+    ∷ recoded (image_of symmetry.LeftRight (image_of symmetry.FallingDiagonal w)) (get_or (sources k symmetry.LeftRight) (get_or (sources k symmetry.FallingDiagonal) i 0) 0) c ∷ [] →
+    turned ≡ recoded (image_of symmetry.TopBottom w) (get_or (sources k symmetry.TopBottom) i 0) c
+    ∷ recoded (image_of symmetry.TopBottom (image_of symmetry.FallingDiagonal w)) (get_or (sources k symmetry.TopBottom) (get_or (sources k symmetry.FallingDiagonal) i 0) 0) c ∷ [] →
+    both ≡ recoded (image_of symmetry.TopBottom (image_of symmetry.LeftRight w)) (get_or (sources k symmetry.TopBottom) (get_or (sources k symmetry.LeftRight) i 0) 0) c
+    ∷ recoded (image_of symmetry.TopBottom (image_of symmetry.LeftRight (image_of symmetry.FallingDiagonal w)))
+    (get_or (sources k symmetry.TopBottom) (get_or (sources k symmetry.LeftRight) (get_or (sources k symmetry.FallingDiagonal) i 0) 0) 0) c ∷ [] →
+    AreImages (recoded w i c) pair flipped turned both
+AreImages-recoded k w i c pair flipped turned both e l h is_pair is_flipped is_turned is_both =
+    let d = image_of symmetry.FallingDiagonal w in
+    let f = get_or (sources k symmetry.FallingDiagonal) i 0 in
+    let m = get_or (sources k symmetry.LeftRight) i 0 in
+    let n = get_or (sources k symmetry.LeftRight) f 0 in
+    let f_small = cell-lt k symmetry.FallingDiagonal i l in
+    let m_small = cell-lt k symmetry.LeftRight i l in
+    let n_small = cell-lt k symmetry.LeftRight f f_small in
+    let of_d = kind_of-image symmetry.FallingDiagonal w ∙ e in
+    let diagonal = step k symmetry.FallingDiagonal w i c e (falling_back k) l h in
+    let left = step k symmetry.LeftRight w i c e (left_right_back k) l h in
+    let left_d = ap (image_of symmetry.LeftRight) diagonal ∙ step k symmetry.LeftRight d f c of_d (left_right_back k) f_small h in
+    let top = step k symmetry.TopBottom w i c e (top_bottom_back k) l h in
+    let top_d = ap (image_of symmetry.TopBottom) diagonal ∙ step k symmetry.TopBottom d f c of_d (top_bottom_back k) f_small h in
+    let both_w =
+    ap (image_of symmetry.TopBottom) left
+    ∙ step k symmetry.TopBottom (image_of symmetry.LeftRight w) m c (kind_of-image symmetry.LeftRight w ∙ e) (top_bottom_back k) m_small h in
+    let both_d =
+    ap (image_of symmetry.TopBottom) left_d
+    ∙ step k symmetry.TopBottom (image_of symmetry.LeftRight d) n c (kind_of-image symmetry.LeftRight d ∙ of_d) (top_bottom_back k) n_small h in
+    record {
+      small = recoded_small w i c h;
+      pair_is = is_pair ∙ ap (λ x. recoded w i c ∷ x ∷ []) (sym diagonal);
+      flipped_is = is_flipped ∙ ap₂ (λ x y. x ∷ y ∷ []) (sym left) (sym left_d);
+      turned_is = is_turned ∙ ap₂ (λ x y. x ∷ y ∷ []) (sym top) (sym top_d);
+      both_is = is_both ∙ ap₂ (λ x y. x ∷ y ∷ []) (sym both_w) (sym both_d);
+    }
+
+-- two words, each with the bits of a cell taken off and those of a code put in
+pub refilled_pair : (a b i j c : ℕ) → a < 2 ^ 51 → b < 2 ^ 51 → i < 25 → j < 25 → c < 4 → (words : List ℕ) →
+    words ≡ (a - bit_and a (bits_of_cell i) + bit_and (filled c) (bits_of_cell i)) ∷ (b - bit_and b (bits_of_cell j) + bit_and (filled c) (bits_of_cell j)) ∷ [] →
+    words ≡ recoded a i c ∷ recoded b j c ∷ []
+refilled_pair a b i j c small_a small_b within_i within_j h words is =
+    is ∙ ap₂ (λ x y. x ∷ y ∷ []) (masked_code a i c small_a within_i h) (masked_code b j c small_b within_j h)

@@ -1,0 +1,53 @@
+-- A word beside its images, as four pairs.
+use Rattle.std.specs.Prelude.{◌≡◌, ℕ, ◌*◌, ◌^◌, ◌<◌, List, [], ◌∷◌, slice_index, map}
+use Rattle.shape_core.specs.declared.words.Kind.{Kind}
+use Rattle.shape_core.specs.declared.symmetries.Symmetry.{Symmetry}
+use Rattle.shape_core.specs.declared.symmetries.Symmetry.TheVariants as symmetry
+use Rattle.shape_core.specs.Offset.{offsets_of}
+use Rattle.shape_core.specs.Symmetry.{image_of, source_cell}
+
+-- the word, and its image with rows for columns
+abbrev pub pair_of : ℕ → List ℕ
+pair_of w = w ∷ image_of symmetry.FallingDiagonal w ∷ []
+
+-- these two with left and right exchanged
+abbrev pub flipped_of : ℕ → List ℕ
+flipped_of w = image_of symmetry.LeftRight w ∷ image_of symmetry.LeftRight (image_of symmetry.FallingDiagonal w) ∷ []
+
+-- with top and bottom exchanged
+abbrev pub turned_of : ℕ → List ℕ
+turned_of w = image_of symmetry.TopBottom w ∷ image_of symmetry.TopBottom (image_of symmetry.FallingDiagonal w) ∷ []
+
+-- with both
+abbrev pub both_of : ℕ → List ℕ
+both_of w =
+    image_of symmetry.TopBottom (image_of symmetry.LeftRight w)
+    ∷ image_of symmetry.TopBottom (image_of symmetry.LeftRight (image_of symmetry.FallingDiagonal w)) ∷ []
+
+-- these are the four pairs of a word
+pub record AreImages (w : ℕ) (pair flipped turned both : List ℕ) : Type 0 where
+  pub small : w < 2 ^ 51
+  pub pair_is : pair ≡ pair_of w
+  pub flipped_is : flipped ≡ flipped_of w
+  pub turned_is : turned ≡ turned_of w
+  pub both_is : both ≡ both_of w
+
+-- the two bits of a cell
+abbrev pub bits_of_cell : ℕ → ℕ
+bits_of_cell cell = 3 * 4 ^ cell
+
+-- the cell that a symmetry moves to a cell
+abbrev pub cell_from : Kind → Symmetry → ℕ → ℕ
+cell_from kind s cell = slice_index (map (source_cell kind s) (offsets_of kind)) cell
+
+-- the bits of a cell in the eight words of a kind, in the order of the pairs. Each of the three symmetries, made twice,
+-- moves nothing, so the cell that one moves to a cell is also the one to which it moves that cell.
+unfoldable pub bits_row : Kind → ℕ → List ℕ
+bits_row kind cell =
+    let falling = cell_from kind symmetry.FallingDiagonal cell in
+    let left_right = cell_from kind symmetry.LeftRight cell in
+    let falling_left_right = cell_from kind symmetry.LeftRight falling in
+    bits_of_cell cell ∷ bits_of_cell falling
+    ∷ bits_of_cell left_right ∷ bits_of_cell falling_left_right
+    ∷ bits_of_cell (cell_from kind symmetry.TopBottom cell) ∷ bits_of_cell (cell_from kind symmetry.TopBottom falling)
+    ∷ bits_of_cell (cell_from kind symmetry.TopBottom left_right) ∷ bits_of_cell (cell_from kind symmetry.TopBottom falling_left_right) ∷ []

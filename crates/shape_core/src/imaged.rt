@@ -1,0 +1,122 @@
+//! Words kept beside their images, so that the least of them is at hand.
+ghost use Rattle.std.specs.Prelude.{◌≡◌, ◌<◌, ◌+◌, ◌-◌, ◌*◌, ◌^◌, ℕ, [], ◌∷◌, bit_and};
+ghost use Rattle.shape_core.specs.Inner.Word.{recoded};
+ghost use Rattle.shape_core.specs.Symmetry.{least_image, exchange_of};
+
+use crate::cell_bits::cell_bits;
+use crate::lanes::{exchanged, left_right, lesser, top_bottom};
+use crate::masks::diagonal;
+use crate::words::Word;
+use std::marker::Model;
+use std::simd::prelude::*;
+
+/// A word and its images under the seven other symmetries of the square, in four pairs.
+#[derive(Clone, Copy)]
+pub struct ImagedWord {
+    /// The word, and its image with rows for columns.
+    pair: u64x2,
+    /// These two with left and right exchanged.
+    flipped: u64x2,
+    /// With top and bottom exchanged.
+    turned: u64x2,
+    /// With both.
+    both: u64x2,
+}
+
+impl Model for ImagedWord {
+    ghost use Rattle.std.specs.Prelude.{ℕ, slice_index};
+    ghost use Rattle.shape_core.specs.Inner.Images.{AreImages, pair_of, flipped_of, turned_of};
+    ghost use Rattle.shape_core.specs.Inner.Images.{both_of};
+
+    ghost Value = { ℕ };
+
+    ghost view = { λ i. slice_index i.pair 0 };
+
+    ghost invariant = { λ i. AreImages (slice_index i.pair 0) i.pair i.flipped i.turned i.both };
+
+    ghost inverse = { λ n. record {
+      pair = pair_of n;
+      flipped = flipped_of n;
+      turned = turned_of n;
+      both = both_of n;
+    } };
+}
+
+/// A code in each of the 25 cells is this number times the code.
+const ONES: u64 = 0x1555555555555;
+
+/// In each lane the word with other codes in the cells of these bits.
+fn refilled(words: u64x2, bits: u64x2, codes: u64x2) -> u64x2
+    ensures { (a b m n p : ℕ) → words ≡ a ∷ b ∷ [] → bits ≡ m ∷ n ∷ [] → codes ≡ p ∷ p ∷ []
+        → a < 2 ^ 51 → b < 2 ^ 51 → p < 2 ^ 51
+        → result ≡ (a - bit_and a m + bit_and p m) ∷ (b - bit_and b n + bit_and p n) ∷ [] }
+{
+    (words - (words & bits)) + (codes & bits)
+}
+
+impl ImagedWord {
+    /// A word with its images.
+    pub fn new(word: Word) -> ImagedWord
+        ensures { result ≡ word }
+    {
+        let bits = word.bits();
+        let kind = word.kind();
+        let pair = u64x2::from_array([bits, diagonal(bits)]);
+        let flipped = left_right(pair, kind);
+        ImagedWord {
+            pair,
+            flipped,
+            turned: top_bottom(pair, kind),
+            both: top_bottom(flipped, kind),
+        }
+    }
+
+    /// The word.
+    pub fn word(self) -> Word
+        ensures { result ≡ self }
+    {
+        let [word, _] = self.pair.to_array();
+        Word::of_bits(word)
+    }
+
+    /// The word with another code at one cell, with its images.
+    #[inline(always)]
+    pub fn with_code(self, cell: usize, code: u8) -> ImagedWord
+        requires cell { cell < 25 }
+        requires code { code < 4 }
+        ensures { result ≡ recoded self cell code }
+    {
+        let bits = cell_bits(self.word().kind(), cell);
+        let codes = u64x2::splat(u64::from(code) * ONES);
+        ImagedWord {
+            pair: refilled(self.pair, u64x2::from_array([bits[0], bits[1]]), codes),
+            flipped: refilled(self.flipped, u64x2::from_array([bits[2], bits[3]]), codes),
+            turned: refilled(self.turned, u64x2::from_array([bits[4], bits[5]]), codes),
+            both: refilled(self.both, u64x2::from_array([bits[6], bits[7]]), codes),
+        }
+    }
+
+    /// The word with the colours exchanged, with its images.
+    pub fn exchanged(self) -> ImagedWord
+        ensures { result ≡ exchange_of self }
+    {
+        ImagedWord {
+            pair: exchanged(self.pair),
+            flipped: exchanged(self.flipped),
+            turned: exchanged(self.turned),
+            both: exchanged(self.both),
+        }
+    }
+
+    /// The least of the word and its images.
+    #[inline(always)]
+    pub fn least(self) -> Word
+        ensures value { result ≡ least_image self }
+        ensures least { least_image result ≡ result }
+    {
+        let least = lesser(self.pair, self.flipped);
+        let least = lesser(least, self.turned);
+        let [one, other] = lesser(least, self.both).to_array();
+        Word::of_bits(one.min(other))
+    }
+}
