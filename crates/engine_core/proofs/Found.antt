@@ -9,12 +9,12 @@ use Rattle.engine_core.specs.declared.faults.RunFault.TheVariants as fault
 
 pub find_cause : (input : List ℕ) (found : DictFault) → IsTextFault input found →
     ((contents : Contents) → IsTextOf contents input → length input ≤ 2 ^ 28 → found ≡ dict_fault.Memory) → IsFindFault input (fault.Dict 1 found)
-find_cause input dict_fault.Memory stands only = refl
+find_cause input dict_fault.Memory stands only = (refl, stands)
 find_cause input dict_fault.BadHeader stands only = (refl, stands, λ d text few. absurd (let e = only d text few in cc))
 find_cause input (dict_fault.BadLine line) stands only = (refl, stands, λ d text few. absurd (let e = only d text few in cc))
 find_cause input (dict_fault.NotRising line) stands only = (refl, stands, λ d text few. absurd (let e = only d text few in cc))
 find_cause input (dict_fault.NotCanonical line) stands only = (refl, stands, λ d text few. absurd (let e = only d text few in cc))
 find_cause input dict_fault.WrongTotals stands only = (refl, stands, λ d text few. absurd (let e = only d text few in cc))
-find_cause input dict_fault.Overflow stands only = absurd stands
+find_cause input dict_fault.Overflow stands only = absurd stands.1
 find_cause input dict_fault.TooLarge stands only = (refl, stands, λ d text few. absurd (let e = only d text few in cc))
-find_cause input dict_fault.MixedKinds stands only = absurd stands
+find_cause input dict_fault.MixedKinds stands only = absurd stands.1

@@ -9,7 +9,7 @@ use Rattle.shape_dict.specs.Reading.{IsTextOf, IsFrontFault}
 use Rattle.shape_dict.specs.Join.{IsJoin, IsJoinFault}
 use Rattle.shape_dict.specs.declared.faults.DictFault.{DictFault}
 use Rattle.shape_dict.specs.declared.faults.DictFault.TheVariants as dict_fault
-use Rattle.engine_core.specs.Joins.{AreTextsOf, IsJoinOf, IsJoinedText, WereJoined, IsNotAdded, IsDictionaryFault}
+use Rattle.engine_core.specs.Joins.{AreTextsOf, IsJoinOf, IsJoinedText, WereJoined, IsBadText, IsNotAdded, IsDictionaryFault}
 use Rattle.engine_core.specs.Inner.Joins.{IsNextText, IsAddFault}
 
 some_text : (t : Text) (contents : Contents) → 0 < length (text_of t contents)
@@ -72,21 +72,19 @@ not_empty : (bytes : List ℕ) → 0 < length bytes → bytes ≢ []
 not_empty bytes some none = omega (arith, ap length none)
 
 -- a fault is the first after what was joined
-pub bad_text : (input read left : List ℕ) (before : ℕ) (found : DictFault) → input ≡ read ++ left → WereJoined before read left → length input ≤ 2 ^ 28 → IsFrontFault left found → IsDictionaryFault input (before + 1) found
-bad_text input read left before dict_fault.Memory parts joined few stands = tt
-bad_text input read left before dict_fault.TooLarge parts joined few stands = absurd (omega (arith, ap length parts, length-append read left, stands))
-bad_text input read left before dict_fault.Overflow parts joined few stands = absurd stands
-bad_text input read left before dict_fault.MixedKinds parts joined few stands = absurd stands
-bad_text input read left before dict_fault.BadHeader parts joined few stands =
-    record { before = before; read = read; left = left; at = refl; parts = parts; joined = joined; stands = stands }
-bad_text input read left before (dict_fault.BadLine line) parts joined few stands =
-    record { before = before; read = read; left = left; at = refl; parts = parts; joined = joined; stands = stands }
-bad_text input read left before (dict_fault.NotRising line) parts joined few stands =
-    record { before = before; read = read; left = left; at = refl; parts = parts; joined = joined; stands = stands }
-bad_text input read left before (dict_fault.NotCanonical line) parts joined few stands =
-    record { before = before; read = read; left = left; at = refl; parts = parts; joined = joined; stands = stands }
-bad_text input read left before dict_fault.WrongTotals parts joined few stands =
-    record { before = before; read = read; left = left; at = refl; parts = parts; joined = joined; stands = stands }
+bad_text : (input read left : List ℕ) (before : ℕ) (found : DictFault) → input ≡ read ++ left → WereJoined before read left → length input ≤ 2 ^ 28 → IsFrontFault left found → IsBadText input (before + 1) found
+bad_text input read left before found parts joined few stands = record { few = few; before = before; read = read; left = left; at = refl; parts = parts; joined = joined; stands = stands }
+
+bad_fault : (input read left : List ℕ) (before : ℕ) (found : DictFault) → input ≡ read ++ left → WereJoined before read left → length input ≤ 2 ^ 28 → IsFrontFault left found → IsDictionaryFault input (before + 1) found
+bad_fault input read left before dict_fault.Memory parts joined few stands = inl (bad_text input read left before dict_fault.Memory parts joined few stands)
+bad_fault input read left before dict_fault.TooLarge parts joined few stands = absurd (omega (arith, ap length parts, length-append read left, stands))
+bad_fault input read left before dict_fault.Overflow parts joined few stands = absurd stands.1
+bad_fault input read left before dict_fault.MixedKinds parts joined few stands = absurd stands.1
+bad_fault input read left before dict_fault.BadHeader parts joined few stands = bad_text input read left before dict_fault.BadHeader parts joined few stands
+bad_fault input read left before (dict_fault.BadLine line) parts joined few stands = bad_text input read left before (dict_fault.BadLine line) parts joined few stands
+bad_fault input read left before (dict_fault.NotRising line) parts joined few stands = bad_text input read left before (dict_fault.NotRising line) parts joined few stands
+bad_fault input read left before (dict_fault.NotCanonical line) parts joined few stands = bad_text input read left before (dict_fault.NotCanonical line) parts joined few stands
+bad_fault input read left before dict_fault.WrongTotals parts joined few stands = bad_text input read left before dict_fault.WrongTotals parts joined few stands
 
 -- the next one was read, and cannot be added
 not_added_parts : (input : List ℕ) (at count : ℕ) → input ≡ take at input ++ take count (drop at input) ++ drop count (drop at input)
@@ -95,8 +93,9 @@ not_added_parts input at count =
     ∙ sym (append_assoc (take at input) (take count (drop at input)) (drop count (drop at input))))
 
 not_added : (input : List ℕ) (at count before : ℕ) (sum next : Contents) (found : DictFault) →
-    IsJoinedText (take at input) before sum → IsNextText (drop at input) count next → IsJoinFault sum next found → IsNotAdded input (before + 1) found
-not_added input at count before sum next found joined text stands = record {
+    length input ≤ 2 ^ 28 → IsJoinedText (take at input) before sum → IsNextText (drop at input) count next → IsJoinFault sum next found → IsNotAdded input (before + 1) found
+not_added input at count before sum next found few joined text stands = record {
+  few = few;
   before = before;
   read = take at input;
   text = take count (drop at input);
@@ -111,22 +110,22 @@ not_added input at count before sum next found joined text stands = record {
 }
 
 refused : (input : List ℕ) (at count before : ℕ) (sum next : Contents) (found : DictFault) →
-    IsJoinedText (take at input) before sum → IsNextText (drop at input) count next → IsJoinFault sum next found → IsDictionaryFault input (before + 1) found
-refused input at count before sum next dict_fault.Memory joined text stands = tt
-refused input at count before sum next dict_fault.Overflow joined text stands = not_added input at count before sum next dict_fault.Overflow joined text stands
-refused input at count before sum next dict_fault.MixedKinds joined text stands = not_added input at count before sum next dict_fault.MixedKinds joined text stands
-refused input at count before sum next dict_fault.BadHeader joined text stands = absurd stands
-refused input at count before sum next (dict_fault.BadLine line) joined text stands = absurd stands
-refused input at count before sum next (dict_fault.NotRising line) joined text stands = absurd stands
-refused input at count before sum next (dict_fault.NotCanonical line) joined text stands = absurd stands
-refused input at count before sum next dict_fault.WrongTotals joined text stands = absurd stands
-refused input at count before sum next dict_fault.TooLarge joined text stands = absurd stands
+    length input ≤ 2 ^ 28 → IsJoinedText (take at input) before sum → IsNextText (drop at input) count next → IsJoinFault sum next found → IsDictionaryFault input (before + 1) found
+refused input at count before sum next dict_fault.Memory few joined text stands = inr (inl (not_added input at count before sum next dict_fault.Memory few joined text stands))
+refused input at count before sum next dict_fault.Overflow few joined text stands = not_added input at count before sum next dict_fault.Overflow few joined text stands
+refused input at count before sum next dict_fault.MixedKinds few joined text stands = not_added input at count before sum next dict_fault.MixedKinds few joined text stands
+refused input at count before sum next dict_fault.BadHeader few joined text stands = absurd stands
+refused input at count before sum next (dict_fault.BadLine line) few joined text stands = absurd stands
+refused input at count before sum next (dict_fault.NotRising line) few joined text stands = absurd stands
+refused input at count before sum next (dict_fault.NotCanonical line) few joined text stands = absurd stands
+refused input at count before sum next dict_fault.WrongTotals few joined text stands = absurd stands
+refused input at count before sum next dict_fault.TooLarge few joined text stands = absurd stands
 
 pub add_fault : (input : List ℕ) (at before : ℕ) (sum : Contents) (found : DictFault) →
     IsJoinedText (take at input) before sum → at < length input → length input ≤ 2 ^ 28 → IsAddFault sum (drop at input) found → IsDictionaryFault input (before + 1) found
 add_fault input at before sum found joined more few (inl stands) =
     let some : 0 < length (drop at input) = rw length-drop (omega arith) in
-    bad_text input (take at input) (drop at input) before found (sym (take-append-drop at input))
+    bad_fault input (take at input) (drop at input) before found (sym (take-append-drop at input))
     (joined_before before (take at input) (drop at input) sum joined (not_empty (drop at input) some)) few stands
 add_fault input at before sum found joined more few (inr stands) =
-    refused input at stands.0 before sum stands.1 found joined stands.2 stands.3
+    refused input at stands.0 before sum stands.1 found few joined stands.2 stands.3

@@ -1,5 +1,5 @@
 -- What `find` prints: the uses of one pattern in the dictionary whose text the input is.
-use Rattle.std.specs.Prelude.{◌≡◌, ℕ, ◌^◌, ◌≤◌, ◌⊎◌, List, length, Option, Some, None}
+use Rattle.std.specs.Prelude.{◌≡◌, ℕ, ◌≤◌, ◌⊎◌, List, length, Option, Some, None}
 use Rattle.shape_dict.specs.declared.entries.Entry.{Entry}
 use Rattle.shape_dict.specs.Contents.{Contents, entry_of}
 use Rattle.shape_dict.specs.Text.{line_text}
@@ -39,9 +39,10 @@ IsFindText shape input text = IsFoundText shape input text ⊎ IsAbsentText shap
 abbrev pub HasNoDictionary : List ℕ → Type 0
 HasNoDictionary input = (contents : Contents) → IsTextOf contents input → length input ≤ most_bytes → ⊥
 
--- the fault is the first in the input as a text of a dictionary, or memory was wanting
+-- the fault is the first in the input as a text of a dictionary; the run's own want of memory is that for the input or for
+-- what is printed, and comes whatever the input is
 abbrev pub IsFindFault : List ℕ → RunFault → Type 0
-IsFindFault input (fault.Dict n dict_fault.Memory) = n ≡ 1
+IsFindFault input (fault.Dict n dict_fault.Memory) = (n ≡ 1) × IsTextFault input dict_fault.Memory
 IsFindFault input (fault.Dict n found) = (n ≡ 1) × IsTextFault input found × HasNoDictionary input
 IsFindFault input fault.Memory = Unit {0}
 IsFindFault input (fault.Sgf found) = ⊥

@@ -1,5 +1,5 @@
 -- What `join` prints: the join of the dictionaries whose texts the input is, one after another.
-use Rattle.std.specs.Prelude.{◌≡◌, ◌≢◌, ℕ, zero, suc, ◌+◌, ◌^◌, ◌<◌, ◌≤◌, List, [], ◌∷◌, ◌++◌, length}
+use Rattle.std.specs.Prelude.{◌≡◌, ◌≢◌, ℕ, zero, suc, ◌+◌, ◌<◌, ◌≤◌, ◌⊎◌, List, [], ◌∷◌, ◌++◌, length}
 use Rattle.shape_dict.specs.declared.entries.Text.{Text}
 use Rattle.shape_dict.specs.Contents.{Contents}
 use Rattle.shape_dict.specs.Text.{text_of}
@@ -43,8 +43,10 @@ abbrev pub WereJoined : ℕ → List ℕ → List ℕ → Type 0
 WereJoined zero read left = read ≡ []
 WereJoined (suc n) read left = (sum : Contents) × IsJoinedText read (suc n) sum × (left ≢ [])
 
--- those before dictionary `n` were read and joined, and this fault is the first in what follows
+-- the input has at most 2 ^ 28 bytes, those before dictionary `n` were read and joined, and this fault is the first in
+-- what follows
 pub record IsBadText (input : List ℕ) (n : ℕ) (found : DictFault) : Type 0 where
+  pub few : length input ≤ most_bytes
   pub before : ℕ
   pub read : List ℕ
   pub left : List ℕ
@@ -53,8 +55,10 @@ pub record IsBadText (input : List ℕ) (n : ℕ) (found : DictFault) : Type 0 w
   pub joined : WereJoined before read left
   pub stands : IsFrontFault left found
 
--- those before dictionary `n` were read and joined, and it was read and cannot be added to them
+-- the input has at most 2 ^ 28 bytes, those before dictionary `n` were read and joined, and it was read and cannot be
+-- added to them
 pub record IsNotAdded (input : List ℕ) (n : ℕ) (found : DictFault) : Type 0 where
+  pub few : length input ≤ most_bytes
   pub before : ℕ
   pub read : List ℕ
   pub text : List ℕ
@@ -67,15 +71,25 @@ pub record IsNotAdded (input : List ℕ) (n : ℕ) (found : DictFault) : Type 0 
   pub is_text : IsTextOf next text
   pub stands : IsJoinFault sum next found
 
--- the fault is the first that is met as the dictionaries are read and joined one after another, or memory was wanting;
--- whether the input is too large is judged once, over all of it
+-- the input, of at most 2 ^ 28 bytes, is the texts of `n` dictionaries, which were read and joined; the text of their join
+-- was not written
+pub record IsNotWritten (input : List ℕ) (n : ℕ) : Type 0 where
+  pub few : length input ≤ most_bytes
+  pub sum : Contents
+  pub joined : IsJoinedText input n sum
+
+-- the fault is the first that is met as the dictionaries are read and joined one after another; whether the input is too
+-- large is judged once, over all of it, and before all else; memory may be wanting after the header of dictionary `n`, as it
+-- is added to those before it, and, where it is the last, as the text of the join is written
 abbrev pub IsDictionaryFault : List ℕ → ℕ → DictFault → Type 0
-IsDictionaryFault input n dict_fault.Memory = Unit {0}
+IsDictionaryFault input n dict_fault.Memory =
+    IsBadText input n dict_fault.Memory ⊎ IsNotAdded input n dict_fault.Memory ⊎ IsNotWritten input n
 IsDictionaryFault input n dict_fault.TooLarge = most_bytes < length input
 IsDictionaryFault input n dict_fault.Overflow = IsNotAdded input n dict_fault.Overflow
 IsDictionaryFault input n dict_fault.MixedKinds = IsNotAdded input n dict_fault.MixedKinds
 IsDictionaryFault input n found = IsBadText input n found
 
+-- the same of a run; its own want of memory is that for the input, and comes whatever the input is
 abbrev pub IsJoinRunFault : List ℕ → RunFault → Type 0
 IsJoinRunFault input (fault.Dict n found) = IsDictionaryFault input n found
 IsJoinRunFault input fault.Memory = Unit {0}

@@ -1,10 +1,9 @@
 -- Bytes that begin with a text of a dictionary are read as that dictionary, without a fault.
-use Rattle.std.proofs.Common.{◌≡◌, ℕ, suc, ◌+◌, ◌-◌, ◌<◌, ◌≤◌, ◌^◌, inl, inr, List, [], ◌∷◌, ◌++◌, length, take, drop, sym, refl, ap, ◌∙◌, subst, arith, Option, None, IfSome, Bool, true, false, cond, ltb, is_some, unwrap_or}
+use Rattle.std.proofs.Common.{◌≡◌, ℕ, suc, ◌+◌, ◌-◌, ◌<◌, ◌≤◌, ◌^◌, List, [], ◌∷◌, ◌++◌, length, take, drop, sym, refl, ap, ◌∙◌, subst, arith, Option, None, IfSome, Bool, true, false, cond, ltb, is_some, unwrap_or}
 use Rattle.std.specs.List.{flat_map, AllByRecursion}
-use Rattle.std.proofs.lemmas.List.{append-nil, length-append, length-drop, take-append-drop, append_cancel_right}
+use Rattle.std.proofs.lemmas.List.{length-drop, take-append-drop, append_cancel_right}
 use Rattle.std.proofs.lemmas.List.Elements.{recursion_from_All}
 use Rattle.std.proofs.lemmas.Bool.Decides.{nat_tests}
-use Rattle.std.proofs.lemmas.Bool.{cases_lt}
 use Rattle.shape_core.specs.Word.{kind_of}
 use Rattle.shape_core.specs.declared.words.Kind.TheVariants as kind
 use Rattle.shape_dict.specs.declared.entries.Entry.{Entry}
@@ -13,12 +12,12 @@ use Rattle.shape_dict.specs.declared.entries.Text.TheVariants as text
 use Rattle.shape_dict.specs.declared.headers.Header.{Header}
 use Rattle.shape_dict.specs.Contents.{Contents, HasTotals, IsEntry, squares_of, diamonds_of}
 use Rattle.shape_dict.specs.Text.{header_text, line_text, header_of, IsWhole, IsSmallEntry, diamonds_counted}
-use Rattle.shape_dict.specs.Reading.{IsFirst, AreLines, HasAllLines, HasMore, IsTextOf, lines_after, counts_of, kind_at}
+use Rattle.shape_dict.specs.Reading.{IsFirst, AreLines, HasMore, IsTextOf, lines_after, counts_of, kind_at}
 use Rattle.shape_dict.specs.Inner.Reading.{IsRead}
 use Rattle.shape_dict.specs.Inner.Merging.{Climbs}
 use Rattle.shape_dict.proofs.Climbing.{climbs_from_rises}
 use Rattle.shape_dict.proofs.Read.{entries_are, both_kinds}
-use Rattle.shape_dict.proofs.Unique.{begun_unique}
+use Rattle.shape_dict.proofs.Unique.{begun_same, header_same}
 
 -- no square is above a diamond
 no_squares : (least : ℕ) (es : List Entry) → 2 ^ 50 ≤ least → Climbs least es → squares_of es ≡ []
@@ -116,26 +115,13 @@ same_contents c d g m e b =
     ap (λ (x : ℕ). contents_by x c.moves c.entries c.counts_diamonds) g ∙ (ap (λ (x : ℕ). contents_by d.games x c.entries c.counts_diamonds) m
     ∙ (ap (λ (x : List Entry). contents_by d.games d.moves x c.counts_diamonds) e ∙ ap (λ (x : Bool). contents_by d.games d.moves d.entries x) b))
 
-none_more : (es more : List Entry) → length (es ++ more) ≡ length es → more ≡ []
-none_more es [] h = refl
-none_more es (e ∷ more) h = let l = length-append es (e ∷ more) in absurd (omega arith)
-
 -- what is read is read in one way
-pub all_lines_unique : (bytes : List ℕ) (g h : Header) (es fs : List Entry) (r s : List ℕ) → HasAllLines bytes g es r → HasAllLines bytes h fs s → length es ≤ length fs → (g ≡ h) × (fs ≡ es) × (r ≡ s)
-all_lines_unique bytes g h es fs r s p q few =
-    let u = begun_unique bytes g h es fs r s p.begins q.begins few in
-    let count : length fs ≡ length es = q.all ∙ (ap lines_after (sym u.0) ∙ sym p.all) in
-    let none = none_more es u.1.0 (ap length (sym u.1.1) ∙ count) in
-    (u.0, u.1.1 ∙ (ap (λ (x : List Entry). es ++ x) none ∙ append-nil es), u.1.2 ∙ ap (λ (x : List Entry). flat_map (line_text g.text) x ++ s) none)
-
-read_ordered : (bytes : List ℕ) (c d : Contents) (r s : List ℕ) → IsRead bytes c r → IsRead bytes d s → length c.entries ≤ length d.entries → (c ≡ d) × (r ≡ s)
-read_ordered bytes c d r s p q few =
-    let u = all_lines_unique bytes p.header q.header c.entries d.entries r s p.lines q.lines few in
-    (same_contents c d (p.games ∙ (ap (λ (x : Header). x.games) u.0 ∙ sym q.games)) (p.moves ∙ (ap (λ (x : Header). x.moves) u.0 ∙ sym q.moves)) (sym u.1) (p.kinds ∙ (ap counts_of u.0 ∙ sym q.kinds)), u.2)
-
 pub read_unique : (bytes : List ℕ) (c d : Contents) (r s : List ℕ) → IsRead bytes c r → IsRead bytes d s → (c ≡ d) × (r ≡ s)
-read_unique bytes c d r s p q = elim (cases_lt (length d.entries) (length c.entries))
-    [ inl less ↦ (let u = read_ordered bytes d c s r q p (omega arith) in (sym u.0, sym u.1)) | inr more ↦ read_ordered bytes c d r s p q (omega arith) ]
+read_unique bytes c d r s p q =
+    let head = header_same bytes p.header q.header c.entries d.entries r s p.lines.begins q.lines.begins in
+    let count : length c.entries ≡ length d.entries = p.lines.all ∙ (ap lines_after head ∙ sym q.lines.all) in
+    let u = begun_same bytes p.header q.header c.entries d.entries r s p.lines.begins q.lines.begins count in
+    (same_contents c d (p.games ∙ (ap (λ (x : Header). x.games) head ∙ sym q.games)) (p.moves ∙ (ap (λ (x : Header). x.moves) head ∙ sym q.moves)) (sym u.1) (p.kinds ∙ (ap counts_of head ∙ sym q.kinds)), u.2)
 
 -- bytes follow a text
 pub more_after : (bytes : List ℕ) (d : Contents) (count : ℕ) → IsTextOf d (take count bytes) → count < length bytes → HasMore bytes (length d.entries + 2)

@@ -8,5 +8,6 @@ pub mod Joined
 pub mod Known
 pub mod Merging
 pub mod Read
+pub mod Stopped
 pub mod Unique
 pub mod Worked

@@ -184,7 +184,7 @@ front_read bytes left d r =
 -- a fault of a front is one of the whole
 pub fault_of_whole : (bytes : List ℕ) (found : DictFault) → IsFrontFault bytes found → IsTextFault bytes found
 fault_of_whole bytes fault.BadHeader h = h
-fault_of_whole bytes (fault.BadLine line) h = inl h
+fault_of_whole bytes (fault.BadLine line) h = (h.0, inl h.1)
 fault_of_whole bytes (fault.NotRising line) h = h
 fault_of_whole bytes (fault.NotCanonical line) h = h
 fault_of_whole bytes fault.WrongTotals h = h

@@ -2,7 +2,7 @@
 use Rattle.std.proofs.Common.{◌≡◌, ℕ, ◌+◌, ◌<◌, ◌≤◌, ◌^◌, inl, List, [], ◌∷◌, ◌++◌, length, get_or, sym, refl, ap, ◌∙◌, subst, arith, append_assoc, Option, Some, None, IfSome, codes}
 use Rattle.std.specs.List.{flat_map}
 use Rattle.std.specs.Fmt.{decimal}
-use Rattle.std.proofs.lemmas.List.{append_cancel_left}
+use Rattle.std.proofs.lemmas.List.{append_cancel_left, append-nil, length-append}
 use Rattle.shape_dict.specs.declared.entries.Entry.{Entry}
 use Rattle.shape_dict.specs.declared.entries.Text.{Text}
 use Rattle.shape_dict.specs.declared.entries.Text.TheVariants as text
@@ -153,3 +153,14 @@ header_same bytes g h es fs r s p q =
     let left = append_assoc (header_text g) (flat_map (line_text g.text) es) r in
     let right = append_assoc (header_text h) (flat_map (line_text h.text) fs) s in
     (header_unique g h (flat_map (line_text g.text) es ++ r) (flat_map (line_text h.text) fs ++ s) p.is_header q.is_header (sym left ∙ (sym p.same ∙ (q.same ∙ right)))).0
+
+none_more : (es more : List Entry) → length es ≡ length (es ++ more) → more ≡ []
+none_more es [] h = refl
+none_more es (e ∷ more) h = let l = length-append es (e ∷ more) in absurd (omega arith)
+
+-- two ways to begin with as many lines are one
+pub begun_same : (bytes : List ℕ) (g h : Header) (es fs : List Entry) (r s : List ℕ) → BeginsWith bytes g es r → BeginsWith bytes h fs s → length es ≡ length fs → (g ≡ h) × (fs ≡ es) × (r ≡ s)
+begun_same bytes g h es fs r s p q same =
+    let u = begun_unique bytes g h es fs r s p q (omega arith) in
+    let none = none_more es u.1.0 (same ∙ ap length u.1.1) in
+    (u.0, u.1.1 ∙ (ap (λ (x : List Entry). es ++ x) none ∙ append-nil es), u.1.2 ∙ ap (λ (x : List Entry). flat_map (line_text g.text) x ++ s) none)

@@ -73,9 +73,16 @@ pub record BeginsWith (bytes : List ℕ) (header : Header) (entries : List Entry
   pub few : length entries ≤ lines_after header
   pub same : bytes ≡ header_text header ++ flat_map (line_text header.text) entries ++ left
 
+-- the bytes begin with a header
+pub record HasHeader (bytes : List ℕ) : Type 0 where
+  pub header : Header
+  pub left : List ℕ
+  pub is_header : IsHeader header
+  pub same : bytes ≡ header_text header ++ left
+
 -- the bytes do not begin with a header
 abbrev pub HasNoHeader : List ℕ → Type 0
-HasNoHeader bytes = (header : Header) → (left : List ℕ) → IsHeader header → bytes ≡ header_text header ++ left → ⊥
+HasNoHeader bytes = HasHeader bytes → ⊥
 
 -- what follows does not begin with a line that this place may have
 abbrev pub HasNoLine : Header → ℕ → List ℕ → Type 0
@@ -146,19 +153,25 @@ pub record HasMore (bytes : List ℕ) (line : ℕ) : Type 0 where
   pub more : left ≢ []
   pub at : line ≡ lines_after header + 2
 
--- the fault is the first in bytes that are to begin with a text; want of memory may be answered anywhere
+-- the fault is the first in bytes that are to begin with a text, however many they are; want of memory comes after a
+-- header, whatever follows it
+abbrev pub IsFirstFault : List ℕ → DictFault → Type 0
+IsFirstFault bytes fault.BadHeader = HasNoHeader bytes
+IsFirstFault bytes (fault.BadLine line) = IsBadLine bytes line
+IsFirstFault bytes (fault.NotRising line) = IsNotRising bytes line
+IsFirstFault bytes (fault.NotCanonical line) = IsNotCanonical bytes line
+IsFirstFault bytes fault.WrongTotals = HasWrongTotals bytes
+IsFirstFault bytes fault.Memory = HasHeader bytes
+IsFirstFault bytes fault.Overflow = ⊥
+IsFirstFault bytes fault.TooLarge = ⊥
+IsFirstFault bytes fault.MixedKinds = ⊥
+
+-- the same where too many bytes are a fault, which comes before all others
 abbrev pub IsFrontFault : List ℕ → DictFault → Type 0
 IsFrontFault bytes fault.TooLarge = most_bytes < length bytes
-IsFrontFault bytes fault.BadHeader = HasNoHeader bytes
-IsFrontFault bytes (fault.BadLine line) = IsBadLine bytes line
-IsFrontFault bytes (fault.NotRising line) = IsNotRising bytes line
-IsFrontFault bytes (fault.NotCanonical line) = IsNotCanonical bytes line
-IsFrontFault bytes fault.WrongTotals = HasWrongTotals bytes
-IsFrontFault bytes fault.Memory = Unit {0}
-IsFrontFault bytes fault.Overflow = ⊥
-IsFrontFault bytes fault.MixedKinds = ⊥
+IsFrontFault bytes found = (length bytes ≤ most_bytes) × IsFirstFault bytes found
 
 -- the same of bytes that are to be one text
 abbrev pub IsTextFault : List ℕ → DictFault → Type 0
-IsTextFault bytes (fault.BadLine line) = IsBadLine bytes line ⊎ HasMore bytes line
+IsTextFault bytes (fault.BadLine line) = (length bytes ≤ most_bytes) × (IsBadLine bytes line ⊎ HasMore bytes line)
 IsTextFault bytes found = IsFrontFault bytes found

@@ -1,7 +1,9 @@
-//! A law of the texts.
-ghost use Rattle.std.specs.Prelude.{◌≡◌, ◌++◌, ℕ, List};
+//! Laws of the texts.
+ghost use Rattle.std.specs.Prelude.{◌≡◌, ◌≢◌, ◌++◌, ℕ, List};
 ghost use Rattle.shape_dict.specs.Contents.{Contents};
-ghost use Rattle.shape_dict.specs.Reading.{IsTextOf};
+ghost use Rattle.shape_dict.specs.Reading.{IsTextOf, IsTextFault, IsFrontFault};
+ghost use Rattle.shape_dict.specs.declared.faults.DictFault.{DictFault};
+ghost use Rattle.shape_dict.specs.declared.faults.DictFault.TheVariants as fault;
 
 /// A text is of one dictionary, and no text begins another one.
 pub fn texts_are_distinct()
@@ -9,4 +11,14 @@ pub fn texts_are_distinct()
         → (after : List ℕ) → (other_after : List ℕ)
         → IsTextOf one text → IsTextOf other other_text → text ++ after ≡ other_text ++ other_after
         → (text ≡ other_text) × (one ≡ other) }
+{}
+
+/// Bytes that are to be a text have one first fault, want of memory aside, and so have those that are to begin with one.
+pub fn texts_have_one_fault()
+    ensures text { (bytes : List ℕ) → (one : DictFault) → (other : DictFault)
+        → IsTextFault bytes one → IsTextFault bytes other
+        → one ≢ fault.Memory → other ≢ fault.Memory → one ≡ other }
+    ensures front { (bytes : List ℕ) → (one : DictFault) → (other : DictFault)
+        → IsFrontFault bytes one → IsFrontFault bytes other
+        → one ≢ fault.Memory → other ≢ fault.Memory → one ≡ other }
 {}

@@ -20,5 +20,5 @@ mod writing;
 pub use dictionaries::Dictionary;
 pub use entries::{Entry, Text};
 pub use faults::DictFault;
-pub use laws::texts_are_distinct;
+pub use laws::{texts_are_distinct, texts_have_one_fault};
 pub use writing::{push_line, push_number, push_word};

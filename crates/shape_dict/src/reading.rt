@@ -2,8 +2,8 @@
 ghost use Rattle.std.specs.Prelude.{◌≡◌, ◌++◌, ◌∷◌, [], ◌<◌, ◌≤◌, ◌-◌, ◌+◌, ◌^◌, ℕ, List, length};
 ghost use Rattle.std.specs.Prelude.{map, slice_index, IfOk, IfErr, MatchBool, min, take};
 ghost use Rattle.shape_dict.specs.Text.{header_text};
-ghost use Rattle.shape_dict.specs.Reading.{IsHeader, BeginsWith, HasAllLines, IsFrontFault};
-ghost use Rattle.shape_dict.specs.Reading.{IsTextFault, IsTextOf, lines_after};
+ghost use Rattle.shape_dict.specs.Reading.{IsHeader, BeginsWith, HasAllLines, IsFirstFault};
+ghost use Rattle.shape_dict.specs.Reading.{IsFrontFault, IsTextFault, IsTextOf, lines_after};
 ghost use Rattle.shape_dict.specs.declared.faults.DictFault.TheVariants as fault;
 ghost use Rattle.sgf_core.specs.Limit.{most_bytes};
 
@@ -46,7 +46,7 @@ fn next_entry<'a>(
     ensures fault { IfErr result (λ found. (whole : List ℕ)
         → BeginsWith whole header.now entries.now bytes.now
         → length entries.now < lines_after header.now
-        → IsFrontFault whole found) }
+        → IsFirstFault whole found) }
 {
     let place = entries.len() as u64;
     let Some((line, rest)) = read_line(header, place, bytes) else {
@@ -83,7 +83,7 @@ fn read_lines<'a>(
     requires { IsHeader header.now }
     ensures ok { IfOk result (λ p. HasAllLines (header_text header.now ++ bytes.now) header.now
         p.0.items p.1.now) }
-    ensures fault { IfErr result (IsFrontFault (header_text header.now ++ bytes.now)) }
+    ensures fault { IfErr result (IsFirstFault (header_text header.now ++ bytes.now)) }
 {
     let mut entries = Vec::new(alloc);
     let mut left = bytes;
@@ -150,7 +150,8 @@ impl Dictionary {
     /// In this order: `TooLarge` where the input has more than 2^28 bytes, `BadHeader` where it does not begin with a
     /// header, and for each line in turn `BadLine` where it is missing or is none, `NotRising` where its word is not above
     /// the one before, `NotCanonical` where its word is not the least of its images; then `WrongTotals` where the plays do
-    /// not add up to the moves, and `BadLine` where bytes follow the text. `Memory` where memory was refused.
+    /// not add up to the moves, and `BadLine` where bytes follow the text. `Memory` where memory was refused, which is asked
+    /// for after a header alone.
     pub fn read(alloc: Global, bytes: &[u8]) -> Result<Dictionary, DictFault>
         ensures found { IfOk result (λ d. IsTextOf d bytes.now × (length bytes.now ≤ most_bytes)) }
         ensures only { (contents : Contents) → IsTextOf contents bytes.now

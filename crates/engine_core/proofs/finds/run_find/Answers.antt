@@ -3,8 +3,16 @@ use Rattle.std.proofs.lemmas.Result.{err_from_is_err_and}
 use Rattle.std.specs.Io.KnownBytes.{Appends}
 use Rattle.engine_core.specs.Output.{WroteFront}
 use Rattle.engine_core.specs.Finds.{IsFoundText, IsAbsentText, IsFindText, IsFindFault}
+use Rattle.engine_core.proofs.Causes.{run_cause}
 use Rattle.engine_core.proofs.Runs.{run_done, run_stopped}
 use Rattle.engine_core.proofs.finds.run_find.Goals as goal
+
+pub returns-in_err-line-clause-fault : goal.returns-in_err-line-clause-fault
+returns-in_err-line-clause-fault g c =
+    let p = err_from_is_err_and c.from_residual-in_err-line.result c.from_residual-in_err-line.ensures.1 in
+    rw (p.1, p.2) (run_cause (IsFindText c.args.shape) IsFindFault (g.R.Read.remaining c.args.reader.now) (g.W.Write.contents c.args.writer.now)
+    c.in_ok-input.input.items c.in_err-line.field-0.0 c.in_ok-input.ensures.input (λ written h. h)
+    (subst (λ bytes. IsFindFault bytes c.in_err-line.field-0.0) c.deref.ensures.value c.in_err-line.ensures.fault))
 
 pub returns-in_err-write_output-clause-fault : goal.returns-in_err-write_output-clause-fault
 returns-in_err-write_output-clause-fault g c =
