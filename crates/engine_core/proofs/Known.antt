@@ -2,6 +2,7 @@
 use Rattle.std.proofs.Common.{◌≡◌, ℕ, ◌≤◌, List, [], ◌++◌, length, take, Option, Some, None, IfSome, ap, sym, subst, ◌∙◌, append_assoc, ◌-◌, ◌+◌, drop, arith, take-add}
 use Rattle.std.proofs.lemmas.List.{take_all, take_at, append-nil, length-drop}
 use Rattle.std.specs.Io.KnownBytes.{Consumes, Appends, IsAtEnd}
+use Rattle.engine_core.specs.Runs.{ReadInput, input_of}
 
 pub consumed_more : (a b c : Option (List ℕ)) (xs ys : List ℕ) → Consumes a b xs → Consumes b c ys → Consumes a c (xs ++ ys)
 consumed_more None b c xs ys h k = tt
@@ -35,6 +36,11 @@ read_last a b c xs room count n h k none e l =
     let last : Consumes b c [] = subst (λ m. Consumes b c (take m room)) none k in
     subst (λ ys. IfSome a (λ all. ys ≡ take n all)) (append-nil xs)
     (read_to_end a c (xs ++ []) n (consumed_more a b c xs [] h last) e (rw append-nil l))
+
+-- the input was read
+pub read_all : (rest left : Option (List ℕ)) (items : List ℕ) → Consumes rest left items → IfSome rest (λ all. items ≡ input_of all) → ReadInput rest left
+read_all None left items taken is = tt
+read_all (Some all) left items taken is = subst (λ bytes. Consumes (Some all) left bytes) is taken
 
 -- the given number of further bytes of a text was written
 pub written_more : (a b c : Option (List ℕ)) (text : List ℕ) (at n : ℕ) → Appends a b (take at text) → Appends b c (take n (take (length text - at) (drop at text))) → Appends a c (take (at + n) text)

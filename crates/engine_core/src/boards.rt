@@ -3,7 +3,7 @@ ghost use Rattle.std.specs.Prelude.{◌≡◌, ◌⊎◌, IfOk, IfErr, IfSome, I
 ghost use Rattle.std.specs.Io.KnownBytes.{Keeps};
 ghost use Rattle.engine_core.specs.Boards.{position_text, IsFinal, IsBoardText, HasNoBoard};
 ghost use Rattle.engine_core.specs.Boards.{IsBoardFault};
-ghost use Rattle.engine_core.specs.Runs.{Wrote, IsRunFault, input_of};
+ghost use Rattle.engine_core.specs.Runs.{HasRead, Wrote, IsRunFault, input_of};
 ghost use Rattle.go_board.specs.Position.{Position};
 ghost use Rattle.go_board.specs.declared.faults.BoardFault.TheVariants as board_fault;
 ghost use Rattle.engine_core.specs.declared.faults.RunFault.TheVariants as fault;
@@ -69,6 +69,7 @@ pub fn run_board<R: Read, W: Write>(
     reader: &mut R,
     writer: &mut W,
 ) -> Result<Outcome, RunFault>
+    ensures read { HasRead result (R.remaining reader.old) (R.remaining reader.new) }
     ensures done { IfOk result (λ found. found ≡ outcome.Done
         → Wrote IsBoardText (R.remaining reader.old) (W.contents writer.old)
         (W.contents writer.new)) }

@@ -1,7 +1,7 @@
 //! `count`: from the bytes of a collection to a text of the dictionary of its games.
 ghost use Rattle.std.specs.Prelude.{◌^◌, IfOk, IfErr};
 ghost use Rattle.engine_core.specs.Counts.{IsCountText, HasCountText, IsCountRunFault};
-ghost use Rattle.engine_core.specs.Runs.{Wrote, IsRunFault};
+ghost use Rattle.engine_core.specs.Runs.{HasRead, Wrote, IsRunFault};
 
 use crate::faults::RunFault;
 use crate::input::read_input;
@@ -52,6 +52,7 @@ pub fn run_count<T: Threads + Wait + Sync, R: Read, W: Write>(
     reader: &mut R,
     writer: &mut W,
 ) -> Result<Report, RunFault>
+    ensures read { HasRead result (R.remaining reader.old) (R.remaining reader.new) }
     ensures done { IfOk result (λ report. Wrote (IsCountText settings.kinds text report)
         (R.remaining reader.old) (W.contents writer.old) (W.contents writer.new)) }
     ensures fault { IfErr result (IsRunFault (HasCountText settings.kinds text)

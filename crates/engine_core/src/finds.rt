@@ -2,7 +2,7 @@
 ghost use Rattle.std.specs.Prelude.{◌≡◌, IfOk, IfErr};
 ghost use Rattle.engine_core.specs.Finds.{IsEntryOf, IsFoundText, IsAbsentText, IsFindText};
 ghost use Rattle.engine_core.specs.Finds.{IsFindFault};
-ghost use Rattle.engine_core.specs.Runs.{Wrote, IsRunFault};
+ghost use Rattle.engine_core.specs.Runs.{HasRead, Wrote, IsRunFault};
 ghost use Rattle.shape_dict.specs.Text.{line_text};
 ghost use Rattle.shape_dict.specs.declared.entries.Text.TheVariants as kind;
 ghost use Rattle.engine_core.specs.declared.boards.Outcome.TheVariants as outcome;
@@ -71,6 +71,7 @@ pub fn run_find<R: Read, W: Write>(
     reader: &mut R,
     writer: &mut W,
 ) -> Result<Outcome, RunFault>
+    ensures read { HasRead result (R.remaining reader.old) (R.remaining reader.new) }
     ensures done { IfOk result (λ found. found ≡ outcome.Done
         → Wrote (IsFoundText shape) (R.remaining reader.old) (W.contents writer.old)
         (W.contents writer.new)) }

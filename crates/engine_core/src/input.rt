@@ -4,6 +4,7 @@ ghost use Rattle.std.specs.Prelude.{IfSome, OnOk};
 ghost use Rattle.std.specs.Io.KnownBytes.{Consumes, IsAtEnd};
 ghost use Rattle.engine_core.specs.declared.faults.RunFault.TheVariants as fault;
 ghost use Rattle.engine_core.specs.declared.input.TheConstants.{BLOCK};
+ghost use Rattle.engine_core.specs.Runs.{ReadInput};
 ghost use Rattle.sgf_core.specs.Limit.{most_bytes};
 
 use crate::faults::RunFault;
@@ -36,6 +37,8 @@ fn read_by_block<R: Read>(
     requires none { input.old.items ≡ [] }
     ensures input { OnOk result (IfSome (R.remaining reader.old)
         (λ all. input.new.items ≡ take (most_bytes + 1) all)) }
+    ensures read { OnOk result (Consumes (R.remaining reader.old) (R.remaining reader.new)
+        input.new.items) }
     ensures fault { IfErr result (λ found. (found ≡ fault.Read) ⊎ (found ≡ fault.Memory)) }
 {
     while input.len() <= MOST_BYTES {
@@ -58,6 +61,7 @@ fn read_by_block<R: Read>(
 pub fn read_input<R: Read>(alloc: Global, reader: &mut R) -> Result<Vec<u8>, RunFault>
     ensures input { IfOk result (λ input. IfSome (R.remaining reader.old)
         (λ all. input.items ≡ take (most_bytes + 1) all)) }
+    ensures read { OnOk result (ReadInput (R.remaining reader.old) (R.remaining reader.new)) }
     ensures fault { IfErr result (λ found. (found ≡ fault.Read) ⊎ (found ≡ fault.Memory)) }
 {
     let mut block = vec![in alloc; 0u8; BLOCK]?;

@@ -4,7 +4,7 @@ ghost use Rattle.engine_core.specs.Inner.Batches.{IsBatch};
 ghost use Rattle.engine_core.specs.Joins.{IsJoinedText, IsJoinText};
 ghost use Rattle.engine_core.specs.Inner.Joins.{IsAdded, IsAddFault};
 ghost use Rattle.engine_core.specs.Joins.{IsJoinRunFault};
-ghost use Rattle.engine_core.specs.Runs.{Wrote, IsRunFault};
+ghost use Rattle.engine_core.specs.Runs.{HasRead, Wrote, IsRunFault};
 ghost use Rattle.engine_core.specs.declared.boards.Outcome.TheVariants as outcome;
 ghost use Rattle.sgf_core.specs.Limit.{most_bytes};
 
@@ -142,6 +142,7 @@ pub fn run_join<R: Read, W: Write>(
     reader: &mut R,
     writer: &mut W,
 ) -> Result<Outcome, RunFault>
+    ensures read { HasRead result (R.remaining reader.old) (R.remaining reader.new) }
     ensures done { IfOk result (λ found. (found ≡ outcome.Done)
         × Wrote (IsJoinText text) (R.remaining reader.old) (W.contents writer.old)
         (W.contents writer.new)) }
