@@ -16,7 +16,6 @@ mod Strangers
 mod Beyond
 mod Stood
 mod Firsts
-mod Counted
 mod FirstGames
 pub mod Gathered
 mod Listed
@@ -27,4 +26,5 @@ mod Totalled
 mod OfNumber
 mod Visits
 pub mod Confirmed
+mod SoughtRows
 mod Agreed

@@ -20,7 +20,7 @@ use Rattle.share_core.specs.Inner.Totals.{AreEntriesBelow}
 use Rattle.share_core.specs.Gathering.{all_moves, all_added, replayed_games, AreWithin, HaveGames, IsGathered}
 use Rattle.share_core.proofs.Numbered.{length-numbered}
 use Rattle.share_core.proofs.Gathered.{there_gathered, played_gathered, moves_gathered, entry_gathered}
-use Rattle.share_core.proofs.Counted.{is_dictionary}
+use Rattle.tally_core.proofs.RisingDictionary.{is_dictionary}
 use Rattle.share_core.proofs.Ordered.{sorted_rises, sorted_shapes, sorted_entry}
 
 -- the games that each share is of

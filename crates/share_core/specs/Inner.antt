@@ -5,6 +5,7 @@ pub mod Confirming
 pub mod Covering
 pub mod Entering
 pub mod Gathering
+pub mod Leasts
 pub mod Ledgers
 pub mod Making
 pub mod Numbers

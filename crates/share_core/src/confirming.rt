@@ -1,8 +1,7 @@
 //! Why the table had no number for a pattern.
-ghost use Rattle.std.specs.Prelude.{◌≡◌, ◌^◌, ◌++◌, ◌∷◌, ◌⊎◌, [], List, Some};
+ghost use Rattle.std.specs.Prelude.{◌≡◌, ◌^◌, ◌⊎◌, [], Some};
 ghost use Rattle.std.specs.Bool.{OnTrue, OnFalse};
 ghost use Rattle.slot_table.specs.Passes.{IsPassOf, IsLater};
-ghost use Rattle.share_core.specs.declared.rows.Row.{Row};
 ghost use Rattle.share_core.specs.Checking.{all_rows};
 ghost use Rattle.share_core.specs.Confirming.{HasShape, first_shape};
 ghost use Rattle.share_core.specs.Inner.Confirming.{IsLeastOf, IsOfRow};
@@ -10,55 +9,22 @@ ghost use Rattle.share_core.specs.Confirming.{IsConfirmation};
 ghost use Rattle.share_core.specs.declared.faults.HarvestFault.TheVariants as fault;
 
 use crate::faults::HarvestFault;
+use crate::leasts::{Sought, least_of};
 use crate::numbers::sums_at;
-use crate::rows::Row;
 use crate::shares::Share;
 use crate::standing::{bits_of, word_of};
 use probe_core::ProbeOrder;
 use shape_core::Word;
 use slot_table::{Pass, SlotTable};
 
-/// The least number of a row with these bits, where that of the earlier rows is `least`.
-fn lesser(least: Option<usize>, row: Row, bits: u64) -> Option<usize>
-    ensures { (rows : List Row) → IsLeastOf bits rows least
-        → IsLeastOf bits (rows ++ row ∷ []) result }
-{
-    if row.shape.word().bits() != bits {
-        return least;
-    }
-    match least {
-        None => Some(row.number),
-        Some(so_far) => {
-            if row.number < so_far {
-                Some(row.number)
-            } else {
-                Some(so_far)
-            }
-        }
-    }
-}
-
-/// The same over the rows of a share.
-fn least_in(least: Option<usize>, more: &[Row], bits: u64) -> Option<usize>
-    ensures { (rows : List Row) → IsLeastOf bits rows least
-        → IsLeastOf bits (rows ++ more.now) result }
-{
-    let mut found = least;
-    for row in more {
-        found = lesser(found, *row, bits);
-    }
-    found
-}
-
 /// The least number of a row with these bits, among those of all shares.
 fn least_with(shares: &[Share], bits: u64) -> Option<usize>
     ensures { IsLeastOf bits (all_rows shares.now) result }
 {
-    let mut found = None;
-    for share in shares {
-        found = least_in(found, share.made_rows(), bits);
+    match least_of(shares, Sought::Pattern(bits)) {
+        Some(row) => Some(row.number),
+        None => None,
     }
-    found
 }
 
 /// Whether a share's row of a number has these bits.

@@ -3,6 +3,7 @@
 
 // one share, and what adding a game to it takes
 mod entering;
+mod leasts;
 mod ledgers;
 mod making;
 mod places;
