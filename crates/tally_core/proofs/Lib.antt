@@ -21,6 +21,7 @@ pub mod DoubleCounting
 pub mod PlayedPatterns
 pub mod RisingEntries
 pub mod CountedEntries
+pub mod RisingDictionary
 pub mod Gathered
 pub mod PlayedThere
 pub mod PutTogether

@@ -1,6 +1,7 @@
 -- What a list of entries has of a pattern, and what a map has.
-use Rattle.std.proofs.Common.{◌≡◌, ℕ, zero, suc, ◌≤◌, ◌==◌, nat_lt, true, false, cond, List, [], ◌∷◌, map, Option, Some, None, refl, ap, sym, ◌∙◌, arith}
+use Rattle.std.proofs.Common.{◌≡◌, ℕ, zero, suc, ◌≤◌, ◌==◌, nat_lt, true, false, cond, List, [], ◌∷◌, map, All, Option, Some, None, refl, ap, sym, ◌∙◌, arith}
 use Rattle.std.specs.Ordering.{nat_cmp, is_eq}
+use Rattle.std.specs.List.Sorted.{IsStrictlyIncreasing}
 use Rattle.std.specs.Map.{lookup}
 use Rattle.std.specs.BTreeMap.{BTreeMap, is_at}
 use Rattle.std.proofs.Math.Dec.{leb-zero, leb-suc-suc}
@@ -9,7 +10,8 @@ use Rattle.shape_core.specs.declared.words.Kind.{Kind}
 use Rattle.tally_core.specs.Counts.{Replayed, kinds_of, there_in, played_in}
 use Rattle.shape_core.specs.declared.words.Kinds.{Kinds}
 use Rattle.go_record.specs.Actions.{Actions}
-use Rattle.tally_core.specs.Tally.{tallied_entry}
+use Rattle.tally_core.specs.Tally.{tallied_entry, IsTally}
+use Rattle.tally_core.specs.Entries.{IsShape}
 use Rattle.shape_dict.specs.declared.entries.Entry.{Entry}
 use Rattle.shape_dict.specs.Contents.{entry_of}
 use Rattle.tally_core.specs.declared.counters.Count.{Count}
@@ -67,3 +69,16 @@ tally_entries kinds game none counts moves entries empty same counted shape =
     ap (entry_of shape) same ∙ entry_of-pairs first_games.LeftOut shape counts.entries
     ∙ ap (entered first_games.LeftOut shape) (counted.counted shape ∙ ap (λ pairs. used_again 0 (there_in k replayed shape) (played_in k replayed shape) (lookup (is_at (nat_cmp shape)) pairs)) empty)
     ∙ tallied k replayed shape (counted.among shape)
+
+-- so they are its tally
+pub counted_tally : (kinds : Kinds) (game : Actions) (none counts : BTreeMap ℕ Count) (moves : ℕ) (entries : List Entry) →
+    none.entries ≡ [] → entries ≡ map (entry_of_pair first_games.LeftOut) counts.entries → CountsGame kinds game 0 (count_in none) (count_in counts) moves →
+    All IsShape entries → IsStrictlyIncreasing (map (λ entry. entry.shape) entries) → IsTally kinds game (record { moves = moves; entries = entries })
+counted_tally kinds game none counts moves entries empty same counted shapes rises = record {
+  occasions = counted.occasions;
+  replayed = counted.replayed;
+  moves_counted = counted.moves_counted;
+  rises = rises;
+  shapes = shapes;
+  entries = tally_entries kinds game none counts moves entries empty same counted;
+}
