@@ -1,5 +1,9 @@
 //! Boards seen from outside, with values worked out by the rule of capture.
-use go_board::{Board, BoardFault, Colour, Played, Point, Size, Stone};
+ghost use Rattle.std.specs.Prelude.{◌≡◌};
+ghost use Rattle.go_board.specs.Point.{IsOn};
+
+use go_board::{Board, BoardFault, Colour, Played, Point, Replayable, Size, Stone};
+use shape_core::{Field, Kinds};
 use std::process::Abort;
 use std::test::Fail;
 
@@ -78,6 +82,19 @@ fn sizes_are_from_1_to_52(rt: HostRuntime) {
 }
 
 #[test]
+fn places_are_row_by_row(rt: HostRuntime) -> Result<(), Fail> {
+    let size = Size::new(3, 2).ok_or("a size from 1 to 52")?;
+    assert_eq!(rt; size.area(), 6);
+    for (index, column, row) in [(0, 0, 0), (2, 2, 0), (3, 0, 1), (5, 2, 1)] {
+        let point = Point { column, row };
+        assert!(rt; index < size.area() && size.has(point));
+        assert_eq!(rt; size.point(index), point);
+        assert_eq!(rt; size.index(point), index);
+    }
+    Ok(())
+}
+
+#[test]
 fn stones_with_liberties_stay(rt: HostRuntime) -> Result<(), Fail> {
     let mut board = board_of(&rt, 3, 3)?;
     assert_eq!(rt; board.size().columns(), 3);
@@ -136,6 +153,54 @@ fn a_stone_alone_takes_itself_off(rt: HostRuntime) -> Result<(), Fail> {
         }
     );
     assert_shows(&rt, &board, b".");
+    Ok(())
+}
+
+/// What a move takes, played by the trait.
+fn play_by_trait<B: Replayable>(board: &mut B, colour: Colour, point: Point) -> Played
+    requires { IsOn (B.board_of board.old).size point }
+    ensures { (B.board_of board.new).size ≡ (B.board_of board.old).size }
+{
+    board.play_move(colour, point)
+}
+
+/// On two points in a row White takes the stone of Black, who takes that of White; on one point Black takes its own.
+fn assert_taken<B: Replayable>(rt: &impl Abort, pair: &mut B, single: &mut B)
+    requires pair { ((B.board_of pair.old).size.columns ≡ 2)
+        × ((B.board_of pair.old).size.rows ≡ 1) }
+    requires single { ((B.board_of single.old).size.columns ≡ 1)
+        × ((B.board_of single.old).size.rows ≡ 1) }
+{
+    let left = Point { column: 0, row: 0 };
+    let right = Point { column: 1, row: 0 };
+    let nothing = Played {
+        taken: 0,
+        own_lost: 0,
+    };
+    let one = Played {
+        taken: 1,
+        own_lost: 0,
+    };
+    let own = Played {
+        taken: 0,
+        own_lost: 1,
+    };
+    assert_eq!(rt; play_by_trait(pair, Colour::Black, left), nothing);
+    assert_eq!(rt; play_by_trait(pair, Colour::White, right), one);
+    assert_eq!(rt; play_by_trait(pair, Colour::Black, left), one);
+    assert_eq!(rt; play_by_trait(single, Colour::Black, left), own);
+}
+
+#[test]
+fn moves_by_the_trait_say_what_they_take(rt: HostRuntime) -> Result<(), Fail> {
+    let two = Size::new(2, 1).ok_or("a size from 1 to 52")?;
+    let one = Size::new(1, 1).ok_or("a size from 1 to 52")?;
+    let mut pair = Board::new(rt.alloc(), two)?;
+    let mut single = Board::new(rt.alloc(), one)?;
+    assert_taken(&rt, &mut pair, &mut single);
+    let mut pair = Field::with_kinds(rt.alloc(), two, Kinds::Both)?;
+    let mut single = Field::with_kinds(rt.alloc(), one, Kinds::Both)?;
+    assert_taken(&rt, &mut pair, &mut single);
     Ok(())
 }
 

@@ -3,7 +3,7 @@ ghost use Rattle.std.specs.Prelude.{◌≡◌, IfOk, bytes_eq, map, flat_map, if
 ghost use Rattle.sgf_core.specs.Tree.{GameTree, name_of, main_line_of};
 ghost use Rattle.sgf_core.specs.Marks.{marks_of};
 
-use sgf_core::{Mark, SgfFault, Tree, Trees};
+use sgf_core::{Mark, SgfFault, Tree, Trees, is_white};
 use std::alloc::{AllocError, Global};
 
 /// Where the trees of a collection begin and end, up to a fault. Want of memory is an `Err`.
@@ -158,13 +158,14 @@ fn a_million_trees_within_each_other(rt: HostRuntime) -> Result<(), SgfFault> {
 }
 
 #[test]
-fn too_large(rt: HostRuntime) -> Result<(), AllocError> {
+fn too_large(rt: HostRuntime) -> Result<(), SgfFault> {
     let chunk = vec![in rt.alloc(); b' '; 1 << 16]?;
     let mut bytes = Vec::new(rt.alloc());
     for _ in 0..1 << 12 {
         bytes.extend_from_slice(chunk.as_slice())?;
     }
-    assert!(rt; Trees::new(bytes.as_slice()).is_ok());
+    let spaces = read(rt.alloc(), bytes.as_slice())?;
+    assert!(rt; spaces.0.is_empty() && spaces.1.is_none());
     bytes.push(b' ')?;
     assert_eq!(rt;
         Trees::new(bytes.as_slice()).err(),
@@ -202,4 +203,80 @@ fn places_of_moves(rt: HostRuntime) -> Result<(), SgfFault> {
         assert_eq!(rt; found.as_slice(), [4, 20, 24, 31].as_slice());
     }
     Ok(())
+}
+
+/// A tree of 2^16 nodes, of which the first has a property of 300 values, and each other a move.
+fn long_tree(alloc: Global) -> Result<Vec<u8>, AllocError> {
+    let mut bytes = Vec::new(alloc);
+    bytes.extend_from_slice(b"(;AB")?;
+    for _ in 0..300 {
+        bytes.extend_from_slice(b"[aa]")?;
+    }
+    for _ in 1..1 << 16 {
+        bytes.extend_from_slice(b";B[bb]")?;
+    }
+    bytes.push(b')')?;
+    Ok(bytes)
+}
+
+#[test]
+fn many_values_and_nodes(rt: HostRuntime) -> Result<(), SgfFault> {
+    let bytes = long_tree(rt.alloc())?;
+    let mut trees = Trees::new(bytes.as_slice())?;
+    let mut nodes = 0usize;
+    if let Some(tree) = trees.next_tree(rt.alloc())? {
+        assert_eq!(rt; (tree.at(), tree.end()), (0, 394_415));
+        for _ in tree.main_line() {
+            nodes = nodes.saturating_add(1);
+        }
+        let values = places(rt.alloc(), &tree, b"AB")?;
+        assert_eq!(rt; values.len(), 300);
+        assert_eq!(rt; values.first().copied(), Some(5));
+        assert_eq!(rt; values.last().copied(), Some(1_201));
+        let moves = places(rt.alloc(), &tree, b"B")?;
+        assert_eq!(rt; moves.len(), 65_535);
+        assert_eq!(rt; moves.last().copied(), Some(394_411));
+    }
+    assert_eq!(rt; nodes, 65_536);
+    Ok(())
+}
+
+/// Where the next tree begins and ends.
+fn next_bounds(alloc: Global, trees: &mut Trees<'_>) -> Result<Option<(usize, usize)>, SgfFault> {
+    match trees.next_tree(alloc)? {
+        Some(tree) => Ok(Some((tree.at(), tree.end()))),
+        None => Ok(None),
+    }
+}
+
+/// With memory refused at any request each answer comes at the second call at the latest, once memory is there again.
+#[test]
+fn memory_is_found_when_asked_again(rt: HostRuntime) -> Result<(), SgfFault> {
+    let mut trees = Trees::new(b"(;AB[aa][bb][cc];B[aa])(;SZ[1])(;SZ[1]")?;
+    for wanted in [
+        Ok(Some((0, 23))),
+        Ok(Some((23, 31))),
+        Err(SgfFault::Truncated(31)),
+    ] {
+        let mut found = next_bounds(rt.alloc(), &mut trees);
+        if found == Err(SgfFault::Memory) {
+            found = next_bounds(rt.alloc(), &mut trees);
+        }
+        assert!(rt; found == wanted);
+    }
+    Ok(())
+}
+
+#[test]
+fn white_bytes(rt: HostRuntime) {
+    for (byte, white) in [
+        (0x08, false),
+        (0x09, true),
+        (0x0d, true),
+        (0x0e, false),
+        (b' ', true),
+        (b'a', false),
+    ] {
+        assert_eq!(rt; is_white(byte), white);
+    }
 }

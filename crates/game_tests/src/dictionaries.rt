@@ -1,5 +1,5 @@
 //! Dictionaries read, asked, joined and written, from outside.
-use shape_dict::{DictFault, Dictionary, Text};
+use shape_dict::{DictFault, Dictionary, Text, push_line, push_number, push_word};
 use std::alloc::Global;
 use std::process::Abort;
 use std::test::Fail;
@@ -232,5 +232,55 @@ fn faults_stand_at_their_lines(rt: HostRuntime) -> Result<(), Fail> {
         b"shapes 3 games 1 moves 1 squares 1 diamonds -\n3fffffcffffff 1 1 1\n",
         DictFault::BadLine(2),
     );
+    Ok(())
+}
+
+#[test]
+fn promised_lines_are_missed(rt: HostRuntime) {
+    assert_fault(
+        &rt,
+        rt.alloc(),
+        b"shapes 1 games 1 moves 1 patterns 18446744073709551615\n3fffffcffffff 1 1\n",
+        DictFault::BadLine(3),
+    );
+    assert_fault(
+        &rt,
+        rt.alloc(),
+        b"shapes 2 games 1 moves 1 squares 18446744073709551615 diamonds 18446744073709551615\n3fffffcffffff 1 1\n",
+        DictFault::BadLine(3),
+    );
+    assert_fault(
+        &rt,
+        rt.alloc(),
+        b"shapes 2 games 1 moves 1 squares 1 diamonds 18446744073709551615\n3fffffcffffff 1 1\n7fffffcffffff 1 1\n",
+        DictFault::BadLine(4),
+    );
+}
+
+#[test]
+fn parts_are_appended(rt: HostRuntime) -> Result<(), Fail> {
+    let dictionary = read(rt.alloc(), FIRST)?;
+    let mut out = Vec::new(rt.alloc());
+    for number in [0, 9, 10, 18_446_744_073_709_551_615] {
+        push_number(&mut out, number)?;
+        out.push(b' ')?;
+    }
+    assert!(rt; out.as_slice() == b"0 9 10 18446744073709551615 ".as_slice());
+    out.clear();
+    for entry in dictionary.entries() {
+        push_word(&mut out, entry.shape)?;
+    }
+    let words = b"3fff3fcffffff3fffbfcffffff7ffcffcffffff7ffeffcffffff";
+    assert!(rt; out.as_slice() == words.as_slice());
+    out.clear();
+    for entry in dictionary.entries() {
+        push_line(&mut out, Text::Two, entry)?;
+    }
+    if let Some(entry) = dictionary.entries().first() {
+        push_line(&mut out, Text::Three, entry)?;
+    }
+    let lines =
+        b"3fff3fcffffff 2 1\n3fffbfcffffff 1 1\n7ffcffcffffff 2 1\n7ffeffcffffff 1 1\n3fff3fcffffff 2 1 0\n";
+    assert!(rt; out.as_slice() == lines.as_slice());
     Ok(())
 }

@@ -10,6 +10,8 @@ mod dictionaries;
 #[cfg(test)]
 mod patterns;
 #[cfg(test)]
+mod records;
+#[cfg(test)]
 mod tallies;
 #[cfg(test)]
 mod walks;

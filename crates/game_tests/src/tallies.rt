@@ -5,7 +5,7 @@ use shape_core::Kinds;
 use shape_dict::{Dictionary, Entry, Text};
 use std::alloc::Global;
 use std::test::Fail;
-use tally_core::{HarvestFault, Report, Settings, count_plain, tally_plain};
+use tally_core::{HarvestFault, Report, Settings, count_plain, has_diamonds, tally_plain};
 
 /// Two stones, on a board of two points.
 pub(crate) const TWO_STONES: &[u8] = b"(;SZ[2:1];B[aa];W[ba])";
@@ -197,6 +197,26 @@ fn faults_of_syntax(rt: HostRuntime) {
         let fault = count_plain(rt.alloc(), Kinds::Squares, input).err();
         assert!(rt; fault == Some(HarvestFault::Sgf(wanted)));
     }
+}
+
+#[test]
+fn kinds_say_whether_they_have_diamonds(rt: HostRuntime) {
+    assert!(rt; has_diamonds(Kinds::Both));
+    assert!(rt; !has_diamonds(Kinds::Squares));
+}
+
+#[test]
+fn faults_have_texts(rt: HostRuntime) -> Result<(), Fail> {
+    for (fault, text) in [
+        (HarvestFault::BadSettings, "F5 bad settings"),
+        (HarvestFault::Memory, "F6 no memory"),
+        (HarvestFault::Sgf(SgfFault::NoValue(4)), "S3 no value at 4"),
+        (HarvestFault::Overflow, "F8 count too large"),
+    ] {
+        let said = format!(in rt.alloc(); "{fault}")?;
+        assert_eq!(rt; said.as_str(), text);
+    }
+    Ok(())
 }
 
 /// How many moves and patterns the tally of a game has.

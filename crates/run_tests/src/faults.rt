@@ -1,8 +1,9 @@
 //! The lines and statuses of faults, from outside.
 use engine_core::{RunFault, status_of};
 use go_board::BoardFault;
+use go_record::RecordFault;
 use sgf_core::SgfFault;
-use shape_core::GlyphFault;
+use shape_core::{GlyphFault, Word};
 use shape_dict::DictFault;
 use share_core::HarvestFault;
 use std::test::Fail;
@@ -92,6 +93,69 @@ fn faults_have_lines_and_statuses(rt: HostRuntime) -> Result<(), Fail> {
         (RunFault::Memory, "M1 no memory", 5),
     ] {
         assert!(rt; fault.to_string(alloc)?.as_str() == line);
+        assert!(rt; status_of(&fault) == status);
+    }
+    Ok(())
+}
+
+#[test]
+fn faults_of_games_have_lines_and_statuses(rt: HostRuntime) -> Result<(), Fail> {
+    let word = Word::new(0x48).ok_or("a word below 2^51")?;
+    for (fault, line, status) in [
+        (
+            RunFault::Sgf(SgfFault::Truncated(14)),
+            "S1 truncated tree at 14",
+            3,
+        ),
+        (RunFault::Sgf(SgfFault::NoValue(4)), "S3 no value at 4", 3),
+        (RunFault::Sgf(SgfFault::TooLarge), "S4 input too large", 3),
+        (RunFault::Sgf(SgfFault::Memory), "S5 no memory", 5),
+        (
+            RunFault::Record(RecordFault::BadSize(5)),
+            "G1 bad size at 5",
+            3,
+        ),
+        (
+            RunFault::Record(RecordFault::BadPoint(6)),
+            "G2 bad point at 6",
+            3,
+        ),
+        (
+            RunFault::Record(RecordFault::OffBoard(7)),
+            "G3 off the board at 7",
+            3,
+        ),
+        (RunFault::Record(RecordFault::Memory), "G4 no memory", 5),
+        (
+            RunFault::Harvest(HarvestFault::Full { game: 7, word }),
+            "F1 full in game 7 at 0000000000048",
+            4,
+        ),
+        (
+            RunFault::Harvest(HarvestFault::Twice(30)),
+            "F3 game 30 twice",
+            3,
+        ),
+        (
+            RunFault::Harvest(HarvestFault::Stranger {
+                number: 5,
+                of_share: Some(word),
+                of_table: None,
+            }),
+            "F4 stranger at number 5",
+            3,
+        ),
+        (
+            RunFault::Harvest(HarvestFault::Marks {
+                number: 2,
+                of_shares: None,
+                of_table: Some(0),
+            }),
+            "F9 mark differs at number 2",
+            3,
+        ),
+    ] {
+        assert!(rt; fault.to_string(rt.alloc())?.as_str() == line);
         assert!(rt; status_of(&fault) == status);
     }
     Ok(())

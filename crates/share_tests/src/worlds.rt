@@ -217,6 +217,20 @@ fn other_events_are_counted_alone(rt: HostRuntime) -> Result<(), Fail> {
     Ok(())
 }
 
+/// A world in which nobody calls counts its events, and nothing else happens.
+fn assert_nobody<O: ProbeOrder>(rt: &impl Abort, alloc: Global, order: O) -> Result<(), Fail> {
+    let mut world = World::new(alloc, order, 0)?;
+    world.run(&[Event::Begin(0, enter(rt, 5)), Event::Step(0)])?;
+    assert_shows(rt, &world, &[], &[0, 0]);
+    Ok(())
+}
+
+#[test]
+fn a_world_of_no_callers_stays_empty(rt: HostRuntime) -> Result<(), Fail> {
+    assert_nobody(&rt, rt.alloc(), linear(&rt, 1))?;
+    assert_nobody(&rt, rt.alloc(), odd(&rt, 1))
+}
+
 /// Five and six get the two numbers, and seven finds the table full.
 fn assert_solo<O: ProbeOrder>(rt: &impl Abort, alloc: Global, order: O) -> Result<(), Fail> {
     let five = Key::new(5).ok_or("a key below 2^51")?;
