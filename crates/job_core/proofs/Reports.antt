@@ -6,6 +6,8 @@ use Rattle.go_record.specs.Actions.{Actions}
 use Rattle.go_record.specs.declared.records.Kind.{Kind}
 use Rattle.go_record.specs.declared.records.Kind.TheVariants as kind
 use Rattle.go_record.specs.declared.faults.RecordFault.{RecordFault}
+use Rattle.go_record.specs.declared.faults.RecordFault.TheVariants as record_fault
+use Rattle.go_record.specs.Adding.{IsUnlessMemory}
 use Rattle.tally_core.specs.Collection.{record_of_tree, games_among, others_among, refused_among}
 use Rattle.sgf_core.specs.declared.faults.SgfFault.TheVariants as sgf
 use Rattle.tally_core.specs.Counted.{IsReport, IsCountFault}
@@ -13,7 +15,7 @@ use Rattle.tally_core.specs.Inner.Counting.{IsNextFault}
 use Rattle.tally_core.specs.declared.faults.HarvestFault.{HarvestFault}
 use Rattle.tally_core.specs.declared.faults.HarvestFault.TheVariants as fault
 use Rattle.tally_core.specs.declared.reports.Report.{Report}
-use Rattle.tally_core.proofs.Trees.{trees_push}
+use Rattle.tally_core.proofs.Trees.{trees_push, not_memory}
 use Rattle.job_core.specs.declared.games.Recorded.{Recorded}
 use Rattle.job_core.specs.Games.{HasRead}
 use Rattle.job_core.specs.Inner.Reading.{IsNextRecord, Counts}
@@ -82,6 +84,11 @@ reads_on bytes from before after read found h next counts =
       others = omega (arith, h.others, a.few_others);
       refused = omega (arith, h.refused, a.few_refused);
     }
+
+-- what was read of a record is the record, where memory was not wanting
+pub known : (recorded wanted : Result Kind RecordFault) → (recorded ≡ Err record_fault.Memory → ⊥) → IsUnlessMemory recorded wanted → recorded ≡ wanted
+known (Ok kind) wanted not is = is
+known (Err found) wanted not is = sym (not_memory found wanted (λ same. not (ap Err same)) is)
 
 -- a fact on an input and a place, of the same input and place
 pub moved : (P : List ℕ → ℕ → Type 0) (bytes other : List ℕ) (from place : ℕ) → other ≡ bytes → place ≡ from → P other place → P bytes from

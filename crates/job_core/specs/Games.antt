@@ -1,5 +1,5 @@
 -- A game among the trees of an input, with its number and its record, and what the trees of an input are.
-use Rattle.std.specs.Prelude.{◌≡◌, ℕ, ◌^◌, ◌≤◌, List, length, map, Ok}
+use Rattle.std.specs.Prelude.{◌≡◌, ℕ, ◌≤◌, List, length, map, Ok}
 use Rattle.sgf_core.specs.Tree.{GameTree}
 use Rattle.sgf_core.specs.Next.{IsNextTree, HasNoTree}
 use Rattle.go_record.specs.Actions.{Actions}

@@ -1,13 +1,13 @@
 //! The games of an input, one after another.
-ghost use Rattle.std.specs.Prelude.{◌≡◌, ◌≢◌, ◌^◌, ◌+◌, ◌<◌, ◌≤◌, ◌↔◌, ℕ, length, Ok, Some, None};
+ghost use Rattle.std.specs.Prelude.{◌≡◌, ◌≢◌, ◌^◌, ◌+◌, ◌<◌, ◌≤◌, ◌↔◌, ℕ, length, Ok, Err, Some, None};
 ghost use Rattle.std.specs.Prelude.{IfOk, IfErr, IfSome, IfNone, IsOk};
 ghost use Rattle.sgf_core.specs.Tree.{GameTree};
 ghost use Rattle.sgf_core.specs.Marks.{marks_of};
 ghost use Rattle.sgf_core.specs.Next.{IsNextTree, HasNoTree};
 ghost use Rattle.sgf_core.specs.declared.faults.SgfFault.TheVariants as sgf;
-ghost use Rattle.tally_core.specs.Collection.{record_of_tree};
+ghost use Rattle.go_record.specs.declared.faults.RecordFault.TheVariants as record_fault;
 ghost use Rattle.tally_core.specs.Counted.{IsCountFault};
-ghost use Rattle.tally_core.specs.Inner.Counting.{IsNextFault};
+ghost use Rattle.tally_core.specs.Inner.Counting.{IsNextFault, IsKept};
 ghost use Rattle.tally_core.specs.declared.faults.HarvestFault.TheVariants as fault;
 ghost use Rattle.job_core.specs.Games.{HasRead};
 ghost use Rattle.job_core.specs.Reading.{IsNextGame, HasNoGame};
@@ -75,11 +75,11 @@ impl<'a> Model for Games<'a> {
         { bytes = games.bytes.now; from = games.from; report = games.report } };
 
     ghost invariant = { λ games. HasRead games.bytes.now games.from games.report
-        × IsStage games.bytes.now games.from games.trees.from games.stage
+        × IsStage games.bytes.now games.from games.trees.from games.trees.fault games.stage
         × (games.trees.bytes ≡ games.bytes.now) };
 }
 
-/// The next tree, or None where none is left.
+/// The next tree, or None where none is left. A fault of syntax is the one that the reader keeps from then on.
 fn next_tree<'a>(alloc: Global, trees: &mut Trees<'a>) -> Result<Option<Tree<'a>>, HarvestFault>
     ensures tree { IfOk result (λ found. IfSome found (λ read. (tree : GameTree)
         × IsNextTree trees.old.bytes trees.old.from read.at read.end tree
@@ -90,6 +90,8 @@ fn next_tree<'a>(alloc: Global, trees: &mut Trees<'a>) -> Result<Option<Tree<'a>
     ensures none { IfOk result (λ found. IfNone found (HasNoTree trees.old.bytes trees.old.from)) }
     ensures bytes { trees.new.bytes ≡ trees.old.bytes }
     ensures fault { IfErr result (IsNextFault trees.old.bytes trees.old.from) }
+    ensures kept { trees.old.fault ≡ None
+        → IfErr result (λ found. IsKept found trees.new.fault) }
 {
     match trees.next_tree(alloc) {
         Ok(found) => Ok(found),
@@ -98,13 +100,16 @@ fn next_tree<'a>(alloc: Global, trees: &mut Trees<'a>) -> Result<Option<Tree<'a>
     }
 }
 
-/// The record of a tree, or its fault; want of memory is handed on.
-fn record_of(alloc: Global, tree: &Tree<'_>) -> Result<Result<Kind, RecordFault>, HarvestFault>
-    ensures record { (game : GameTree) → tree.now.marks ≡ marks_of game
-        → IfOk result (λ found. found ≡ record_of_tree game) }
-    ensures fault { IfErr result (λ found. found ≡ fault.Memory) }
+/// What was read of a tree's record; want of memory, and no other fault, is handed on.
+fn unless_memory(
+    recorded: Result<Kind, RecordFault>,
+) -> Result<Result<Kind, RecordFault>, HarvestFault>
+    ensures same { IfOk result (λ found. (found ≡ recorded)
+        × (recorded ≢ Err record_fault.Memory)) }
+    ensures memory { IfErr result
+        (λ found. (found ≡ fault.Memory) × (recorded ≡ Err record_fault.Memory)) }
 {
-    match read_record(alloc, tree) {
+    match recorded {
         Ok(kind) => Ok(Ok(kind)),
         Err(RecordFault::Memory) => Err(HarvestFault::Memory),
         Err(fault) => Ok(Err(fault)),
@@ -115,15 +120,18 @@ fn record_of(alloc: Global, tree: &Tree<'_>) -> Result<Result<Kind, RecordFault>
 fn next_record(alloc: Global, trees: &mut Trees<'_>) -> Result<Option<Recorded>, HarvestFault>
     ensures record { IfOk result (λ found.
         IfSome found (IsNextRecord trees.old.bytes trees.old.from)) }
-    ensures after { IfOk result (λ found. IfSome found (λ read. trees.new.from ≡ read.end)) }
+    ensures after { IfOk result (λ found. IfSome found (λ read. (trees.new.from ≡ read.end)
+        × (trees.new.fault ≡ trees.old.fault))) }
     ensures none { IfOk result (λ found. IfNone found (HasNoTree trees.old.bytes trees.old.from)) }
     ensures bytes { trees.new.bytes ≡ trees.old.bytes }
     ensures fault { IfErr result (IsNextFault trees.old.bytes trees.old.from) }
+    ensures kept { trees.old.fault ≡ None
+        → IfErr result (λ found. IsKept found trees.new.fault) }
 {
     let Some(tree) = next_tree(alloc, trees)? else {
         return Ok(None);
     };
-    let recorded = record_of(alloc, &tree)?;
+    let recorded = unless_memory(read_record(alloc, &tree))?;
     Ok(Some(Recorded {
         at: tree.at(),
         end: tree.end(),

@@ -1,10 +1,10 @@
 -- What is seen of points, one after another.
-use Rattle.std.proofs.Common.{◌≡◌, ℕ, ◌+◌, ◌*◌, ◌≤◌, ◌<◌, cond, List, [], ◌∷◌, ◌++◌, length, set, get_or, All, take, ap, ap₂, sym, ◌∙◌, ⊎_elim, arith, get_or-set_same, get_or-set_other}
+use Rattle.std.proofs.Common.{◌≡◌, ℕ, ◌+◌, ◌*◌, ◌<◌, cond, List, [], ◌∷◌, ◌++◌, length, set, get_or, All, take, ap, ap₂, sym, ◌∙◌, ⊎_elim, arith, get_or-set_same, get_or-set_other}
 use Rattle.std.specs.List.{flat_map}
 use Rattle.std.proofs.lemmas.Bool.{cases_eq}
 use Rattle.std.proofs.lemmas.List.{append-nil, take_more}
 use Rattle.std.proofs.lemmas.List.Concat.{flat_map-append}
-use Rattle.std.proofs.lemmas.List.Sums.{get_or-le-sum_by, sum_by-set}
+use Rattle.std.proofs.lemmas.List.Sums.{sum_by-set}
 use Rattle.std.proofs.lemmas.List.Elements.{All-set, All-get_or, All-weaker}
 use Rattle.std.proofs.lemmas.Nat.{same_from_place, mul-add-lt}
 use Rattle.go_board.specs.Extent.{Extent}

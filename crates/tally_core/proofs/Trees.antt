@@ -1,12 +1,14 @@
 -- Trees that are counted one after another.
 use Rattle.std.proofs.Common.{◌≡◌, ℕ, suc, ◌+◌, ◌≤◌, List, [], ◌∷◌, ◌++◌, length, map, Result, Ok, Err, refl, ap, sym, subst, ◌∙◌, arith, length-append, add-zero}
 use Rattle.std.proofs.lemmas.List.{map-append, append-nil}
-use Rattle.sgf_core.specs.Tree.{GameTree}
+use Rattle.sgf_core.specs.Tree.{GameTree, Node}
+use Rattle.sgf_core.specs.Counts.{value_count}
 use Rattle.sgf_core.specs.Next.{IsNextTree}
 use Rattle.sgf_core.specs.Marks.{marks_of}
 use Rattle.sgf_core.specs.Written.{WrittenTree}
 use Rattle.sgf_core.specs.declared.faults.SgfFault.TheVariants as sgf
 use Rattle.go_record.specs.Actions.{Actions}
+use Rattle.go_record.specs.Record.{record_of}
 use Rattle.go_record.specs.declared.records.Kind.{Kind}
 use Rattle.go_record.specs.declared.records.Kind.TheVariants as kind
 use Rattle.go_record.specs.declared.faults.RecordFault.{RecordFault}
@@ -22,7 +24,7 @@ use Rattle.tally_core.specs.Occasions.{AreOccasions}
 use Rattle.tally_core.specs.Collection.{record_of_tree, games_among, others_among, refused_among, AreReplayed, AreTrees}
 use Rattle.tally_core.specs.Inner.Counter.{count_in, CountsGame, CountsGames}
 use Rattle.tally_core.specs.Counted.{IsReport, IsCountFault}
-use Rattle.tally_core.specs.Inner.Counting.{CountsTrees, IsWithin, IsNextFault}
+use Rattle.tally_core.specs.Inner.Counting.{CountsTrees, IsWithin, IsNextFault, actions_in}
 use Rattle.tally_core.proofs.Games.{games_more}
 
 -- how many games, how many of other games, how many with a fault
@@ -155,6 +157,13 @@ not_memory record_fault.Memory wanted not h = absurd (not refl)
 not_memory (record_fault.BadSize at) wanted not h = sym h
 not_memory (record_fault.BadPoint at) wanted not h = sym h
 not_memory (record_fault.OffBoard at) wanted not h = sym h
+
+-- where the law on few actions holds of a main line, the record that was read of it has as few
+pub few_recorded : (line : List Node) (recorded : Result Kind RecordFault) → ((game : Actions) → record_of line ≡ Ok (kind.Go game) → length game.actions ≤ value_count line) →
+    IsUnlessMemory recorded (record_of line) → actions_in recorded ≤ value_count line
+few_recorded line (Ok (kind.Go game)) few is = few game (sym is)
+few_recorded line (Ok kind.Other) few is = omega arith
+few_recorded line (Err found) few is = omega arith
 
 pub within_later : (place later : ℕ) (counter : Counter) → place ≤ later → IsWithin place counter → IsWithin later counter
 within_later place later counter fits h = record {

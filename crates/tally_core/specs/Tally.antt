@@ -32,6 +32,12 @@ pub record IsTally (kinds : Kinds) (game : Actions) (tally : Tallied) : Type 0 w
   pub shapes : All IsShape tally.entries
   pub entries : (shape : ℕ) → entry_of shape tally.entries ≡ tallied_entry (kinds_of kinds) (record { size = game.size; occasions = occasions }) shape
 
+-- it is the tally of some game, in which some kinds of pattern were counted
+pub record IsSomeTally (tally : Tallied) : Type 0 where
+  pub kinds : Kinds
+  pub game : Actions
+  pub tallied : IsTally kinds game tally
+
 -- why a game has no tally: memory was wanting, or it has more actions than any input. An occasion is counted at most
 -- twice for each of the 52 * 52 points, and twice more for the move.
 abbrev pub IsTallyFault : Actions → HarvestFault → Type 0

@@ -6,9 +6,10 @@ ghost use Rattle.sgf_core.specs.Marks.{marks_of};
 ghost use Rattle.sgf_core.specs.Next.{IsNextTree, HasNoTree};
 ghost use Rattle.go_record.specs.declared.records.Kind.TheVariants as kind;
 ghost use Rattle.go_record.specs.declared.faults.RecordFault.TheVariants as record_fault;
+ghost use Rattle.go_record.specs.Adding.{IsUnlessMemory};
 ghost use Rattle.tally_core.specs.Collection.{record_of_tree};
 ghost use Rattle.tally_core.specs.Inner.Counting.{CountsTrees, IsWithin, IsSmallTree, CountsAll};
-ghost use Rattle.tally_core.specs.Inner.Counting.{IsNextFault};
+ghost use Rattle.tally_core.specs.Inner.Counting.{IsNextFault, IsKept, actions_in, TakesMemory};
 ghost use Rattle.tally_core.specs.Counted.{IsCountFault};
 ghost use Rattle.tally_core.specs.declared.faults.HarvestFault.TheVariants as harvest_fault;
 ghost use Rattle.sgf_core.specs.Limit.{most_bytes};
@@ -79,15 +80,45 @@ fn count_record(
     Ok(())
 }
 
-/// Passes over a fault of the record; want of memory is handed on.
+/// Passes over a fault of the record; want of memory, and no other fault, is handed on.
 fn unless_memory(fault: RecordFault) -> Result<(), HarvestFault>
     ensures other { OnOk result (fault ≢ record_fault.Memory) }
-    ensures memory { IfErr result (λ found. found ≡ harvest_fault.Memory) }
+    ensures memory { IfErr result
+        (λ found. (found ≡ harvest_fault.Memory) × (fault ≡ record_fault.Memory)) }
 {
     match fault {
         RecordFault::Memory => Err(HarvestFault::Memory),
         RecordFault::BadSize(_) | RecordFault::BadPoint(_) | RecordFault::OffBoard(_) => Ok(()),
     }
+}
+
+/// Counts a tree by its record: a game's patterns, or that it is of another game or is refused.
+fn count_recorded(
+    walk: &mut Walk,
+    counter: &mut Counter,
+    recorded: Result<Kind, RecordFault>,
+) -> Result<(), HarvestFault>
+    requires { (place : ℕ) × IsWithin place counter.old
+        × (place + actions_in recorded < most_bytes) }
+    ensures counted { (before : List GameTree) (game : GameTree)
+        → IsUnlessMemory recorded (record_of_tree game)
+        → CountsTrees walk.old.kinds before counter.old
+        → OnOk result (CountsTrees walk.old.kinds (before ++ game ∷ []) counter.new) }
+    ensures within { (place : ℕ) → IsWithin place counter.old
+        → OnOk result (IsWithin (place + actions_in recorded + 1) counter.new) }
+    ensures fault { IfErr result
+        (λ found. (found ≡ harvest_fault.Memory) × TakesMemory recorded) }
+    ensures kinds { walk.new.kinds ≡ walk.old.kinds }
+{
+    match recorded {
+        Ok(Kind::Go(game_record)) => return count_record(walk, counter, &game_record),
+        Ok(Kind::Other) => counter.report.others += 1,
+        Err(fault) => {
+            unless_memory(fault)?;
+            counter.report.refused += 1;
+        }
+    }
+    Ok(())
 }
 
 /// Counts a tree: a game's patterns, or that it is of another game or is refused.
@@ -108,18 +139,10 @@ fn count_tree(
 {
     // A record has no more actions than its main line has values.
     few_actions();
-    match read_record(alloc, tree) {
-        Ok(Kind::Go(game_record)) => return count_record(walk, counter, &game_record),
-        Ok(Kind::Other) => counter.report.others += 1,
-        Err(fault) => {
-            unless_memory(fault)?;
-            counter.report.refused += 1;
-        }
-    }
-    Ok(())
+    count_recorded(walk, counter, read_record(alloc, tree))
 }
 
-/// The next tree, or None where none is left.
+/// The next tree, or None where none is left. A fault of syntax is the one that the reader keeps from then on.
 fn next<'a>(alloc: Global, trees: &mut Trees<'a>) -> Result<Option<Tree<'a>>, HarvestFault>
     ensures tree { IfOk result (λ found. IfSome found (λ read. (tree : GameTree)
         × IsNextTree trees.old.bytes trees.old.from read.at read.end tree
@@ -130,6 +153,8 @@ fn next<'a>(alloc: Global, trees: &mut Trees<'a>) -> Result<Option<Tree<'a>>, Ha
         (λ read. (trees.old.from < read.end) × (read.end ≤ length trees.old.bytes))) }
     ensures none { IfOk result (λ found. IfNone found (HasNoTree trees.old.bytes trees.old.from)) }
     ensures fault { IfErr result (IsNextFault trees.old.bytes trees.old.from) }
+    ensures kept { trees.old.fault ≡ None
+        → IfErr result (λ found. IsKept found trees.new.fault) }
 {
     match trees.next_tree(alloc) {
         Ok(found) => Ok(found),
@@ -138,7 +163,7 @@ fn next<'a>(alloc: Global, trees: &mut Trees<'a>) -> Result<Option<Tree<'a>>, Ha
     }
 }
 
-/// Counts all trees of an input.
+/// Counts all trees of an input. Want of memory is answered only where the reader met no fault of syntax.
 pub(crate) fn count_trees(
     alloc: Global,
     walk: &mut Walk,
@@ -147,11 +172,13 @@ pub(crate) fn count_trees(
 ) -> Result<(), HarvestFault>
     requires small { length trees.old.bytes ≤ most_bytes }
     requires begins { trees.old.from ≡ 0 }
+    requires no_fault { trees.old.fault ≡ None }
     requires none { CountsTrees walk.old.kinds [] counter.old }
     requires within { IsWithin 0 counter.old }
     ensures counted { OnOk result (CountsAll walk.old.kinds trees.old.bytes counter.new) }
     ensures within { OnOk result (IsWithin (most_bytes) counter.new) }
     ensures fault { IfErr result (IsCountFault trees.old.bytes) }
+    ensures kept { IfErr result (λ found. IsKept found trees.new.fault) }
 {
     // The main line of a tree has fewer values than the tree has bytes.
     few_values();

@@ -13,7 +13,8 @@ use std::alloc::Global;
 use std::collections::BTreeMap;
 use std::marker::Model;
 
-/// How often each pattern of one game was there and was played.
+/// How often each pattern of one game was there and was played. Each value is the tally of some game: `tally_plain` alone
+/// makes one.
 #[derive(Drop)]
 pub struct Tally {
     moves: u64,
@@ -21,26 +22,32 @@ pub struct Tally {
 }
 
 impl Model for Tally {
-    ghost use Rattle.tally_core.specs.Tally.{Tallied};
+    ghost use Rattle.tally_core.specs.Tally.{Tallied, IsSomeTally};
 
     ghost Value = { Tallied };
 
     ghost view = { λ t. record { moves = t.moves; entries = t.entries.items } };
+
+    ghost invariant = { λ t. IsSomeTally
+        (record { moves = t.moves; entries = t.entries.items }) };
 }
 
 impl Tally {
     ghost use Rattle.std.specs.Prelude.{◌≡◌};
+    ghost use Rattle.tally_core.specs.Tally.{IsSomeTally};
 
-    /// How many occasions the game has: its moves onto empty points.
+    /// How many occasions the game has: its moves onto empty points. The value is the tally of some game.
     pub fn moves(&self) -> u64
-        ensures { result ≡ self.now.moves }
+        ensures moves { result ≡ self.now.moves }
+        ensures tally { IsSomeTally self.now }
     {
         self.moves
     }
 
-    /// The patterns, rising; none of them says a first game.
+    /// The patterns, rising; none of them says a first game. The value is the tally of some game.
     pub fn entries(&self) -> &[Entry]
-        ensures { result.now ≡ self.now.entries }
+        ensures entries { result.now ≡ self.now.entries }
+        ensures tally { IsSomeTally self.now }
     {
         self.entries.as_slice()
     }

@@ -7,7 +7,9 @@ use Rattle.go_record.specs.declared.records.Kind.{Kind}
 use Rattle.go_record.specs.declared.records.Kind.TheVariants as kind
 use Rattle.go_record.specs.declared.faults.RecordFault.{RecordFault}
 use Rattle.tally_core.specs.Collection.{record_of_tree}
+use Rattle.sgf_core.specs.declared.faults.SgfFault.{SgfFault}
 use Rattle.tally_core.specs.Counted.{IsCountFault}
+use Rattle.tally_core.specs.Inner.Counting.{IsKept}
 use Rattle.tally_core.specs.declared.reports.Report.{Report}
 use Rattle.job_core.specs.declared.games.Stage.{Stage}
 use Rattle.job_core.specs.declared.games.Stage.TheVariants as stage
@@ -16,11 +18,11 @@ use Rattle.job_core.specs.declared.games.Step.{Step}
 use Rattle.job_core.specs.declared.games.Step.TheVariants as step
 use Rattle.job_core.specs.Reading.{Reading, IsNextGame, HasNoGame}
 
--- where the next tree is looked for, or why none is
-abbrev pub IsStage : List ℕ → ℕ → ℕ → Stage → Type 0
-IsStage bytes from place stage.Trees = place ≡ from
-IsStage bytes from place stage.End = HasNoTree bytes from
-IsStage bytes from place (stage.Fault found) = IsCountFault bytes found
+-- where the next tree is looked for, or why none is: with the place of the reader of trees, and the fault that it keeps
+abbrev pub IsStage : List ℕ → ℕ → ℕ → Option SgfFault → Stage → Type 0
+IsStage bytes from place kept stage.Trees = (place ≡ from) × (kept ≡ None)
+IsStage bytes from place kept stage.End = HasNoTree bytes from
+IsStage bytes from place kept (stage.Fault found) = IsKept found kept × IsCountFault bytes found
 
 -- one tree was read, or none was left
 abbrev pub IsStep : Reading → Reading → Step → Type 0

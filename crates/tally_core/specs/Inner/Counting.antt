@@ -1,11 +1,16 @@
 -- What a counter holds once some trees of a collection were counted.
-use Rattle.std.specs.Prelude.{◌≡◌, ℕ, ◌+◌, ◌*◌, ◌<◌, ◌≤◌, List, map}
+use Rattle.std.specs.Prelude.{◌≡◌, ℕ, ◌+◌, ◌*◌, ◌<◌, ◌≤◌, List, map, length, Option, Some, None, Result, Ok, Err}
 use Rattle.sgf_core.specs.Tree.{GameTree, main_line_of}
 use Rattle.sgf_core.specs.Counts.{value_count}
 use Rattle.sgf_core.specs.Marks.{marks_of}
 use Rattle.sgf_core.specs.Written.{WrittenTree}
 use Rattle.sgf_core.specs.Next.{HasNoTree}
 use Rattle.sgf_core.specs.Reading.{IsFaultAt}
+use Rattle.sgf_core.specs.declared.faults.SgfFault.{SgfFault}
+use Rattle.go_record.specs.declared.records.Kind.{Kind}
+use Rattle.go_record.specs.declared.records.Kind.TheVariants as kind
+use Rattle.go_record.specs.declared.faults.RecordFault.{RecordFault}
+use Rattle.go_record.specs.declared.faults.RecordFault.TheVariants as record_fault
 use Rattle.shape_core.specs.declared.words.Kinds.{Kinds}
 use Rattle.tally_core.specs.Counts.{Replayed}
 use Rattle.tally_core.specs.Collection.{AreTrees, record_of_tree, games_among, AreReplayed}
@@ -50,3 +55,20 @@ abbrev pub IsNextFault : List ℕ → ℕ → HarvestFault → Type 0
 IsNextFault bytes from fault.Memory = Unit {0}
 IsNextFault bytes from (fault.Sgf found) = IsFaultAt bytes from found
 IsNextFault bytes from found = ⊥
+
+-- what the reader of trees keeps where this fault comes: the fault of syntax itself, and none where memory was wanting
+abbrev pub IsKept : HarvestFault → Option SgfFault → Type 0
+IsKept fault.Memory kept = kept ≡ None
+IsKept (fault.Sgf found) kept = kept ≡ Some found
+IsKept found kept = ⊥
+
+-- how many actions the record of a tree has
+abbrev pub actions_in : Result Kind RecordFault → ℕ
+actions_in (Ok (kind.Go game)) = length game.actions
+actions_in found = 0
+
+-- memory can be wanting for a tree of this record: there is a game to count, or memory was wanting for the record
+abbrev pub TakesMemory : Result Kind RecordFault → Type 0
+TakesMemory (Ok (kind.Go game)) = Unit {0}
+TakesMemory (Err record_fault.Memory) = Unit {0}
+TakesMemory found = ⊥

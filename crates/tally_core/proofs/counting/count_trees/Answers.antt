@@ -2,7 +2,9 @@ use Rattle.std.proofs.Common.{◌≡◌, ◌∙◌, ◌<◌, ◌≤◌, [], ◌�
 use Rattle.sgf_core.specs.Reading.{Reading}
 use Rattle.shape_core.specs.declared.words.Kinds.{Kinds}
 use Rattle.tally_core.specs.Inner.Counting.{IsWithin, CountsTrees}
-use Rattle.tally_core.proofs.Trees.{CountsUpTo, IsRead, trees_push}
+use Rattle.tally_core.specs.Counted.{IsCountFault}
+use Rattle.tally_core.proofs.Used.{passed_up}
+use Rattle.tally_core.proofs.Trees.{CountsUpTo, IsRead, trees_push, next_fault}
 use Rattle.tally_core.proofs.counting.count_trees.Goals as goal
 
 pub count_tree-requires-clause-small : goal.count_tree-requires-clause-small
@@ -36,9 +38,17 @@ loop-tree-preserved c =
     } in
     record {
       bytes = bytes ∙ c.loop-tree.invariant.bytes;
+      no_fault = ap (λ (t : Reading). t.fault) after ∙ c.loop-tree.invariant.no_fault;
       in_input = omega (arith, forward.1, from, ap length bytes);
       kinds = c.count_tree.ensures.kinds ∙ kinds;
       counted = subst (λ bytes. CountsUpTo c.args.walk.now.kinds bytes c.next.new.trees.from c.count_tree.new.counter) (sym bytes)
           (subst (λ from. CountsUpTo c.args.walk.now.kinds c.loop-tree.trees.bytes from c.count_tree.new.counter) (sym from) now);
       within = subst (λ place. IsWithin place c.count_tree.new.counter) (sym from) c.in_ok-count_tree.ensures.within;
     }
+
+pub returns-in_err-tree-clause-fault : goal.returns-in_err-tree-clause-fault
+returns-in_err-tree-clause-fault c =
+    let found = c.in_err-tree.field-0.0 in
+    passed_up c.from_residual.result found (IsCountFault c.args.trees.now.bytes) c.from_residual.ensures.1
+    (subst (λ bytes. IsCountFault bytes found) c.loop-tree.invariant.bytes
+    (next_fault c.args.walk.now.kinds c.loop-tree.trees.bytes c.loop-tree.trees.from c.loop-tree.counter found c.loop-tree.invariant.counted c.in_err-tree.ensures.fault))

@@ -1,4 +1,4 @@
-use Rattle.std.proofs.Common.{◌≡◌, ◌≤◌, ◌-◌, length}
+use Rattle.std.proofs.Common.{◌≡◌, ◌≤◌, ◌-◌, length, None}
 use Rattle.tally_core.specs.Inner.Counting.{IsWithin}
 use Rattle.tally_core.proofs.Trees.{CountsUpTo}
 use Rattle.tally_core.proofs.counting.count_trees.Given as goal
@@ -6,6 +6,7 @@ use Rattle.tally_core.proofs.counting.count_trees.Given as goal
 abbrev pub invariant-loop-tree : goal.invariant-loop-tree
 invariant-loop-tree l = record {
   bytes : l.trees.bytes ≡ l.fn.trees.bytes;
+  no_fault : l.trees.fault ≡ None;
   in_input : l.trees.from ≤ length l.trees.bytes;
   kinds : l.walk.kinds ≡ l.fn.walk.kinds;
   counted : CountsUpTo l.fn.walk.kinds l.trees.bytes l.trees.from l.counter;
