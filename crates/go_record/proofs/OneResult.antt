@@ -1,11 +1,11 @@
 -- A replay has one result.
-use Rattle.std.proofs.Common.{◌≡◌, ◌∙◌, List, [], ◌∷◌, All, sym, ap, if◌then◌else◌}
+use Rattle.std.proofs.Common.{◌∙◌, List, [], ◌∷◌, All, sym, ap, if◌then◌else◌}
 use Rattle.std.proofs.lemmas.List.Elements.{All-head, All-tail}
 use Rattle.go_board.specs.Extent.{Extent}
 use Rattle.go_board.specs.Position.{Position, AreSame}
 use Rattle.go_board.proofs.Agreement.{Plays-one}
 use Rattle.go_record.specs.Actions.{IsActionOn}
-use Rattle.go_record.specs.Replay.{Does, Replays, filled, is_within}
+use Rattle.go_record.specs.Replay.{Does, Replays, is_within}
 use Rattle.go_record.specs.declared.actions.Action.{Action}
 use Rattle.go_record.specs.declared.actions.Action.TheVariants as action
 

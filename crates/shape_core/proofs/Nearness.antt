@@ -1,5 +1,5 @@
 -- Marks near the points that changed.
-use Rattle.std.proofs.Common.{◌≡◌, ℕ, ◌+◌, true, ltb, ◌&&◌, List, [], ◌∷◌, ◌++◌, ◌≤◌, ◌⊎◌, inl, inr, ⊎_elim, arith}
+use Rattle.std.proofs.Common.{◌≡◌, ℕ, ◌+◌, true, ltb, ◌&&◌, List, [], ◌∷◌, inl, inr, ⊎_elim, arith}
 use Rattle.std.specs.List.{Contains}
 use Rattle.std.proofs.lemmas.Bool.{and_parts, ltb-true}
 use Rattle.std.proofs.lemmas.List.Elements.{Contains-push}

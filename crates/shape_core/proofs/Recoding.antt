@@ -1,19 +1,18 @@
 -- A code changed in a word is changed in each of its images.
-use Rattle.std.proofs.Common.{◌≡◌, ◌≢◌, ℕ, zero, suc, ◌+◌, ◌-◌, ◌*◌, ◌/◌, ◌%◌, ◌^◌, ◌<◌, ◌≤◌, List, [], ◌∷◌, map, get_or, min, bit_and, sym, refl, ap, ap₂, subst, ◌∙◌, arith, ⊎_elim}
+use Rattle.std.proofs.Common.{◌≡◌, ℕ, zero, suc, ◌+◌, ◌-◌, ◌*◌, ◌/◌, ◌%◌, ◌^◌, ◌<◌, ◌≤◌, List, [], ◌∷◌, map, get_or, min, bit_and, sym, refl, ap, ap₂, subst, ◌∙◌, arith, ⊎_elim}
 use Rattle.std.specs.Int.{bit_at}
 use Rattle.std.proofs.lemmas.Bool.{cases_eq, cases_lt}
 use Rattle.std.proofs.lemmas.List.{get_or-map}
 use Rattle.std.proofs.lemmas.Nat.{and_mask, pow_pos}
-use Rattle.std.proofs.lemmas.Nat.Bits.{bit_at_and, bit_at_cat_low, bit_at_cat_high, bit_at-zero, same_from_bits, bit_at-lt}
+use Rattle.std.proofs.lemmas.Nat.Bits.{bit_at_and, bit_at_cat_low, bit_at_cat_high, bit_at-zero, same_from_bits}
 use Rattle.shape_core.specs.declared.words.Kind.{Kind}
 use Rattle.shape_core.specs.declared.words.Kind.TheVariants as kind
 use Rattle.shape_core.specs.declared.symmetries.Symmetry.{Symmetry}
 use Rattle.shape_core.specs.declared.symmetries.Symmetry.TheVariants as symmetry
-use Rattle.shape_core.specs.Offset.{offsets_of}
-use Rattle.shape_core.specs.Symmetry.{image_of, source_cell}
+use Rattle.shape_core.specs.Symmetry.{image_of}
 use Rattle.shape_core.specs.Word.{kind_of, code_at, count_from}
 use Rattle.shape_core.specs.Inner.Word.{recoded}
-use Rattle.shape_core.specs.Inner.Images.{AreImages, bits_of_cell, cell_from, bits_row}
+use Rattle.shape_core.specs.Inner.Images.{AreImages, bits_of_cell}
 use Rattle.shape_core.proofs.Codes.{same_words, recoded_small, kind_of-recoded, recoded_here, recoded_other, recoded_sum}
 use Rattle.shape_core.proofs.Images.{sources, length-sources, image_of_small, kind_of-image, code_at-image, cell-lt, count_from-at}
 use Rattle.shape_core.proofs.Moves.{four_pow, bit_at-lowered}

@@ -1,4 +1,4 @@
-use Rattle.std.proofs.Common.{refl, ◌∙◌, ap₂, [], ◌∷◌}
+use Rattle.std.proofs.Common.{refl, ap₂, [], ◌∷◌}
 use Rattle.shape_core.specs.declared.words.Kind.TheVariants as kind
 use Rattle.shape_core.specs.declared.symmetries.Symmetry.TheVariants as symmetry
 use Rattle.shape_core.proofs.Moves.{Moves, whole, masked, joined, swap}

@@ -1,7 +1,6 @@
 use Rattle.std.proofs.Common.{rules, ◌≡◌, ◌∙◌, sym}
-use Rattle.go_board.specs.Position.{Position}
-use Rattle.go_board.specs.Board.{position_of, IsBoard}
-use Rattle.shape_core.specs.Inner.Keeping.{HasRoom, Follows}
+use Rattle.go_board.specs.Board.{IsBoard}
+use Rattle.shape_core.specs.Inner.Keeping.{HasRoom}
 use Rattle.shape_core.proofs.fields.Field.copied.Goals as goal
 
 pub invariant_of-result : goal.invariant_of-result
