@@ -1,13 +1,12 @@
 -- The sum over cells, one cell more at a time.
-use Rattle.std.proofs.Common.{◌≡◌, ℕ, suc, ◌+◌, ◌-◌, ◌*◌, ◌%◌, ◌^◌, ◌<◌, ◌≤◌, List, [], ◌∷◌, ◌++◌, length, get_or, take, sym, ap, ap₂, ◌∙◌, arith, mod-eq_of_lt, pow-suc, length-take-le}
+use Rattle.std.proofs.Common.{◌≡◌, ℕ, suc, ◌+◌, ◌*◌, ◌%◌, ◌^◌, ◌<◌, ◌≤◌, List, [], ◌∷◌, ◌++◌, length, get_or, take, sym, ap, ap₂, ◌∙◌, arith, mod-eq_of_lt, pow-suc, length-take-le}
 use Rattle.std.proofs.Math.Nat.{pow-le-pow_right}
 use Rattle.std.proofs.lemmas.Nat.{mul-le}
 use Rattle.std.proofs.lemmas.List.{take_more}
 use Rattle.std.proofs.lemmas.List.Elements.{All-take, All-get_or}
-use Rattle.shape_core.specs.Word.{sum_of, code_at}
-use Rattle.shape_core.specs.Inner.Word.{recoded}
-use Rattle.shape_core.proofs.Digits.{sum_of-lt, code_at-lt}
-use Rattle.shape_core.proofs.Codes.{AreCodes, recoded_sum}
+use Rattle.shape_core.specs.Word.{sum_of}
+use Rattle.shape_core.proofs.Digits.{sum_of-lt}
+use Rattle.shape_core.proofs.Codes.{AreCodes}
 use Rattle.shape_core.proofs.Moves.{four_pow}
 
 sum_of-push : (cs : List ℕ) (c : ℕ) → sum_of (cs ++ c ∷ []) ≡ sum_of cs + c * 4 ^ length cs
@@ -38,11 +37,3 @@ sum_of-more codes i c are h is =
 pub sum_of_fits : (codes : List ℕ) (i : ℕ) → AreCodes codes → i ≤ 25 → sum_of (take i codes) < 2 ^ 50
 sum_of_fits codes i are h =
     omega (arith, sum_of-lt (take i codes) (All-take (λ x. x < 4) i codes are.small), powers_rise (length (take i codes)) 25 (omega (arith, length-take-le i codes (omega (arith, are.count)))))
-
--- one code exchanged by taking it off and adding the other
-pub exchanged_code_is : (w i c : ℕ) → w < 2 ^ 51 → i < 25 → c < 4 → (code_at w i * 2 ^ (2 * i) % 2 ^ 64 ≤ w) × (w - code_at w i * 2 ^ (2 * i) % 2 ^ 64 + c * 2 ^ (2 * i) % 2 ^ 64 ≡ recoded w i c)
-exchanged_code_is w i c small h few =
-    let old = (weighed (code_at w i) i (code_at-lt w i) h).0 in
-    let new = (weighed c i few h).0 in
-    let sum = recoded_sum w i c small h in
-    rw (old, new) ((omega (arith, sum.0)), (omega (arith, sum.0, sum.1)))
