@@ -1,1 +1,3 @@
 mod Worked
+mod WorkedMoves
+mod WorkedText
