@@ -1,0 +1,83 @@
+//! From a task to the engine that does it, and the status that comes of it.
+ghost use Rattle.std.specs.Prelude.{◌≡◌, IfOk, IfErr};
+ghost use Rattle.shapes.specs.Tasks.{Does, IsTaskFault, status_after};
+
+use crate::words::Task;
+use engine_core::{
+    Outcome, RunFault, run_board, run_count, run_find, run_join, status_of, write_output,
+};
+use std::alloc::Global;
+use std::io::{Read, Write};
+use std::sync::Wait;
+use std::thread::Threads;
+use tally_core::Report;
+
+/// What a task that ended well answered.
+#[derive(Clone, Copy, Debug, PartialEq, Eq)]
+pub struct Answer {
+    /// Whether it found what was asked for.
+    pub outcome: Outcome,
+    /// What the trees of a collection are, of a count alone.
+    pub report: Option<Report>,
+}
+
+impl Answer {
+    /// An answer without a report.
+    fn of(outcome: Outcome) -> Answer
+        ensures { result ≡ record { outcome = outcome; report = None } }
+    {
+        Answer {
+            outcome,
+            report: None,
+        }
+    }
+}
+
+/// Does a task: `board`, `count`, `find` and `join` by their engines, each with the reader and the writer; of help the text is
+/// written. The threads that count are started through `threads`.
+///
+/// # Errors
+///
+/// Those of the engine, and what is out then is what the engine says. `Write` where a text of help was not written whole.
+pub fn do_task<T: Threads + Wait + Sync, R: Read, W: Write>(
+    threads: &T,
+    alloc: Global,
+    task: Task,
+    reader: &mut R,
+    writer: &mut W,
+) -> Result<Answer, RunFault>
+    ensures done { IfOk result (Does task (R.remaining reader.old) (W.contents writer.old)
+        (W.contents writer.new)) }
+    ensures fault { IfErr result (IsTaskFault task (R.remaining reader.old)
+        (W.contents writer.old) (W.contents writer.new)) }
+{
+    match task {
+        Task::Board => Ok(Answer::of(run_board(alloc, reader, writer)?)),
+        Task::Count(settings, text) => {
+            let report = run_count(threads, alloc, settings, text, reader, writer)?;
+            Ok(Answer {
+                outcome: Outcome::Done,
+                report: Some(report),
+            })
+        }
+        Task::Find(shape) => Ok(Answer::of(run_find(alloc, shape, reader, writer)?)),
+        Task::Join(text) => Ok(Answer::of(run_join(alloc, text, reader, writer)?)),
+        Task::Help(text) => {
+            write_output(writer, text.as_bytes())?;
+            Ok(Answer::of(Outcome::Done))
+        }
+    }
+}
+
+/// The exit status of a run: 0 where its task was done, 1 where what was asked for was not found, and that of the fault.
+pub fn status_after(done: &Result<Answer, RunFault>) -> u8
+    ensures { result ≡ status_after done.now }
+{
+    match done {
+        Ok(answer) => match answer.outcome {
+            Outcome::Done => 0,
+            Outcome::NotFound => 1,
+        },
+        Err(fault) => status_of(fault),
+    }
+}
