@@ -1,10 +1,15 @@
 -- What the values of a subcommand say.
-use Rattle.std.proofs.Common.{◌≡◌, ◌<◌, ◌^◌, ℕ, List, Option, Some, None, refl, codes}
+use Rattle.std.proofs.Common.{◌≡◌, ◌<◌, ◌^◌, ℕ, List, Option, Some, None, inl, inr, ⊎_elim, ◌⊎◌, refl, sym, ◌∙◌, subst, [], codes, Result, Ok, Err, IfOk, IfErr}
 use Rattle.std.specs.Str.Parse.{IsNumeral, digits_value, without_leading_plus}
 use Rattle.clap.specs.Words.{Row, first_of, one_of}
 use Rattle.shapes.specs.Commands.{IsNumberOf}
 use Rattle.engine_core.specs.Patterns.{IsPatternFault}
-use Rattle.shapes.specs.Words.{IsWordsFault}
+use Rattle.clap.specs.Words.{IsAmong}
+use Rattle.clap.specs.declared.error.kind.ErrorKind.{ErrorKind}
+use Rattle.clap.specs.declared.error.kind.ErrorKind.TheVariants as refusal
+use Rattle.shapes.specs.Words.{IsWordsFault, IsTaskOf, IsAnswered, IsHelp, IsLineFault, IsRefusal, AsksForHelp, AreRefused, refusals_of}
+use Rattle.shapes.specs.declared.words.Task.{Task}
+use Rattle.shapes.specs.declared.words.Task.TheVariants as task
 use Rattle.engine_core.specs.declared.faults.RunFault.{RunFault}
 use Rattle.engine_core.specs.declared.faults.RunFault.TheVariants as fault
 
@@ -20,7 +25,8 @@ number_given id rows number (Some t) is none value =
 -- why a search was refused
 pub search_fault : (rows : List Row) (glyphs mover : List ℕ) (found : RunFault) → first_of (codes "glyphs") rows ≡ Some glyphs → first_of (codes "colour") rows ≡ Some mover →
     IsPatternFault glyphs mover found → IsWordsFault (Some (codes "find", rows)) found
-search_fault rows glyphs mover fault.Usage has_glyphs has_mover wrong = tt
+search_fault rows glyphs mover fault.Usage has_glyphs has_mover wrong =
+    inl (rows, refl, inr (inr (glyphs, mover, has_mover, wrong)))
 search_fault rows glyphs mover (fault.Glyph found) has_glyphs has_mover wrong =
     (rows, refl, record { glyphs = glyphs; mover = mover; has_glyphs = has_glyphs; has_mover = has_mover; wrong = wrong })
 search_fault rows glyphs mover (fault.Sgf found) has_glyphs has_mover wrong = absurd wrong
@@ -31,3 +37,52 @@ search_fault rows glyphs mover (fault.Dict n found) has_glyphs has_mover wrong =
 search_fault rows glyphs mover fault.Read has_glyphs has_mover wrong = absurd wrong
 search_fault rows glyphs mover (fault.Write written) has_glyphs has_mover wrong = absurd wrong
 search_fault rows glyphs mover fault.Memory has_glyphs has_mover wrong = absurd wrong
+
+-- where `clap` refuses nothing, the task of the subcommand is that of the words
+pub answered_from : (words : List (List ℕ)) (asked : Option (List ℕ × List Row)) (result : Result Task RunFault) → refusals_of words ≡ [] → IfOk result (IsTaskOf asked) → IfOk result (IsAnswered words asked)
+answered_from words asked (Ok task.Board) none is = (none, is)
+answered_from words asked (Ok (task.Count settings text)) none is = (none, is)
+answered_from words asked (Ok (task.Find shape)) none is = (none, is)
+answered_from words asked (Ok (task.Join text)) none is = (none, is)
+answered_from words asked (Ok (task.Help text)) none is = absurd is
+answered_from words asked (Err found) none is = tt
+
+-- and so is its fault
+pub line_fault_from : (words : List (List ℕ)) (asked : Option (List ℕ × List Row)) (result : Result Task RunFault) → refusals_of words ≡ [] → IfErr result (IsWordsFault asked) → IfErr result (IsLineFault words asked)
+line_fault_from words asked (Ok found) none is = tt
+line_fault_from words asked (Err found) none is = inr (inr (none, is))
+
+-- help is what `clap` answers
+pub helped_from : (words : List (List ℕ)) (asked : Option (List ℕ × List Row)) (kind : ErrorKind) (result : Result Task RunFault) →
+    (kind ≡ refusal.OutOfMemory) ⊎ IsAmong kind (refusals_of words) →
+    IfOk result (λ found. IsHelp found × ((kind ≡ refusal.DisplayHelp) ⊎ (kind ≡ refusal.DisplayVersion))) → IfOk result (IsAnswered words asked)
+helped_from words asked kind (Ok task.Board) has is = absurd is.0
+helped_from words asked kind (Ok (task.Count settings text)) has is = absurd is.0
+helped_from words asked kind (Ok (task.Find shape)) has is = absurd is.0
+helped_from words asked kind (Ok (task.Join text)) has is = absurd is.0
+helped_from words asked kind (Ok (task.Help text)) has is =
+    ⊎_elim
+    (λ (full : kind ≡ refusal.OutOfMemory). absurd (⊎_elim
+    (λ (help : kind ≡ refusal.DisplayHelp). let bad = sym help ∙ full in cc)
+    (λ (version : kind ≡ refusal.DisplayVersion). let bad = sym version ∙ full in cc)
+    is.1))
+    (λ (among : IsAmong kind (refusals_of words)). ⊎_elim
+    (λ (help : kind ≡ refusal.DisplayHelp). inl (subst (λ k. IsAmong k (refusals_of words)) help among))
+    (λ (version : kind ≡ refusal.DisplayVersion). inr (subst (λ k. IsAmong k (refusals_of words)) version among))
+    is.1)
+    has
+helped_from words asked kind (Err found) has is = tt
+
+-- and so is a refusal
+pub refused_from : (words : List (List ℕ)) (asked : Option (List ℕ × List Row)) (kind : ErrorKind) (result : Result Task RunFault) →
+    (kind ≡ refusal.OutOfMemory) ⊎ IsAmong kind (refusals_of words) →
+    IfErr result (λ found. (found ≡ fault.Memory) ⊎ ((found ≡ fault.Usage) × IsRefusal kind)) → IfErr result (IsLineFault words asked)
+refused_from words asked kind (Ok found) has is = tt
+refused_from words asked kind (Err found) has is =
+    ⊎_elim
+    (λ (memory : found ≡ fault.Memory). inl memory)
+    (λ (usage : (found ≡ fault.Usage) × IsRefusal kind). ⊎_elim
+    (λ (full : kind ≡ refusal.OutOfMemory). absurd (usage.1.2 full))
+    (λ (among : IsAmong kind (refusals_of words)). inr (inl (usage.0, (kind, among, usage.1))))
+    has)
+    is

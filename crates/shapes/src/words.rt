@@ -1,9 +1,12 @@
 //! The words of the command line, and the task that they ask for.
 ghost use Rattle.std.specs.Prelude.{◌≡◌, List, ℕ, Option, Some, codes, map, string_bytes, IfOk};
-ghost use Rattle.std.specs.Prelude.{IfErr};
-ghost use Rattle.clap.specs.Words.{Row, found_of, rows_of, subcommand_rows_of};
+ghost use Rattle.std.specs.Prelude.{IfErr, ◌⊎◌};
+ghost use Rattle.clap.specs.Words.{found_of, rows_of, subcommand_rows_of};
+ghost use Rattle.clap.specs.Values.{kind_of};
+ghost use Rattle.clap.specs.declared.error.kind.ErrorKind.TheVariants as refusal;
 ghost use Rattle.shapes.specs.Commands.{IsNumberOf, asked_by};
 ghost use Rattle.shapes.specs.Words.{IsKindOf, IsTaskOf, IsWordsFault, kinds_for, number_of};
+ghost use Rattle.shapes.specs.Words.{IsAnswered, IsHelp, IsLineFault, IsRefusal};
 ghost use Rattle.engine_core.specs.declared.faults.RunFault.TheVariants as fault;
 
 use crate::commands::program;
@@ -127,8 +130,10 @@ fn task_of(matches: &ArgMatches<'_>) -> Result<Task, RunFault>
 
 /// What a refused line asks for: a text of help or version, or nothing that the program knows.
 fn refused(alloc: Global, error: &Error) -> Result<Task, RunFault>
-    ensures task { (asked : Option (List ℕ × List Row)) → IfOk result (IsTaskOf asked) }
-    ensures fault { (asked : Option (List ℕ × List Row)) → IfErr result (IsWordsFault asked) }
+    ensures help { IfOk result (λ found. IsHelp found
+        × ((kind_of error.now ≡ refusal.DisplayHelp) ⊎ (kind_of error.now ≡ refusal.DisplayVersion))) }
+    ensures fault { IfErr result (λ found. (found ≡ fault.Memory)
+        ⊎ ((found ≡ fault.Usage) × IsRefusal (kind_of error.now))) }
 {
     match error.kind() {
         ErrorKind::DisplayHelp | ErrorKind::DisplayVersion => {
@@ -146,8 +151,10 @@ fn refused(alloc: Global, error: &Error) -> Result<Task, RunFault>
 /// `Usage` where the words are none that the program knows, a mover that is no colour among them; else `Glyph` where the
 /// glyphs of `find` are not those of a pattern; `Memory` where memory was refused.
 pub fn read_words(alloc: Global, words: &[String]) -> Result<Task, RunFault>
-    ensures task { IfOk result (IsTaskOf (asked_by (map string_bytes words.now))) }
-    ensures fault { IfErr result (IsWordsFault (asked_by (map string_bytes words.now))) }
+    ensures task { IfOk result (IsAnswered (map string_bytes words.now)
+        (asked_by (map string_bytes words.now))) }
+    ensures fault { IfErr result (IsLineFault (map string_bytes words.now)
+        (asked_by (map string_bytes words.now))) }
 {
     let command = program(alloc)?;
     match command.try_get_matches_from(words) {

@@ -1,4 +1,4 @@
-use Rattle.std.proofs.Common.{codes, refl, sym, ◌∙◌}
+use Rattle.std.proofs.Common.{codes, inl, inr, refl, sym, ◌∙◌}
 use Rattle.std.proofs.lemmas.Result.{err_from_is_err_and}
 use Rattle.clap.specs.Words.{found_of, rows_of}
 use Rattle.clap.proofs.WalkLemmas.{first_value-rows}
@@ -28,3 +28,13 @@ returns-in_err-shape-clause-fault c =
     rw (p.1, p.2) (search_fault (rows_of found) c.in-Some.glyphs.now c.in-Some-get_str.mover.now c.in_err-shape.field-0.0
     (sym (first_value-rows found (codes "glyphs")) ∙ sym c.in-Some.ensures)
     (sym (first_value-rows found (codes "colour")) ∙ sym c.in-Some-get_str.ensures) c.in_err-shape.ensures.fault)
+
+pub returns-in_default-clause-fault : goal.returns-in_default-clause-fault
+returns-in_default-clause-fault c =
+    let found = found_of c.args.matches.now in
+    inl (rows_of found, refl, inl (sym (first_value-rows found (codes "glyphs")) ∙ sym c.in_default.ensures))
+
+pub returns-in_default-get_str-clause-fault : goal.returns-in_default-get_str-clause-fault
+returns-in_default-get_str-clause-fault c =
+    let found = found_of c.args.matches.now in
+    inl (rows_of found, refl, inr (inl (sym (first_value-rows found (codes "colour")) ∙ sym c.in_default-get_str.ensures)))
