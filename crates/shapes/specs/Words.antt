@@ -1,5 +1,5 @@
 -- What the words of the command line ask for.
-use Rattle.std.specs.Prelude.{◌≡◌, ◌≢◌, ◌⊎◌, ℕ, List, [], Option, Some, None, codes}
+use Rattle.std.specs.Prelude.{◌≡◌, ◌≢◌, ◌⊎◌, ◌<◌, ◌^◌, ℕ, List, [], Option, Some, None, codes}
 use Rattle.clap.specs.Words.{Row, first_of, one_of, fault_of, IsAmong}
 use Rattle.clap.specs.declared.error.kind.ErrorKind.{ErrorKind}
 use Rattle.clap.specs.declared.error.kind.ErrorKind.TheVariants as refusal
@@ -8,7 +8,7 @@ use Rattle.shape_core.specs.declared.words.Kind.TheVariants as kind_of_pattern
 use Rattle.shape_core.specs.declared.words.Kinds.{Kinds}
 use Rattle.shape_core.specs.declared.words.Kinds.TheVariants as kinds
 use Rattle.shape_core.specs.declared.spelling.GlyphFault.{GlyphFault}
-use Rattle.tally_core.specs.Limits.{Limits}
+use Rattle.tally_core.specs.Limits.{Limits, AreLimits}
 use Rattle.shape_dict.specs.declared.entries.Text.{Text}
 use Rattle.shape_dict.specs.declared.entries.Text.TheVariants as text
 use Rattle.engine_core.specs.Patterns.{IsPatternOf, IsPatternFault}
@@ -101,11 +101,22 @@ HasNoColour rows =
     ⊎ (first_of (codes "colour") rows ≡ None)
     ⊎ ((glyphs : List ℕ) × (mover : List ℕ) × (first_of (codes "colour") rows ≡ Some mover) × IsPatternFault glyphs mover fault.Usage)
 
--- the values of a subcommand are none that the program knows: a search has no colour; of the others it is not said which
--- number is wrong
+-- an option has no number below 2 ^ 8 as its value
+abbrev pub HasNoNumber : List ℕ → List Row → Type 0
+HasNoNumber id rows = (number : ℕ) → IsNumberOf id rows number → number < 2 ^ 8 → ⊥
+
+-- no text has the number that is given for it
+abbrev pub HasNoText : List Row → Type 0
+HasNoText rows = (kind : Text) → IsNumberOf (codes "text") rows (number_of kind) → ⊥
+
+-- the values are those of no count within the limits
+abbrev pub HasNoSettings : List Row → Type 0
+HasNoSettings rows = (settings : Limits) → (kind : Text) → IsCount rows settings kind → AreLimits settings → ⊥
+
+-- the values of a subcommand are none that the program knows
 abbrev pub HasBadValues : Option (List ℕ × List Row) → Type 0
 HasBadValues asked =
-    Asks asked (codes "find") HasNoColour ⊎ Asks asked (codes "count") (λ rows. Unit {0}) ⊎ Asks asked (codes "join") (λ rows. Unit {0})
+    Asks asked (codes "find") HasNoColour ⊎ Asks asked (codes "count") HasNoSettings ⊎ Asks asked (codes "join") HasNoText
 
 -- the glyphs of a search spell no pattern
 pub record IsBadSearch (rows : List Row) (found : GlyphFault) : Type 0 where

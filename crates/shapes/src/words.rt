@@ -7,6 +7,7 @@ ghost use Rattle.clap.specs.declared.error.kind.ErrorKind.TheVariants as refusal
 ghost use Rattle.shapes.specs.Commands.{IsNumberOf, asked_by};
 ghost use Rattle.shapes.specs.Words.{IsKindOf, IsTaskOf, IsWordsFault, kinds_for, number_of};
 ghost use Rattle.shapes.specs.Words.{IsAnswered, IsHelp, IsLineFault, IsRefusal};
+ghost use Rattle.shapes.specs.Words.{HasNoNumber, HasNoText, HasNoSettings};
 ghost use Rattle.engine_core.specs.declared.faults.RunFault.TheVariants as fault;
 
 use crate::commands::program;
@@ -36,7 +37,8 @@ pub enum Task {
 /// The number that an option has.
 fn number(matches: &ArgMatches<'_>, option: &str) -> Result<u8, RunFault>
     ensures number { IfOk result (IsNumberOf option.now (rows_of (found_of matches.now))) }
-    ensures fault { IfErr result (λ found. found ≡ fault.Usage) }
+    ensures fault { IfErr result (λ found. (found ≡ fault.Usage)
+        × HasNoNumber option.now (rows_of (found_of matches.now))) }
 {
     match matches.get_one::<u8>(option) {
         Some(number) => Ok(number),
@@ -48,7 +50,8 @@ fn number(matches: &ArgMatches<'_>, option: &str) -> Result<u8, RunFault>
 fn text_of(matches: &ArgMatches<'_>) -> Result<Text, RunFault>
     ensures text { IfOk result (λ text. IsNumberOf (codes "text") (rows_of (found_of matches.now))
         (number_of text)) }
-    ensures fault { IfErr result (λ found. found ≡ fault.Usage) }
+    ensures fault { IfErr result (λ found. (found ≡ fault.Usage)
+        × HasNoText (rows_of (found_of matches.now))) }
 {
     match number(matches, "text")? {
         1 => Ok(Text::One),
@@ -70,7 +73,8 @@ fn kinds_for(text: Text) -> Kinds
 
 fn count_task(matches: &ArgMatches<'_>) -> Result<Task, RunFault>
     ensures task { IfOk result (IsTaskOf (Some (codes "count", rows_of (found_of matches.now)))) }
-    ensures fault { IfErr result (λ found. found ≡ fault.Usage) }
+    ensures fault { IfErr result (λ found. (found ≡ fault.Usage)
+        × HasNoSettings (rows_of (found_of matches.now))) }
 {
     let text = text_of(matches)?;
     let workers = number(matches, "workers")?;
@@ -110,7 +114,8 @@ fn find_task(matches: &ArgMatches<'_>) -> Result<Task, RunFault>
 
 fn join_task(matches: &ArgMatches<'_>) -> Result<Task, RunFault>
     ensures task { IfOk result (IsTaskOf (Some (codes "join", rows_of (found_of matches.now)))) }
-    ensures fault { IfErr result (λ found. found ≡ fault.Usage) }
+    ensures fault { IfErr result (λ found. (found ≡ fault.Usage)
+        × HasNoText (rows_of (found_of matches.now))) }
 {
     Ok(Task::Join(text_of(matches)?))
 }
