@@ -49,6 +49,7 @@ joins_regroup a b c bc abc is_a is_b kinds later all =
         dictionary = all.dictionary;
         games = omega (arith, all.games, later.games);
         moves = omega (arith, all.moves, later.moves);
+        same_kinds = kinds ∙ later.same_kinds;
         kinds = all.kinds;
         entries = λ shape. all.entries shape
             ∙ (ap (joined_entry a.games (entry_of shape a.entries)) (later.entries shape)

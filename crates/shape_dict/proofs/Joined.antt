@@ -143,6 +143,7 @@ dictionary_of left right h k kinds = record {
 pub join_of : (left right : Contents) → IsDictionary left → IsDictionary right → left.counts_diamonds ≡ right.counts_diamonds → IsJoin left right (record { games = left.games + right.games; moves = left.moves + right.moves; entries = merged left.games left.entries right.entries; counts_diamonds = left.counts_diamonds })
 join_of left right h k kinds = record {
   dictionary = dictionary_of left right h k kinds;
+  same_kinds = kinds;
   games = refl;
   moves = refl;
   kinds = refl;

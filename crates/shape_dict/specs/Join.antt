@@ -14,11 +14,12 @@ joined_entry games (Some left) None = Some left
 joined_entry games None (Some right) = Some (moved_entry games right)
 joined_entry games (Some left) (Some right) = Some (summed_entry left right)
 
--- `both` is the join of `left` and `right`
+-- `both` is the join of `left` and `right`, which count the same kinds
 pub record IsJoin (left right both : Contents) : Type 0 where
   pub dictionary : IsDictionary both
   pub games : both.games ≡ left.games + right.games
   pub moves : both.moves ≡ left.moves + right.moves
+  pub same_kinds : left.counts_diamonds ≡ right.counts_diamonds
   pub kinds : both.counts_diamonds ≡ left.counts_diamonds
   pub entries : (shape : ℕ) → entry_of shape both.entries ≡ joined_entry left.games (entry_of shape left.entries) (entry_of shape right.entries)
 

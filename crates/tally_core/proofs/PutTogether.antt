@@ -143,6 +143,7 @@ module _ (canonical : CanonicalStays) (around : AroundStays) (kinds : Kinds) (le
     dictionary = d.dictionary;
     games = d.games_counted ∙ games_together;
     moves = d.moves ∙ moves_together;
+    same_kinds = h.diamonds ∙ sym k.diamonds;
     kinds = d.diamonds ∙ sym h.diamonds;
     entries = λ shape. d.entries shape ∙ joined_together shape;
   }
