@@ -1,5 +1,5 @@
 -- The text that `board` prints: the final position of the first tree's main line.
-use Rattle.std.specs.Prelude.{◌≡◌, ◌⊎◌, ℕ, ◌^◌, ◌<◌, List, [], ◌∷◌, ◌++◌, length, map, Result, Ok, Err}
+use Rattle.std.specs.Prelude.{◌≡◌, ◌⊎◌, ℕ, ◌^◌, ◌<◌, ◌≤◌, List, [], ◌∷◌, ◌++◌, length, map, Result, Ok, Err}
 use Rattle.std.specs.List.{flat_map}
 use Rattle.shape_core.specs.Word.{count_from}
 use Rattle.sgf_core.specs.Tree.{GameTree, main_line_of}
@@ -43,8 +43,9 @@ pub record IsFinal (game : Actions) (final : Position) : Type 0 where
   pub empty : AreSame game.size start empty_position
   pub replayed : Replays game.size game.actions start final
 
--- the text is that of the final position of the first tree
+-- the input has at most 2 ^ 28 bytes, and the text is that of the final position of its first tree
 pub record IsBoardText (input text : List ℕ) : Type 0 where
+  pub few : length input ≤ most_bytes
   pub at : ℕ
   pub end : ℕ
   pub tree : GameTree
@@ -63,17 +64,17 @@ pub record FirstIs (input : List ℕ) (recorded : Result Kind RecordFault) : Typ
   pub first : IsNextTree input 0 at end tree
   pub recorded_so : record_of (main_line_of tree) ≡ recorded
 
--- there is no tree, or the first is of another game
+-- the input has at most 2 ^ 28 bytes, and there is no tree in it, or the first is of another game
 abbrev pub HasNoBoard : List ℕ → Type 0
-HasNoBoard input = HasNoTree input 0 ⊎ FirstIs input (Ok kind.Other)
+HasNoBoard input = (length input ≤ most_bytes) × (HasNoTree input 0 ⊎ FirstIs input (Ok kind.Other))
 
--- the fault's cause is in the input, or memory was wanting
+-- the input is too large, which comes first, or has the fault's cause, or memory was wanting
 abbrev pub IsBoardFault : List ℕ → RunFault → Type 0
 IsBoardFault input (fault.Sgf sgf.TooLarge) = most_bytes < length input
-IsBoardFault input (fault.Sgf found) = IsFaultOrMemory input 0 found
-IsBoardFault input (fault.Record record_fault.Memory) = Unit {0}
-IsBoardFault input (fault.Record found) = FirstIs input (Err found)
-IsBoardFault input (fault.Board found) = Unit {0}
+IsBoardFault input (fault.Sgf found) = (length input ≤ most_bytes) × IsFaultOrMemory input 0 found
+IsBoardFault input (fault.Record record_fault.Memory) = length input ≤ most_bytes
+IsBoardFault input (fault.Record found) = (length input ≤ most_bytes) × FirstIs input (Err found)
+IsBoardFault input (fault.Board found) = length input ≤ most_bytes
 IsBoardFault input fault.Memory = Unit {0}
 IsBoardFault input (fault.Glyph found) = ⊥
 IsBoardFault input (fault.Harvest found) = ⊥

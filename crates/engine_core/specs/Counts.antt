@@ -1,9 +1,13 @@
 -- What `count` prints: a text of the dictionary of the collection that the input is.
-use Rattle.std.specs.Prelude.{◌≡◌, ℕ, List}
+use Rattle.std.specs.Prelude.{◌≡◌, ◌⊎◌, ◌≤◌, ℕ, List, length}
 use Rattle.shape_core.specs.declared.words.Kinds.{Kinds}
 use Rattle.shape_dict.specs.declared.entries.Text.{Text}
 use Rattle.shape_dict.specs.Text.{text_of}
+use Rattle.sgf_core.specs.Limit.{most_bytes}
+use Rattle.sgf_core.specs.declared.faults.SgfFault.TheVariants as sgf
 use Rattle.shape_dict.specs.declared.faults.DictFault.TheVariants as dict_fault
+use Rattle.share_core.specs.declared.faults.HarvestFault.{HarvestFault}
+use Rattle.share_core.specs.declared.faults.HarvestFault.TheVariants as harvest_fault
 use Rattle.tally_core.specs.Counted.{IsCounted}
 use Rattle.tally_core.specs.declared.collections.Counted.{Counted}
 use Rattle.tally_core.specs.declared.reports.Report.{Report}
@@ -21,10 +25,15 @@ pub record IsCountText (kinds : Kinds) (kind : Text) (report : Report) (input te
 abbrev pub HasCountText : Kinds → Text → List ℕ → List ℕ → Type 0
 HasCountText kinds kind input text = (report : Report) × IsCountText kinds kind report input text
 
+-- the input has at most 2 ^ 28 bytes, or the fault is that it is larger, or memory was wanting
+abbrev pub ComesFirst : List ℕ → HarvestFault → Type 0
+ComesFirst input found =
+    (length input ≤ most_bytes) ⊎ (found ≡ harvest_fault.Sgf sgf.TooLarge) ⊎ (found ≡ harvest_fault.Memory)
+
 -- the collection was not counted over a table of n slots, or memory was wanting for the text
 abbrev pub IsCountRunFault : ℕ → Kinds → List ℕ → RunFault → Type 0
-IsCountRunFault slots kinds input (fault.Harvest found) = IsHarvestRefused slots input kinds found
-IsCountRunFault slots kinds input (fault.Dict n dict_fault.Memory) = n ≡ 1
+IsCountRunFault slots kinds input (fault.Harvest found) = IsHarvestRefused slots input kinds found × ComesFirst input found
+IsCountRunFault slots kinds input (fault.Dict n dict_fault.Memory) = (n ≡ 1) × (length input ≤ most_bytes)
 IsCountRunFault slots kinds input (fault.Dict n found) = ⊥
 IsCountRunFault slots kinds input fault.Memory = Unit {0}
 IsCountRunFault slots kinds input (fault.Sgf found) = ⊥

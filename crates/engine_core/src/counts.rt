@@ -15,6 +15,7 @@ use std::thread::Threads;
 use tally_core::{Report, Settings};
 
 /// The text of the dictionary of the input's games, and how many trees it has of each sort.
+#[tactic(auto, using(crate::proofs::Runs::comes_first))]
 fn counted_text<T: Threads + Wait + Sync>(
     rt: &T,
     alloc: Global,

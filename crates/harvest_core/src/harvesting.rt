@@ -1,7 +1,7 @@
 //! What several workers count over one table: the dictionary of an input.
 ghost use Rattle.std.specs.Prelude.{◌≡◌, ◌^◌, ◌<◌, [], ℕ, List, All, length};
 ghost use Rattle.sgf_core.specs.declared.faults.SgfFault.TheVariants as sgf;
-ghost use Rattle.std.specs.Prelude.{MatchResult, IfOk, IfErr, IfSome};
+ghost use Rattle.std.specs.Prelude.{MatchResult, IfOk, IfErr, IfSome, IsErrAnd, ◌⊎◌};
 ghost use Rattle.shape_core.specs.declared.words.Kinds.{Kinds};
 ghost use Rattle.slot_table.specs.declared.entries.Happened.{Happened};
 ghost use Rattle.slot_table.specs.Passes.{IsPassOf};
@@ -217,6 +217,8 @@ pub fn harvest<R: Threads + Wait + Sync, G: Gate>(
     bytes: &[u8],
     gate: &G,
 ) -> Result<Counted, HarvestFault>
+    ensures large { most_bytes < length bytes.now
+        → IsErrAnd result (λ found. (found ≡ fault.Memory) ⊎ (found ≡ fault.Sgf sgf.TooLarge)) }
     ensures harvest { IfOk result (λ counted. (seen : List Happened)
         × IsHarvest (2 ^ settings.k) seen settings.kinds bytes.now counted) }
     ensures fault { IfErr result (IsHarvestRefused (2 ^ settings.k) bytes.now settings.kinds) }

@@ -11,7 +11,7 @@ use Rattle.tally_core.specs.Limits.{AreLimits}
 use Rattle.clap.specs.Words.{IsAmong}
 use Rattle.clap.specs.declared.error.kind.ErrorKind.{ErrorKind}
 use Rattle.clap.specs.declared.error.kind.ErrorKind.TheVariants as refusal
-use Rattle.shapes.specs.Words.{HasNoNumber, HasNoText, HasNoSettings, number_of, IsWordsFault, IsTaskOf, IsAnswered, IsHelp, IsLineFault, IsRefusal, AsksForHelp, AreRefused, refusals_of}
+use Rattle.shapes.specs.Words.{HasNoNumber, HasNoText, HasNoSettings, number_of, IsWordsFault, IsTaskOf, IsAnswered, IsHelp, IsHelpKind, IsLineFault, IsRefusal, AsksForHelp, AreRefused, refusals_of}
 use Rattle.shapes.specs.declared.words.Task.{Task}
 use Rattle.shapes.specs.declared.words.Task.TheVariants as task
 use Rattle.engine_core.specs.declared.faults.RunFault.{RunFault}
@@ -115,7 +115,7 @@ line_fault_from words asked (Err found) none is = inr (inr (none, is))
 -- help is what `clap` answers
 pub helped_from : (words : List (List ℕ)) (asked : Option (List ℕ × List Row)) (kind : ErrorKind) (result : Result Task RunFault) →
     (kind ≡ refusal.OutOfMemory) ⊎ IsAmong kind (refusals_of words) →
-    IfOk result (λ found. IsHelp found × ((kind ≡ refusal.DisplayHelp) ⊎ (kind ≡ refusal.DisplayVersion))) → IfOk result (IsAnswered words asked)
+    IfOk result (λ found. IsHelp found × IsHelpKind kind) → IfOk result (IsAnswered words asked)
 helped_from words asked kind (Ok task.Board) has is = absurd is.0
 helped_from words asked kind (Ok (task.Count settings text)) has is = absurd is.0
 helped_from words asked kind (Ok (task.Find shape)) has is = absurd is.0

@@ -86,6 +86,10 @@ abbrev pub IsHelp : Task → Type 0
 IsHelp (task.Help help) = Unit {0}
 IsHelp found = ⊥
 
+-- it is the answer to who asked for help or a version
+abbrev pub IsHelpKind : ErrorKind → Type 0
+IsHelpKind found = (found ≡ refusal.DisplayHelp) ⊎ (found ≡ refusal.DisplayVersion)
+
 -- this is a refusal, and no answer to who asked for help or a version
 abbrev pub IsRefusal : ErrorKind → Type 0
 IsRefusal found = (found ≢ refusal.DisplayHelp) × (found ≢ refusal.DisplayVersion) × (found ≢ refusal.OutOfMemory)

@@ -3,10 +3,9 @@ ghost use Rattle.std.specs.Prelude.{◌≡◌, List, ℕ, Option, Some, codes, m
 ghost use Rattle.std.specs.Prelude.{IfErr, ◌⊎◌};
 ghost use Rattle.clap.specs.Words.{found_of, rows_of, subcommand_rows_of};
 ghost use Rattle.clap.specs.Values.{kind_of};
-ghost use Rattle.clap.specs.declared.error.kind.ErrorKind.TheVariants as refusal;
 ghost use Rattle.shapes.specs.Commands.{IsNumberOf, asked_by};
 ghost use Rattle.shapes.specs.Words.{IsKindOf, IsTaskOf, IsWordsFault, kinds_for, number_of};
-ghost use Rattle.shapes.specs.Words.{IsAnswered, IsHelp, IsLineFault, IsRefusal};
+ghost use Rattle.shapes.specs.Words.{IsAnswered, IsHelp, IsHelpKind, IsLineFault, IsRefusal};
 ghost use Rattle.shapes.specs.Words.{HasNoNumber, HasNoText, HasNoSettings};
 ghost use Rattle.engine_core.specs.declared.faults.RunFault.TheVariants as fault;
 
@@ -136,7 +135,7 @@ fn task_of(matches: &ArgMatches<'_>) -> Result<Task, RunFault>
 /// What a refused line asks for: a text of help or version, or nothing that the program knows.
 fn refused(alloc: Global, error: &Error) -> Result<Task, RunFault>
     ensures help { IfOk result (λ found. IsHelp found
-        × ((kind_of error.now ≡ refusal.DisplayHelp) ⊎ (kind_of error.now ≡ refusal.DisplayVersion))) }
+        × IsHelpKind (kind_of error.now)) }
     ensures fault { IfErr result (λ found. (found ≡ fault.Memory)
         ⊎ ((found ≡ fault.Usage) × IsRefusal (kind_of error.now))) }
 {
