@@ -69,6 +69,11 @@ middle size position p on =
 pub middle_code : (kept : KeptWords) (position : Position) (p : Point) → IsOn kept.size p → Follows kept position → code_at (slice_index kept.squares.items (index_of kept.size p)) 12 ≡ stone_code (position p)
 middle_code kept position p on follow = ap (λ w. code_at w 12) (follow.squares_follow.each p on) ∙ middle kept.size position p on
 
+pub found_code : (kept : KeptWords) (position : Position) (p : Point) (index word code : ℕ) → IsOn kept.size p → Follows kept position →
+    index ≡ index_of kept.size p → word ≡ slice_index kept.squares.items index → code ≡ code_at word 12 → code ≡ stone_code (position p)
+found_code kept position p index word code on follow at read is =
+    is ∙ ap (λ w. code_at w 12) (read ∙ ap (slice_index kept.squares.items) at) ∙ middle_code kept position p on follow
+
 -- stones with the same code are the same
 pub same_stones : (a b : Stone) → stone_code a ≡ stone_code b → a ≡ b
 same_stones stone.Empty stone.Empty e = refl

@@ -1,7 +1,7 @@
 -- Words of which the first cells follow a stone placed at a point, and the others do not yet.
-use Rattle.std.proofs.Common.{◌≡◌, ℕ, ◌+◌, ◌<◌, ◌≤◌, List, [], ◌∷◌, ◌++◌, map, length, get_or, set, take, drop, sym, refl, ap, ap₂, ◌∙◌, arith, ⊎_elim, ◌⊎◌, inl, inr, append_assoc, append-nil, length-take-le, length-drop, length-append, take_all}
+use Rattle.std.proofs.Common.{◌≡◌, ℕ, ◌+◌, ◌-◌, ◌<◌, ◌≤◌, List, [], ◌∷◌, ◌++◌, map, length, get_or, set, take, drop, sym, refl, ap, ap₂, ◌∙◌, arith, ⊎_elim, ◌⊎◌, inl, inr, append_assoc, append-nil, length-take-le, length-drop, length-append, take_all}
 use Rattle.std.proofs.lemmas.Bool.{cases_eq, eq-eqb, ne_eqb}
-use Rattle.std.proofs.lemmas.List.{length-map, get_or-map, take_more, drop_more, drop_all, set_at}
+use Rattle.std.proofs.lemmas.List.{length-map, get_or-map, get_or-append_right, get_or-drop, take_more, drop_more, drop_all, set_at}
 use Rattle.std.proofs.lemmas.List.Elements.{All-append, All-take, All-drop}
 use Rattle.go_board.specs.Extent.{Extent}
 use Rattle.go_board.specs.Point.{IsOn}
@@ -11,11 +11,11 @@ use Rattle.go_board.specs.declared.points.Stone.{Stone}
 use Rattle.shape_core.specs.declared.words.Kind.{Kind}
 use Rattle.shape_core.specs.Offset.{offsets_of}
 use Rattle.shape_core.specs.Inner.Table.{offset_of}
-use Rattle.shape_core.specs.Word.{word_of}
+use Rattle.shape_core.specs.Word.{word_of, code_at}
 use Rattle.shape_core.specs.Inner.Word.{recoded}
 use Rattle.shape_core.specs.Around.{stone_code, code_around, word_around}
 use Rattle.shape_core.specs.Inner.Table.{Sees}
-use Rattle.shape_core.proofs.Codes.{AreCodes, recoded-word_of}
+use Rattle.shape_core.proofs.Codes.{AreCodes, recoded-word_of, code_at-word_of}
 use Rattle.shape_core.proofs.Reach.{codes_round, get_or-codes_round, AreCodes-codes_round, code_around_on, code_around_off, point_away, word_around_is}
 
 -- the first codes of one list, and then those of another
@@ -50,6 +50,14 @@ mixed_set i c new old p q e =
     ∙ set_at (take i new) (get_or old i 0) (drop (i + 1) old) c i (length-take-le i new (omega arith))
     ∙ ap (λ x. take i new ++ x ∷ drop (i + 1) old) (sym e)
     ∙ sym (mixed_next i new old p q)
+
+-- the cell after those that follow the stone
+mixed_at : (i : ℕ) (new old : List ℕ) → i < length new → get_or (mixed i new old) i 0 ≡ get_or old i 0
+unfolding mixed
+mixed_at i new old h =
+    get_or-append_right (take i new) (drop i old) i i 0 (length-take-le i new (omega arith)) (omega arith)
+    ∙ get_or-drop i old (i - i) 0
+    ∙ ap (λ n. get_or old n 0) (omega arith)
 
 mixed_same : (i : ℕ) (new old : List ℕ) → i < length new → i < length old → get_or new i 0 ≡ get_or old i 0 → mixed (i + 1) new old ≡ mixed i new old
 unfolding mixed
@@ -128,6 +136,20 @@ module _ (k : Kind) (size : Extent) (position : Position) (p : Point) (stone : S
   mixed_round_all i h =
       mixed_all (codes_round size (placed position p stone) q (map offset_of cells)) (codes_round size position q (map offset_of cells)) i
       (omega (arith, new_codes.count)) (omega (arith, old_codes.count))
+
+  -- a cell that is still to come has the code of the stone that stood there
+  pub mixed_round_code : (i before : ℕ) → i < 25 → IsOn size p → before ≡ word_of k (mixed_round i size position p stone q cells)
+      → Sees q (get_or cells i (0, 0)) p → code_at before i ≡ stone_code (position p)
+  unfolding mixed_round
+  mixed_round_code i before h on is sees =
+      let old = codes_round size position q (map offset_of cells) in
+      let new = codes_round size (placed position p stone) q (map offset_of cells) in
+      let away = get_or cells i (0, 0) in
+      ap (λ w. code_at w i) is
+      ∙ code_at-word_of k (mixed i new old) i (AreCodes-mixed i new old (omega arith) new_codes old_codes) h
+      ∙ mixed_at i new old (omega (arith, new_codes.count))
+      ∙ away_at size position q cells i (omega arith)
+      ∙ code_around_on size position q p away on sees
 
   pub mixed_round_more : (i before after : ℕ) → i < 25 → IsOn size p → before ≡ word_of k (mixed_round i size position p stone q cells)
       → (Sees q (get_or cells i (0, 0)) p → after ≡ recoded before i (stone_code stone))

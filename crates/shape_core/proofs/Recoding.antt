@@ -1,9 +1,10 @@
 -- A code changed in a word is changed in each of its images.
-use Rattle.std.proofs.Common.{◌≡◌, ℕ, zero, suc, ◌+◌, ◌-◌, ◌*◌, ◌/◌, ◌%◌, ◌^◌, ◌<◌, ◌≤◌, List, [], ◌∷◌, map, get_or, min, bit_and, sym, refl, ap, ap₂, subst, ◌∙◌, arith, ⊎_elim}
+use Rattle.std.proofs.Common.{◌≡◌, ℕ, zero, suc, ◌+◌, ◌-◌, ◌*◌, ◌/◌, ◌%◌, ◌^◌, ◌<◌, ◌≤◌, List, [], ◌∷◌, map, get_or, min, bit_and, bit_xor, sym, refl, ap, ap₂, subst, ◌∙◌, arith, ⊎_elim}
 use Rattle.std.specs.Int.{bit_at}
 use Rattle.std.proofs.lemmas.Bool.{cases_eq, cases_lt}
 use Rattle.std.proofs.lemmas.List.{get_or-map}
-use Rattle.std.proofs.lemmas.Nat.{and_mask, pow_pos}
+use Rattle.std.proofs.lemmas.Nat.{and_mask, pow_pos, xor_block, xor_lt}
+use Rattle.std.specs.Int.Bits.{xor_zero_r, xor_zero_l, xor_assoc, xor_self}
 use Rattle.std.proofs.lemmas.Nat.Bits.{bit_at_and, bit_at_cat_low, bit_at_cat_high, bit_at-zero, same_from_bits}
 use Rattle.shape_core.specs.declared.words.Kind.{Kind}
 use Rattle.shape_core.specs.declared.words.Kind.TheVariants as kind
@@ -11,7 +12,7 @@ use Rattle.shape_core.specs.declared.symmetries.Symmetry.{Symmetry}
 use Rattle.shape_core.specs.declared.symmetries.Symmetry.TheVariants as symmetry
 use Rattle.shape_core.specs.Symmetry.{image_of}
 use Rattle.shape_core.specs.Word.{kind_of, code_at, count_from}
-use Rattle.shape_core.specs.Inner.Word.{recoded}
+use Rattle.shape_core.specs.Inner.Word.{recoded, with_change}
 use Rattle.shape_core.specs.Inner.Images.{AreImages, bits_of_cell}
 use Rattle.shape_core.proofs.Codes.{same_words, recoded_small, kind_of-recoded, recoded_here, recoded_other, recoded_sum}
 use Rattle.shape_core.proofs.Images.{sources, length-sources, image_of_small, kind_of-image, code_at-image, cell-lt, count_from-at}
@@ -110,13 +111,43 @@ filled_codes c t h l =
 and_cell : (w t : ℕ) → bit_and w (bits_of_cell t) ≡ code_at w t * 4 ^ t
 and_cell w t = rw (four_pow t) (and_code w (2 * t))
 
--- the word with the bits of a cell taken off and those of a code put in
-pub masked_code : (w t c : ℕ) → w < 2 ^ 51 → t < 25 → c < 4 → w - bit_and w (bits_of_cell t) + bit_and (filled c) (bits_of_cell t) ≡ recoded w t c
-masked_code w t c small l h =
-    let sum = recoded_sum w t c small l in
-    let taken = and_cell w t in
-    let put = and_cell (filled c) t ∙ ap (λ x. x * 4 ^ t) (filled_codes c t h l) in
-    omega (arith, sum.0, sum.1, taken, put)
+-- bits of a code changed in a number are changed there and nowhere else
+xor_high : (w k d : ℕ) → d < 4 → bit_xor w (d * 2 ^ k) + w / 2 ^ k % 4 * 2 ^ k ≡ w + bit_xor (w / 2 ^ k % 4) d * 2 ^ k
+xor_high w k d h =
+    let p = 2 ^ k in
+    let high = w / p in
+    let some : 0 < p = pow_pos k in
+    let low : w % p < p = omega arith in
+    let whole : high * p + w % p ≡ w = omega arith in
+    let block : bit_xor (high * p + w % p) (d * p + 0) ≡ bit_xor high d * p + bit_xor (w % p) 0 = xor_block k high d (w % p) 0 low some in
+    let digit : bit_xor (high / 4 * 2 ^ 2 + high % 4) (0 * 2 ^ 2 + d) ≡ bit_xor (high / 4) 0 * 2 ^ 2 + bit_xor (high % 4) d =
+    xor_block 2 (high / 4) 0 (high % 4) d (omega arith) h in
+    let parts : high / 4 * 2 ^ 2 + high % 4 ≡ high = omega arith in
+    let alone : 0 * 2 ^ 2 + d ≡ d = omega arith in
+    let changed : bit_xor high d ≡ high / 4 * 4 + bit_xor (high % 4) d =
+    sym (ap₂ bit_xor parts alone) ∙ digit ∙ omega (arith, xor_zero_r (high / 4)) in
+    let there : d * p + 0 ≡ d * p = omega arith in
+    let is : bit_xor w (d * p) ≡ bit_xor high d * p + w % p = sym (ap₂ bit_xor whole there) ∙ block ∙ omega (arith, xor_zero_r (w % p)) in
+    let product : bit_xor high d * p ≡ (high / 4 * 4 + bit_xor (high % 4) d) * p = ap (λ x. x * p) changed in
+    omega (arith, is, product, whole, ap (λ x. x * p) parts)
+
+xor_code : (w t d : ℕ) → d < 4 → bit_xor w (d * 4 ^ t) + code_at w t * 4 ^ t ≡ w + bit_xor (code_at w t) d * 4 ^ t
+xor_code w t d h = rw (four_pow t) (xor_high w (2 * t) d h)
+
+-- what a number differs in from another makes the other of it
+pub changed_twice : (a b : ℕ) → bit_xor a (bit_xor a b) ≡ b
+changed_twice a b = sym (xor_assoc a a b) ∙ ap (λ x. bit_xor x b) (xor_self a) ∙ xor_zero_l b
+
+-- a changed code is a code
+pub changed_small : (w t d : ℕ) → d < 4 → bit_xor (code_at w t) d < 4
+changed_small w t d h = xor_lt 2 (code_at w t) d (omega arith) h
+
+-- the word with the bits of a cell changed where a code has them
+pub changed_code : (w t d : ℕ) → w < 2 ^ 51 → t < 25 → d < 4 → bit_xor w (bit_and (filled d) (bits_of_cell t)) ≡ with_change w t d
+changed_code w t d small l h =
+    let sum = recoded_sum w t (bit_xor (code_at w t) d) small l in
+    let put = and_cell (filled d) t ∙ ap (λ x. x * 4 ^ t) (filled_codes d t h l) in
+    ap (bit_xor w) put ∙ omega (arith, sum.0, sum.1, xor_code w t d h)
 
 -- ---- the four pairs
 
@@ -125,6 +156,14 @@ step : (k : Kind) (s : Symmetry) (v j c : ℕ) → kind_of v ≡ k → ComesBack
 step k s v j c e back l h =
     subst (λ q. ComesBack q s → image_of s (recoded v j c) ≡ recoded (image_of s v) (get_or (sources q s) j 0) c) e
     (λ b. image-recoded s v j c b l h) back
+
+-- the cell to which a symmetry moves a cell has its code
+pub code_followed : (k : Kind) (s : Symmetry) (v j : ℕ) → kind_of v ≡ k → ComesBack k s → j < 25 →
+    code_at (image_of s v) (get_or (sources k s) j 0) ≡ code_at v j
+code_followed k s v j e back l =
+    code_at-image s v (get_or (sources k s) j 0) (cell-lt k s j l)
+    ∙ ap (λ q. code_at v (get_or (sources q s) (get_or (sources k s) j 0) 0)) e
+    ∙ ap (code_at v) (twice k s j back l)
 
 -- pairs in which the code of the cell was changed are those of the word with the code changed
 pub AreImages-recoded : (k : Kind) (w i c : ℕ) (pair flipped turned both : List ℕ) → kind_of w ≡ k → i < 25 → c < 4 →
@@ -165,9 +204,11 @@ AreImages-recoded k w i c pair flipped turned both e l h is_pair is_flipped is_t
       both_is = is_both ∙ ap₂ (λ x y. x ∷ y ∷ []) (sym both_w) (sym both_d);
     }
 
--- two words, each with the bits of a cell taken off and those of a code put in
-pub refilled_pair : (a b i j c : ℕ) → a < 2 ^ 51 → b < 2 ^ 51 → i < 25 → j < 25 → c < 4 → (words : List ℕ) →
-    words ≡ (a - bit_and a (bits_of_cell i) + bit_and (filled c) (bits_of_cell i)) ∷ (b - bit_and b (bits_of_cell j) + bit_and (filled c) (bits_of_cell j)) ∷ [] →
-    words ≡ recoded a i c ∷ recoded b j c ∷ []
-refilled_pair a b i j c small_a small_b within_i within_j h words is =
-    is ∙ ap₂ (λ x y. x ∷ y ∷ []) (masked_code a i c small_a within_i h) (masked_code b j c small_b within_j h)
+-- two words, each with the bits of a cell changed where that cell has this code
+pub changed_pair : (a b i j c d : ℕ) → a < 2 ^ 51 → b < 2 ^ 51 → i < 25 → j < 25 → d < 4 → code_at a i ≡ c → code_at b j ≡ c → (words : List ℕ) →
+    words ≡ bit_xor a (bit_and (filled d) (bits_of_cell i)) ∷ bit_xor b (bit_and (filled d) (bits_of_cell j)) ∷ [] →
+    words ≡ recoded a i (bit_xor c d) ∷ recoded b j (bit_xor c d) ∷ []
+changed_pair a b i j c d small_a small_b within_i within_j h of_a of_b words is =
+    is ∙ ap₂ (λ x y. x ∷ y ∷ [])
+    (changed_code a i d small_a within_i h ∙ ap (λ x. recoded a i (bit_xor x d)) of_a)
+    (changed_code b j d small_b within_j h ∙ ap (λ x. recoded b j (bit_xor x d)) of_b)

@@ -1,6 +1,6 @@
 //! Words kept beside their images, so that the least of them is at hand.
-ghost use Rattle.std.specs.Prelude.{◌≡◌, ◌<◌, ◌+◌, ◌-◌, ◌*◌, ◌^◌, ℕ, [], ◌∷◌, bit_and};
-ghost use Rattle.shape_core.specs.Inner.Word.{recoded};
+ghost use Rattle.std.specs.Prelude.{◌≡◌, ◌<◌, ℕ, [], ◌∷◌, bit_and, bit_xor};
+ghost use Rattle.shape_core.specs.Inner.Word.{with_change};
 ghost use Rattle.shape_core.specs.Symmetry.{least_image, exchange_of};
 
 use crate::cell_bits::cell_bits;
@@ -45,13 +45,12 @@ impl Model for ImagedWord {
 /// A code in each of the 25 cells is this number times the code.
 const ONES: u64 = 0x1555555555555;
 
-/// In each lane the word with other codes in the cells of these bits.
-fn refilled(words: u64x2, bits: u64x2, codes: u64x2) -> u64x2
-    ensures { (a b m n p : ℕ) → words ≡ a ∷ b ∷ [] → bits ≡ m ∷ n ∷ [] → codes ≡ p ∷ p ∷ []
-        → a < 2 ^ 51 → b < 2 ^ 51 → p < 2 ^ 51
-        → result ≡ (a - bit_and a m + bit_and p m) ∷ (b - bit_and b n + bit_and p n) ∷ [] }
+/// In each lane the word with this change of codes in the cells of these bits.
+fn changed(words: u64x2, bits: u64x2, changes: u64x2) -> u64x2
+    ensures { (a b m n p : ℕ) → words ≡ a ∷ b ∷ [] → bits ≡ m ∷ n ∷ [] → changes ≡ p ∷ p ∷ []
+        → result ≡ bit_xor a (bit_and p m) ∷ bit_xor b (bit_and p n) ∷ [] }
 {
-    (words - (words & bits)) + (codes & bits)
+    words ^ (changes & bits)
 }
 
 impl ImagedWord {
@@ -79,20 +78,20 @@ impl ImagedWord {
         Word::of_bits(word)
     }
 
-    /// The word with another code at one cell, with its images.
+    /// The word with the code of one cell changed in the bits that this change has, with its images.
     #[inline(always)]
-    pub fn with_code(self, cell: usize, code: u8) -> ImagedWord
+    pub fn with_change(self, cell: usize, change: u8) -> ImagedWord
         requires cell { cell < 25 }
-        requires code { code < 4 }
-        ensures { result ≡ recoded self cell code }
+        requires change { change < 4 }
+        ensures { result ≡ with_change self cell change }
     {
         let bits = cell_bits(self.word().kind(), cell);
-        let codes = u64x2::splat(u64::from(code) * ONES);
+        let changes = u64x2::splat(u64::from(change) * ONES);
         ImagedWord {
-            pair: refilled(self.pair, u64x2::from_array([bits[0], bits[1]]), codes),
-            flipped: refilled(self.flipped, u64x2::from_array([bits[2], bits[3]]), codes),
-            turned: refilled(self.turned, u64x2::from_array([bits[4], bits[5]]), codes),
-            both: refilled(self.both, u64x2::from_array([bits[6], bits[7]]), codes),
+            pair: changed(self.pair, u64x2::from_array([bits[0], bits[1]]), changes),
+            flipped: changed(self.flipped, u64x2::from_array([bits[2], bits[3]]), changes),
+            turned: changed(self.turned, u64x2::from_array([bits[4], bits[5]]), changes),
+            both: changed(self.both, u64x2::from_array([bits[6], bits[7]]), changes),
         }
     }
 

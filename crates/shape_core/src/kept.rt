@@ -93,15 +93,15 @@ impl KeptWords {
         ensures still { (position : Position) →
             Follows self.old position → position point ≡ stone → self.new ≡ self.old }
     {
-        let code = code_of(stone);
-        if self.squares[self.size.index(point)].word().code(MIDDLE) != code {
+        let change = self.squares[self.size.index(point)].word().code(MIDDLE) ^ code_of(stone);
+        if change != 0 {
             recode(
                 self.size,
                 &mut self.squares,
                 &mut self.changed,
                 &SQUARE_CELLS,
                 point,
-                code,
+                change,
             );
             if let Kinds::Both = self.kinds {
                 recode(
@@ -110,7 +110,7 @@ impl KeptWords {
                     &mut self.changed,
                     &DIAMOND_CELLS,
                     point,
-                    code,
+                    change,
                 );
             }
         }

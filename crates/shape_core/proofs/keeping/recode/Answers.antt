@@ -1,10 +1,12 @@
-use Rattle.std.proofs.Common.{◌≡◌, get_or, slice_index, refl, ap, ◌∙◌, arith, inl, inr, ⊎_elim}
+use Rattle.std.proofs.Common.{◌≡◌, get_or, slice_index, bit_xor, refl, ap, ap₂, ◌∙◌, arith, inl, inr, ⊎_elim}
 use Rattle.std.proofs.lemmas.List.Sums.{AllPass-from_list_all}
 use Rattle.go_board.specs.Point.{index_of}
 use Rattle.shape_core.specs.Inner.Word.{recoded}
 use Rattle.shape_core.specs.Field.{IsMarked}
 use Rattle.shape_core.specs.Inner.Table.{Sees, is_away_within}
-use Rattle.shape_core.proofs.Mixing.{sees_or_not, mixed_before, mixed_after, mixed_round_more}
+use Rattle.shape_core.proofs.Mixing.{sees_or_not, mixed_before, mixed_after, mixed_round_more, mixed_round_code}
+use Rattle.shape_core.specs.Around.{stone_code}
+use Rattle.shape_core.proofs.Recoding.{changed_twice}
 use Rattle.shape_core.proofs.Nearness.{within_reach, near_one}
 use Rattle.shape_core.proofs.keeping.recode.Goals as goal
 
@@ -40,17 +42,22 @@ loop-cell-preserved c =
           (λ (was : IsMarked c.loop-cell.changed q). inr (c.recode_cell.ensures.stay q was))
           (c.loop-cell.invariant.differing q on))
           (sees_or_not q away c.args.point);
-      mixing = λ kind position stone offsets code words q on.
+      mixing = λ kind position stone offsets change words q on.
           mixed_round_more kind size position c.args.point stone q c.args.cells.now (omega arith) c.loop-cell.cell
           (slice_index c.loop-cell.words (index_of size q)) (slice_index c.recode_cell.new.words (index_of size q))
-          (omega arith) c.requires.on_board (c.loop-cell.invariant.mixing kind position stone offsets code words q on)
-          (λ sees. (c.recode_cell.ensures.there q on sees).0 ∙ ap (recoded (slice_index c.loop-cell.words (index_of size q)) c.loop-cell.cell) code)
+          (omega arith) c.requires.on_board (c.loop-cell.invariant.mixing kind position stone offsets change words q on)
+          (λ sees.
+          let word = slice_index c.loop-cell.words (index_of size q) in
+          let code = mixed_round_code kind size position c.args.point stone q c.args.cells.now (omega arith) c.loop-cell.cell word
+              (omega arith) c.requires.on_board (c.loop-cell.invariant.mixing kind position stone offsets change words q on) sees in
+          (c.recode_cell.ensures.there q on sees).0
+          ∙ ap (recoded word c.loop-cell.cell) (ap₂ bit_xor code change ∙ changed_twice (stone_code (position c.args.point)) (stone_code stone)))
           (c.recode_cell.ensures.elsewhere q on);
     }
 
 pub returns-clause-follow : goal.returns-clause-follow
-returns-clause-follow c = λ kind position stone offsets code words. record {
+returns-clause-follow c = λ kind position stone offsets change words. record {
   count = c.loop-cell.invariant.count;
-  each = λ q on. c.loop-cell.invariant.mixing kind position stone offsets code words q on
+  each = λ q on. c.loop-cell.invariant.mixing kind position stone offsets change words q on
       ∙ mixed_after kind c.args.size position c.args.point stone q c.args.cells.now c.loop-cell.cell (omega arith) (omega arith) offsets;
 }

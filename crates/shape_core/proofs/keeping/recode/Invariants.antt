@@ -1,4 +1,4 @@
-use Rattle.std.proofs.Common.{◌≡◌, ℕ, ◌*◌, ◌⊎◌, [], ◌∷◌, true, length, map, slice_index}
+use Rattle.std.proofs.Common.{◌≡◌, ℕ, ◌*◌, ◌⊎◌, [], ◌∷◌, true, length, bit_xor, map, slice_index}
 use Rattle.std.specs.List.{list_all}
 use Rattle.go_board.specs.declared.points.Point.{Point}
 use Rattle.go_board.specs.declared.points.Stone.{Stone}
@@ -22,7 +22,7 @@ invariant-loop-cell l = record {
   stay : (q : Point) → IsMarked l.initial.changed q → IsMarked l.changed q;
   near : (reach : ℕ) → list_all (is_away_within reach) l.cells ≡ true → MarksNear reach (l.point ∷ []) l.initial.changed l.changed;
   differing : (q : Point) → IsOn l.size q → (slice_index l.words (index_of l.size q) ≡ slice_index l.initial.words (index_of l.size q)) ⊎ IsMarked l.changed q;
-  mixing : (kind : Kind) (position : Position) (stone : Stone) → map offset_of l.cells ≡ offsets_of kind → l.code ≡ stone_code stone →
+  mixing : (kind : Kind) (position : Position) (stone : Stone) → map offset_of l.cells ≡ offsets_of kind → l.change ≡ bit_xor (stone_code (position l.point)) (stone_code stone) →
       AreWords kind l.size position l.initial.words → (q : Point) → IsOn l.size q →
       slice_index l.words (index_of l.size q) ≡ word_of kind (mixed_round l.cell l.size position l.point stone q l.cells);
 }

@@ -3,7 +3,7 @@ use Rattle.std.proofs.lemmas.List.{get_or_read}
 use Rattle.go_board.specs.Point.{index_of}
 use Rattle.go_board.specs.declared.points.Point.{Point}
 use Rattle.shape_core.specs.Field.{IsMarked}
-use Rattle.shape_core.specs.Inner.Word.{recoded}
+use Rattle.shape_core.specs.Inner.Word.{with_change}
 use Rattle.shape_core.proofs.Marking.{same_point_from, same_from_index, AreMarks-marked, marked_there, marked_stay, marked_only}
 use Rattle.shape_core.proofs.keeping.recode_cell.Goals as goal
 
@@ -34,7 +34,7 @@ returns-in-Some-clause-there c = λ q on sees.
     let at : index_of c.args.size q ≡ c.index-index.result = ap (index_of c.args.size) same ∙ sym c.index-index.ensures.value in
     let within : c.index-index.result < length words = omega (arith, c.requires.words, c.index-index.ensures.below) in
     let read = get_or_read words c.index-index.result c.index-words-index.result within c.index-words-index.is 0 in (
-      rw at (get_or-set_same words c.index-index.result c.with_code.result 0 within ∙ c.with_code.ensures ∙ ap (λ w. recoded w c.args.cell c.args.code) read),
+      rw at (get_or-set_same words c.index-index.result c.with_change.result 0 within ∙ c.with_change.ensures ∙ ap (λ w. with_change w c.args.cell c.args.change) read),
       rw (c.mark.ensures, same) (marked_there c.args.changed.now c.in-Some.near (omega (arith, c.requires.marks.rows, near.0.1))),
     )
 
@@ -44,7 +44,7 @@ returns-in-Some-clause-elsewhere c = λ q on away.
     let apart : index_of c.args.size q ≡ c.index-index.result → ⊥ = λ e.
     let same = same_from_index c.args.size q c.in-Some.near on near.0 (e ∙ c.index-index.ensures.value) in
     away ((omega (arith, near.1.0, ap (λ (p : Point). p.column) same)), (omega (arith, near.1.1, ap (λ (p : Point). p.row) same))) in
-    get_or-set_other c.args.words.now c.index-index.result (index_of c.args.size q) c.with_code.result 0 apart
+    get_or-set_other c.args.words.now c.index-index.result (index_of c.args.size q) c.with_change.result 0 apart
 
 pub returns-in_default-clause-there : goal.returns-in_default-clause-there
 returns-in_default-clause-there c = λ q on sees. absurd (c.in_default.ensures q on ((omega (arith, sees.0)), (omega (arith, sees.1))))
