@@ -1,11 +1,11 @@
 -- What is seen of points, one after another.
-use Rattle.std.proofs.Common.{◌≡◌, ℕ, ◌+◌, ◌*◌, ◌<◌, cond, List, [], ◌∷◌, ◌++◌, length, set, get_or, All, take, ap, ap₂, sym, ◌∙◌, ⊎_elim, arith, get_or-set_same, get_or-set_other}
+use Rattle.std.proofs.Common.{◌≡◌, ℕ, ◌+◌, ◌*◌, ◌<◌, cond, List, [], ◌∷◌, ◌++◌, length, set, get_or, slice_index_or, All, Contains, inl, inr, refl, ap, ap₂, sym, subst, ◌∙◌, ⊎_elim, arith, length-set, get_or-set_same, get_or-set_other, append_assoc}
 use Rattle.std.specs.List.{flat_map}
 use Rattle.std.proofs.lemmas.Bool.{cases_eq}
-use Rattle.std.proofs.lemmas.List.{append-nil, take_more}
+use Rattle.std.proofs.lemmas.List.{append-nil}
 use Rattle.std.proofs.lemmas.List.Concat.{flat_map-append}
 use Rattle.std.proofs.lemmas.List.Sums.{sum_by-set}
-use Rattle.std.proofs.lemmas.List.Elements.{All-set, All-get_or, All-weaker}
+use Rattle.std.proofs.lemmas.List.Elements.{Contains-push_cases, Contains-append_cases, All-set, All-get_or, All-weaker}
 use Rattle.std.proofs.lemmas.Nat.{same_from_place, mul-add-lt}
 use Rattle.go_board.specs.Extent.{Extent}
 use Rattle.go_board.specs.Point.{IsOn, index_of}
@@ -22,6 +22,14 @@ use Rattle.tally_core.specs.Inner.Meeting.{Extends}
 use Rattle.tally_core.specs.Inner.Standing.{AreStays, patterns_staying, waits_at, waiting, patterns_here, no_stays, StayThere}
 use Rattle.tally_core.specs.declared.meetings.Meeting.{Meeting}
 use Rattle.tally_core.specs.declared.stays.Stays.{Stays}
+use Rattle.shape_core.specs.Field.{Kept}
+use Rattle.shape_core.specs.KeptLists.{AreMarks}
+use Rattle.go_board.specs.Board.{position_of}
+use Rattle.tally_core.specs.Inner.Meeting.{Meets}
+use Rattle.tally_core.specs.Inner.Standing.{AreStanding}
+use Rattle.tally_core.specs.Inner.Sight.{here_on, StayOn, StaysAt, PlayedStays, HasLooked}
+use Rattle.tally_core.specs.declared.stays.Side.{Side}
+use Rattle.tally_core.proofs.Once.{meets_on, meets_none}
 use Rattle.tally_core.proofs.Lasting.{staying-extended, waits_at-extended, stays-extended, length-extended, waiting-extended}
 
 -- the patterns of an empty point
@@ -95,11 +103,91 @@ pending-step kinds size position mover shapes new occasions points i stays point
     ∙ there-extended kinds size position mover shapes new occasions points q extends all room on_q (others (λ same. other (ap (index_of size) same ∙ sym at))))
     (cases_eq (index_of size q) i)
 
--- the patterns of one point more
-pub points-more : (f : Point → List ℕ) (points : List Point) (i : ℕ) (default : Point) → i < length points →
-    flat_map f (take (i + 1) points) ≡ flat_map f (take i points) ++ f (get_or points i default)
-points-more f points i default inside =
-    let point = get_or points i default in
-    ap (flat_map f) (take_more points i default inside)
-    ∙ flat_map-append f (take i points) (point ∷ [])
-    ∙ ap (λ rest. flat_map f (take i points) ++ rest) (append-nil (f point))
+-- ---- points that were looked at
+
+contains-none : (q : Point) → Contains [] q → ⊥
+contains-none q among = absurd (omega (arith, among.1))
+
+contains-one : (point q : Point) → Contains (point ∷ []) q → q ≡ point
+contains-one point q among = ⊎_elim (λ (none : Contains [] q). absurd (contains-none q none)) (λ (same : point ≡ q). sym same) (Contains-push_cases [] point q among)
+
+module _ (field : Kept) (mover : Colour) where
+  abbrev pub here : Point → List ℕ
+  here = here_on field mover
+
+  -- none yet, whatever else became of the side
+  pub looked-none : (points : List Point) (meetings : List Meeting) (side new : Side) → AreStanding field.board.size (length (shapes_of meetings)) new →
+      new.occasions ≡ side.occasions → new.points.items ≡ side.points.items → HasLooked field mover points points meetings side meetings new
+  looked-none points meetings side new standing occasions same = record {
+    seen = [];
+    all = refl;
+    standing = standing;
+    occasions = occasions;
+    there = λ shape. ap₂ (λ n stays. there_among meetings shape + waiting (shapes_of meetings) n stays shape) occasions same;
+    played = λ shape. refl;
+    meets = meets_none (shapes_of meetings);
+    looks = λ q on known. ⊎_elim
+        (λ (among : Contains [] q). absurd (contains-none q among))
+        (λ (stay : StayOn field mover meetings side q). ap (λ stays. patterns_staying (shapes_of meetings) (slice_index_or stays (index_of field.board.size q) no_stays)) same ∙ stay)
+        known;
+  }
+
+  -- these, and then others
+  pub looked-more : (points more left : List Point) (a b c : List Meeting) (s t u : Side) → HasLooked field mover points (more ++ left) a s b t →
+      HasLooked field mover more [] b t c u → HasLooked field mover points left a s c u
+  looked-more points more left a b c s t u first then = record {
+    seen = first.seen ++ then.seen;
+    all = append_assoc first.seen then.seen left
+        ∙ ap (λ ps. first.seen ++ (ps ++ left)) (sym (append-nil then.seen) ∙ then.all)
+        ∙ first.all;
+    standing = then.standing;
+    occasions = then.occasions ∙ first.occasions;
+    there = λ shape. then.there shape ∙ first.there shape;
+    played = λ shape. then.played shape ∙ first.played shape;
+    meets = subst (λ patterns. Meets (shapes_of a) patterns (shapes_of c)) (sym (flat_map-append here first.seen then.seen))
+        (meets_on (shapes_of a) (flat_map here first.seen) (shapes_of b) (flat_map here then.seen) (shapes_of c) first.meets then.meets);
+    looks = λ q on known. ⊎_elim
+        (λ (among : Contains (first.seen ++ then.seen) q). ⊎_elim
+        (λ (earlier : Contains first.seen q). then.looks q on (inr (first.looks q on (inl earlier))))
+        (λ (later : Contains then.seen q). then.looks q on (inl later))
+        (Contains-append_cases first.seen then.seen q among))
+        (λ (stay : StayOn field mover a s q). then.looks q on (inr (first.looks q on (inr stay))))
+        known;
+  }
+
+  -- one point, where these are what stays there now
+  pub looked-point : (point : Point) (meetings after : List Meeting) (side new : Side) (i : ℕ) (stays default : Stays) →
+      IsOn field.board.size point → i ≡ index_of field.board.size point → AreStanding field.board.size (length (shapes_of meetings)) side →
+      new.occasions ≡ side.occasions → new.points.items ≡ set side.points.items i stays → AreMarks field.board.size new.changed.items →
+      AreStays (length (shapes_of after)) side.occasions stays → patterns_staying (shapes_of after) stays ≡ here point →
+      StaysAt side.occasions meetings (get_or side.points.items i default) after stays → PlayedStays meetings after →
+      Meets (shapes_of meetings) (here point) (shapes_of after) →
+      HasLooked field mover (point ∷ []) [] meetings side after new
+  looked-point point meetings after side new i stays default on place standing occasions same marks stay patterns there played meets =
+      let size = field.board.size in
+      let old = side.points.items in
+      let shapes = shapes_of meetings in
+      let position = position_of field.board in
+      let inside : i < length old = omega (arith, index-inside size point on, standing.room, place) in
+      record {
+        seen = point ∷ [];
+        all = refl;
+        standing = record {
+          room = ap length same ∙ length-set old i stays ∙ standing.room;
+          marks = marks;
+          stays = rw (occasions, same) (stays-step shapes (shapes_of after) side.occasions old i stays meets.extends stay standing.stays);
+        };
+        occasions = occasions;
+        there = λ shape.
+            ap₂ (λ n all. there_among after shape + waiting (shapes_of after) n all shape) occasions same
+            ∙ there-step meetings after side.occasions old i stays default shape inside meets.extends standing.stays (there shape);
+        played = played;
+        meets = subst (λ ps. Meets shapes ps (shapes_of after)) (sym (append-nil (here point))) meets;
+        looks = λ q on_q known.
+            ap (λ all. patterns_staying (shapes_of after) (slice_index_or all (index_of size q) no_stays)) same
+            ∙ pending-step field.kinds size position mover shapes (shapes_of after) side.occasions old i stays point q meets.extends standing.stays standing.room place on on_q patterns
+            (λ other. ⊎_elim
+            (λ (among : Contains (point ∷ []) q). absurd (other (contains-one point q among)))
+            (λ (was : StayOn field mover meetings side q). was)
+            known);
+      }

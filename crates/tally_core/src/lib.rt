@@ -13,7 +13,6 @@ mod meetings;
 mod occasions;
 mod replays;
 mod reports;
-mod sets;
 mod settings;
 mod sights;
 mod stays;

@@ -20,13 +20,11 @@ use go_board::{Colour, Point, Stone};
 use go_record::{Action, apply};
 use shape_core::Field;
 
-/// What a walk knows for both colours, and a list that is used again from occasion to occasion.
+/// What a walk knows for both colours.
 #[derive(Drop)]
 pub struct Sides {
     pub black: Side,
     pub white: Side,
-    /// The points that were looked at at the last occasion.
-    pub seen: Vec<Point>,
 }
 
 /// Counts an occasion: a move of this colour onto an empty point.
@@ -36,7 +34,6 @@ fn count_occasion(
     field: &Field,
     mover: Colour,
     at: Point,
-    seen: &mut Vec<Point>,
 ) -> Result<(), HarvestFault>
     requires on_board { IsOn field.now.board.size at }
     requires empty { position_of field.now.board at ≡ stone.Empty }
@@ -55,7 +52,7 @@ fn count_occasion(
         (shapes_of meetings.new)) }
     ensures fault { IfErr result (λ found. found ≡ fault.Memory) }
 {
-    see(meetings, side, field, mover, seen)?;
+    see(meetings, side, field, mover)?;
     let stays = side.points[field.size().index(at)];
     play(meetings, stays.square);
     play(meetings, stays.diamond);
@@ -85,22 +82,8 @@ fn count_action(
         return Ok(0);
     }
     match colour {
-        Colour::Black => count_occasion(
-            meetings,
-            &mut sides.black,
-            field,
-            colour,
-            at,
-            &mut sides.seen,
-        )?,
-        Colour::White => count_occasion(
-            meetings,
-            &mut sides.white,
-            field,
-            colour,
-            at,
-            &mut sides.seen,
-        )?,
+        Colour::Black => count_occasion(meetings, &mut sides.black, field, colour, at)?,
+        Colour::White => count_occasion(meetings, &mut sides.white, field, colour, at)?,
     }
     Ok(1)
 }

@@ -1,6 +1,5 @@
 //! What one colour sees at an occasion: the patterns of the points that have changed since its last one.
-ghost use Rattle.std.specs.Prelude.{◌≡◌, ◌+◌, ◌<◌, ◌*◌, ◌^◌, ℕ, length, IfErr, IfOk, OnOk, All};
-ghost use Rattle.std.specs.Prelude.{Contains, ◌⊎◌};
+ghost use Rattle.std.specs.Prelude.{◌≡◌, ◌<◌, ◌^◌, ℕ, [], length, slice_index, IfErr, IfOk, OnOk};
 ghost use Rattle.go_board.specs.Point.{IsOn};
 ghost use Rattle.go_board.specs.Board.{position_of};
 ghost use Rattle.go_board.specs.declared.points.Point.{Point};
@@ -8,15 +7,13 @@ ghost use Rattle.tally_core.specs.Walk.{shapes_of, there_among};
 ghost use Rattle.tally_core.specs.Inner.Meeting.{Meets, CountsStay, Extends};
 ghost use Rattle.tally_core.specs.Inner.Standing.{AreStays, waits_at, there_with, patterns_staying};
 ghost use Rattle.tally_core.specs.Inner.Standing.{AreStanding};
-ghost use Rattle.tally_core.specs.Inner.Sight.{Fit, there_at, PlayedStays, StaysAt, StaysWith, LooksAt};
-ghost use Rattle.tally_core.specs.Inner.Sight.{here_on, seen_on, IsSideOn, IsSeenOn};
-ghost use Rattle.std.specs.List.{flat_map};
+ghost use Rattle.tally_core.specs.Inner.Sight.{Fit, there_at, PlayedStays, StaysAt, StaysWith, HasLooked};
+ghost use Rattle.tally_core.specs.Inner.Sight.{changed_in, here_on, seen_on, IsSideOn, IsSeenOn};
 ghost use Rattle.tally_core.specs.declared.faults.HarvestFault.TheVariants as fault;
 ghost use Rattle.go_board.specs.declared.points.Stone.TheVariants as stone;
 
 use crate::faults::HarvestFault;
 use crate::meetings::Meetings;
-use crate::sets::take_points;
 use crate::stays::{Side, Stays, begin, play, settle};
 use go_board::{Colour, Point, Stone};
 use shape_core::{Field, Kinds};
@@ -96,50 +93,54 @@ fn see_point(
     Ok(())
 }
 
-/// Looks at all points again that have changed.
-fn see_points(
+/// Looks again at the points of a row that have changed, from the left, and takes them out of the set.
+fn see_row(
     meetings: &mut Meetings,
     side: &mut Side,
     field: &Field,
     mover: Colour,
-    points: &[Point],
+    row: u8,
 ) -> Result<(), HarvestFault>
-    requires on_board { All (IsOn field.now.board.size) points.now }
+    requires row { row < field.now.board.size.rows }
     requires standing { AreStanding field.now.board.size (length (shapes_of meetings.old))
         side.old }
     requires few { Fit (there_with meetings.old side.old) }
-    ensures standing { OnOk result
-        (AreStanding field.now.board.size (length (shapes_of meetings.new)) side.new) }
-    ensures occasions { side.new.occasions ≡ side.old.occasions }
-    ensures there { OnOk result (StaysWith meetings.old side.old meetings.new side.new) }
-    ensures played { OnOk result (PlayedStays meetings.old meetings.new) }
-    ensures meets { OnOk result (Meets (shapes_of meetings.old)
-        (flat_map (here_on field.now mover) points.now)
-        (shapes_of meetings.new)) }
-    ensures pending { OnOk result
-        (LooksAt field.now mover points.now meetings.old side.old meetings.new side.new) }
+    ensures looked { OnOk result (HasLooked field.now mover
+        (changed_in field.now.board.size side.old row) []
+        meetings.old side.old meetings.new side.new) }
+    ensures later { (k : ℕ) → row < k →
+        slice_index side.new.changed.items k ≡ slice_index side.old.changed.items k }
     ensures fault { IfErr result (λ found. found ≡ fault.Memory) }
 {
-    for point in points {
-        let occasions = side.occasions;
-        let stays = &mut side.points[field.size().index(*point)];
-        see_point(meetings, stays, field, mover, *point, occasions)?;
+    let size = field.size();
+    let occasions = side.occasions;
+    let mut bits = side.changed[usize::from(row)];
+    side.changed[usize::from(row)] = 0;
+    while bits != 0 {
+        let column = bits.trailing_zeros();
+        bits &= !(1 << column);
+        let point = Point {
+            column: column as u8,
+            row,
+        };
+        let stays = &mut side.points[size.index(point)];
+        see_point(meetings, stays, field, mover, point, occasions)?;
     }
     Ok(())
 }
 
-/// Looks at a board at an occasion: once more at the points that have changed since the last one.
+/// Looks at a board at an occasion: once more at the points that have changed since the last one, row by row from the top,
+/// each row from the left.
 pub(crate) fn see(
     meetings: &mut Meetings,
     side: &mut Side,
     field: &Field,
     mover: Colour,
-    changed: &mut Vec<Point>,
 ) -> Result<(), HarvestFault>
     requires side { IsSideOn field.now mover meetings.old side.old }
     requires few { Fit (there_with meetings.old side.old) }
     ensures seen { OnOk result (IsSeenOn field.now mover meetings.new side.new) }
-    ensures occasions { side.new.occasions ≡ side.old.occasions }
+    ensures occasions { OnOk result (side.new.occasions ≡ side.old.occasions) }
     ensures there { OnOk result (StaysWith meetings.old side.old meetings.new side.new) }
     ensures played { OnOk result (PlayedStays meetings.old meetings.new) }
     ensures meets { OnOk result (Meets (shapes_of meetings.old)
@@ -147,6 +148,8 @@ pub(crate) fn see(
         (shapes_of meetings.new)) }
     ensures fault { IfErr result (λ found. found ≡ fault.Memory) }
 {
-    take_points(&mut side.changed, field.size(), changed)?;
-    see_points(meetings, side, field, mover, changed.as_slice())
+    for row in 0..field.size().rows() {
+        see_row(meetings, side, field, mover, row)?;
+    }
+    Ok(())
 }

@@ -141,7 +141,6 @@ impl Walk {
         let mut sides = Sides {
             black: new_side(self.alloc, game_record.size())?,
             white: new_side(self.alloc, game_record.size())?,
-            seen: Vec::new(self.alloc),
         };
         let mut field = self.blank.field(game_record.size())?;
         walk_actions(

@@ -1,5 +1,9 @@
 -- The words of a walk over a field as it is: what is seen, what stays, and what an action counts.
-use Rattle.std.specs.Prelude.{◌≡◌, ℕ, ◌+◌, ◌^◌, ◌<◌, ◌⊎◌, List, Contains}
+use Rattle.std.specs.Prelude.{◌≡◌, ℕ, ◌+◌, ◌^◌, ◌<◌, ◌==◌, ◌⊎◌, List, ◌++◌, length, filter, slice_index, Contains}
+use Rattle.std.specs.List.{flat_map}
+use Rattle.std.specs.Int.{bit_at}
+use Rattle.go_board.specs.Extent.{Extent}
+use Rattle.tally_core.specs.Inner.Meeting.{Meets}
 use Rattle.go_board.specs.Board.{position_of}
 use Rattle.go_board.specs.Point.{IsOn}
 use Rattle.go_board.specs.declared.points.Point.{Point}
@@ -7,10 +11,10 @@ use Rattle.go_board.specs.declared.points.Colour.{Colour}
 use Rattle.go_record.specs.declared.actions.Action.{Action}
 use Rattle.shape_core.specs.Field.{Kept}
 use Rattle.tally_core.specs.Occasions.{occasion_of}
-use Rattle.tally_core.specs.Counts.{kinds_of, patterns_at}
+use Rattle.tally_core.specs.Counts.{kinds_of, patterns_at, row_of}
 use Rattle.tally_core.specs.Inner.Counter.{times_in}
 use Rattle.tally_core.specs.Walk.{there_among, played_among, shapes_of}
-use Rattle.tally_core.specs.Inner.Standing.{waits_at, there_with, patterns_here, patterns_seen, StayThere, IsSide, IsSeen, AreSides, IsCountedOn}
+use Rattle.tally_core.specs.Inner.Standing.{waits_at, there_with, patterns_here, patterns_seen, StayThere, AreStanding, IsSide, IsSeen, AreSides, IsCountedOn}
 use Rattle.tally_core.specs.declared.meetings.Meeting.{Meeting}
 use Rattle.tally_core.specs.declared.stays.Stays.{Stays}
 use Rattle.tally_core.specs.declared.stays.Side.{Side}
@@ -60,6 +64,22 @@ StayOn field mover meetings side q =
 abbrev pub LooksAt : Kept → Colour → List Point → List Meeting → Side → List Meeting → Side → Type 0
 LooksAt field mover points before side after new =
     (q : Point) → IsOn field.board.size q → Contains points q ⊎ StayOn field mover before side q → StayOn field mover after new q
+
+-- the points of a row that are in a side's set, from the left
+abbrev pub changed_in : Extent → Side → ℕ → List Point
+changed_in size side row =
+    filter (λ q. bit_at (slice_index side.changed.items row) q.column == 1) (row_of size row)
+
+-- these points but for those that are left were looked at, in their order
+pub record HasLooked (field : Kept) (mover : Colour) (points left : List Point) (before : List Meeting) (side : Side) (after : List Meeting) (new : Side) : Type 0 where
+  pub seen : List Point
+  pub all : seen ++ left ≡ points
+  pub standing : AreStanding field.board.size (length (shapes_of after)) new
+  pub occasions : new.occasions ≡ side.occasions
+  pub there : StaysWith before side after new
+  pub played : PlayedStays before after
+  pub meets : Meets (shapes_of before) (flat_map (here_on field mover) seen) (shapes_of after)
+  pub looks : LooksAt field mover seen before side after new
 
 -- a side is that of a field
 abbrev pub IsSideOn : Kept → Colour → List Meeting → Side → Type 0

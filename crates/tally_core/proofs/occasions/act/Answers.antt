@@ -28,7 +28,7 @@ returns-clause-sides c =
     let second : AreJoined after.changed sides.white.changed.items c.move_changed.new.second = rw c.deref_mut-2.ensures.value at moved.second in
     let now_black : Side = record sides.black { changed = with_items sides.black.changed c.move_changed.new.first } in
     let now_white : Side = record sides.white { changed = with_items sides.white.changed c.move_changed.new.second } in
-    let now : Sides = record { black = now_black; white = now_white; seen = sides.seen } in
+    let now : Sides = record { black = now_black; white = now_white } in
     subst (λ (board : Stones). AreSides before.kinds before.board.size (position_of board) shapes now) (sym moved.board)
     (record {
       black = side-moved before after colour.Black shapes sides.black now_black is.black c.apply.ensures.stays marks refl refl (subst (AreJoined after.changed sides.black.changed.items) (sym black) first);
