@@ -11,6 +11,7 @@ mod Sums
 mod Spelled
 mod Reach
 mod Marking
+mod Rows
 mod Mixing
 pub mod Agreeing
 mod Playing

@@ -1,6 +1,6 @@
 -- Words of which the first cells follow a stone placed at a point, and the others do not yet.
-use Rattle.std.proofs.Common.{◌≡◌, ℕ, ◌+◌, ◌-◌, ◌<◌, ◌≤◌, List, [], ◌∷◌, ◌++◌, map, length, get_or, set, take, drop, sym, refl, ap, ap₂, ◌∙◌, arith, ⊎_elim, ◌⊎◌, inl, inr, append_assoc, append-nil, length-take-le, length-drop, length-append, take_all}
-use Rattle.std.proofs.lemmas.Bool.{cases_eq, eq-eqb, ne_eqb}
+use Rattle.std.proofs.Common.{◌≡◌, ℕ, zero, suc, ◌+◌, ◌-◌, ◌*◌, ◌<◌, ◌≤◌, bit_xor, List, [], ◌∷◌, ◌++◌, map, length, get_or, set, take, drop, sym, refl, ap, ap₂, ◌∙◌, arith, ⊎_elim, ◌⊎◌, inl, inr, append_assoc, append-nil, length-take-le, length-drop, length-append, take_all}
+use Rattle.std.proofs.lemmas.Bool.{cases_eq, cases_lt, eq-eqb, ne_eqb}
 use Rattle.std.proofs.lemmas.List.{length-map, get_or-map, get_or-append_right, get_or-drop, take_more, drop_more, drop_all, set_at}
 use Rattle.std.proofs.lemmas.List.Elements.{All-append, All-take, All-drop}
 use Rattle.go_board.specs.Extent.{Extent}
@@ -10,12 +10,14 @@ use Rattle.go_board.specs.declared.points.Point.{Point}
 use Rattle.go_board.specs.declared.points.Stone.{Stone}
 use Rattle.shape_core.specs.declared.words.Kind.{Kind}
 use Rattle.shape_core.specs.Offset.{offsets_of}
-use Rattle.shape_core.specs.Inner.Table.{offset_of}
+use Rattle.shape_core.specs.Inner.Table.{offset_of, SeesInRow, cells_of}
 use Rattle.shape_core.specs.Word.{word_of, code_at}
-use Rattle.shape_core.specs.Inner.Word.{recoded}
+use Rattle.shape_core.specs.Inner.Word.{recoded, with_change}
 use Rattle.shape_core.specs.Around.{stone_code, code_around, word_around}
 use Rattle.shape_core.specs.Inner.Table.{Sees}
 use Rattle.shape_core.proofs.Codes.{AreCodes, recoded-word_of, code_at-word_of}
+use Rattle.shape_core.proofs.Recoding.{changed_twice}
+use Rattle.shape_core.proofs.Rows.{cells_fit, sees_there, sees_only}
 use Rattle.shape_core.proofs.Reach.{codes_round, get_or-codes_round, AreCodes-codes_round, code_around_on, code_around_off, point_away, word_around_is}
 
 -- the first codes of one list, and then those of another
@@ -95,7 +97,7 @@ code_elsewhere size position p q stone away blind =
     code_around_off size (placed position p stone) q away none ∙ sym (code_around_off size position q away none))
     (point_away size q away)
 
-pub sees_or_not : (q : Point) (away : ℕ × ℕ) (p : Point) → Sees q away p ⊎ (Sees q away p → ⊥)
+sees_or_not : (q : Point) (away : ℕ × ℕ) (p : Point) → Sees q away p ⊎ (Sees q away p → ⊥)
 sees_or_not q away p =
     ⊎_elim
     (λ (column : q.column + away.0 ≡ p.column + 3). ⊎_elim
@@ -104,6 +106,19 @@ sees_or_not q away p =
     (cases_eq (q.row + away.1) (p.row + 3)))
     (λ (column : q.column + away.0 ≡ p.column + 3 → ⊥). inr (λ sees. column sees.0))
     (cases_eq (q.column + away.0) (p.column + 3))
+
+pub sees_in_row_or_not : (q : Point) (row : ℕ × ℕ) (p : Point) → SeesInRow q row p ⊎ (SeesInRow q row p → ⊥)
+sees_in_row_or_not q row p =
+    ⊎_elim
+    (λ (down : q.row + row.1 ≡ p.row + 3). ⊎_elim
+    (λ (left : q.column < p.column + row.0 + 1). ⊎_elim
+    (λ (right : p.column < q.column + row.0 + 1). inl (down, (omega arith), (omega arith)))
+    (λ (far : q.column + row.0 + 1 ≤ p.column). inr (λ sees. omega (arith, sees.2)))
+    (cases_lt p.column (q.column + row.0 + 1)))
+    (λ (far : p.column + row.0 + 1 ≤ q.column). inr (λ sees. omega (arith, sees.1)))
+    (cases_lt q.column (p.column + row.0 + 1)))
+    (λ (other : q.row + row.1 ≡ p.row + 3 → ⊥). inr (λ sees. other sees.0))
+    (cases_eq (q.row + row.1) (p.row + 3))
 
 -- ---- one cell more
 
@@ -138,7 +153,7 @@ module _ (k : Kind) (size : Extent) (position : Position) (p : Point) (stone : S
       (omega (arith, new_codes.count)) (omega (arith, old_codes.count))
 
   -- a cell that is still to come has the code of the stone that stood there
-  pub mixed_round_code : (i before : ℕ) → i < 25 → IsOn size p → before ≡ word_of k (mixed_round i size position p stone q cells)
+  mixed_round_code : (i before : ℕ) → i < 25 → IsOn size p → before ≡ word_of k (mixed_round i size position p stone q cells)
       → Sees q (get_or cells i (0, 0)) p → code_at before i ≡ stone_code (position p)
   unfolding mixed_round
   mixed_round_code i before h on is sees =
@@ -151,7 +166,7 @@ module _ (k : Kind) (size : Extent) (position : Position) (p : Point) (stone : S
       ∙ away_at size position q cells i (omega arith)
       ∙ code_around_on size position q p away on sees
 
-  pub mixed_round_more : (i before after : ℕ) → i < 25 → IsOn size p → before ≡ word_of k (mixed_round i size position p stone q cells)
+  mixed_round_more : (i before after : ℕ) → i < 25 → IsOn size p → before ≡ word_of k (mixed_round i size position p stone q cells)
       → (Sees q (get_or cells i (0, 0)) p → after ≡ recoded before i (stone_code stone))
       → ((Sees q (get_or cells i (0, 0)) p → ⊥) → after ≡ before)
       → after ≡ word_of k (mixed_round (i + 1) size position p stone q cells)
@@ -173,6 +188,63 @@ module _ (k : Kind) (size : Extent) (position : Position) (p : Point) (stone : S
       ∙ ap (word_of k) (sym (mixed_same i new old l_new l_old
       (away_at size (placed position p stone) q cells i (omega arith) ∙ code_elsewhere size position p q stone away blind ∙ sym (away_at size position q cells i (omega arith))))))
       (sees_or_not q away p)
+
+  -- cells in which q does not have the point change nothing
+  mixed_round_past : (i n before : ℕ) → i + n ≤ 25 → IsOn size p → before ≡ word_of k (mixed_round i size position p stone q cells)
+      → ((j : ℕ) → i ≤ j → j < i + n → Sees q (get_or cells j (0, 0)) p → ⊥)
+      → before ≡ word_of k (mixed_round (i + n) size position p stone q cells)
+  mixed_round_past i zero before h on is blind = is ∙ ap (λ m. word_of k (mixed_round m size position p stone q cells)) (omega arith)
+  mixed_round_past i (suc n) before h on is blind =
+      mixed_round_past (i + 1) n before (omega arith) on
+      (mixed_round_more i before before (omega arith) on is (λ sees. absurd (blind i (omega arith) (omega arith) sees)) (λ away. refl))
+      (λ j low high. blind j (omega arith) (omega arith))
+      ∙ ap (λ m. word_of k (mixed_round m size position p stone q cells)) (omega arith)
+
+  -- where q has the point in one of the next cells, that cell's code follows the stone
+  mixed_round_one : (i n j before after change : ℕ) → i + n ≤ 25 → i ≤ j → j < i + n → IsOn size p
+      → before ≡ word_of k (mixed_round i size position p stone q cells)
+      → Sees q (get_or cells j (0, 0)) p
+      → ((m : ℕ) → i ≤ m → m < i + n → Sees q (get_or cells m (0, 0)) p → m ≡ j)
+      → change ≡ bit_xor (stone_code (position p)) (stone_code stone)
+      → after ≡ with_change before j change
+      → after ≡ word_of k (mixed_round (i + n) size position p stone q cells)
+  mixed_round_one i n j before after change h low high on is sees only changed there =
+      let until : before ≡ word_of k (mixed_round j size position p stone q cells) =
+      mixed_round_past i (j - i) before (omega arith) on is (λ m from to here. omega (arith, to, only m from (omega arith) here))
+      ∙ ap (λ m. word_of k (mixed_round m size position p stone q cells)) (omega arith) in
+      let code = mixed_round_code j before (omega arith) on until sees in
+      let follows : after ≡ recoded before j (stone_code stone) =
+      there ∙ ap (recoded before j) (ap₂ bit_xor code changed ∙ changed_twice (stone_code (position p)) (stone_code stone)) in
+      mixed_round_past (j + 1) (i + n - (j + 1)) after (omega arith) on
+      (mixed_round_more j before after (omega arith) on until (λ seen. follows) (λ blind. absurd (blind sees)))
+      (λ m from to here. omega (arith, from, only m (omega arith) (omega arith) here))
+      ∙ ap (λ m. word_of k (mixed_round m size position p stone q cells)) (omega arith)
+
+-- a word that follows the stone in the cells of the rows before a row does so in those of this row too, once it is
+-- changed where its point has the stone's in the row
+pub mixed_row : (k : Kind) (size : Extent) (position : Position) (p : Point) (stone : Stone) (q : Point) (rows : List (ℕ × ℕ)) (i before after change : ℕ) →
+    length (cells_of rows) ≡ 25 → i < length rows → (get_or rows i (0, 0)).0 ≤ 3 → IsOn size p →
+    before ≡ word_of k (mixed_round (length (cells_of (take i rows))) size position p stone q (cells_of rows)) →
+    change ≡ bit_xor (stone_code (position p)) (stone_code stone) →
+    (SeesInRow q (get_or rows i (0, 0)) p → after ≡ with_change before (length (cells_of (take i rows)) + (p.column + (get_or rows i (0, 0)).0 - q.column)) change) →
+    ((SeesInRow q (get_or rows i (0, 0)) p → ⊥) → after ≡ before) →
+    after ≡ word_of k (mixed_round (length (cells_of (take i rows)) + (2 * (get_or rows i (0, 0)).0 + 1)) size position p stone q (cells_of rows))
+mixed_row k size position p stone q rows i before after change count h side on is changed there elsewhere =
+    let row = get_or rows i (0, 0) in
+    let first = length (cells_of (take i rows)) in
+    let n = 2 * row.0 + 1 in
+    let fits : first + n ≤ 25 = omega (arith, cells_fit rows i h, count) in
+    ⊎_elim
+    (λ (sees : SeesInRow q row p).
+    mixed_round_one k size position p stone q (cells_of rows) count first n (first + (p.column + row.0 - q.column)) before after change fits
+    (omega arith) (omega (arith, sees.1, sees.2)) on is (sees_there rows i q p h side sees)
+    (λ m from to here. (sees_only rows i m q p h side from to here).1)
+    changed (there sees))
+    (λ (blind : SeesInRow q row p → ⊥).
+    elsewhere blind
+    ∙ mixed_round_past k size position p stone q (cells_of rows) count first n before fits on is
+    (λ m from to here. blind (sees_only rows i m q p h side from to here).0))
+    (sees_in_row_or_not q row p)
 
 -- before the first cell the words are those of the position, after the last those with the stone
 pub mixed_before : (k : Kind) (size : Extent) (position : Position) (p : Point) (stone : Stone) (q : Point) (cells : List (ℕ × ℕ)) → length cells ≡ 25 → map offset_of cells ≡ offsets_of k → word_around k size position q ≡ word_of k (mixed_round 0 size position p stone q cells)

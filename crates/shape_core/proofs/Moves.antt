@@ -60,13 +60,13 @@ bit_at-narrowed : (n i : ℕ) → i < 64 → bit_at (n % 2 ^ 64) i ≡ bit_at n 
 bit_at-narrowed n i h =
     sym (bit_at_cat_low (n / 2 ^ 64) 64 (n % 2 ^ 64) i h) ∙ ap (λ m. bit_at m i) (div-add-mod' n (2 ^ 64))
 
-bit_at-raised : (n s i : ℕ) → i < 64 → s ≤ i → bit_at (n * 2 ^ s % 2 ^ 64) i ≡ bit_at n (i - s)
+pub bit_at-raised : (n s i : ℕ) → i < 64 → s ≤ i → bit_at (n * 2 ^ s % 2 ^ 64) i ≡ bit_at n (i - s)
 bit_at-raised n s i h l =
     bit_at-narrowed (n * 2 ^ s) i h
     ∙ ap (λ m. bit_at m i) (omega arith)
     ∙ bit_at_cat_high n s 0 i (pow_pos s) l
 
-bit_at-raised_low : (n s i : ℕ) → i < 64 → i < s → bit_at (n * 2 ^ s % 2 ^ 64) i ≡ 0
+pub bit_at-raised_low : (n s i : ℕ) → i < 64 → i < s → bit_at (n * 2 ^ s % 2 ^ 64) i ≡ 0
 bit_at-raised_low n s i h l =
     bit_at-narrowed (n * 2 ^ s) i h
     ∙ ap (λ m. bit_at m i) (omega arith)

@@ -1,6 +1,7 @@
 //! Where the cells of a pattern lie round a point.
-ghost use Rattle.std.specs.Prelude.{◌≡◌, ◌<◌, ◌≤◌, ◌+◌, ℕ, MatchOption};
+ghost use Rattle.std.specs.Prelude.{◌≡◌, ◌≢◌, ◌<◌, ◌≤◌, ◌+◌, ℕ, MatchOption};
 ghost use Rattle.go_board.specs.declared.points.Point.{Point};
+ghost use Rattle.go_board.specs.Extent.{IsExtent};
 ghost use Rattle.go_board.specs.Point.{IsOn};
 ghost use Rattle.shape_core.specs.Inner.Table.{Sees};
 
@@ -67,6 +68,15 @@ pub const DIAMOND_CELLS: [Away; 25] = [
     (3, 6),
 ];
 
+/// How many cells a row of a pattern has to each side of the middle, and how many rows down it lies, three more.
+pub type AwayRow = (u8, u8);
+
+/// The rows of a square, from the top.
+pub const SQUARE_ROWS: [AwayRow; 5] = [(2, 1), (2, 2), (2, 3), (2, 4), (2, 5)];
+
+/// The rows of a diamond, from the top.
+pub const DIAMOND_ROWS: [AwayRow; 7] = [(0, 0), (1, 1), (2, 2), (3, 3), (2, 4), (1, 5), (0, 6)];
+
 /// The point at this distance from a point, or None where that is off the board.
 pub fn reached(size: Size, point: Point, away: Away) -> Option<Point>
     requires on_board { IsOn size point }
@@ -80,4 +90,17 @@ pub fn reached(size: Size, point: Point, away: Away) -> Option<Point>
     let row = (point.row + away.1).checked_sub(3)?;
     let reached = Point { column, row };
     size.has(reached).then_some(reached)
+}
+
+/// The row of the points that have this one in a row so far down, or None where that is off the board.
+pub fn row_seeing(size: Size, point: Point, down: u8) -> Option<u8>
+    requires on_board { IsOn size point }
+    requires extent { IsExtent size }
+    requires down { down ≤ 6 }
+    ensures { MatchOption result
+        ((q : Point) → IsOn size q → q.row + down ≢ point.row + 3)
+        (λ row. (row < size.rows) × (row + down ≡ point.row + 3)) }
+{
+    let row = (point.row + 3).checked_sub(down)?;
+    (row < size.rows()).then_some(row)
 }

@@ -1,6 +1,6 @@
 //! Words kept as a stone changes: one code changed in each word that has the point among its cells, and marks.
 ghost use Rattle.std.specs.Prelude.{◌≡◌, ◌<◌, ◌≤◌, ◌+◌, ◌*◌, ◌^◌, ◌⊎◌, ℕ, length, map, slice_index};
-ghost use Rattle.std.specs.Prelude.{slice_set, bit_or, bit_xor, All, [], ◌∷◌, true};
+ghost use Rattle.std.specs.Prelude.{◌-◌, bit_xor, All, [], ◌∷◌, true};
 ghost use Rattle.std.specs.List.{list_all};
 ghost use Rattle.go_board.specs.declared.points.Point.{Point};
 ghost use Rattle.go_board.specs.declared.points.Stone.{Stone};
@@ -12,86 +12,128 @@ ghost use Rattle.shape_core.specs.Offset.{offsets_of};
 ghost use Rattle.shape_core.specs.Inner.Table.{offset_of};
 ghost use Rattle.shape_core.specs.Inner.Word.{with_change};
 ghost use Rattle.shape_core.specs.Around.{stone_code};
-ghost use Rattle.shape_core.specs.Inner.Table.{Sees, is_away_within};
+ghost use Rattle.shape_core.specs.Inner.Table.{IsInRun, SeesInRow, is_away_within, cells_of};
 ghost use Rattle.shape_core.specs.Field.{IsMarked, MarksNear};
 ghost use Rattle.shape_core.specs.KeptLists.{AreMarks};
 ghost use Rattle.shape_core.specs.Inner.KeptLists.{AreWords, DifferingAreMarked};
 
-use crate::cells::{Away, reached};
+use crate::cells::{AwayRow, row_seeing};
 use crate::imaged::ImagedWord;
-use crate::marks::mark;
+use crate::marks::mark_run;
 use go_board::{Point, Size};
 
-/// Makes a change of code at that cell of the point that has this one at this distance, and marks it. Where such a point
-/// would be off the board, nothing changes.
-fn recode_cell(
+/// Makes a change of code in the words of a row from one column on, before another. In each column it is made one cell
+/// earlier than in the column to its left: in column 0 that would be the cell `last`.
+fn recode_run(
+    size: Size,
+    words: &mut [ImagedWord],
+    row: u8,
+    left: u8,
+    end: u8,
+    last: usize,
+    change: u8,
+)
+    requires row { row < size.rows }
+    requires left { left ≤ end }
+    requires columns { end ≤ size.columns }
+    requires first { end ≤ last + 1 }
+    requires last { last < left + 25 }
+    requires change { change < 4 }
+    requires words { length words.old ≡ size.columns * size.rows }
+    ensures there { (q : Point) →
+        IsOn size q →
+        IsInRun row left end q →
+        slice_index words.new (index_of size q)
+        ≡ with_change (slice_index words.old (index_of size q)) (last - q.column) change }
+    ensures elsewhere { (q : Point) →
+        IsOn size q →
+        ¬ IsInRun row left end q →
+        slice_index words.new (index_of size q) ≡ slice_index words.old (index_of size q) }
+{
+    for column in left..end {
+        let index = size.index(Point { column, row });
+        words[index] = words[index].with_change(last - usize::from(column), change);
+    }
+}
+
+/// Makes a change of code in the words of the points that have this one in that row of their cells, of which `first` is
+/// the first, and marks them. The further right such a point lies, the earlier the cell in which it has this one.
+fn recode_row(
     size: Size,
     words: &mut [ImagedWord],
     changed: &mut [u64],
     point: Point,
-    away: Away,
-    cell: usize,
+    row: AwayRow,
+    first: usize,
     change: u8,
 )
     requires extent { IsExtent size }
     requires on_board { IsOn size point }
-    requires columns { away.0 ≤ 6 }
-    requires rows { away.1 ≤ 6 }
-    requires cell { cell < 25 }
+    requires side { row.0 ≤ 3 }
+    requires down { row.1 ≤ 6 }
+    requires cells { first + 2 * row.0 < 25 }
     requires change { change < 4 }
     requires words { length words.old ≡ size.columns * size.rows }
     requires marks { AreMarks size changed.old }
     ensures marks { AreMarks size changed.new }
     ensures stay { (q : Point) → IsMarked changed.old q → IsMarked changed.new q }
     ensures only { (q : Point) → IsMarked changed.new q →
-        IsMarked changed.old q ⊎ Sees q away point }
+        IsMarked changed.old q ⊎ SeesInRow q row point }
     ensures there { (q : Point) →
         IsOn size q →
-        Sees q away point →
+        SeesInRow q row point →
         (slice_index words.new (index_of size q)
-        ≡ with_change (slice_index words.old (index_of size q)) cell change)
+        ≡ with_change (slice_index words.old (index_of size q))
+        (first + (point.column + row.0 - q.column)) change)
         × IsMarked changed.new q }
     ensures elsewhere { (q : Point) →
         IsOn size q →
-        ¬ Sees q away point →
+        ¬ SeesInRow q row point →
         slice_index words.new (index_of size q) ≡ slice_index words.old (index_of size q) }
 {
-    if let Some(near) = reached(size, point, (6 - away.0, 6 - away.1)) {
-        let index = size.index(near);
-        words[index] = words[index].with_change(cell, change);
-        mark(changed, near);
+    let (side, down) = row;
+    if let Some(near) = row_seeing(size, point, down) {
+        let left = point.column.saturating_sub(side);
+        let right = point.column + side;
+        let end = size.columns().min(right + 1);
+        let last = first + usize::from(right);
+        recode_run(size, words, near, left, end, last, change);
+        mark_run(changed, near, left, end);
     }
 }
 
-/// Makes the words follow a stone placed at a point, where this is the change of its code: each point that has it in one
-/// of these cells has that cell's code changed, and is marked.
+/// Makes the words follow a stone placed at a point, where this is the change of its code: each point that has it in a
+/// cell of these rows has that cell's code changed, and is marked.
 pub fn recode(
     size: Size,
     words: &mut [ImagedWord],
     changed: &mut [u64],
-    cells: &[Away; 25],
+    rows: &[AwayRow],
     point: Point,
     change: u8,
 )
     requires extent { IsExtent size }
     requires on_board { IsOn size point }
-    requires columns { All (λ away. away.0 ≤ 6) cells.now }
-    requires rows { All (λ away. away.1 ≤ 6) cells.now }
+    requires sides { All (λ row. row.0 ≤ 3) rows.now }
+    requires downs { All (λ row. row.1 ≤ 6) rows.now }
+    requires cells { length (cells_of rows.now) ≡ 25 }
     requires change { change < 4 }
     requires words { length words.old ≡ size.columns * size.rows }
     requires marks { AreMarks size changed.old }
     ensures marks { AreMarks size changed.new }
     ensures stay { (q : Point) → IsMarked changed.old q → IsMarked changed.new q }
-    ensures near { (reach : ℕ) → list_all (is_away_within reach) cells.now ≡ true →
+    ensures near { (reach : ℕ) → list_all (is_away_within reach) (cells_of rows.now) ≡ true →
         MarksNear reach (point ∷ []) changed.old changed.new }
     ensures differing { DifferingAreMarked size words.old words.new changed.new }
     ensures follow { (kind : Kind) (position : Position) (stone : Stone) →
-        map offset_of cells.now ≡ offsets_of kind →
+        map offset_of (cells_of rows.now) ≡ offsets_of kind →
         change ≡ bit_xor (stone_code (position point)) (stone_code stone) →
         AreWords kind size position words.old →
         AreWords kind size (placed position point stone) words.new }
 {
-    for (cell, away) in cells.iter().enumerate() {
-        recode_cell(size, words, changed, point, *away, cell, change);
+    let mut first = 0;
+    for row in rows {
+        recode_row(size, words, changed, point, *row, first, change);
+        first += 2 * usize::from(row.0) + 1;
     }
 }

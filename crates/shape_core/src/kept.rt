@@ -9,7 +9,7 @@ ghost use Rattle.shape_core.specs.Around.{word_around};
 ghost use Rattle.shape_core.specs.Field.{IsMarked, MarksNear, reach_of};
 ghost use Rattle.shape_core.specs.Inner.KeptLists.{AreWords, emptied};
 
-use crate::cells::{DIAMOND_CELLS, SQUARE_CELLS};
+use crate::cells::{DIAMOND_ROWS, SQUARE_ROWS};
 use crate::imaged::ImagedWord;
 use crate::keeping::recode;
 use crate::surroundings::{around, code_of, diamond};
@@ -99,7 +99,7 @@ impl KeptWords {
                 self.size,
                 &mut self.squares,
                 &mut self.changed,
-                &SQUARE_CELLS,
+                &SQUARE_ROWS,
                 point,
                 change,
             );
@@ -108,7 +108,7 @@ impl KeptWords {
                     self.size,
                     &mut self.diamonds,
                     &mut self.changed,
-                    &DIAMOND_CELLS,
+                    &DIAMOND_ROWS,
                     point,
                     change,
                 );

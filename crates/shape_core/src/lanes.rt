@@ -1,11 +1,11 @@
 //! The cells of two words of one kind moved at once, each word in a lane of a vector.
-ghost use Rattle.std.specs.Prelude.{◌≡◌, ◌<◌, ◌*◌, ◌/◌, ◌%◌, ◌^◌, ℕ, [], ◌∷◌, bit_and, bit_or, min};
+ghost use Rattle.std.specs.Prelude.{◌≡◌, ◌<◌, ◌*◌, ◌/◌, ◌%◌, ◌^◌, ℕ, [], ◌∷◌, bit_and, bit_or, bit_xor, min};
 ghost use Rattle.shape_core.specs.Word.{kind_of};
 ghost use Rattle.shape_core.specs.Symmetry.{image_of, exchange_of};
 ghost use Rattle.shape_core.specs.declared.words.Kind.TheVariants as kind;
 ghost use Rattle.shape_core.specs.declared.symmetries.Symmetry.TheVariants as symmetry;
 
-use crate::words::{DIAMOND, Kind};
+use crate::words::Kind;
 use std::simd::prelude::*;
 
 /// The bits of the mask and those `places` places above them, each in the other's place; no other bit.
@@ -88,18 +88,33 @@ pub fn top_bottom(words: u64x2, kind: Kind) -> u64x2
     }
 }
 
-/// Words with black for white and white for black: the two bits of each cell exchanged.
+/// The lower bit of each cell whose two bits differ.
+fn differing(words: u64x2) -> u64x2
+    ensures { (a b : ℕ) → words ≡ a ∷ b ∷ [] → result
+        ≡ bit_and (bit_xor a (a / 2 ^ 1)) 0x1555555555555
+        ∷ bit_and (bit_xor b (b / 2 ^ 1)) 0x1555555555555 ∷ [] }
+{
+    (words ^ (words >> u64x2::splat(1))) & u64x2::splat(0x1555555555555)
+}
+
+/// Words with black for white and white for black: the two bits of each cell exchanged, each changed where they differ.
 pub fn exchanged(words: u64x2) -> u64x2
     ensures { (a b : ℕ) → words ≡ a ∷ b ∷ [] → a < 2 ^ 51 → b < 2 ^ 51
         → result ≡ exchange_of a ∷ exchange_of b ∷ [] }
 {
-    (words & u64x2::splat(DIAMOND)) | swapped(words, 0x1555555555555, 1)
+    let lower = differing(words);
+    words ^ lower ^ (lower + lower)
 }
 
-/// In each lane the lesser of two words.
+/// In each lane the lesser of two words below 2^51. Where the first is less, the difference wraps and has the top bit
+/// set. One instruction selects by that bit alone, where comparing numbers without a sign takes several.
 pub fn lesser(words: u64x2, others: u64x2) -> u64x2
     ensures { (a b c d : ℕ) → words ≡ a ∷ b ∷ [] → others ≡ c ∷ d ∷ []
+        → a < 2 ^ 51 → b < 2 ^ 51 → c < 2 ^ 51 → d < 2 ^ 51
         → result ≡ min a c ∷ min b d ∷ [] }
 {
-    words.simd_min(others)
+    let differences = words - others;
+    differences
+        .simd_ge(u64x2::splat(1 << 63))
+        .select(words, others)
 }

@@ -1,22 +1,27 @@
 //! Marks of points: for each row a number with a bit for each column.
 ghost use Rattle.std.specs.Prelude.{◌≡◌, ◌≢◌, ◌<◌, ◌≤◌, ◌^◌, ◌↔◌, ℕ, length, slice_index};
-ghost use Rattle.std.specs.Prelude.{slice_set, bit_or, IsTrue, MatchOption, EachIndex, All};
+ghost use Rattle.std.specs.Prelude.{◌⊎◌, IsTrue, MatchOption, EachIndex, All};
 ghost use Rattle.go_board.specs.declared.points.Point.{Point};
 ghost use Rattle.go_board.specs.Extent.{Extent};
 ghost use Rattle.shape_core.specs.Field.{IsMarked, ComesBefore, Unmarks, AreJoined};
 ghost use Rattle.shape_core.specs.KeptLists.{AreMarks};
+ghost use Rattle.shape_core.specs.Inner.Table.{IsInRun};
 
 use go_board::Point;
 
-/// Marks a point.
-pub fn mark(changed: &mut [u64], point: Point)
-    requires row { point.row < length changed.old }
-    requires column { point.column < 64 }
-    ensures { changed.new
-        ≡ slice_set changed.old point.row (bit_or (slice_index changed.old point.row)
-        (2 ^ point.column)) }
+/// Marks the points of a row from one column on, before another.
+pub fn mark_run(changed: &mut [u64], row: u8, left: u8, end: u8)
+    requires row { row < length changed.old }
+    requires columns { left ≤ end }
+    requires few { end < 64 }
+    ensures marks { (size : Extent) → end ≤ size.columns →
+        AreMarks size changed.old → AreMarks size changed.new }
+    ensures stay { (q : Point) → IsMarked changed.old q → IsMarked changed.new q }
+    ensures there { (q : Point) → IsInRun row left end q → IsMarked changed.new q }
+    ensures only { (q : Point) → IsMarked changed.new q →
+        IsMarked changed.old q ⊎ IsInRun row left end q }
 {
-    changed[usize::from(point.row)] |= 1 << point.column;
+    changed[usize::from(row)] |= (1 << end) - (1 << left);
 }
 
 /// Whether a point is marked.

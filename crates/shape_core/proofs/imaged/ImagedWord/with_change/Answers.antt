@@ -1,5 +1,5 @@
 -- Each pair has the code of its cells changed.
-use Rattle.std.proofs.Common.{◌<◌, ◌*◌, ◌^◌, ℕ, [], ◌∷◌, slice_index, get_or, bit_xor, refl, ap, sym, subst, ◌∙◌, arith}
+use Rattle.std.proofs.Common.{◌<◌, ◌*◌, ◌^◌, ℕ, [], ◌∷◌, slice_index, get_or, bit_xor, refl, ap, sym, subst, ◌∙◌}
 use Rattle.shape_core.specs.declared.symmetries.Symmetry.{Symmetry}
 use Rattle.shape_core.specs.declared.symmetries.Symmetry.TheVariants as symmetry
 use Rattle.shape_core.specs.Symmetry.{image_of}
@@ -7,7 +7,7 @@ use Rattle.shape_core.specs.Word.{kind_of, code_at}
 use Rattle.shape_core.specs.Inner.Word.{with_change}
 use Rattle.shape_core.specs.Inner.Images.{AreImages, bits_row}
 use Rattle.shape_core.proofs.Images.{sources, cell-lt, image_of_small, kind_of-image}
-use Rattle.shape_core.proofs.Recoding.{filled, changed_pair, changed_small, code_followed, falling_back, left_right_back, top_bottom_back, AreImages-recoded}
+use Rattle.shape_core.proofs.Recoding.{changed_pair, changed_small, code_followed, falling_back, left_right_back, top_bottom_back, AreImages-recoded}
 use Rattle.shape_core.proofs.imaged.ImagedWord.with_change.Goals as goal
 
 pairs : (c : goal.After-changed-4) → AreImages (with_change (slice_index c.self.inside.pair 0) c.args.cell c.args.change) c.changed.result c.changed-2.result c.changed-3.result c.changed-4.result
