@@ -97,30 +97,45 @@ impl Meetings {
     }
 
     /// What is at a place of the index: the meeting there, if it is of this shape; None where it is of another.
+    #[inline(always)]
     fn look(&self, place: usize, shape: Shape) -> Option<Place>
         ensures { IfSome result (IsPlaceOf (shapes_of self.now) shape) }
     {
-        let taken = *self.index.get(place)?;
-        let Some(at) = (taken as usize).checked_sub(1) else {
-            return Some(Place::Free(place));
-        };
-        let meeting = self.list.get(at)?;
-        (meeting.shape == shape).then_some(Place::Met(at))
+        // No meeting has the index that 0 stands for.
+        let at = (*self.index.get(place)? as usize).wrapping_sub(1);
+        match self.list.get(at) {
+            Some(meeting) => (meeting.shape == shape).then_some(Place::Met(at)),
+            None => Some(Place::Free(place)),
+        }
     }
 
-    /// Looks a shape up: from its own place on, up to its meeting or to the first free place. None where no place is free.
-    fn find(&self, shape: Shape) -> Option<Place>
+    /// Looks a shape up from the place after this one on, up to its meeting or to the first free place. None where no place
+    /// is free. Most shapes are found at their own place, so this is a call.
+    #[inline(never)]
+    fn find_after(&self, own: usize, shape: Shape) -> Option<Place>
         ensures { IfSome result (IsPlaceOf (shapes_of self.now) shape) }
     {
-        let last = self.index.len().checked_sub(1)?;
-        let mut place = mixed(shape) & last;
-        for _ in 0..self.index.len() {
+        let last = self.index.len().wrapping_sub(1);
+        let mut place = own;
+        for _ in 1..self.index.len() {
+            place = place.wrapping_add(1) & last;
             if let Some(found) = self.look(place, shape) {
                 return Some(found);
             }
-            place = place.wrapping_add(1) & last;
         }
         None
+    }
+
+    /// Looks a shape up: from its own place on, up to its meeting or to the first free place. None where no place is free.
+    #[inline(always)]
+    fn find(&self, shape: Shape) -> Option<Place>
+        ensures { IfSome result (IsPlaceOf (shapes_of self.now) shape) }
+    {
+        let own = mixed(shape) & self.index.len().wrapping_sub(1);
+        match self.look(own, shape) {
+            Some(found) => Some(found),
+            None => self.find_after(own, shape),
+        }
     }
 
     /// Makes the index twice as long, and enters all meetings again. It takes memory.
@@ -154,8 +169,9 @@ impl Meetings {
     fn take(&mut self, place: usize, at: usize)
         ensures { self.new ≡ self.old }
     {
-        if let (Some(taken), Ok(number)) = (self.index.get_mut(place), u32::try_from(at)) {
-            *taken = number.saturating_add(1);
+        let above = u32::try_from(at.wrapping_add(1));
+        if let (Some(taken), Ok(above)) = (self.index.get_mut(place), above) {
+            *taken = above;
         }
     }
 

@@ -60,7 +60,8 @@ fn stays_at(
     Ok(Stays { square, diamond })
 }
 
-/// Looks at a point again: what stayed there is settled, and its patterns begin to stay, if it is empty.
+/// Looks at a point again: what stayed there is settled, and its patterns begin to stay, if it is empty. A third of the points
+/// that change have a stone, as they had before, and nothing stays there.
 fn see_point(
     meetings: &mut Meetings,
     stays: &mut Stays,
@@ -82,13 +83,18 @@ fn see_point(
         (shapes_of meetings.new)) }
     ensures fault { IfErr result (λ found. found ≡ fault.Memory) }
 {
+    let is_empty = field.cell(point) == Stone::Empty;
+    if !is_empty && stays.square.is_none() && stays.diamond.is_none() {
+        return Ok(());
+    }
     settle_point(meetings, *stays, occasions);
-    *stays = match field.cell(point) {
-        Stone::Empty => stays_at(meetings, field, mover, point, occasions)?,
-        Stone::Black | Stone::White => Stays {
+    *stays = if is_empty {
+        stays_at(meetings, field, mover, point, occasions)?
+    } else {
+        Stays {
             square: None,
             diamond: None,
-        },
+        }
     };
     Ok(())
 }
