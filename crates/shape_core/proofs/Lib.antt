@@ -5,6 +5,7 @@ mod Moves
 mod Nearness
 mod Recoding
 mod Images
+mod EmptyPoints
 mod Exchanges
 mod Least
 mod Sums

@@ -1,10 +1,13 @@
 -- What a field is, and what its words and marks are.
-use Rattle.std.specs.Prelude.{◌≡◌, ℕ, ◌+◌, ◌<◌, ◌≤◌, ◌⊎◌, List, length, slice_index, bit_or, Contains}
+use Rattle.std.specs.Prelude.{◌≡◌, ℕ, ◌+◌, ◌^◌, ◌<◌, ◌≤◌, ◌⊎◌, List, length, slice_index, bit_or, Contains}
 use Rattle.std.specs.Int.{bit_at}
 use Rattle.go_board.specs.Extent.{Extent}
 use Rattle.go_board.specs.Point.{IsOn}
 use Rattle.go_board.specs.Board.{Stones, position_of}
+use Rattle.go_board.specs.Position.{Position}
 use Rattle.go_board.specs.declared.points.Point.{Point}
+use Rattle.go_board.specs.declared.points.Stone.{Stone}
+use Rattle.go_board.specs.declared.points.Stone.TheVariants as stone
 use Rattle.shape_core.specs.declared.words.Kind.{Kind}
 use Rattle.shape_core.specs.declared.words.Kind.TheVariants as kind
 use Rattle.shape_core.specs.declared.words.Kinds.{Kinds}
@@ -34,6 +37,17 @@ pub record MarksChanges (before after : Kept) : Type 0 where
       (kind : Kind) → Includes before.kinds kind → (q : Point) → IsOn before.board.size q →
       (word_around kind before.board.size (position_of after.board) q ≡ word_around kind before.board.size (position_of before.board) q)
       ⊎ IsMarked after.changed q
+
+-- 1 for an empty point
+abbrev pub bit_of_empty : Stone → ℕ
+bit_of_empty stone.Empty = 1
+bit_of_empty stone.Black = 0
+bit_of_empty stone.White = 0
+
+-- the bits of a row of a position are those of its empty points
+pub record AreEmptyColumns (size : Extent) (position : Position) (row bits : ℕ) : Type 0 where
+  pub few : bits < 2 ^ size.columns
+  pub each : (column : ℕ) → column < size.columns → bit_at bits column ≡ bit_of_empty (position (record { column = column; row = row }))
 
 -- how many columns, and how many rows, the cells of these kinds are away from their point at most
 abbrev pub reach_of : Kinds → ℕ

@@ -1,4 +1,5 @@
 -- What serves the contracts of private functions, and invariants: nothing here has to be believed.
+pub mod EmptyPoints
 pub mod Flips
 pub mod Images
 pub mod Keeping

@@ -1,4 +1,5 @@
 //! Fields: boards that keep the words of all their points.
+use crate::empty_points::EmptyPoints;
 use crate::kept::KeptWords;
 use crate::marks::{is_marked, move_marks, take_first};
 use crate::shapes::{Shape, least_seen};
@@ -14,6 +15,7 @@ use std::marker::Model;
 pub struct Field {
     board: Board,
     kept: KeptWords,
+    empties: EmptyPoints,
 }
 
 impl Model for Field {
@@ -28,11 +30,11 @@ impl Model for Field {
       changed = f.kept.changed.items;
     } };
 
-    ghost invariant = { λ f. IsField f.board f.kept };
+    ghost invariant = { λ f. IsField f.board f.kept f.empties };
 }
 
 impl Field {
-    ghost use Rattle.std.specs.Prelude.{◌≡◌, ◌↔◌, [], ◌∷◌, length, IsTrue, IfOk, MatchOption};
+    ghost use Rattle.std.specs.Prelude.{◌≡◌, ◌<◌, ◌↔◌, [], ◌∷◌, length, IsTrue, IfOk, MatchOption};
     ghost use Rattle.go_board.specs.declared.points.Point.{Point};
     ghost use Rattle.go_board.specs.declared.points.Stone.TheVariants as stone;
     ghost use Rattle.go_board.specs.Point.{IsOn};
@@ -42,7 +44,7 @@ impl Field {
     ghost use Rattle.shape_core.specs.Around.{word_around};
     ghost use Rattle.shape_core.specs.Symmetry.{canonical_of};
     ghost use Rattle.shape_core.specs.Field.{IsMarked, MarksChanges, IsFirstMarked, Unmarks};
-    ghost use Rattle.shape_core.specs.Field.{AreJoined, MarksNear, reach_of};
+    ghost use Rattle.shape_core.specs.Field.{AreJoined, MarksNear, reach_of, AreEmptyColumns};
     ghost use Rattle.shape_core.specs.KeptLists.{AreMarks};
 
     /// An empty board of this size, with the words of both kinds kept and no point marked.
@@ -82,7 +84,12 @@ impl Field {
     {
         let board = Board::new(alloc, size)?;
         let kept = KeptWords::new(alloc, &board, kinds)?;
-        Ok(Field { board, kept })
+        let empties = EmptyPoints::new(alloc, size)?;
+        Ok(Field {
+            board,
+            kept,
+            empties,
+        })
     }
 
     /// Another field with the same stones, words and marks, from which nothing was removed. It takes memory for each
@@ -100,7 +107,12 @@ impl Field {
     {
         let board = self.board.copied(alloc)?;
         let kept = self.kept.copied(alloc)?;
-        Ok(Field { board, kept })
+        let empties = self.empties.copied(alloc)?;
+        Ok(Field {
+            board,
+            kept,
+            empties,
+        })
     }
 
     /// The size of the board.
@@ -125,6 +137,14 @@ impl Field {
         ensures board { IsBoard self.now.board }
     {
         self.board.cell(point)
+    }
+
+    /// The empty points of a row: a number with a bit for each column. The row is one of the board's.
+    pub fn empty_columns(&self, row: u8) -> u64
+        requires { row < self.now.board.size.rows }
+        ensures { AreEmptyColumns self.now.board.size (position_of self.now.board) row result }
+    {
+        self.empties.rows[usize::from(row)]
     }
 
     /// The points that the last `play` emptied, each once; none before the first. `set` leaves them.
@@ -232,6 +252,7 @@ impl Field {
     {
         self.board.set(point, stone);
         self.kept.change(point, stone);
+        self.empties.put(point, stone);
     }
 
     /// Plays a move, as the board does: the stone is placed, whatever stood there; then the stones of the other colour
@@ -253,6 +274,8 @@ impl Field {
         let played = self.board.play(colour, point);
         self.kept.change(point, colour.stone());
         self.kept.empty(self.board.removed());
+        self.empties.put(point, colour.stone());
+        self.empties.empty(self.board.removed());
         played
     }
 }

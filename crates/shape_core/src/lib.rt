@@ -4,6 +4,7 @@
 mod cell_bits;
 mod cells;
 mod diamond_bits;
+mod empty_points;
 mod fields;
 mod imaged;
 mod keeping;

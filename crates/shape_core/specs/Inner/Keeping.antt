@@ -10,6 +10,8 @@ use Rattle.shape_core.specs.declared.words.Kind.TheVariants as kind
 use Rattle.shape_core.specs.declared.words.Kinds.TheVariants as which
 use Rattle.shape_core.specs.Field.{IsMarked}
 use Rattle.shape_core.specs.KeptLists.{AreMarks}
+use Rattle.shape_core.specs.declared.empty_points.EmptyPoints.{EmptyPoints}
+use Rattle.shape_core.specs.Inner.EmptyPoints.{AreEmpty}
 use Rattle.shape_core.specs.Inner.KeptLists.{AreWords, DifferingAreMarked}
 
 -- a word and a mark for each point of a board
@@ -34,9 +36,10 @@ pub record Changes (before after : KeptWords) : Type 0 where
       before.kinds ≡ which.Both →
       DifferingAreMarked before.size before.diamonds.items after.diamonds.items after.changed.items
 
--- a board and the words kept of it
-pub record IsField (board : Stones) (kept : KeptWords) : Type 0 where
+-- a board, the words kept of it and its empty points
+pub record IsField (board : Stones) (kept : KeptWords) (empties : EmptyPoints) : Type 0 where
   pub is_board : IsBoard board
   pub same_size : kept.size ≡ board.size
   pub room : HasRoom kept
   pub follow : Follows kept (position_of board)
+  pub are_empty : AreEmpty board.size (position_of board) empties.rows.items

@@ -14,6 +14,7 @@ invariant_of-result c =
     let kinds : c.in_ok-kept.kept.kinds ≡ c.self.inside.kept.kinds = search rules in
     let squares : c.in_ok-kept.kept.squares.items ≡ c.self.inside.kept.squares.items = search rules in
     let diamonds : c.in_ok-kept.kept.diamonds.items ≡ c.self.inside.kept.diamonds.items = search rules in
+    let empties : c.in_ok-empties.empties.rows.items ≡ c.self.inside.empties.rows.items = search rules in
     record {
       is_board = is_board;
       same_size = same ∙ before.same_size ∙ sym size;
@@ -22,4 +23,5 @@ invariant_of-result c =
         squares_follow = rw (same, squares) before.follow.squares_follow;
         diamonds_follow = rw (same, kinds, diamonds) before.follow.diamonds_follow;
       });
+      are_empty = rw (size, stones, empties) before.are_empty;
     }

@@ -22,4 +22,5 @@ invariant_of-self c =
             (AreMarks-none kept.size c.move_marks.new.changed (c.move_marks.auto.changed ∙ ap length c.deref_mut.ensures.value ∙ room.marks.rows) c.move_marks.ensures.taken);
       };
       follow = record { squares_follow = is.follow.squares_follow; diamonds_follow = is.follow.diamonds_follow };
+      are_empty = is.are_empty;
     }

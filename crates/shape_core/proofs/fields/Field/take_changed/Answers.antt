@@ -21,6 +21,7 @@ invariant_of-self c =
             (c.take_first.ensures.marks kept.size (rw c.deref_mut.ensures.value room.marks));
       };
       follow = record { squares_follow = is.follow.squares_follow; diamonds_follow = is.follow.diamonds_follow };
+      are_empty = is.are_empty;
     }
 
 pub returns-clause-first : goal.returns-clause-first
