@@ -142,7 +142,9 @@ impl Field {
     /// The empty points of a row: a number with a bit for each column. The row is one of the board's.
     pub fn empty_columns(&self, row: u8) -> u64
         requires { row < self.now.board.size.rows }
-        ensures { AreEmptyColumns self.now.board.size (position_of self.now.board) row result }
+        ensures columns { AreEmptyColumns self.now.board.size (position_of self.now.board) row
+            result }
+        ensures board { IsBoard self.now.board }
     {
         self.empties.rows[usize::from(row)]
     }

@@ -60,11 +60,15 @@ in-filter p x (y ∷ ys) pass (inr later) =
     elim (p y) as (λ b. IsIn x (cond b (y ∷ filter p ys) (filter p ys)))
     [ true ↦ inr (in-filter p x ys pass later) | false ↦ in-filter p x ys pass later ]
 
+pub in-row : (size : Extent) (point : Point) → IsOn size point → IsIn point (row_of size point.row)
+unfolding IsIn
+in-row size point on = in-map (λ column. record { column = column; row = point.row }) point.column (count_from 0 size.columns) (in-count_from 0 size.columns point.column (omega arith) (omega (arith, on.0)))
+
 pub in-points : (size : Extent) (point : Point) → IsOn size point → IsIn point (points_of size)
 unfolding IsIn
 in-points size point on =
     in-flat_map (row_of size) point.row point (count_from 0 size.rows) (in-count_from 0 size.rows point.row (omega arith) (omega (arith, on.1)))
-    (in-map (λ column. record { column = column; row = point.row }) point.column (count_from 0 size.columns) (in-count_from 0 size.columns point.column (omega arith) (omega (arith, on.0))))
+    (in-row size point on)
 
 count-among : {X : Type 0} (f : X → List ℕ) (x : X) (xs : List X) (shape : ℕ) → IsIn x xs →
     count_by (λ c. c == shape) (f x) ≤ count_by (λ c. c == shape) (flat_map f xs)

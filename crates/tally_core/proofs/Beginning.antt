@@ -1,5 +1,5 @@
 -- A side before the first action.
-use Rattle.std.proofs.Common.{◌≡◌, ℕ, ◌-◌, ◌*◌, ◌%◌, ◌^◌, ◌<◌, ◌≤◌, length, replicate, slice_index, All, ap, sym, subst, ◌∙◌, arith, mul-zero}
+use Rattle.std.proofs.Common.{◌≡◌, ℕ, ◌-◌, ◌*◌, ◌%◌, ◌^◌, ◌<◌, ◌≤◌, length, replicate, slice_index, slice_index_or, All, ap, sym, subst, ◌∙◌, arith, mul-zero}
 use Rattle.std.specs.Prelude.{sum_by}
 use Rattle.std.specs.Int.{bit_at}
 use Rattle.std.proofs.lemmas.List.{get_or-replicate, length-replicate}
@@ -8,18 +8,20 @@ use Rattle.std.proofs.lemmas.List.Folds.{sum_by-replicate}
 use Rattle.std.proofs.lemmas.Nat.{pow_pos, pow_below}
 use Rattle.std.proofs.lemmas.Nat.Bits.{bit_at_ones}
 use Rattle.go_board.specs.Extent.{Extent}
+use Rattle.go_board.specs.Point.{index_of}
 use Rattle.shape_core.specs.KeptLists.{AreMarks}
 use Rattle.tally_core.specs.Inner.Standing.{AreStays, waits_at, no_stays, IsNewSide}
 use Rattle.tally_core.specs.declared.stays.Stays.{Stays}
 use Rattle.tally_core.specs.declared.stays.Side.{Side}
+use Rattle.tally_core.proofs.Seeing.{index-inside}
 
 -- a bit for each column
 pub row-full : (columns : ℕ) → columns ≤ 52 → 1 * 2 ^ columns % 2 ^ 64 - 1 ≡ 2 ^ columns - 1
 row-full columns few = omega (arith, pow_below columns 64 (omega arith))
 
 pub new-side : (size : Extent) (side : Side) → side.occasions ≡ 0 → side.changed.items ≡ replicate size.rows (2 ^ size.columns - 1) →
-    side.points.items ≡ replicate (size.columns * size.rows) no_stays → IsNewSide size side
-new-side size side occasions changed points =
+    side.standing.items ≡ replicate size.rows 0 → side.points.items ≡ replicate (size.columns * size.rows) no_stays → IsNewSide size side
+new-side size side occasions changed standing points =
     let full = 2 ^ size.columns - 1 in
     let area = size.columns * size.rows in
     let marks : AreMarks size (replicate size.rows full) = record {
@@ -31,6 +33,13 @@ new-side size side occasions changed points =
       standing = record {
         room = ap length points ∙ length-replicate area no_stays;
         marks = subst (AreMarks size) (sym changed) marks;
+        standing = rw standing (record {
+          rows = length-replicate size.rows 0;
+          within = All-replicate (λ row. row < 2 ^ size.columns) size.rows 0 (pow_pos size.columns);
+        });
+        nothing = λ q on none.
+            ap (λ all. slice_index_or all (index_of size q) no_stays) points
+            ∙ get_or-replicate area (index_of size q) no_stays no_stays (index-inside size q on);
         stays = subst (λ n. All (AreStays 0 n) side.points.items) (sym occasions)
             (subst (All (AreStays 0 0)) (sym points) (All-replicate (AreStays 0 0) area no_stays (record { square = tt; diamond = tt })));
       };

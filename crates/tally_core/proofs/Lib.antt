@@ -3,6 +3,7 @@ pub mod Taken
 pub mod Once
 pub mod Lasting
 pub mod Seeing
+pub mod Standing
 pub mod Skipped
 pub mod Summed
 pub mod OneOccasion

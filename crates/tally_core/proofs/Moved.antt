@@ -1,12 +1,12 @@
 -- What stays at a point stays there while its words are the same, and the points whose words become others join the sets.
-use Rattle.std.proofs.Common.{◌≡◌, ℕ, ◌^◌, ◌<◌, ◌⊎◌, inl, inr, Bool, true, false, cond, ◌++◌, List, [], ◌∷◌, length, slice_index, bit_or, All, refl, ap, ap₂, sym, subst, ◌∙◌, ⊎_elim, arith}
+use Rattle.std.proofs.Common.{◌≡◌, ℕ, ◌^◌, ◌<◌, ◌⊎◌, inl, inr, Bool, true, false, cond, ◌++◌, List, [], ◌∷◌, length, slice_index, slice_index_or, bit_or, All, refl, ap, ap₂, sym, subst, ◌∙◌, ⊎_elim, arith}
 use Rattle.std.specs.Int.{bit_at}
 use Rattle.std.specs.List.{flat_map}
 use Rattle.std.proofs.lemmas.Nat.{or_lt}
 use Rattle.std.proofs.lemmas.Nat.Bits.{bit_at_or, bit_at-lt}
 use Rattle.std.proofs.lemmas.List.Elements.{All-from_get_or, All-get_or}
 use Rattle.go_board.specs.Extent.{Extent}
-use Rattle.go_board.specs.Point.{IsOn}
+use Rattle.go_board.specs.Point.{IsOn, index_of}
 use Rattle.go_board.specs.Position.{Position}
 use Rattle.go_board.specs.Board.{position_of}
 use Rattle.go_board.specs.declared.points.Point.{Point}
@@ -25,7 +25,7 @@ use Rattle.shape_core.specs.Tracks.{Tracks}
 use Rattle.shape_core.proofs.Agreeing.{middle, same_stones}
 use Rattle.tally_core.specs.Occasions.{is_empty}
 use Rattle.tally_core.specs.Counts.{kinds_of, patterns_at}
-use Rattle.tally_core.specs.Inner.Standing.{AreStays, StayThere, patterns_here, IsSide}
+use Rattle.tally_core.specs.Inner.Standing.{AreStays, StayThere, patterns_here, IsSide, no_stays}
 use Rattle.tally_core.specs.declared.stays.Side.{Side}
 
 -- ---- sets that others join
@@ -104,9 +104,9 @@ same-or-marked before after q on tracks =
 -- a side, once an action was done and what it changed has joined the set
 pub side-moved : (before after : Kept) (mover : Colour) (shapes : List ℕ) (side moved : Side) →
     IsSide before.kinds before.board.size (position_of before.board) mover shapes side → Tracks before after → AreMarks before.board.size after.changed →
-    moved.occasions ≡ side.occasions → moved.points.items ≡ side.points.items → AreJoined after.changed side.changed.items moved.changed.items →
+    moved.occasions ≡ side.occasions → moved.points.items ≡ side.points.items → moved.standing.items ≡ side.standing.items → AreJoined after.changed side.changed.items moved.changed.items →
     IsSide before.kinds before.board.size (position_of after.board) mover shapes moved
-side-moved before after mover shapes side moved is tracks marks occasions points joined =
+side-moved before after mover shapes side moved is tracks marks occasions points standing joined =
     let size = before.board.size in
     record {
       standing = record {
@@ -114,6 +114,10 @@ side-moved before after mover shapes side moved is tracks marks occasions points
         marks = joined-marks size after.changed side.changed.items moved.changed.items joined marks is.standing.marks;
         stays = subst (λ n. All (AreStays (length shapes) n) moved.points.items) (sym occasions)
             (subst (All (AreStays (length shapes) side.occasions)) (sym points) is.standing.stays);
+        standing = rw standing is.standing.standing;
+        nothing = λ q on none.
+            ap (λ all. slice_index_or all (index_of size q) no_stays) points
+            ∙ is.standing.nothing q on (ap (λ all. bit_at (slice_index all q.row) q.column) (sym standing) ∙ none);
       };
       pending = λ q on. ⊎_elim
           (λ (was : IsMarked side.changed.items q). inl (joined-there after.changed side.changed.items moved.changed.items q joined (inl was)))

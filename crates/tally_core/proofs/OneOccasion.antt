@@ -25,6 +25,7 @@ use Rattle.tally_core.specs.declared.stays.Side.{Side}
 use Rattle.tally_core.specs.declared.occasions.Sides.{Sides}
 use Rattle.tally_core.proofs.Rows.{kept-cons}
 use Rattle.tally_core.proofs.Lasting.{waiting-extended, stays-extended, length-extended}
+use Rattle.tally_core.proofs.Once.{meets_none}
 use Rattle.tally_core.proofs.Seeing.{there-extended}
 
 -- a side is one still, however many shapes more are met
@@ -34,6 +35,8 @@ side-extended kinds size position mover shapes new side extends is = record {
   standing = record {
     room = is.standing.room;
     marks = is.standing.marks;
+    standing = is.standing.standing;
+    nothing = is.standing.nothing;
     stays =
         All-weaker (AreStays (length shapes) side.occasions) (AreStays (length new) side.occasions)
         (λ s. stays-extended (length shapes) (length new) side.occasions s (length-extended shapes new extends)) side.points.items is.standing.stays;
@@ -127,3 +130,28 @@ white-counted kinds size position at done met new sides after is side same count
       meets = subst (λ ps. Meets (shapes_of met) ps (shapes_of new)) (there-done kinds size position colour.White at) counted.meets;
     } in
     subst (λ d. IsCountedOn kinds size d met sides new after 1) (sym is) all
+
+-- ---- what is no occasion
+
+pub occasion-none : (position : Position) (action : Action) (mover : Colour) (at : Point) → action ≡ deed.Move mover at → (position at ≡ stone.Empty → ⊥) →
+    occasion_of position action ≡ []
+occasion-none position action mover at is full =
+    let o : Occasion = record { position = position; mover = mover; at = at } in
+    ap (occasion_of position) is
+    ∙ elim (position at) as (λ (s : Stone). position at ≡ s → cond (is_empty s) (o ∷ []) [] ≡ []) [
+      | stone.Empty ↦ λ empty. absurd (full empty)
+      | stone.Black ↦ λ black. refl
+      | stone.White ↦ λ white. refl
+    ] refl
+
+-- nothing is counted where there is no occasion
+pub nothing-counted : (kinds : Kinds) (size : Extent) (meetings : List Meeting) (sides : Sides) → IsCountedOn kinds size [] meetings sides meetings sides 0
+nothing-counted kinds size meetings sides = record {
+  moves_counted = refl;
+  few = omega arith;
+  black = omega arith;
+  white = omega arith;
+  there = λ shape. omega arith;
+  played = λ shape. omega arith;
+  meets = meets_none (shapes_of meetings);
+}

@@ -1,5 +1,5 @@
 -- What is seen of points, one after another.
-use Rattle.std.proofs.Common.{◌≡◌, ℕ, ◌+◌, ◌*◌, ◌<◌, cond, List, [], ◌∷◌, ◌++◌, length, set, get_or, slice_index_or, All, Contains, inl, inr, refl, ap, ap₂, sym, subst, ◌∙◌, ⊎_elim, arith, length-set, get_or-set_same, get_or-set_other, append_assoc}
+use Rattle.std.proofs.Common.{◌≡◌, ℕ, ◌+◌, ◌*◌, ◌<◌, cond, List, [], ◌∷◌, ◌++◌, length, set, get_or, slice_index, slice_index_or, Vec, Global, All, Contains, inl, inr, refl, ap, ap₂, sym, subst, ◌∙◌, ⊎_elim, arith, length-set, get_or-set_same, get_or-set_other, append_assoc}
 use Rattle.std.specs.List.{flat_map}
 use Rattle.std.proofs.lemmas.Bool.{cases_eq}
 use Rattle.std.proofs.lemmas.List.{append-nil}
@@ -23,7 +23,7 @@ use Rattle.tally_core.specs.Inner.Standing.{AreStays, patterns_staying, waits_at
 use Rattle.tally_core.specs.declared.meetings.Meeting.{Meeting}
 use Rattle.tally_core.specs.declared.stays.Stays.{Stays}
 use Rattle.shape_core.specs.Field.{Kept}
-use Rattle.shape_core.specs.KeptLists.{AreMarks}
+use Rattle.std.specs.Int.{bit_at}
 use Rattle.go_board.specs.Board.{position_of}
 use Rattle.tally_core.specs.Inner.Meeting.{Meets}
 use Rattle.tally_core.specs.Inner.Standing.{AreStanding}
@@ -158,12 +158,13 @@ module _ (field : Kept) (mover : Colour) where
   -- one point, where these are what stays there now
   pub looked-point : (point : Point) (meetings after : List Meeting) (side new : Side) (i : ℕ) (stays default : Stays) →
       IsOn field.board.size point → i ≡ index_of field.board.size point → AreStanding field.board.size (length (shapes_of meetings)) side →
-      new.occasions ≡ side.occasions → new.points.items ≡ set side.points.items i stays → AreMarks field.board.size new.changed.items →
+      new.occasions ≡ side.occasions → new.points.items ≡ set side.points.items i stays → new.changed ≡ side.changed → new.standing ≡ side.standing →
+      (bit_at (slice_index side.standing.items point.row) point.column ≡ 0 → stays ≡ no_stays) →
       AreStays (length (shapes_of after)) side.occasions stays → patterns_staying (shapes_of after) stays ≡ here point →
       StaysAt side.occasions meetings (get_or side.points.items i default) after stays → PlayedStays meetings after →
       Meets (shapes_of meetings) (here point) (shapes_of after) →
       HasLooked field mover (point ∷ []) [] meetings side after new
-  looked-point point meetings after side new i stays default on place standing occasions same marks stay patterns there played meets =
+  looked-point point meetings after side new i stays default on place standing occasions same changed stood may stay patterns there played meets =
       let size = field.board.size in
       let old = side.points.items in
       let shapes = shapes_of meetings in
@@ -174,7 +175,20 @@ module _ (field : Kept) (mover : Colour) where
         all = refl;
         standing = record {
           room = ap length same ∙ length-set old i stays ∙ standing.room;
-          marks = marks;
+          marks = rw changed standing.marks;
+          standing = rw stood standing.standing;
+          nothing = λ q on_q none.
+              let none_before : bit_at (slice_index side.standing.items q.row) q.column ≡ 0 = ap (λ (v : Vec ℕ Global). bit_at (slice_index v.items q.row) q.column) (sym stood) ∙ none in
+              ap (λ all. slice_index_or all (index_of size q) no_stays) same
+              ∙ ⊎_elim
+              (λ (here_too : index_of size q ≡ i).
+              let is : q ≡ point = same-point size q point on_q on (here_too ∙ place) in
+              ap (λ k. get_or (set old i stays) k no_stays) here_too
+              ∙ get_or-set_same old i stays no_stays inside
+              ∙ may (ap (λ (p : Point). bit_at (slice_index side.standing.items p.row) p.column) (sym is) ∙ none_before))
+              (λ (other : index_of size q ≡ i → ⊥).
+              get_or-set_other old i (index_of size q) stays no_stays other ∙ standing.nothing q on_q none_before)
+              (cases_eq (index_of size q) i);
           stays = rw (occasions, same) (stays-step shapes (shapes_of after) side.occasions old i stays meets.extends stay standing.stays);
         };
         occasions = occasions;

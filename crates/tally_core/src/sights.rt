@@ -8,7 +8,7 @@ ghost use Rattle.tally_core.specs.Inner.Meeting.{Meets, CountsStay, Extends};
 ghost use Rattle.tally_core.specs.Inner.Standing.{AreStays, waits_at, there_with, patterns_staying};
 ghost use Rattle.tally_core.specs.Inner.Standing.{AreStanding};
 ghost use Rattle.tally_core.specs.Inner.Sight.{Fit, there_at, PlayedStays, StaysAt, StaysWith, HasLooked};
-ghost use Rattle.tally_core.specs.Inner.Sight.{changed_in, here_on, seen_on, IsSideOn, IsSeenOn};
+ghost use Rattle.tally_core.specs.Inner.Sight.{MayStand, points_in, changed_in, here_on, seen_on, IsSideOn, IsSeenOn};
 ghost use Rattle.tally_core.specs.declared.faults.HarvestFault.TheVariants as fault;
 ghost use Rattle.go_board.specs.declared.points.Stone.TheVariants as stone;
 
@@ -99,7 +99,46 @@ fn see_point(
     Ok(())
 }
 
-/// Looks again at the points of a row that have changed, from the left, and takes them out of the set.
+/// Looks again at the points of these bits of a row, from the left.
+fn see_points(
+    meetings: &mut Meetings,
+    side: &mut Side,
+    field: &Field,
+    mover: Colour,
+    row: u8,
+    columns: u64,
+) -> Result<(), HarvestFault>
+    requires row { row < field.now.board.size.rows }
+    requires columns { columns < 2 ^ field.now.board.size.columns }
+    requires standing { AreStanding field.now.board.size (length (shapes_of meetings.old))
+        side.old }
+    requires open { MayStand field.now.board row columns side.old }
+    requires few { Fit (there_with meetings.old side.old) }
+    ensures looked { OnOk result (HasLooked field.now mover
+        (points_in field.now.board.size row columns) []
+        meetings.old side.old meetings.new side.new) }
+    ensures changed { side.new.changed ≡ side.old.changed }
+    ensures standing { side.new.standing ≡ side.old.standing }
+    ensures fault { IfErr result (λ found. found ≡ fault.Memory) }
+{
+    let size = field.size();
+    let occasions = side.occasions;
+    let mut bits = columns;
+    while bits != 0 {
+        let column = bits.trailing_zeros();
+        bits &= !(1 << column);
+        let point = Point {
+            column: column as u8,
+            row,
+        };
+        let stays = &mut side.points[size.index(point)];
+        see_point(meetings, stays, field, mover, point, occasions)?;
+    }
+    Ok(())
+}
+
+/// Looks again at the points of a row that have changed, and takes them out of the set. Where there was a stone and is one
+/// still, nothing stays and nothing comes, so only points that are empty or were empty are looked at.
 fn see_row(
     meetings: &mut Meetings,
     side: &mut Side,
@@ -118,20 +157,18 @@ fn see_row(
         slice_index side.new.changed.items k ≡ slice_index side.old.changed.items k }
     ensures fault { IfErr result (λ found. found ≡ fault.Memory) }
 {
-    let size = field.size();
-    let occasions = side.occasions;
-    let mut bits = side.changed[usize::from(row)];
-    side.changed[usize::from(row)] = 0;
-    while bits != 0 {
-        let column = bits.trailing_zeros();
-        bits &= !(1 << column);
-        let point = Point {
-            column: column as u8,
-            row,
-        };
-        let stays = &mut side.points[size.index(point)];
-        see_point(meetings, stays, field, mover, point, occasions)?;
+    let at = usize::from(row);
+    let changed = side.changed[at];
+    if changed == 0 {
+        return Ok(());
     }
+    let empty = field.empty_columns(row);
+    let standing = side.standing[at];
+    side.changed[at] = 0;
+    side.standing[at] = standing | (empty & changed);
+    let columns = changed & (empty | standing);
+    see_points(meetings, side, field, mover, row, columns)?;
+    side.standing[at] = (standing & !changed) | (empty & changed);
     Ok(())
 }
 

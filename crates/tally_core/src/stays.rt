@@ -35,6 +35,9 @@ pub struct Side {
     pub occasions: u64,
     /// The points whose words may have changed since the last of them: for each row a bit for each column.
     pub changed: Vec<u64>,
+    /// The points at which something may stay: for each row a bit for each column. After an occasion they are those that were
+    /// empty then.
+    pub standing: Vec<u64>,
     /// What stays at each point, row by row from the top, each row from the left.
     pub points: Vec<Stays>,
 }

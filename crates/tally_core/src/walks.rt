@@ -53,10 +53,12 @@ fn new_side(alloc: Global, size: Size) -> Result<Side, HarvestFault>
         diamond: None,
     };
     let changed = vec![in alloc; (1 << columns) - 1; rows]?;
+    let standing = vec![in alloc; 0; rows]?;
     let points = vec![in alloc; stays; size.area()]?;
     Ok(Side {
         occasions: 0,
         changed,
+        standing,
         points,
     })
 }

@@ -4,7 +4,8 @@ use Rattle.std.specs.List.{flat_map}
 use Rattle.std.specs.Int.{bit_at}
 use Rattle.go_board.specs.Extent.{Extent}
 use Rattle.tally_core.specs.Inner.Meeting.{Meets}
-use Rattle.go_board.specs.Board.{position_of}
+use Rattle.go_board.specs.Board.{Stones, position_of}
+use Rattle.go_board.specs.declared.points.Stone.TheVariants as stone
 use Rattle.go_board.specs.Point.{IsOn}
 use Rattle.go_board.specs.declared.points.Point.{Point}
 use Rattle.go_board.specs.declared.points.Colour.{Colour}
@@ -65,10 +66,19 @@ abbrev pub LooksAt : Kept → Colour → List Point → List Meeting → Side �
 LooksAt field mover points before side after new =
     (q : Point) → IsOn field.board.size q → Contains points q ⊎ StayOn field mover before side q → StayOn field mover after new q
 
--- the points of a row that are in a side's set, from the left
+-- the points of a row whose bits are set, from the left
+abbrev pub points_in : Extent → ℕ → ℕ → List Point
+points_in size row bits = filter (λ q. bit_at bits q.column == 1) (row_of size row)
+
+-- the points of a row that are in a side's set
 abbrev pub changed_in : Extent → Side → ℕ → List Point
-changed_in size side row =
-    filter (λ q. bit_at (slice_index side.changed.items row) q.column == 1) (row_of size row)
+changed_in size side row = points_in size row (slice_index side.changed.items row)
+
+-- of these points of a row, something may stay at each that is empty
+abbrev pub MayStand : Stones → ℕ → ℕ → Side → Type 0
+MayStand board row bits side =
+    (column : ℕ) → bit_at bits column ≡ 1 → position_of board (record { column = column; row = row }) ≡ stone.Empty →
+    bit_at (slice_index side.standing.items row) column ≡ 1
 
 -- these points but for those that are left were looked at, in their order
 pub record HasLooked (field : Kept) (mover : Colour) (points left : List Point) (before : List Meeting) (side : Side) (after : List Meeting) (new : Side) : Type 0 where

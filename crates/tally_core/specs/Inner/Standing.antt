@@ -94,6 +94,10 @@ pub record AreStanding (size : Extent) (met : ℕ) (side : Side) : Type 0 where
   pub room : length side.points.items ≡ size.columns * size.rows
   pub marks : AreMarks size side.changed.items
   pub stays : All (AreStays met side.occasions) side.points.items
+  pub standing : AreMarks size side.standing.items
+  pub nothing :
+      (q : Point) → IsOn size q → bit_at (slice_index side.standing.items q.row) q.column ≡ 0 →
+      slice_index_or side.points.items (index_of size q) no_stays ≡ no_stays
 
 -- what stays at each point that is not in the set are its patterns
 pub record IsSide (kinds : Kinds) (size : Extent) (position : Position) (mover : Colour) (shapes : List ℕ) (side : Side) : Type 0 where

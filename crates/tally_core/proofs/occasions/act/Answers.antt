@@ -31,6 +31,6 @@ returns-clause-sides c =
     let now : Sides = record { black = now_black; white = now_white } in
     subst (λ (board : Stones). AreSides before.kinds before.board.size (position_of board) shapes now) (sym moved.board)
     (record {
-      black = side-moved before after colour.Black shapes sides.black now_black is.black c.apply.ensures.stays marks refl refl (subst (AreJoined after.changed sides.black.changed.items) (sym black) first);
-      white = side-moved before after colour.White shapes sides.white now_white is.white c.apply.ensures.stays marks refl refl (subst (AreJoined after.changed sides.white.changed.items) (sym white) second);
+      black = side-moved before after colour.Black shapes sides.black now_black is.black c.apply.ensures.stays marks refl refl refl (subst (AreJoined after.changed sides.black.changed.items) (sym black) first);
+      white = side-moved before after colour.White shapes sides.white now_white is.white c.apply.ensures.stays marks refl refl refl (subst (AreJoined after.changed sides.white.changed.items) (sym white) second);
     })

@@ -1,12 +1,12 @@
-use Rattle.std.proofs.Common.{◌≡◌, ap, subst, ◌∙◌, refl, rules}
+use Rattle.std.proofs.Common.{◌≡◌, ap, sym, subst, ◌∙◌, refl, rules}
 use Rattle.go_board.specs.declared.points.Stone.TheVariants as stone
 use Rattle.go_board.specs.Board.{position_of}
 use Rattle.go_board.specs.declared.points.Colour.{Colour}
 use Rattle.go_board.specs.declared.points.Colour.TheVariants as colour
 use Rattle.go_record.specs.declared.actions.Action.TheVariants as deed
 use Rattle.tally_core.specs.Walk.{shapes_of}
-use Rattle.tally_core.specs.Inner.Standing.{IsSeen}
-use Rattle.tally_core.proofs.OneOccasion.{IsOccasion, side-extended, side-seen, occasion-done, black-counted, white-counted}
+use Rattle.tally_core.specs.Inner.Standing.{IsSeen, IsCountedOn}
+use Rattle.tally_core.proofs.OneOccasion.{IsOccasion, side-extended, side-seen, occasion-done, occasion-none, nothing-counted, black-counted, white-counted}
 use Rattle.tally_core.proofs.occasions.count_action.Goals as goal
 
 pub returns-in_ok-count_occasion-in-Black-clause-counted : goal.returns-in_ok-count_occasion-in-Black-clause-counted
@@ -62,3 +62,14 @@ returns-in_ok-count_occasion-in-White-clause-sides c =
           (subst (λ (mover : Colour). IsSeen field.kinds field.board.size position mover after c.count_occasion-in-White.new.side) c.in-White.is e.seen);
       black = side-extended field.kinds field.board.size position colour.Black before after c.args.sides.now.black e.meets.extends c.requires.sides.black;
     }
+
+-- a move onto a stone is no occasion
+pub returns-then-ne-clause-counted : goal.returns-then-ne-clause-counted
+returns-then-ne-clause-counted c =
+    let field = c.args.field.now in
+    let position = position_of field.board in
+    let at = c.in-Move.at in
+    let full : position at ≡ stone.Empty → ⊥ = λ empty. search rules in
+    subst (λ done. IsCountedOn field.kinds field.board.size done c.args.meetings.now c.args.sides.now c.args.meetings.now c.args.sides.now 0)
+    (sym (occasion-none position c.args.action c.in-Move.colour at c.in-Move.is full))
+    (nothing-counted field.kinds field.board.size c.args.meetings.now c.args.sides.now)

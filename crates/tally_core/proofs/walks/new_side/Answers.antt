@@ -8,6 +8,7 @@ returns-clause-side c =
     let size = c.args.size in
     let columns : c.from-columns.result ≡ size.columns = c.from-columns.ensures ∙ c.columns.ensures.value in
     let rows : c.from-rows.result ≡ size.rows = c.from-rows.ensures ∙ c.rows.ensures.value in
-    new-side size (record { occasions = 0; changed = c.in_ok-changed.changed; points = c.in_ok-points.points }) refl
+    new-side size (record { occasions = 0; changed = c.in_ok-changed.changed; standing = c.in_ok-standing.standing; points = c.in_ok-points.points }) refl
     (c.in_ok-changed.ensures.items_if_clones_equal (λ y e. e) ∙ ap₂ (λ n m. replicate n (1 * 2 ^ m % 2 ^ 64 - 1)) rows columns ∙ ap (replicate size.rows) (row-full size.columns c.columns.ensures.size.few_columns))
+    (c.in_ok-standing.ensures.items_if_clones_equal (λ y e. e) ∙ ap (λ n. replicate n 0) rows)
     (c.in_ok-points.ensures.items_if_clones_equal (λ y e. e) ∙ ap (λ n. replicate n no_stays) c.area.ensures.value)

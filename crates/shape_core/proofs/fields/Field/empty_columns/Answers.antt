@@ -6,8 +6,8 @@ use Rattle.shape_core.specs.Field.{AreEmptyColumns}
 use Rattle.go_board.specs.Board.{position_of}
 use Rattle.shape_core.proofs.fields.Field.empty_columns.Goals as goal
 
-pub returns : goal.returns
-returns c =
+pub returns-clause-columns : goal.returns-clause-columns
+returns-clause-columns c =
     let board = c.self.inside.board in
     let rows = c.self.inside.empties.rows.items in
     let row = c.args.row in

@@ -1,5 +1,5 @@
 -- A copy of an empty field is empty.
-use Rattle.std.proofs.Common.{◌≡◌, rules, refl}
+use Rattle.std.proofs.Common.{◌≡◌, rules, refl, subst}
 use Rattle.go_board.specs.Board.{Stones, position_of}
 use Rattle.go_board.specs.Extent.{Extent}
 use Rattle.go_board.specs.Point.{IsOn}
@@ -32,4 +32,13 @@ returns-clause-blank c =
       keeps = search rules;
       board = search rules;
       empty = copied_empty c.args.size blank.blank.board copy.field.board blank.ensures.size copy.ensures.size copy.ensures.stones blank.ensures.empty;
+    }
+
+pub invariant_of-self : goal.invariant_of-self
+invariant_of-self c =
+    let made = c.in_ok-blank.ensures in
+    record {
+      keeps = made.kinds;
+      board = made.board;
+      empty = λ q on. made.empty q (subst (λ (size : Extent). IsOn size q) made.size on);
     }
