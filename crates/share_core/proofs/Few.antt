@@ -10,7 +10,7 @@ use Rattle.share_core.specs.Rows.{row_at, AreOfNumbers}
 use Rattle.share_core.specs.Inner.Rows.{place_in, IsIndexed, HasNoRow}
 use Rattle.share_core.proofs.Found.{tail_none, tail_numbers, others_differ}
 
-abbrev numbers_of : List Row → List ℕ
+abbrev pub numbers_of : List Row → List ℕ
 numbers_of rows = map (λ (row : Row). row.number) rows
 
 apart : (rows : List Row) (number : ℕ) → HasNoRow rows number → AllByRecursion (λ y. eqb number y ≡ false) (numbers_of rows)
@@ -21,7 +21,7 @@ apart (row ∷ rows) number h =
     let test : eqb number row.number ≡ false = Prim.grind (arith, nat_tests) in
     (test, apart rows number (tail_none row rows number h))
 
-distinct : (rows : List Row) → AreOfNumbers rows → IsDistinct eqb (numbers_of rows)
+pub distinct : (rows : List Row) → AreOfNumbers rows → IsDistinct eqb (numbers_of rows)
 unfolding IsDistinct
 distinct [] h = tt
 distinct (row ∷ rows) h = (apart rows row.number (others_differ row rows h), distinct rows (tail_numbers row rows h))

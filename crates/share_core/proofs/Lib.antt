@@ -1,5 +1,5 @@
 mod Indexed
-mod Exchanged
+mod Reindexed
 pub mod Reordered
 pub mod Raised
 mod Made

@@ -1,26 +1,14 @@
--- Rows in another order: they have the same numbers and the same sums, and a share of them is a share of the same games.
-use Rattle.std.proofs.Common.{◌≡◌, ℕ, ◌+◌, ◌<◌, ◌≤◌, ◌==◌, Bool, true, false, cond, List, [], ◌∷◌, length, Option, Some, None, refl, ap, sym, subst, ◌∙◌, arith, zero-add, ⊎_elim}
+-- Rows in another order: they have the same sums, and a share of them is a share of the same games.
+use Rattle.std.proofs.Common.{◌≡◌, ℕ, ◌+◌, ◌<◌, ◌≤◌, ◌==◌, Bool, true, false, cond, List, [], ◌∷◌, Option, Some, None, refl, ap, sym, ◌∙◌, arith, zero-add, ⊎_elim}
 use Rattle.std.specs.Prelude.{sum_by}
 use Rattle.std.specs.List.Sorted.{IsPermutation}
 use Rattle.std.proofs.lemmas.Bool.{cases_lt}
-use Rattle.std.proofs.lemmas.List.{get_or_default}
 use Rattle.std.proofs.lemmas.List.Sums.{sum_by-cons}
-use Rattle.std.proofs.lemmas.List.Sorted.{sum_by-IsPermutation, All-permutation}
+use Rattle.std.proofs.lemmas.List.Sorted.{sum_by-IsPermutation}
 use Rattle.share_core.specs.declared.rows.Row.{Row}
-use Rattle.share_core.specs.Rows.{row_at, blank, first_of, earlier}
-use Rattle.share_core.specs.Inner.Rows.{IsIndexed}
+use Rattle.share_core.specs.Rows.{first_of, earlier}
 use Rattle.share_core.specs.Shares.{Held, Added, IsShareOf, IsShare}
-use Rattle.share_core.proofs.Few.{number_within}
 use Rattle.share_core.proofs.FirstGames.{IsFirst, first_same, first_with}
-
--- ---- numbers
--- each is one of the index
-pub numbers_within : (index : List (Option ℕ)) (rows sorted : List Row) → IsPermutation rows sorted → IsIndexed index rows →
-    (place : ℕ) → place < length sorted → (row_at sorted place).number < length index
-numbers_within index rows sorted same h place low =
-    All-permutation (λ (row : Row). row.number < length index) rows sorted same
-    (λ k d inside. subst (λ (row : Row). row.number < length index) (get_or_default rows k (blank 0 0) d inside) (number_within index rows k h inside))
-    place (blank 0 0) low
 
 -- ---- the least game
 -- 1 where a game is this one

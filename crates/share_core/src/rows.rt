@@ -1,6 +1,8 @@
 //! Rows of a share, each found by its number.
-ghost use Rattle.std.specs.Prelude.{◌≡◌, ◌≤◌, ℕ, length, OnOk, Some};
-ghost use Rattle.share_core.specs.Inner.Rows.{place_in};
+ghost use Rattle.std.specs.Prelude.{◌≡◌, ◌^◌, ◌<◌, ◌≤◌, ℕ, length, OnOk, Some};
+ghost use Rattle.std.specs.List.{All};
+ghost use Rattle.share_core.specs.Rows.{row_at, AreOfNumbers};
+ghost use Rattle.share_core.specs.Inner.Rows.{place_in, HasNoRow};
 
 use crate::faults::HarvestFault;
 use crate::places::RowPlace;
@@ -34,6 +36,22 @@ fn widen(index: &mut Vec<RowPlace>, slots: usize) -> Result<(), AllocError>
     Ok(())
 }
 
+/// Writes into an index, at the number of each row, the row's place. At other numbers it stays as it was.
+fn reindex(index: &mut [RowPlace], rows: &[Row])
+    requires within { All (λ row. row.number < length index.old) rows.now }
+    requires numbers { AreOfNumbers rows.now }
+    requires few { length rows.now < 2 ^ 32 }
+    ensures len { length index.new ≡ length index.old }
+    ensures listed { (place : ℕ) → place < length rows.now
+        → place_in index.new (row_at rows.now place).number ≡ Some place }
+    ensures rest { (number : ℕ) → HasNoRow rows.now number
+        → place_in index.new number ≡ place_in index.old number }
+{
+    for place in 0..rows.len() {
+        index[rows[place].number] = RowPlace::of(place);
+    }
+}
+
 /// Rows in the order in which they were made or that of their numbers, with an index that has the place of each number's
 /// row: four bytes for each slot of the table. Contracts see the rows.
 #[derive(Drop)]
@@ -57,7 +75,6 @@ impl Model for Rows {
 impl Rows {
     ghost use Rattle.std.specs.Prelude.{◌≡◌, ◌+◌, ◌^◌, ◌<◌, ◌≤◌, ◌++◌, ◌∷◌, [], length};
     ghost use Rattle.std.specs.Prelude.{IfSome, IfNone, IfOk, IfErr, OnErr, slice_set};
-    ghost use Rattle.std.specs.List.{SwappedAt};
     ghost use Rattle.std.specs.List.Sorted.{IsPermutation, IsNonDecreasingBy};
     ghost use Rattle.share_core.specs.Rows.{row_at, blank, AreOfNumbers};
     ghost use Rattle.share_core.specs.Inner.Rows.{HasNoRow};
@@ -175,30 +192,12 @@ impl Rows {
         };
     }
 
-    /// Exchanges the rows at two places.
-    fn exchange(&mut self, one: usize, other: usize)
-        requires one { one < length self.old }
-        requires other { other < length self.old }
-        ensures same { IsPermutation self.old self.new }
-        ensures places { SwappedAt self.old self.new one other }
-        ensures numbers { AreOfNumbers self.old }
-    {
-        self.rows.swap(one, other);
-        self.index[self.rows[one].number] = RowPlace::of(one);
-        self.index[self.rows[other].number] = RowPlace::of(other);
-    }
-
-    /// Puts the rows in the order of their numbers. It takes no memory.
+    /// Puts the rows in the order of their numbers, by an unstable sort, and then makes the index anew. It takes no memory.
     pub fn sort(&mut self)
         ensures same { IsPermutation self.old self.new }
         ensures rises { IsNonDecreasingBy (λ row. row.number) self.new }
     {
-        let mut done = 0;
-        for number in 0..self.index.len() {
-            if let Some(place) = self.place(number) {
-                self.exchange(done, place);
-                done += 1;
-            }
-        }
+        self.rows.sort_unstable_by_key(|row| row.number);
+        reindex(self.index.as_mut_slice(), self.rows.as_slice());
     }
 }
