@@ -1,5 +1,5 @@
 //! What several workers count over one table: the dictionary of an input.
-ghost use Rattle.std.specs.Prelude.{◌≡◌, ◌^◌, ◌<◌, [], ℕ, List, All, length};
+ghost use Rattle.std.specs.Prelude.{◌≡◌, ◌*◌, ◌^◌, ◌<◌, ◌≤◌, [], ℕ, List, All, length, max, min};
 ghost use Rattle.sgf_core.specs.declared.faults.SgfFault.TheVariants as sgf;
 ghost use Rattle.std.specs.Prelude.{MatchResult, IfOk, IfErr, IfSome, IsErrAnd, ◌⊎◌};
 ghost use Rattle.shape_core.specs.declared.words.Kinds.{Kinds};
@@ -119,6 +119,15 @@ fn conclude<R: Threads + Sync, O: ProbeOrder>(
     }
 }
 
+/// How many places the queue of so many workers has: 16 for each, but at least 16 and at most 128.
+fn places_for(workers: u8) -> usize
+    ensures places { result ≡ min 128 (16 * max 1 workers) }
+    ensures least { 16 ≤ result }
+    ensures most { result ≤ 128 }
+{
+    (16 * usize::from(workers).max(1)).min(128)
+}
+
 /// Counts with a queue: the threads draw from it what this thread reads.
 fn count_over<'a, R: Threads + Wait + Sync, O: ProbeOrder, G: Gate>(
     rt: &R,
@@ -161,7 +170,7 @@ where
 ///
 /// This thread reads, and counts what the queue has no room for; as many workers as the settings say count what they draw
 /// from it. The slots of the settings are not looked at: those of the table count. The pass must be of the table, which
-/// may have numbers already. It takes memory for a queue of 128 games, for each thread for the largest tree and its record,
+/// may have numbers already. It takes memory for a queue of at most 128 games, for each thread for the largest tree and its record,
 /// the board and the patterns of its games, and for the dictionary.
 ///
 /// # Errors
@@ -194,7 +203,7 @@ where
         settings.kinds pass.new) }
 {
     let games = Games::new(bytes)?;
-    let (queue, seat) = new_queue(alloc)?;
+    let (queue, seat) = new_queue(alloc, places_for(settings.workers()))?;
     let crop = count_over(
         rt, alloc, settings, table, pass, bytes, games, &queue, seat, gate,
     )?;

@@ -1,5 +1,5 @@
 //! The queue of jobs, as a reader and its workers call it.
-ghost use Rattle.std.specs.Prelude.{◌≡◌, [], IfOk, IfErr, MatchOption, MatchResult};
+ghost use Rattle.std.specs.Prelude.{◌≡◌, ◌<◌, [], IfOk, IfErr, MatchOption, MatchResult};
 ghost use Rattle.crossbeam_queue.specs.Passes.{view, IsPassOf, IsSamePass};
 ghost use Rattle.tally_core.specs.declared.faults.HarvestFault.TheVariants as fault;
 ghost use Rattle.job_core.specs.Rule.{blank, reader, worker, putting, drawing, Draws, MayPut};
@@ -11,19 +11,17 @@ use std::marker::{Brand, Model};
 use std::sync::Wait;
 use tally_core::HarvestFault;
 
-/// How many items a queue has room for.
-const PLACES: usize = 128;
-
-/// A new queue of 128 places, and its first pass. It takes memory for the places.
+/// A new queue of so many places, and its first pass. It takes memory for the places.
 ///
 /// # Errors
 ///
 /// `Memory` where memory was refused.
-pub fn new_queue<'a>(alloc: Global) -> Result<(Jobs<'a>, Seat<'a>), HarvestFault>
+pub fn new_queue<'a>(alloc: Global, places: usize) -> Result<(Jobs<'a>, Seat<'a>), HarvestFault>
+    requires places { 0 < places }
     ensures pass { IfOk result (λ new. IsPassOf new.0 new.1 × (view new.1 ≡ blank)) }
     ensures fault { IfErr result (λ found. found ≡ fault.Memory) }
 {
-    Ok(Jobs::ruled(alloc, PLACES)?)
+    Ok(Jobs::ruled(alloc, places)?)
 }
 
 /// Names the input.

@@ -186,7 +186,7 @@ fn work_in_turn<R: Abort + Wait>(
     let capacity = capacity_of(rt, 2);
     let (table, mut pass) = SlotTable::new(alloc, OddStep { capacity })?;
     let mut games = Games::new(bytes)?;
-    let (queue, seat) = new_queue(alloc)?;
+    let (queue, seat) = new_queue(alloc, 128)?;
     let mut desk = Desk::open(&queue, seat, bytes);
     let mut own = desk.another();
     assert!(rt; put_until_full(rt, alloc, &mut desk, &mut games)?.is_none());

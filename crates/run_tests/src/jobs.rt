@@ -171,7 +171,7 @@ fn fill_and_empty<'a, R: Abort + Wait>(
 /// Opens a queue for the games of these bytes, and fills and empties it.
 fn open_and_fill<R: Abort + Wait>(rt: &R, alloc: Global, bytes: &[u8]) -> Result<(), HarvestFault> {
     let mut games = Games::new(bytes)?;
-    let (queue, pass) = new_queue(alloc)?;
+    let (queue, pass) = new_queue(alloc, 128)?;
     let mut desk = Desk::open(&queue, pass, bytes);
     fill_and_empty(rt, alloc, &mut desk, &mut games)
 }
@@ -302,7 +302,7 @@ fn drawn_by_two<R: Threads + Wait + Sync>(
     bytes: &[u8],
 ) -> Result<(u64, Vec<u64>), HarvestFault> {
     let games = Games::new(bytes)?;
-    let (queue, pass) = new_queue(alloc)?;
+    let (queue, pass) = new_queue(alloc, 128)?;
     put_and_draw(rt, alloc, Desk::open(&queue, pass, bytes), games)
 }
 
@@ -348,7 +348,7 @@ fn memory_is_found_or_named(rt: HostRuntime) -> Result<(), HarvestFault> {
         }
         assert!(rt; next == Ok(Some(game)));
     }
-    let fault = new_queue(alloc).err();
+    let fault = new_queue(alloc, 128).err();
     assert!(rt; fault.is_none() || fault == Some(HarvestFault::Memory));
     Ok(())
 }
