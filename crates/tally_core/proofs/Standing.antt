@@ -1,5 +1,5 @@
 -- Points at which nothing stays and nothing comes.
-use Rattle.std.proofs.Common.{◌≡◌, ◌≢◌, ℕ, zero, suc, ◌+◌, ◌-◌, ◌^◌, ◌≤◌, ◌<◌, ◌==◌, min, max, bit_and, bit_or, w64, set, length, slice_index_or, length-set, get_or-set_same, get_or-set_other, ◌⊎◌, inl, inr, Bool, true, false, cond, List, [], ◌∷◌, ◌++◌, map, filter, slice_index, All, Contains, Option, Some, None, refl, ap, ap₂, sym, subst, ◌∙◌, ⊎_elim, arith}
+use Rattle.std.proofs.Common.{◌≡◌, ℕ, zero, suc, ◌+◌, ◌-◌, ◌^◌, ◌≤◌, ◌<◌, ◌==◌, min, max, bit_and, bit_or, w64, set, length, slice_index_or, length-set, get_or-set_same, get_or-set_other, ◌⊎◌, inl, inr, Bool, true, false, cond, List, [], ◌∷◌, ◌++◌, map, filter, slice_index, All, Contains, Option, Some, None, refl, ap, ap₂, sym, subst, ◌∙◌, ⊎_elim, arith}
 use Rattle.std.specs.Int.{bit_at, bit_not}
 use Rattle.std.proofs.lemmas.Bool.{cases_eq}
 use Rattle.std.proofs.lemmas.Bool.Decides.{nat_tests}
@@ -12,7 +12,6 @@ use Rattle.go_board.specs.Point.{IsOn, index_of}
 use Rattle.go_board.specs.Board.{position_of}
 use Rattle.go_board.specs.declared.points.Point.{Point}
 use Rattle.go_board.specs.declared.points.Colour.{Colour}
-use Rattle.go_board.specs.declared.points.Stone.{Stone}
 use Rattle.go_board.specs.declared.points.Stone.TheVariants as stone
 use Rattle.shape_core.specs.Field.{Kept, AreEmptyColumns, bit_of_empty}
 use Rattle.shape_core.specs.KeptLists.{AreMarks}
@@ -99,6 +98,7 @@ same-patterns f p r (x ∷ xs) all =
     with-same : (f : Point → List ℕ) (b : Bool) (x : Point) (ys zs : List Point) → flat_map f ys ≡ flat_map f zs → flat_map f (cond b (x ∷ ys) ys) ≡ flat_map f (cond b (x ∷ zs) zs)
     with-same f true x ys zs same = ap (λ rest. f x ++ rest) same
     with-same f false x ys zs same = same
+
     without : (f : Point → List ℕ) (b : Bool) (x : Point) (ys : List Point) → f x ≡ [] → flat_map f (cond b (x ∷ ys) ys) ≡ flat_map f ys
     without f true x ys none = ap (λ first. first ++ flat_map f ys) none
     without f false x ys none = refl

@@ -1,15 +1,8 @@
-use Rattle.std.proofs.Common.{◌≡◌, ◌≢◌, ℕ, ◌+◌, ◌<◌, ◌≤◌, ◌^◌, ◌==◌, List, ◌∷◌, [], length, filter, slice_index, set, w64, Vec, Global, refl, ap, sym, subst, ◌∙◌, ⊎_elim, arith}
+use Rattle.std.proofs.Common.{◌≡◌, ◌≢◌, ℕ, ◌<◌, ◌≤◌, ◌^◌, ◌∷◌, [], slice_index, w64, Vec, Global, refl, ap, sym, subst, ◌∙◌, ⊎_elim, arith}
 use Rattle.std.specs.Int.{bit_at, trailing_zeros}
-use Rattle.std.proofs.lemmas.List.{get_or_read}
-use Rattle.std.proofs.lemmas.List.Elements.{All-set, All-get_or}
-use Rattle.std.proofs.lemmas.Nat.{pow_pos}
-use Rattle.std.specs.Vec.{with_item}
-use Rattle.tally_core.specs.declared.stays.Side.{Side}
 use Rattle.go_board.specs.Extent.{Extent}
 use Rattle.go_board.specs.Point.{index_of}
 use Rattle.go_board.specs.declared.points.Point.{Point}
-use Rattle.shape_core.specs.KeptLists.{AreMarks}
-use Rattle.tally_core.specs.Counts.{row_of}
 use Rattle.tally_core.specs.Inner.Sight.{points_in, there_at, HasLooked}
 use Rattle.tally_core.proofs.Seeing.{looked-none, looked-more, looked-point}
 use Rattle.tally_core.proofs.Standing.{none-filled}

@@ -1,4 +1,4 @@
-use Rattle.std.proofs.Common.{◌≡◌, ◌<◌, ◌+◌, ◌-◌, ◌^◌, ℕ, List, [], ◌++◌, length, slice_index, set, w64, min, max, slice_index_or, Vec, Global, Contains, inl, bit_and, bit_or, refl, ap, sym, subst, ◌∙◌, ⊎_elim, arith, length-set, get_or-set_same}
+use Rattle.std.proofs.Common.{◌≡◌, ◌<◌, ◌^◌, ℕ, List, [], length, slice_index, set, w64, slice_index_or, Vec, Global, Contains, inl, bit_and, bit_or, refl, ap, sym, subst, ◌∙◌, ⊎_elim, arith, length-set, get_or-set_same}
 use Rattle.std.specs.Int.{bit_at, bit_not}
 use Rattle.std.specs.Vec.{with_item}
 use Rattle.std.proofs.lemmas.List.{append-nil, get_or_read}
@@ -11,7 +11,7 @@ use Rattle.shape_core.specs.Field.{bit_of_empty}
 use Rattle.shape_core.specs.KeptLists.{AreMarks}
 use Rattle.tally_core.specs.Walk.{shapes_of}
 use Rattle.tally_core.specs.Inner.Standing.{AreStanding, no_stays}
-use Rattle.tally_core.specs.Inner.Sight.{points_in, changed_in, HasLooked}
+use Rattle.tally_core.specs.Inner.Sight.{points_in, HasLooked}
 use Rattle.tally_core.specs.declared.stays.Side.{Side}
 use Rattle.tally_core.proofs.Seeing.{looked-none, looked-more}
 use Rattle.tally_core.proofs.Standing.{bits-are, standing-set, looked-row, none-filled, row-has}
@@ -156,8 +156,12 @@ returns-clause-looked c =
     let full : bit_at empty q.column ≡ 0 = omega (arith, none, looks, bits.left, bits.looked, bits.changed_bit, bits.empty_bit, bits.standing_bit) in
     none-filled field mover q (shapes_of b) (slice_index_or later.points.items (index_of size q) no_stays)
     (looked.looks q on (inl (subst (λ ps. Contains ps q) (sym (sym (append-nil looked.seen) ∙ looked.all)) (row-has size row some q on same looks))))
-    (λ stands. absurd (omega (arith, full, c.empty_columns-empty.ensures.columns.each q.column on.0
-    ∙ ap bit_of_empty (ap (position_of field.board) (ap (column-of q) (sym same)) ∙ stands)))))
+    (λ stands. absurd (omega (
+      arith,
+      full,
+      c.empty_columns-empty.ensures.columns.each q.column on.0
+          ∙ ap bit_of_empty (ap (position_of field.board) (ap (column-of q) (sym same)) ∙ stands),
+    ))))
     (λ (other : bit_at some q.column ≡ 1 → ⊥).
     looked.standing.nothing q on
     (ap (λ all. bit_at (slice_index all q.row) q.column) stood

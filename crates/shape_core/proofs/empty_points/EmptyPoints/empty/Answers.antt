@@ -1,4 +1,4 @@
-use Rattle.std.proofs.Common.{◌+◌, get_or, take, ap, sym, subst, ◌∙◌, arith}
+use Rattle.std.proofs.Common.{get_or, take, ap, sym, subst, ◌∙◌, arith}
 use Rattle.std.proofs.lemmas.List.{take_more, take_all}
 use Rattle.go_board.specs.declared.points.Point.{Point}
 use Rattle.shape_core.specs.Inner.EmptyPoints.{AreEmpty}

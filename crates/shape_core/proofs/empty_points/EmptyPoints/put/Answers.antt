@@ -1,10 +1,9 @@
-use Rattle.std.proofs.Common.{◌≡◌, ◌<◌, ◌*◌, ◌%◌, ◌^◌, ℕ, length, slice_index, w64, bit_or, bit_and, ap, sym, ◌∙◌, ⊎_elim, arith}
+use Rattle.std.proofs.Common.{◌≡◌, ◌<◌, ◌*◌, ◌%◌, ◌^◌, length, slice_index, w64, bit_or, bit_and, ap, sym, ◌∙◌, ⊎_elim, arith}
 use Rattle.std.specs.Int.{bit_at, bit_not}
 use Rattle.std.proofs.lemmas.List.{get_or_read}
 use Rattle.std.proofs.lemmas.List.Elements.{All-get_or}
 use Rattle.std.proofs.lemmas.Nat.{or_lt, and_le_l, pow_below}
 use Rattle.std.proofs.lemmas.Nat.Bits.{bit_at_set_same, bit_at_set_other, bit_at_clear_same, bit_at_clear_other}
-use Rattle.go_board.specs.Extent.{Extent, IsExtent}
 use Rattle.go_board.specs.declared.points.Stone.TheVariants as stones
 use Rattle.shape_core.specs.Field.{bit_of_empty}
 use Rattle.shape_core.proofs.EmptyPoints.{put-row}

@@ -46,12 +46,11 @@ put-requires c =
 
 pub empty-requires-2 : goal.empty-requires-2
 empty-requires-2 c =
-    let is = c.self.invariant in
-    (
+    let is = c.self.invariant in (
       c.self.inside.board.size,
       record { extent = is.is_board.extent; count = c.put.ensures.rows ∙ is.are_empty.marks.rows },
       subst (All (IsOn c.self.inside.board.size)) (sym c.removed-2.ensures.value)
-      (subst (λ (size : Extent). All (IsOn size) c.play-played.new.self.removed) c.play-played.ensures.plays.size c.play-played.ensures.board.removed.on_board),
+          (subst (λ (size : Extent). All (IsOn size) c.play-played.new.self.removed) c.play-played.ensures.plays.size c.play-played.ensures.board.removed.on_board),
     )
 
 pub invariant_of-self : goal.invariant_of-self

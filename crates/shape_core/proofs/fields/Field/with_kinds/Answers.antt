@@ -1,4 +1,4 @@
-use Rattle.std.proofs.Common.{rules, ◌≡◌, ◌∙◌, sym, subst}
+use Rattle.std.proofs.Common.{rules, ◌≡◌, sym, subst}
 use Rattle.go_board.specs.Board.{IsBoard, position_of}
 use Rattle.go_board.specs.Extent.{Extent}
 use Rattle.shape_core.specs.Inner.EmptyPoints.{AreEmpty}
