@@ -119,7 +119,7 @@ fn conclude<R: Threads + Sync, O: ProbeOrder>(
     }
 }
 
-/// How many places the queue of so many workers has: 16 for each, but at least 16 and at most 128.
+/// How many places the queue of this number of workers has: 16 for each, but at least 16 and at most 128.
 fn places_for(workers: u8) -> usize
     ensures places { result ≡ min 128 (16 * max 1 workers) }
     ensures least { 16 ≤ result }

@@ -11,7 +11,7 @@ use std::marker::{Brand, Model};
 use std::sync::Wait;
 use tally_core::HarvestFault;
 
-/// A new queue of so many places, and its first pass. It takes memory for the places.
+/// A new queue of that number of places, and its first pass. It takes memory for the places.
 ///
 /// # Errors
 ///
