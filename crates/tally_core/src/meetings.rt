@@ -9,7 +9,7 @@ ghost use Rattle.tally_core.specs.declared.faults.HarvestFault.TheVariants as fa
 
 use crate::faults::HarvestFault;
 use shape_core::Shape;
-use std::alloc::Global;
+use std::alloc::{AllocError, Global};
 use std::marker::Model;
 
 /// A pattern as a walk of a game met it: how often it was there and was played since. A pattern may have several.
@@ -109,21 +109,19 @@ impl Meetings {
         }
     }
 
-    /// Looks a shape up from the place after this one on, up to its meeting or to the first free place. None where no place
-    /// is free. Most shapes are found at their own place, so this is a call.
+    /// The first place after this one that is free or has a meeting of this shape; where there is none, this one. Most
+    /// shapes are found at their own place, so this is a call.
     #[inline(never)]
-    fn find_after(&self, own: usize, shape: Shape) -> Option<Place>
-        ensures { IfSome result (IsPlaceOf (shapes_of self.now) shape) }
-    {
+    fn place_after(&self, own: usize, shape: Shape) -> usize {
         let last = self.index.len().wrapping_sub(1);
         let mut place = own;
         for _ in 1..self.index.len() {
             place = place.wrapping_add(1) & last;
-            if let Some(found) = self.look(place, shape) {
-                return Some(found);
+            if self.look(place, shape).is_some() {
+                return place;
             }
         }
-        None
+        own
     }
 
     /// Looks a shape up: from its own place on, up to its meeting or to the first free place. None where no place is free.
@@ -134,15 +132,14 @@ impl Meetings {
         let own = mixed(shape) & self.index.len().wrapping_sub(1);
         match self.look(own, shape) {
             Some(found) => Some(found),
-            None => self.find_after(own, shape),
+            None => self.look(self.place_after(own, shape), shape),
         }
     }
 
     /// Makes the index twice as long, and enters all meetings again. It takes memory.
     #[inline(never)]
-    fn grow(&mut self) -> Result<(), HarvestFault>
+    fn grow(&mut self) -> Result<(), AllocError>
         ensures same { self.new ≡ self.old }
-        ensures fault { IfErr result (λ found. found ≡ fault.Memory) }
     {
         let places = self.index.len();
         self.index.clear();
@@ -169,20 +166,18 @@ impl Meetings {
     fn take(&mut self, place: usize, at: usize)
         ensures { self.new ≡ self.old }
     {
-        let above = u32::try_from(at.wrapping_add(1));
-        if let (Some(taken), Ok(above)) = (self.index.get_mut(place), above) {
-            *taken = above;
+        if let Some(taken) = self.index.get_mut(place) {
+            *taken = (at.wrapping_add(1) & 0xFFFF_FFFF) as u32;
         }
     }
 
     /// The index of a meeting of this shape: one that is there, or a new one. It is called for each point that changes, so
     /// it is no call in the program.
     #[inline(always)]
-    pub fn meet(&mut self, shape: Shape) -> Result<usize, HarvestFault>
+    pub fn meet(&mut self, shape: Shape) -> Result<usize, AllocError>
         ensures met { IfOk result (IsMet (shapes_of self.new) shape) }
         ensures meets { OnOk result (Meets (shapes_of self.old) (shape ∷ []) (shapes_of self.new)) }
         ensures counts { OnOk result (CountsStay self.old self.new) }
-        ensures fault { IfErr result (λ found. found ≡ fault.Memory) }
     {
         let place = match self.find(shape) {
             Some(Place::Met(at)) => return Ok(at),
