@@ -8,7 +8,9 @@ ghost use Rattle.tally_core.specs.Inner.Meeting.{Meets, CountsStay, Extends};
 ghost use Rattle.tally_core.specs.Inner.Standing.{AreStays, waits_at, there_with, patterns_staying};
 ghost use Rattle.tally_core.specs.Inner.Standing.{AreStanding};
 ghost use Rattle.tally_core.specs.Inner.Sight.{Fit, there_at, PlayedStays, StaysAt, StaysWith, HasLooked};
-ghost use Rattle.tally_core.specs.Inner.Sight.{MayStand, points_in, changed_in, here_on, seen_on, IsSideOn, IsSeenOn};
+ghost use Rattle.tally_core.specs.Inner.Sight.{AllEmpty, AllFilled, MayStand};
+ghost use Rattle.tally_core.specs.Inner.Sight.{points_in, changed_in, here_on, seen_on};
+ghost use Rattle.tally_core.specs.Inner.Sight.{IsSideOn, IsSeenOn};
 ghost use Rattle.tally_core.specs.declared.faults.HarvestFault.TheVariants as fault;
 ghost use Rattle.go_board.specs.declared.points.Stone.TheVariants as stone;
 
@@ -60,8 +62,7 @@ fn stays_at(
     Ok(Stays { square, diamond })
 }
 
-/// Looks at a point again: what stayed there is settled, and its patterns begin to stay, if it is empty. A third of the points
-/// that change have a stone, as they had before, and nothing stays there.
+/// Looks at an empty point again: what stayed there is settled, and its patterns begin to stay.
 fn see_point(
     meetings: &mut Meetings,
     stays: &mut Stays,
@@ -71,6 +72,7 @@ fn see_point(
     occasions: u64,
 ) -> Result<(), HarvestFault>
     requires on_board { IsOn field.now.board.size point }
+    requires empty { position_of field.now.board point ≡ stone.Empty }
     requires stays { AreStays (length (shapes_of meetings.old)) occasions stays.old }
     requires few { Fit (there_at meetings.old occasions stays.old) }
     ensures stays { OnOk result (AreStays (length (shapes_of meetings.new)) occasions stays.new) }
@@ -83,23 +85,12 @@ fn see_point(
         (shapes_of meetings.new)) }
     ensures fault { IfErr result (λ found. found ≡ fault.Memory) }
 {
-    let is_empty = field.cell(point) == Stone::Empty;
-    if !is_empty && stays.square.is_none() && stays.diamond.is_none() {
-        return Ok(());
-    }
     settle_point(meetings, *stays, occasions);
-    *stays = if is_empty {
-        stays_at(meetings, field, mover, point, occasions)?
-    } else {
-        Stays {
-            square: None,
-            diamond: None,
-        }
-    };
+    *stays = stays_at(meetings, field, mover, point, occasions)?;
     Ok(())
 }
 
-/// Looks again at the points of these bits of a row, from the left.
+/// Looks again at the points of these bits of a row, from the left. They are empty.
 fn see_points(
     meetings: &mut Meetings,
     side: &mut Side,
@@ -110,9 +101,10 @@ fn see_points(
 ) -> Result<(), HarvestFault>
     requires row { row < field.now.board.size.rows }
     requires columns { columns < 2 ^ field.now.board.size.columns }
+    requires empty { AllEmpty field.now.board row columns }
     requires standing { AreStanding field.now.board.size (length (shapes_of meetings.old))
         side.old }
-    requires open { MayStand field.now.board row columns side.old }
+    requires open { MayStand row columns side.old }
     requires few { Fit (there_with meetings.old side.old) }
     ensures looked { OnOk result (HasLooked field.now mover
         (points_in field.now.board.size row columns) []
@@ -137,8 +129,42 @@ fn see_points(
     Ok(())
 }
 
-/// Looks again at the points of a row that have changed, and takes them out of the set. Where there was a stone and is one
-/// still, nothing stays and nothing comes, so only points that are empty or were empty are looked at.
+/// Settles what stays at the points of these bits of a row. They have stones, so nothing stays there from now on.
+fn leave_points(meetings: &mut Meetings, side: &mut Side, field: &Field, row: u8, columns: u64)
+    requires row { row < field.now.board.size.rows }
+    requires columns { columns < 2 ^ field.now.board.size.columns }
+    requires filled { AllFilled field.now.board row columns }
+    requires standing { AreStanding field.now.board.size (length (shapes_of meetings.old))
+        side.old }
+    requires few { Fit (there_with meetings.old side.old) }
+    ensures looked { (mover : Colour) → HasLooked field.now mover
+        (points_in field.now.board.size row columns) []
+        meetings.old side.old meetings.new side.new }
+    ensures changed { side.new.changed ≡ side.old.changed }
+    ensures standing { side.new.standing ≡ side.old.standing }
+{
+    let size = field.size();
+    let occasions = side.occasions;
+    let mut bits = columns;
+    while bits != 0 {
+        let column = bits.trailing_zeros();
+        bits &= !(1 << column);
+        let point = Point {
+            column: column as u8,
+            row,
+        };
+        let stays = &mut side.points[size.index(point)];
+        settle_point(meetings, *stays, occasions);
+        *stays = Stays {
+            square: None,
+            diamond: None,
+        };
+    }
+}
+
+/// Looks again at the points of a row that have changed, and takes them out of the set: first at those where something
+/// stays and a stone is now, then at those that are empty. Where there was a stone and is one still, nothing stays and
+/// nothing comes, so such points are not looked at.
 fn see_row(
     meetings: &mut Meetings,
     side: &mut Side,
@@ -162,13 +188,14 @@ fn see_row(
     if changed == 0 {
         return Ok(());
     }
-    let empty = field.empty_columns(row);
     let standing = side.standing[at];
+    let empty = field.empty_columns(row);
+    let going = changed & standing & !empty;
+    let coming = changed & empty;
+    leave_points(meetings, side, field, row, going);
     side.changed[at] = 0;
-    side.standing[at] = standing | (empty & changed);
-    let columns = changed & (empty | standing);
-    see_points(meetings, side, field, mover, row, columns)?;
-    side.standing[at] = (standing & !changed) | (empty & changed);
+    side.standing[at] = (standing & !changed) | coming;
+    see_points(meetings, side, field, mover, row, coming)?;
     Ok(())
 }
 

@@ -74,11 +74,19 @@ points_in size row bits = filter (λ q. bit_at bits q.column == 1) (row_of size 
 abbrev pub changed_in : Extent → Side → ℕ → List Point
 changed_in size side row = points_in size row (slice_index side.changed.items row)
 
--- of these points of a row, something may stay at each that is empty
-abbrev pub MayStand : Stones → ℕ → ℕ → Side → Type 0
-MayStand board row bits side =
-    (column : ℕ) → bit_at bits column ≡ 1 → position_of board (record { column = column; row = row }) ≡ stone.Empty →
-    bit_at (slice_index side.standing.items row) column ≡ 1
+-- each of these points of a row is empty
+abbrev pub AllEmpty : Stones → ℕ → ℕ → Type 0
+AllEmpty board row bits =
+    (column : ℕ) → bit_at bits column ≡ 1 → position_of board (record { column = column; row = row }) ≡ stone.Empty
+
+-- none of these points of a row is empty
+abbrev pub AllFilled : Stones → ℕ → ℕ → Type 0
+AllFilled board row bits =
+    (column : ℕ) → bit_at bits column ≡ 1 → position_of board (record { column = column; row = row }) ≡ stone.Empty → ⊥
+
+-- at each of these points of a row something may stay
+abbrev pub MayStand : ℕ → ℕ → Side → Type 0
+MayStand row bits side = (column : ℕ) → bit_at bits column ≡ 1 → bit_at (slice_index side.standing.items row) column ≡ 1
 
 -- these points but for those that are left were looked at, in their order
 pub record HasLooked (field : Kept) (mover : Colour) (points left : List Point) (before : List Meeting) (side : Side) (after : List Meeting) (new : Side) : Type 0 where

@@ -5,8 +5,6 @@ use Rattle.go_board.specs.Point.{index_of}
 use Rattle.go_board.specs.declared.points.Point.{Point}
 use Rattle.tally_core.specs.Inner.Sight.{points_in, there_at, HasLooked}
 use Rattle.tally_core.proofs.Seeing.{looked-none, looked-more, looked-point}
-use Rattle.tally_core.proofs.Standing.{none-filled}
-use Rattle.tally_core.specs.Walk.{shapes_of}
 use Rattle.std.proofs.lemmas.Bool.{cases_eq}
 use Rattle.tally_core.proofs.Taken.{IsLowest, cleared, lowest, row-first, row-none, column-inside, fits-columns}
 use Rattle.tally_core.proofs.sights.see_points.Goals as goal
@@ -38,6 +36,12 @@ pub see_point-requires-clause-on_board : goal.see_point-requires-clause-on_board
 see_point-requires-clause-on_board c =
     let low = column c.args.field.now.board.size c.loop-bits.bits c.loop-bits-test.true c.loop-bits.invariant.within c.size-size.ensures.board.extent.few_columns in
     (low.0, c.requires.row)
+
+pub see_point-requires-clause-empty : goal.see_point-requires-clause-empty
+see_point-requires-clause-empty c =
+    let is = c.loop-bits.invariant in
+    let low = column c.args.field.now.board.size c.loop-bits.bits c.loop-bits-test.true is.within c.size-size.ensures.board.extent.few_columns in
+    c.requires.empty (trailing_zeros w64 c.loop-bits.bits) (is.among (trailing_zeros w64 c.loop-bits.bits) low.1.set)
 
 pub loop-bits-smaller : goal.loop-bits-smaller
 loop-bits-smaller c =
@@ -77,8 +81,7 @@ loop-bits-preserved c =
       looked = looked-more field mover points (point ∷ []) left c.args.meetings.now before after c.args.side.now side _ first
           (looked-point field mover point before after side _ c.index.result stays old
           (low.0, c.requires.row) place is.looked.standing refl refl refl refl
-          (λ none. none-filled field mover point (shapes_of after) stays looked.patterns
-          (λ empty. absurd (omega (arith, none, ap (λ (v : Vec ℕ Global). bit_at (slice_index v.items row) k) is.standing ∙ c.requires.open k (is.among k low.1.set) empty))))
+          (λ none. absurd (omega (arith, none, ap (λ (v : Vec ℕ Global). bit_at (slice_index v.items row) k) is.standing ∙ c.requires.open k (is.among k low.1.set))))
           (rw occasions looked.stays) looked.patterns
           (rw occasions (λ shape. looked.there shape ∙ ap (λ s. there_at before c.args.side.now.occasions s shape) c.index_mut-stays.ensures.value))
           looked.played looked.meets);
