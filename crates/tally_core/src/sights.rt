@@ -16,8 +16,8 @@ ghost use Rattle.go_board.specs.declared.points.Stone.TheVariants as stone;
 
 use crate::faults::HarvestFault;
 use crate::meetings::Meetings;
-use crate::stays::{Side, Stays, begin, play, settle};
-use go_board::{Colour, Point, Stone};
+use crate::stays::{Side, Stays, begin, settle};
+use go_board::{Colour, Point};
 use shape_core::{Field, Kinds};
 
 /// Settles what stays at a point.
