@@ -1,5 +1,5 @@
 -- A side before the first action.
-use Rattle.std.proofs.Common.{◌≡◌, ℕ, ◌-◌, ◌*◌, ◌%◌, ◌^◌, ◌<◌, ◌≤◌, length, replicate, slice_index, slice_index_or, All, ap, sym, subst, ◌∙◌, arith, mul-zero}
+use Rattle.std.proofs.Common.{◌≡◌, ℕ, ◌-◌, ◌*◌, ◌%◌, ◌^◌, ◌<◌, ◌≤◌, length, replicate, slice_index, slice_index_or, All, List, [], inl, ap, sym, subst, ◌∙◌, arith, mul-zero}
 use Rattle.std.specs.Prelude.{sum_by}
 use Rattle.std.specs.Int.{bit_at}
 use Rattle.std.proofs.lemmas.List.{get_or-replicate, length-replicate}
@@ -9,10 +9,13 @@ use Rattle.std.proofs.lemmas.Nat.{pow_pos, pow_below}
 use Rattle.std.proofs.lemmas.Nat.Bits.{bit_at_ones}
 use Rattle.go_board.specs.Extent.{Extent}
 use Rattle.go_board.specs.Point.{index_of}
+use Rattle.go_board.specs.Position.{Position}
+use Rattle.go_board.specs.declared.points.Colour.{Colour}
+use Rattle.shape_core.specs.declared.words.Kinds.{Kinds}
 use Rattle.shape_core.specs.KeptLists.{AreMarks}
-use Rattle.tally_core.specs.Inner.Standing.{AreStays, waits_at, no_stays, IsNewSide}
+use Rattle.tally_core.specs.Inner.Standing.{AreStays, waits_at, no_stays, IsSide, IsNewSide}
 use Rattle.tally_core.specs.declared.stays.Stays.{Stays}
-use Rattle.tally_core.specs.declared.stays.Side.{Side}
+use Rattle.tally_core.specs.declared.sides.Side.{Side}
 use Rattle.tally_core.proofs.Seeing.{index-inside}
 
 -- a bit for each column
@@ -51,3 +54,11 @@ new-side size side occasions changed standing points =
           ∙ ap (λ n. bit_at n q.column) (get_or-replicate size.rows q.row full 0 on.1)
           ∙ bit_at_ones size.columns q.column on.0;
     }
+
+-- before anything was met it is a side of any position: each point is to be looked at
+pub side-begins : (kinds : Kinds) (size : Extent) (position : Position) (mover : Colour) (shapes : List ℕ) (side : Side) → shapes ≡ [] → IsNewSide size side →
+    IsSide kinds size position mover shapes side
+side-begins kinds size position mover shapes side none new = record {
+  standing = rw none new.standing;
+  pending = λ q on. inl (new.all q on);
+}

@@ -138,3 +138,6 @@ waiting-longer shapes met occasions (stays ∷ points) shape h =
 stay-longer : (met occasions : ℕ) (stay : Option Stay) → IsStay met occasions stay → IsStay met (occasions + 1) stay
 stay-longer met occasions None h = h
 stay-longer met occasions (Some stay) h = (h.0, omega (arith, h.1))
+
+pub stays-longer : (met occasions : ℕ) (stays : Stays) → AreStays met occasions stays → AreStays met (occasions + 1) stays
+stays-longer met occasions stays h = record { square = stay-longer met occasions stays.square h.square; diamond = stay-longer met occasions stays.diamond h.diamond }

@@ -26,7 +26,7 @@ use Rattle.shape_core.proofs.Agreeing.{middle, same_stones}
 use Rattle.tally_core.specs.Occasions.{is_empty}
 use Rattle.tally_core.specs.Counts.{kinds_of, patterns_at}
 use Rattle.tally_core.specs.Inner.Standing.{AreStays, StayThere, patterns_here, IsSide, no_stays}
-use Rattle.tally_core.specs.declared.stays.Side.{Side}
+use Rattle.tally_core.specs.declared.sides.Side.{Side}
 
 -- ---- sets that others join
 

@@ -13,16 +13,18 @@ use Rattle.go_board.specs.declared.points.Stone.TheVariants as stone
 use Rattle.go_record.specs.declared.actions.Action.{Action}
 use Rattle.go_record.specs.declared.actions.Action.TheVariants as deed
 use Rattle.shape_core.specs.declared.words.Kinds.{Kinds}
-use Rattle.shape_core.specs.Field.{IsMarked}
+use Rattle.shape_core.specs.Field.{Kept, IsMarked}
+use Rattle.go_board.specs.Board.{position_of}
 use Rattle.tally_core.specs.Occasions.{Occasion, is_empty, occasion_of}
 use Rattle.tally_core.specs.Counts.{kinds_of, points_of, patterns_at, patterns_there, patterns_played}
 use Rattle.tally_core.specs.Inner.Counter.{times_in}
-use Rattle.tally_core.specs.Walk.{shapes_of, played_among}
+use Rattle.tally_core.specs.Walk.{shapes_of}
 use Rattle.tally_core.specs.Inner.Meeting.{Extends, Meets}
-use Rattle.tally_core.specs.Inner.Standing.{AreStays, StayThere, waiting, there_with, patterns_seen, IsSide, IsSeen, IsCountedOn}
+use Rattle.tally_core.specs.Inner.Standing.{AreStays, StayThere, waiting, patterns_seen, IsSide, IsSeen, CountsOccasions}
+use Rattle.tally_core.specs.Inner.Sight.{seen_on, played_on, IsSideOn, AddsThere, AddsPlayed}
 use Rattle.tally_core.specs.declared.meetings.Meeting.{Meeting}
-use Rattle.tally_core.specs.declared.stays.Side.{Side}
-use Rattle.tally_core.specs.declared.occasions.Sides.{Sides}
+use Rattle.tally_core.specs.declared.sides.Side.{Side}
+use Rattle.tally_core.specs.declared.game_walks.GameWalk.{GameWalk}
 use Rattle.tally_core.proofs.Rows.{kept-cons}
 use Rattle.tally_core.proofs.Lasting.{waiting-extended, stays-extended, length-extended}
 use Rattle.tally_core.proofs.Once.{meets_none}
@@ -77,19 +79,22 @@ occasion-done position action mover at is empty =
     ap (occasion_of position) is ∙ ap (λ (s : Stone). cond (is_empty s) (o ∷ []) []) empty
 
 -- what an occasion says of one side
-pub record IsOccasion (kinds : Kinds) (size : Extent) (position : Position) (mover : Colour) (at : Point) (met new : List Meeting) (side after : Side) : Type 0 where
+pub record IsOccasion (field : Kept) (mover : Colour) (at : Point) (met new : List Meeting) (side after : Side) : Type 0 where
   pub occasions : after.occasions ≡ side.occasions + 1
-  pub there : (shape : ℕ) → there_with new after shape ≡ there_with met side shape + times_in (patterns_seen kinds size position mover) shape
-  pub played : (shape : ℕ) → played_among new shape ≡ played_among met shape + times_in (patterns_at (kinds_of kinds) size position mover at) shape
-  pub meets : Meets (shapes_of met) (patterns_seen kinds size position mover) (shapes_of new)
+  pub there : AddsThere (seen_on field mover) met side new after
+  pub played : AddsPlayed (played_on field mover at) met new
+  pub meets : Meets (shapes_of met) (seen_on field mover) (shapes_of new)
 
-pub black-counted : (kinds : Kinds) (size : Extent) (position : Position) (at : Point) (done : List Occasion) (met new : List Meeting) (sides after : Sides) →
-    done ≡ record { position = position; mover = colour.Black; at = at } ∷ [] → IsSide kinds size position colour.White (shapes_of met) sides.white →
-    after.white ≡ sides.white → IsOccasion kinds size position colour.Black at met new sides.black after.black → IsCountedOn kinds size done met sides new after 1
-black-counted kinds size position at done met new sides after is side same counted =
-    let white = sides.white in
+pub black-counted : (before after : GameWalk) (at : Point) (done : List Occasion) →
+    done ≡ record { position = position_of before.field.board; mover = colour.Black; at = at } ∷ [] → IsSideOn before.field colour.White before.meetings before.white → after.white ≡ before.white →
+    IsOccasion before.field colour.Black at before.meetings after.meetings before.black after.black → CountsOccasions done before after 1
+black-counted before after at done is side same counted =
+    let kinds = before.field.kinds in
+    let size = before.field.board.size in
+    let position = position_of before.field.board in
+    let white = before.white in
     let o : Occasion = record { position = position; mover = colour.Black; at = at } in
-    let all : IsCountedOn kinds size (o ∷ []) met sides new after 1 = record {
+    let all : CountsOccasions (o ∷ []) before after 1 = record {
       moves_counted = refl;
       few = omega arith;
       black = omega (arith, counted.occasions);
@@ -99,37 +104,40 @@ black-counted kinds size position at done met new sides after is side same count
             arith,
             counted.there shape,
             ap (λ ps. times_in ps shape) (there-done kinds size position colour.Black at),
-            ap (λ (s : Side). waiting (shapes_of new) s.occasions s.points.items shape) same,
-            waiting-extended (shapes_of met) (shapes_of new) white.occasions white.points.items shape counted.meets.extends side.standing.stays,
+            ap (λ (s : Side). waiting (shapes_of after.meetings) s.occasions s.points.items shape) same,
+            waiting-extended (shapes_of before.meetings) (shapes_of after.meetings) white.occasions white.points.items shape counted.meets.extends side.standing.stays,
           );
       played = λ shape. omega (arith, counted.played shape, ap (λ ps. times_in ps shape) (played-done kinds size position colour.Black at));
-      meets = subst (λ ps. Meets (shapes_of met) ps (shapes_of new)) (there-done kinds size position colour.Black at) counted.meets;
+      meets = subst (λ ps. Meets (shapes_of before.meetings) ps (shapes_of after.meetings)) (there-done kinds size position colour.Black at) counted.meets;
     } in
-    subst (λ d. IsCountedOn kinds size d met sides new after 1) (sym is) all
+    subst (λ d. CountsOccasions d before after 1) (sym is) all
 
-pub white-counted : (kinds : Kinds) (size : Extent) (position : Position) (at : Point) (done : List Occasion) (met new : List Meeting) (sides after : Sides) →
-    done ≡ record { position = position; mover = colour.White; at = at } ∷ [] → IsSide kinds size position colour.Black (shapes_of met) sides.black →
-    after.black ≡ sides.black → IsOccasion kinds size position colour.White at met new sides.white after.white → IsCountedOn kinds size done met sides new after 1
-white-counted kinds size position at done met new sides after is side same counted =
-    let black = sides.black in
+pub white-counted : (before after : GameWalk) (at : Point) (done : List Occasion) →
+    done ≡ record { position = position_of before.field.board; mover = colour.White; at = at } ∷ [] → IsSideOn before.field colour.Black before.meetings before.black → after.black ≡ before.black →
+    IsOccasion before.field colour.White at before.meetings after.meetings before.white after.white → CountsOccasions done before after 1
+white-counted before after at done is side same counted =
+    let kinds = before.field.kinds in
+    let size = before.field.board.size in
+    let position = position_of before.field.board in
+    let black = before.black in
     let o : Occasion = record { position = position; mover = colour.White; at = at } in
-    let all : IsCountedOn kinds size (o ∷ []) met sides new after 1 = record {
+    let all : CountsOccasions (o ∷ []) before after 1 = record {
       moves_counted = refl;
       few = omega arith;
-      black = omega (arith, ap (λ (s : Side). s.occasions) same);
       white = omega (arith, counted.occasions);
+      black = omega (arith, ap (λ (s : Side). s.occasions) same);
       there = λ shape.
           omega (
             arith,
             counted.there shape,
             ap (λ ps. times_in ps shape) (there-done kinds size position colour.White at),
-            ap (λ (s : Side). waiting (shapes_of new) s.occasions s.points.items shape) same,
-            waiting-extended (shapes_of met) (shapes_of new) black.occasions black.points.items shape counted.meets.extends side.standing.stays,
+            ap (λ (s : Side). waiting (shapes_of after.meetings) s.occasions s.points.items shape) same,
+            waiting-extended (shapes_of before.meetings) (shapes_of after.meetings) black.occasions black.points.items shape counted.meets.extends side.standing.stays,
           );
       played = λ shape. omega (arith, counted.played shape, ap (λ ps. times_in ps shape) (played-done kinds size position colour.White at));
-      meets = subst (λ ps. Meets (shapes_of met) ps (shapes_of new)) (there-done kinds size position colour.White at) counted.meets;
+      meets = subst (λ ps. Meets (shapes_of before.meetings) ps (shapes_of after.meetings)) (there-done kinds size position colour.White at) counted.meets;
     } in
-    subst (λ d. IsCountedOn kinds size d met sides new after 1) (sym is) all
+    subst (λ d. CountsOccasions d before after 1) (sym is) all
 
 -- ---- what is no occasion
 
@@ -145,13 +153,13 @@ occasion-none position action mover at is full =
     ] refl
 
 -- nothing is counted where there is no occasion
-pub nothing-counted : (kinds : Kinds) (size : Extent) (meetings : List Meeting) (sides : Sides) → IsCountedOn kinds size [] meetings sides meetings sides 0
-nothing-counted kinds size meetings sides = record {
+pub nothing-counted : (walk : GameWalk) → CountsOccasions [] walk walk 0
+nothing-counted walk = record {
   moves_counted = refl;
   few = omega arith;
   black = omega arith;
   white = omega arith;
   there = λ shape. omega arith;
   played = λ shape. omega arith;
-  meets = meets_none (shapes_of meetings);
+  meets = meets_none (shapes_of walk.meetings);
 }

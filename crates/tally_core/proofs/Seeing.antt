@@ -28,7 +28,7 @@ use Rattle.go_board.specs.Board.{position_of}
 use Rattle.tally_core.specs.Inner.Meeting.{Meets}
 use Rattle.tally_core.specs.Inner.Standing.{AreStanding}
 use Rattle.tally_core.specs.Inner.Sight.{here_on, StayOn, StaysAt, PlayedStays, HasLooked}
-use Rattle.tally_core.specs.declared.stays.Side.{Side}
+use Rattle.tally_core.specs.declared.sides.Side.{Side}
 use Rattle.tally_core.proofs.Once.{meets_on, meets_none}
 use Rattle.tally_core.proofs.Lasting.{staying-extended, waits_at-extended, stays-extended, length-extended, waiting-extended}
 

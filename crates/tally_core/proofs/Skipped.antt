@@ -17,7 +17,7 @@ use Rattle.tally_core.specs.Inner.Meeting.{Meets}
 use Rattle.tally_core.specs.Inner.Standing.{IsStay, AreStays, patterns_of, patterns_staying, patterns_here, patterns_seen, no_stays, is_in_set, IsSide}
 use Rattle.tally_core.specs.declared.stays.Stay.{Stay}
 use Rattle.tally_core.specs.declared.stays.Stays.{Stays}
-use Rattle.tally_core.specs.declared.stays.Side.{Side}
+use Rattle.tally_core.specs.declared.sides.Side.{Side}
 use Rattle.tally_core.proofs.Once.{is_in, in-at, once_same, meets_again, AreIn}
 use Rattle.tally_core.proofs.Seeing.{index-inside}
 

@@ -1,12 +1,12 @@
 -- Points at which nothing stays and nothing comes.
-use Rattle.std.proofs.Common.{◌≡◌, ℕ, zero, suc, ◌+◌, ◌-◌, ◌^◌, ◌≤◌, ◌<◌, ◌==◌, min, max, bit_and, bit_or, w64, set, length, slice_index_or, length-set, get_or-set_same, get_or-set_other, ◌⊎◌, inl, inr, Bool, true, false, cond, List, [], ◌∷◌, ◌++◌, map, filter, slice_index, All, Contains, Vec, Global, Option, Some, None, refl, ap, ap₂, sym, subst, ◌∙◌, ⊎_elim, arith}
+use Rattle.std.proofs.Common.{◌≡◌, ℕ, zero, suc, ◌+◌, ◌-◌, ◌^◌, ◌≤◌, ◌<◌, ◌==◌, min, max, bit_and, bit_or, w64, set, length, slice_index_or, length-set, get_or, get_or-set_same, get_or-set_other, ◌⊎◌, inl, inr, Bool, true, false, cond, List, [], ◌∷◌, ◌++◌, map, filter, slice_index, All, Contains, Vec, Global, Option, Some, None, refl, ap, ap₂, sym, subst, ◌∙◌, ⊎_elim, arith}
 use Rattle.std.specs.Int.{bit_at, bit_not}
 use Rattle.std.proofs.lemmas.Bool.{cases_eq}
 use Rattle.std.proofs.lemmas.Bool.Decides.{nat_tests}
 use Rattle.std.proofs.lemmas.Nat.Bits.{bit_at-zero, bit_at_and, bit_at_or, bit_at_not, bit_at-lt}
 use Rattle.std.proofs.lemmas.List.Concat.{flat_map-append}
 use Rattle.std.specs.List.{flat_map}
-use Rattle.std.proofs.lemmas.List.{append-nil}
+use Rattle.std.proofs.lemmas.List.{append-nil, get_or_read}
 use Rattle.std.proofs.lemmas.Nat.{or_lt, and_le_l}
 use Rattle.std.proofs.lemmas.List.Elements.{All-nil, All-cons, All-head, All-tail, All-set, All-get_or, All-contains, Contains-append_left, Contains-append_right}
 use Rattle.go_board.specs.Extent.{Extent}
@@ -23,9 +23,9 @@ use Rattle.tally_core.specs.Counts.{kinds_of, patterns_at, row_of}
 use Rattle.tally_core.specs.Walk.{shapes_of}
 use Rattle.tally_core.specs.Inner.Meeting.{Meets}
 use Rattle.tally_core.specs.Inner.Standing.{patterns_of, patterns_staying, no_stays, AreStanding}
-use Rattle.tally_core.specs.Inner.Sight.{AllEmpty, AllFilled, points_in, here_on, StayOn, HasLooked}
+use Rattle.tally_core.specs.Inner.Sight.{AllFilled, points_in, here_on, StayOn, HasLooked}
 use Rattle.tally_core.specs.declared.meetings.Meeting.{Meeting}
-use Rattle.tally_core.specs.declared.stays.Side.{Side}
+use Rattle.tally_core.specs.declared.sides.Side.{Side}
 use Rattle.tally_core.specs.declared.stays.Stay.{Stay}
 use Rattle.tally_core.specs.declared.stays.Stays.{Stays}
 use Rattle.tally_core.proofs.Among.{IsIn, in-filter, in-row, contains-in}
@@ -60,7 +60,7 @@ here-filled field mover q filled =
       | stone.White ↦ λ is. refl
     ] refl
 
-pub none-filled : (field : Kept) (mover : Colour) (q : Point) (shapes : List ℕ) (stays : Stays) → patterns_staying shapes stays ≡ here_on field mover q →
+none-filled : (field : Kept) (mover : Colour) (q : Point) (shapes : List ℕ) (stays : Stays) → patterns_staying shapes stays ≡ here_on field mover q →
     (position_of field.board q ≡ stone.Empty → ⊥) → stays ≡ no_stays
 none-filled field mover q shapes stays is filled = none-staying shapes stays (is ∙ here-filled field mover q filled)
 
@@ -130,7 +130,7 @@ pub record AreBits (changed empty standing i : ℕ) : Type 0 where
   pub empty_bit : bit_at empty i < 2
   pub standing_bit : bit_at standing i < 2
 
-pub bits-are : (changed empty standing i : ℕ) → changed < 2 ^ 64 → empty < 2 ^ 64 → i < 64 → AreBits changed empty standing i
+bits-are : (changed empty standing i : ℕ) → changed < 2 ^ 64 → empty < 2 ^ 64 → i < 64 → AreBits changed empty standing i
 bits-are changed empty standing i fits fits_empty low = record {
   coming = bit_at_and changed empty i;
   going = bit_at_and (bit_and changed standing) (bit_not w64 empty) i
@@ -154,11 +154,13 @@ pub record IsRow (field : Kept) (side : Side) (row changed standing empty : ℕ)
   pub fits : changed < 2 ^ 64
   pub fits_empty : empty < 2 ^ 64
 
-pub is-row : (field : Kept) (met : ℕ) (side : Side) (row changed standing empty : ℕ) → AreStanding field.board.size met side → row < field.board.size.rows → field.board.size.columns ≤ 52 →
-    changed ≡ slice_index side.changed.items row → standing ≡ slice_index side.standing.items row → AreEmptyColumns field.board.size (position_of field.board) row empty →
+pub is-row : (field : Kept) (met : ℕ) (side : Side) (row at changed standing empty : ℕ) → AreStanding field.board.size met side → row < field.board.size.rows → field.board.size.columns ≤ 52 → at ≡ row →
+    changed ≡ get_or side.changed.items at changed → standing ≡ get_or side.standing.items at standing → AreEmptyColumns field.board.size (position_of field.board) row empty →
     IsRow field side row changed standing empty
-is-row field met side row changed standing empty is inside few changed_is standing_is columns =
+is-row field met side row at changed standing empty is inside few same changed_read standing_read columns =
     let size = field.board.size in
+    let changed_is : changed ≡ slice_index side.changed.items row = get_or_read side.changed.items at changed (omega (arith, same, is.marks.rows, inside)) changed_read 0 ∙ ap (slice_index side.changed.items) same in
+    let standing_is : standing ≡ slice_index side.standing.items row = get_or_read side.standing.items at standing (omega (arith, same, is.standing.rows, inside)) standing_read 0 ∙ ap (slice_index side.standing.items) same in
     let small : changed < 2 ^ size.columns = rw changed_is (All-get_or (λ r. r < 2 ^ size.columns) side.changed.items row 0 (omega (arith, is.marks.rows, inside)) is.marks.within) in
     record {
       inside = inside;
@@ -188,7 +190,8 @@ module _ (field : Kept) (side : Side) (row changed standing empty : ℕ) where
       let bits = row-bits is c low in
       absurd (omega (arith, bits.going, looks, bits.empty_bit, is.columns.each c low ∙ ap bit_of_empty stands))
 
-  pub coming-empty : IsRow field side row changed standing empty → AllEmpty field.board row (bit_and changed empty)
+  pub coming-empty : IsRow field side row changed standing empty → (c : ℕ) → bit_at (bit_and changed empty) c ≡ 1 →
+      position_of field.board (record { column = c; row = row }) ≡ stone.Empty
   coming-empty is c looks =
       let low = column-inside (bit_and changed empty) c field.board.size.columns looks (coming-small is) in
       let bits = row-bits is c low in

@@ -17,7 +17,7 @@ use Rattle.tally_core.specs.Counts.{row_of}
 use Rattle.tally_core.specs.Inner.Counter.{times_in}
 use Rattle.tally_core.specs.Inner.Standing.{patterns_staying, patterns_here, patterns_seen, no_stays, IsSeen}
 use Rattle.tally_core.specs.declared.stays.Stays.{Stays}
-use Rattle.tally_core.specs.declared.stays.Side.{Side}
+use Rattle.tally_core.specs.declared.sides.Side.{Side}
 use Rattle.tally_core.proofs.Lasting.{times-append}
 
 -- each point's list has a pattern as often as what is at its place says

@@ -1,17 +1,15 @@
 //! What stays at the points of a board while a game is walked: most patterns do, and only what changes is looked up.
-ghost use Rattle.std.specs.Prelude.{◌≡◌, ◌+◌, ◌<◌, ◌*◌, ◌^◌, ◌∷◌, ℕ, [], length, IfOk, IfErr, OnOk};
-ghost use Rattle.std.specs.Prelude.{All};
+ghost use Rattle.std.specs.Prelude.{◌≡◌, ◌+◌, ◌<◌, ◌^◌, ◌∷◌, ℕ, [], length, IfOk, IfErr, OnOk};
 ghost use Rattle.tally_core.specs.Inner.Counter.{times_in};
 ghost use Rattle.tally_core.specs.Walk.{shapes_of, there_among, played_among};
 ghost use Rattle.tally_core.specs.Inner.Meeting.{Meets, CountsStay};
-ghost use Rattle.tally_core.specs.Inner.Standing.{IsStay, patterns_of, waits, waiting, AreStays};
-ghost use Rattle.tally_core.specs.Inner.Standing.{no_stays};
+ghost use Rattle.tally_core.specs.Inner.Standing.{IsStay, patterns_of, waits, AreStays};
+ghost use Rattle.tally_core.specs.Inner.Sight.{Fit, there_at, PlayedStays};
 ghost use Rattle.tally_core.specs.declared.faults.HarvestFault.TheVariants as fault;
 
 use crate::faults::HarvestFault;
 use crate::meetings::Meetings;
 use shape_core::Shape;
-use std::alloc::Global;
 
 /// A pattern that stays at a point: the index of its meeting, and how many occasions of its mover there had been when it
 /// was first there.
@@ -26,20 +24,6 @@ pub struct Stay {
 pub struct Stays {
     pub square: Option<Stay>,
     pub diamond: Option<Stay>,
-}
-
-/// What a walk knows for one colour to move.
-#[derive(Drop)]
-pub struct Side {
-    /// How many occasions of this colour there were.
-    pub occasions: u64,
-    /// The points whose words may have changed since the last of them: for each row a bit for each column.
-    pub changed: Vec<u64>,
-    /// The points at which something may stay: for each row a bit for each column. After an occasion they are those that were
-    /// empty then.
-    pub standing: Vec<u64>,
-    /// What stays at each point, row by row from the top, each row from the left.
-    pub points: Vec<Stays>,
 }
 
 /// Counts the occasions of a stay.
@@ -57,6 +41,19 @@ pub(crate) fn settle(meetings: &mut Meetings, stay: Option<Stay>, occasions: u64
     if let Some(stay) = stay {
         meetings.add_there(stay.meeting, occasions - stay.since);
     }
+}
+
+/// Settles what stays at a point.
+pub(crate) fn settle_point(meetings: &mut Meetings, stays: Stays, occasions: u64)
+    requires stays { AreStays (length (shapes_of meetings.old)) occasions stays }
+    requires few { Fit (there_at meetings.old occasions stays) }
+    ensures shapes { shapes_of meetings.new ≡ shapes_of meetings.old }
+    ensures there { (shape : ℕ) →
+        there_among meetings.new shape ≡ there_at meetings.old occasions stays shape }
+    ensures played { PlayedStays meetings.old meetings.new }
+{
+    settle(meetings, stays.square, occasions);
+    settle(meetings, stays.diamond, occasions);
 }
 
 /// Counts a stay's pattern as played once more.

@@ -1,26 +1,17 @@
 //! A walk of a game: the patterns that it met, in the order in which they were first met.
-ghost use Rattle.std.specs.Prelude.{◌≡◌, ◌+◌, ◌<◌, ◌≤◌, ◌*◌, ◌^◌, ℕ, [], length, All, IfOk, IfErr};
-ghost use Rattle.std.specs.Prelude.{OnOk};
-ghost use Rattle.go_board.specs.Board.{position_of};
-ghost use Rattle.go_board.specs.Extent.{IsExtent};
-ghost use Rattle.go_record.specs.Actions.{IsActionOn};
+ghost use Rattle.std.specs.Prelude.{◌≡◌, ◌≤◌, ◌*◌, [], length, IfOk, IfErr, OnOk};
 ghost use Rattle.tally_core.specs.Tally.{IsTallyFault};
-ghost use Rattle.tally_core.specs.Walk.{IsWalk, IsAmong, IsSmall, shapes_of, there_among};
-ghost use Rattle.tally_core.specs.Inner.Sight.{PlayedStays};
-ghost use Rattle.tally_core.specs.Inner.Standing.{AreStays, there_with, IsNewSide, IsWalkOf};
-ghost use Rattle.tally_core.specs.declared.faults.HarvestFault.TheVariants as fault;
+ghost use Rattle.tally_core.specs.Walk.{IsWalk, IsAmong, IsSmall};
 
 use crate::blanks::Blank;
 use crate::faults::HarvestFault;
+use crate::game_walks::GameWalk;
 use crate::meetings::{Meeting, Meetings};
-use crate::occasions::{Sides, act};
-use crate::sights::settle_point;
-use crate::stays::{Side, Stays};
-use go_board::Size;
-use go_record::{Action, Record};
-use shape_core::{Field, Kinds};
+use go_record::Record;
+use shape_core::Kinds;
 use std::alloc::Global;
 use std::marker::Model;
+use std::mem;
 
 /// From this number of actions on, counts of a game may pass 2^64 - 1. An occasion is counted at most 5410 times.
 const MOST_ACTIONS: usize = 3_409_749_366_674_594;
@@ -39,70 +30,6 @@ impl Model for Walk {
     ghost Value = { Walked };
 
     ghost view = { λ w. record { kinds = w.blank; meetings = w.meetings } };
-}
-
-/// A side before the first action: nothing stays, and every point is in the set.
-fn new_side(alloc: Global, size: Size) -> Result<Side, HarvestFault>
-    ensures side { IfOk result (IsNewSide size) }
-    ensures fault { IfErr result (λ found. found ≡ fault.Memory) }
-{
-    let columns = usize::from(size.columns());
-    let rows = usize::from(size.rows());
-    let stays = Stays {
-        square: None,
-        diamond: None,
-    };
-    let changed = vec![in alloc; (1 << columns) - 1; rows]?;
-    let standing = vec![in alloc; 0; rows]?;
-    let points = vec![in alloc; stays; size.area()]?;
-    Ok(Side {
-        occasions: 0,
-        changed,
-        standing,
-        points,
-    })
-}
-
-/// Settles what stays at all points.
-fn settle_side(meetings: &mut Meetings, side: &Side)
-    requires stays { All (AreStays (length (shapes_of meetings.old)) side.now.occasions)
-        side.now.points.items }
-    requires few { (shape : ℕ) → there_with meetings.old side.now shape < 2 ^ 64 }
-    ensures shapes { shapes_of meetings.new ≡ shapes_of meetings.old }
-    ensures there { (shape : ℕ) →
-        there_among meetings.new shape ≡ there_with meetings.old side.now shape }
-    ensures played { PlayedStays meetings.old meetings.new }
-{
-    for stays in &side.points {
-        settle_point(meetings, *stays, side.occasions);
-    }
-}
-
-/// Walks these actions from an empty board on; the answer is how many occasions there are.
-fn walk_actions(
-    meetings: &mut Meetings,
-    sides: &mut Sides,
-    field: &mut Field,
-    actions: &[Action],
-) -> Result<u64, HarvestFault>
-    requires on_board { All (IsActionOn field.old.board.size) actions.now }
-    requires extent { IsExtent field.old.board.size }
-    requires few { 5410 * length actions.now < 2 ^ 64 }
-    requires none { meetings.old ≡ [] }
-    requires black { IsNewSide field.old.board.size sides.old.black }
-    requires white { IsNewSide field.old.board.size sides.old.white }
-    ensures walked { IfOk result (IsWalkOf field.old.kinds field.old.board.size actions.now
-        (position_of field.old.board) meetings.new) }
-    ensures few { IfOk result (λ moves. moves ≤ length actions.now) }
-    ensures fault { IfErr result (λ found. found ≡ fault.Memory) }
-{
-    let mut moves = 0;
-    for action in actions {
-        moves += act(meetings, sides, field, *action)?;
-    }
-    settle_side(meetings, &sides.black);
-    settle_side(meetings, &sides.white);
-    Ok(moves)
 }
 
 impl Walk {
@@ -136,21 +63,21 @@ impl Walk {
         ensures few { IfOk result (λ moves. moves ≤ length game_record.now.actions) }
         ensures fault { IfErr result (IsTallyFault game_record.now) }
     {
-        if game_record.actions().len() >= MOST_ACTIONS {
+        let actions = game_record.actions();
+        if actions.len() >= MOST_ACTIONS {
             return Err(HarvestFault::Overflow);
         }
         self.meetings.clear()?;
-        let mut sides = Sides {
-            black: new_side(self.alloc, game_record.size())?,
-            white: new_side(self.alloc, game_record.size())?,
-        };
-        let mut field = self.blank.field(game_record.size())?;
-        walk_actions(
-            &mut self.meetings,
-            &mut sides,
-            &mut field,
-            game_record.actions(),
-        )
+        let field = self.blank.field(game_record.size())?;
+        let meetings = mem::replace(&mut self.meetings, Meetings::new(self.alloc));
+        let mut game = GameWalk::begin(self.alloc, field, meetings)?;
+        let mut moves = 0;
+        for action in actions {
+            moves += game.count(*action)?;
+            game.act(*action);
+        }
+        self.meetings = game.finish();
+        Ok(moves)
     }
 
     /// What the last walk met. After none there is nothing.

@@ -15,11 +15,11 @@ use Rattle.tally_core.specs.Occasions.{occasion_of}
 use Rattle.tally_core.specs.Counts.{kinds_of, patterns_at, row_of}
 use Rattle.tally_core.specs.Inner.Counter.{times_in}
 use Rattle.tally_core.specs.Walk.{there_among, played_among, shapes_of}
-use Rattle.tally_core.specs.Inner.Standing.{waits_at, there_with, patterns_here, patterns_seen, StayThere, AreStanding, IsSide, IsSeen, AreSides, IsCountedOn}
+use Rattle.tally_core.specs.Inner.Standing.{waits_at, there_with, patterns_here, patterns_seen, StayThere, AreStanding, IsSide, IsSeen, CountsOccasions}
 use Rattle.tally_core.specs.declared.meetings.Meeting.{Meeting}
 use Rattle.tally_core.specs.declared.stays.Stays.{Stays}
-use Rattle.tally_core.specs.declared.stays.Side.{Side}
-use Rattle.tally_core.specs.declared.occasions.Sides.{Sides}
+use Rattle.tally_core.specs.declared.sides.Side.{Side}
+use Rattle.tally_core.specs.declared.game_walks.GameWalk.{GameWalk}
 
 -- no pattern was there more often than before
 abbrev pub ThereStays : List Meeting → List Meeting → Type 0
@@ -74,19 +74,10 @@ points_in size row bits = filter (λ q. bit_at bits q.column == 1) (row_of size 
 abbrev pub changed_in : Extent → Side → ℕ → List Point
 changed_in size side row = points_in size row (slice_index side.changed.items row)
 
--- each of these points of a row is empty
-abbrev pub AllEmpty : Stones → ℕ → ℕ → Type 0
-AllEmpty board row bits =
-    (column : ℕ) → bit_at bits column ≡ 1 → position_of board (record { column = column; row = row }) ≡ stone.Empty
-
 -- none of these points of a row is empty
 abbrev pub AllFilled : Stones → ℕ → ℕ → Type 0
 AllFilled board row bits =
     (column : ℕ) → bit_at bits column ≡ 1 → position_of board (record { column = column; row = row }) ≡ stone.Empty → ⊥
-
--- at each of these points of a row something may stay
-abbrev pub MayStand : ℕ → ℕ → Side → Type 0
-MayStand row bits side = (column : ℕ) → bit_at bits column ≡ 1 → bit_at (slice_index side.standing.items row) column ≡ 1
 
 -- these points but for those that are left were looked at, in their order
 pub record HasLooked (field : Kept) (mover : Colour) (points left : List Point) (before : List Meeting) (side : Side) (after : List Meeting) (new : Side) : Type 0 where
@@ -109,11 +100,6 @@ abbrev pub IsSeenOn : Kept → Colour → List Meeting → Side → Type 0
 IsSeenOn field mover meetings side =
     IsSeen field.kinds field.board.size (position_of field.board) mover (shapes_of meetings) side
 
--- both sides are those of a field
-abbrev pub AreSidesOn : Kept → List Meeting → Sides → Type 0
-AreSidesOn field meetings sides =
-    AreSides field.kinds field.board.size (position_of field.board) (shapes_of meetings) sides
-
 -- this number of further patterns was there, with all that stays
 abbrev pub AddsThere : List ℕ → List Meeting → Side → List Meeting → Side → Type 0
 AddsThere patterns before side after new =
@@ -124,10 +110,10 @@ abbrev pub AddsPlayed : List ℕ → List Meeting → List Meeting → Type 0
 AddsPlayed patterns before after =
     (shape : ℕ) → played_among after shape ≡ played_among before shape + times_in patterns shape
 
--- this number of occasions of an action was counted
-abbrev pub CountsAction : Kept → Action → List Meeting → Sides → List Meeting → Sides → ℕ → Type 0
-CountsAction field action before sides after new =
-    IsCountedOn field.kinds field.board.size (occasion_of (position_of field.board) action) before sides after new
+-- the occasions of an action, this number of them, were counted
+abbrev pub CountsAction : Action → GameWalk → GameWalk → ℕ → Type 0
+CountsAction action before after =
+    CountsOccasions (occasion_of (position_of before.field.board) action) before after
 
 -- counts of a pattern that stay below the limit of a word
 abbrev pub Fit : (ℕ → ℕ) → Type 0

@@ -16,10 +16,11 @@ use Rattle.tally_core.specs.Counts.{kinds_of, points_of, patterns_at, patterns_t
 use Rattle.tally_core.specs.Inner.Counter.{one_pattern, times_in}
 use Rattle.tally_core.specs.declared.stays.Stay.{Stay}
 use Rattle.tally_core.specs.declared.stays.Stays.{Stays}
-use Rattle.tally_core.specs.declared.stays.Side.{Side}
-use Rattle.tally_core.specs.declared.occasions.Sides.{Sides}
+use Rattle.tally_core.specs.declared.sides.Side.{Side}
+use Rattle.tally_core.specs.declared.game_walks.GameWalk.{GameWalk}
 use Rattle.tally_core.specs.declared.meetings.Meeting.{Meeting}
 use Rattle.tally_core.specs.Walk.{there_among, played_among, shapes_of, once_each}
+use Rattle.go_board.specs.Board.{position_of}
 use Rattle.go_board.specs.declared.points.Colour.TheVariants as colour
 use Rattle.go_record.specs.declared.actions.Action.{Action}
 
@@ -69,12 +70,12 @@ abbrev pub there_with : List Meeting → Side → ℕ → ℕ
 there_with meetings side shape =
     there_among meetings shape + waiting (shapes_of meetings) side.occasions side.points.items shape
 
--- the same with those of both colours
-abbrev pub there_both : List Meeting → Sides → ℕ → ℕ
-there_both meetings sides shape =
-    there_among meetings shape
-    + waiting (shapes_of meetings) sides.black.occasions sides.black.points.items shape
-    + waiting (shapes_of meetings) sides.white.occasions sides.white.points.items shape
+-- the same with those of both colours: what would be counted if all that stays were settled now
+abbrev pub there_both : GameWalk → ℕ → ℕ
+there_both walk shape =
+    there_among walk.meetings shape
+    + waiting (shapes_of walk.meetings) walk.black.occasions walk.black.points.items shape
+    + waiting (shapes_of walk.meetings) walk.white.occasions walk.white.points.items shape
 
 -- nothing stays
 abbrev pub no_stays : Stays
@@ -109,27 +110,35 @@ pub record IsSeen (kinds : Kinds) (size : Extent) (position : Position) (mover :
   pub standing : AreStanding size (length shapes) side
   pub pending : (q : Point) → IsOn size q → StayThere kinds size position mover shapes side.points.items q
 
--- both colours' sides are those of a position
-pub record AreSides (kinds : Kinds) (size : Extent) (position : Position) (shapes : List ℕ) (sides : Sides) : Type 0 where
-  pub black : IsSide kinds size position colour.Black shapes sides.black
-  pub white : IsSide kinds size position colour.White shapes sides.white
+-- both sides are those of the position
+pub record AreSides (walk : GameWalk) : Type 0 where
+  pub black : IsSide walk.field.kinds walk.field.board.size (position_of walk.field.board) colour.Black (shapes_of walk.meetings) walk.black
+  pub white : IsSide walk.field.kinds walk.field.board.size (position_of walk.field.board) colour.White (shapes_of walk.meetings) walk.white
 
 -- one occasion more passes no limit
-pub record HaveRoom (meetings : List Meeting) (sides : Sides) : Type 0 where
-  pub there : (shape : ℕ) → there_both meetings sides shape + 5408 < 2 ^ 64
-  pub played : (shape : ℕ) → played_among meetings shape + 2 < 2 ^ 64
-  pub black : sides.black.occasions + 1 < 2 ^ 64
-  pub white : sides.white.occasions + 1 < 2 ^ 64
+pub record HaveRoom (walk : GameWalk) : Type 0 where
+  pub there : (shape : ℕ) → there_both walk shape + 5408 < 2 ^ 64
+  pub played : (shape : ℕ) → played_among walk.meetings shape + 2 < 2 ^ 64
+  pub black : walk.black.occasions + 1 < 2 ^ 64
+  pub white : walk.white.occasions + 1 < 2 ^ 64
 
--- the occasions of an action, this number of them, were counted
-pub record IsCountedOn (kinds : Kinds) (size : Extent) (done : List Occasion) (met : List Meeting) (before : Sides) (meetings : List Meeting) (after : Sides) (moves : ℕ) : Type 0 where
+-- these occasions, this number of them, were counted
+pub record CountsOccasions (done : List Occasion) (before after : GameWalk) (moves : ℕ) : Type 0 where
   pub moves_counted : moves ≡ length done
   pub few : moves ≤ 1
   pub black : after.black.occasions ≤ before.black.occasions + moves
   pub white : after.white.occasions ≤ before.white.occasions + moves
-  pub there : (shape : ℕ) → there_both meetings after shape ≡ there_both met before shape + times_in (flat_map (patterns_there (kinds_of kinds) size) done) shape
-  pub played : (shape : ℕ) → played_among meetings shape ≡ played_among met shape + times_in (flat_map (patterns_played (kinds_of kinds) size) done) shape
-  pub meets : Meets (shapes_of met) (flat_map (patterns_there (kinds_of kinds) size) done) (shapes_of meetings)
+  pub there : (shape : ℕ) → there_both after shape ≡ there_both before shape + times_in (flat_map (patterns_there (kinds_of before.field.kinds) before.field.board.size) done) shape
+  pub played : (shape : ℕ) → played_among after.meetings shape ≡ played_among before.meetings shape + times_in (flat_map (patterns_played (kinds_of before.field.kinds) before.field.board.size) done) shape
+  pub meets : Meets (shapes_of before.meetings) (flat_map (patterns_there (kinds_of before.field.kinds) before.field.board.size) done) (shapes_of after.meetings)
+
+-- what was counted, and what stays, are as they were
+pub record KeepsCounts (before after : GameWalk) : Type 0 where
+  pub meetings : after.meetings ≡ before.meetings
+  pub black_occasions : after.black.occasions ≡ before.black.occasions
+  pub black_points : after.black.points ≡ before.black.points
+  pub white_occasions : after.white.occasions ≡ before.white.occasions
+  pub white_points : after.white.points ≡ before.white.points
 
 -- a side before the first action: nothing stays, and every point is in the set
 pub record IsNewSide (size : Extent) (side : Side) : Type 0 where
@@ -148,10 +157,10 @@ pub record IsWalkOf (kinds : Kinds) (size : Extent) (actions : List Action) (sta
   pub order : once_each (shapes_of meetings) ≡ once_each (flat_map (patterns_there (kinds_of kinds) size) occasions)
 
 -- the first actions of a game were walked: whatever occasions the others have, all have these and those
-pub record IsFront (kinds : Kinds) (size : Extent) (all left : List Action) (start now : Position) (meetings : List Meeting) (sides : Sides) (moves : ℕ) : Type 0 where
+pub record IsFront (all left : List Action) (start : Position) (walk : GameWalk) (moves : ℕ) : Type 0 where
   pub done : List Occasion
-  pub others : (others : List Occasion) → HasOccasions size left now others → HasOccasions size all start (done ++ others)
+  pub others : (others : List Occasion) → HasOccasions walk.field.board.size left (position_of walk.field.board) others → HasOccasions walk.field.board.size all start (done ++ others)
   pub moves_counted : moves ≡ length done
-  pub there : (shape : ℕ) → there_both meetings sides shape ≡ times_in (flat_map (patterns_there (kinds_of kinds) size) done) shape
-  pub played : (shape : ℕ) → played_among meetings shape ≡ times_in (flat_map (patterns_played (kinds_of kinds) size) done) shape
-  pub order : once_each (shapes_of meetings) ≡ once_each (flat_map (patterns_there (kinds_of kinds) size) done)
+  pub there : (shape : ℕ) → there_both walk shape ≡ times_in (flat_map (patterns_there (kinds_of walk.field.kinds) walk.field.board.size) done) shape
+  pub played : (shape : ℕ) → played_among walk.meetings shape ≡ times_in (flat_map (patterns_played (kinds_of walk.field.kinds) walk.field.board.size) done) shape
+  pub order : once_each (shapes_of walk.meetings) ≡ once_each (flat_map (patterns_there (kinds_of walk.field.kinds) walk.field.board.size) done)

@@ -5,15 +5,19 @@ use Rattle.shape_core.specs.declared.words.Kinds.TheVariants as which
 use Rattle.tally_core.specs.Counts.{kinds_of, patterns_at}
 use Rattle.tally_core.specs.Walk.{shapes_of}
 use Rattle.tally_core.specs.Inner.Meeting.{Meets}
+use Rattle.tally_core.specs.Inner.Sight.{here_on}
 use Rattle.tally_core.proofs.Once.{meets_on}
 use Rattle.tally_core.proofs.Lasting.{waits-extended}
 use Rattle.tally_core.proofs.Seeing.{here-empty}
-use Rattle.tally_core.proofs.sights.stays_at.Goals as goal
+use Rattle.tally_core.proofs.sights.see_point.Goals as goal
 
-pub returns-in_ok-diamond-in-Both-clause-waits : goal.returns-in_ok-diamond-in-Both-clause-waits
-returns-in_ok-diamond-in-Both-clause-waits c shape =
+pub returns-in_ok-diamond-in-Both-clause-there : goal.returns-in_ok-diamond-in-Both-clause-there
+returns-in_ok-diamond-in-Both-clause-there c shape =
     omega (
       arith,
+      c.settle_point.ensures.there shape,
+      c.in_ok-square.ensures.counts.there shape,
+      c.in_ok-diamond-in-Both.ensures.counts.there shape,
       waits-extended (shapes_of c.begin.new.meetings) (shapes_of c.begin-in-Both.new.meetings) c.args.occasions c.in_ok-square.square shape
           c.in_ok-diamond-in-Both.ensures.meets.extends c.in_ok-square.ensures.stay,
       c.in_ok-square.ensures.waits shape,
@@ -25,7 +29,8 @@ returns-in_ok-diamond-in-Both-clause-meets c =
     let field = c.args.field.now in
     let mover = c.args.mover in
     let position = position_of field.board in
-    let before = shapes_of c.args.meetings.now in
+    let settled : shapes_of c.settle_point.new.meetings ≡ shapes_of c.args.meetings.now = c.settle_point.ensures.shapes in
+    let before = shapes_of c.settle_point.new.meetings in
     let between = shapes_of c.begin.new.meetings in
     let after = shapes_of c.begin-in-Both.new.meetings in
     let square = c.canonical.result in
@@ -34,7 +39,8 @@ returns-in_ok-diamond-in-Both-clause-meets c =
     let words : square ∷ diamond ∷ [] ≡ patterns_at (kinds_of which.Both) field.board.size position mover c.args.point =
     ap₂ (λ a b. a ∷ b ∷ [])
     c.canonical.ensures c.canonical_diamond.ensures in
-    subst (λ patterns. Meets before patterns after)
+    subst (λ first. Meets first (here_on field mover c.args.point) after) settled
+    (subst (λ patterns. Meets before patterns after)
     (words ∙ ap (λ (kinds : Kinds). patterns_at (kinds_of kinds) field.board.size position mover c.args.point) both
     ∙ sym (here-empty field.kinds field.board.size position mover c.args.point c.requires.empty))
-    (meets_on before (square ∷ []) between (diamond ∷ []) after c.in_ok-square.ensures.meets c.in_ok-diamond-in-Both.ensures.meets)
+    (meets_on before (square ∷ []) between (diamond ∷ []) after c.in_ok-square.ensures.meets c.in_ok-diamond-in-Both.ensures.meets))

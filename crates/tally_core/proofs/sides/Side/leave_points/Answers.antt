@@ -6,7 +6,7 @@ use Rattle.go_board.specs.declared.points.Point.{Point}
 use Rattle.go_board.specs.declared.points.Colour.{Colour}
 use Rattle.go_board.specs.declared.points.Colour.TheVariants as colour
 use Rattle.std.specs.Vec.{with_item}
-use Rattle.tally_core.specs.declared.stays.Side.{Side}
+use Rattle.tally_core.specs.declared.sides.Side.{Side}
 use Rattle.tally_core.specs.Inner.Meeting.{Meets}
 use Rattle.tally_core.specs.Inner.Sight.{here_on, points_in, there_at, HasLooked}
 use Rattle.tally_core.specs.Inner.Standing.{no_stays}
@@ -16,12 +16,12 @@ use Rattle.tally_core.proofs.Standing.{here-filled}
 use Rattle.tally_core.specs.Walk.{shapes_of}
 use Rattle.std.proofs.lemmas.Bool.{cases_eq}
 use Rattle.tally_core.proofs.Taken.{IsLowest, cleared, lowest, row-first, row-none, column-inside, fits-columns}
-use Rattle.tally_core.proofs.sights.leave_points.Goals as goal
+use Rattle.tally_core.proofs.sides.Side.leave_points.Goals as goal
 
 pub loop-bits-init : goal.loop-bits-init
 loop-bits-init c =
     let field = c.args.field.now in
-    let side = c.args.side.now in
+    let side = c.args.self.now in
     record {
       within = c.requires.columns;
       changed = refl;
@@ -58,7 +58,7 @@ loop-bits-preserved c =
     let low = column size bits c.loop-bits-test.true is.within c.size-size.ensures.board.extent.few_columns in
     let k = trailing_zeros w64 bits in
     let point : Point = record { column = k; row = row } in
-    let side = c.loop-bits.side in
+    let side = c.loop-bits.self in
     let settled = c.settle_point.ensures in
     let before = c.loop-bits.meetings in
     let after = c.settle_point.new.meetings in
@@ -67,16 +67,16 @@ loop-bits-preserved c =
     let points = points_in size row c.args.columns in
     let place : c.index.result ≡ index_of size point = c.index.ensures.value ∙ ap (λ (s : Extent). index_of s point) c.size-size.ensures.value in
     let new : Side = record side { points = with_item side.points c.index.result no_stays } in
-    let looked : (mover : Colour) → HasLooked field mover points left c.args.meetings.now c.args.side.now after new = λ mover.
+    let looked : (mover : Colour) → HasLooked field mover points left c.args.meetings.now c.args.self.now after new = λ mover.
     let none = here-filled field mover point (c.requires.filled k (is.among k low.1.set)) in
-    let first = subst (λ all. HasLooked field mover points all c.args.meetings.now c.args.side.now c.loop-bits.meetings side)
+    let first = subst (λ all. HasLooked field mover points all c.args.meetings.now c.args.self.now c.loop-bits.meetings side)
     (row-first size row bits (cleared bits) k low.1.set low.1.none low.1.gone low.1.others low.0) (is.looked mover) in
-    looked-more field mover points (point ∷ []) left c.args.meetings.now before after c.args.side.now side new first
+    looked-more field mover points (point ∷ []) left c.args.meetings.now before after c.args.self.now side new first
     (looked-point field mover point before after side new c.index.result no_stays old
     (low.0, c.requires.row) place is.standing_now refl refl refl refl
     (λ closed. refl)
     (record { square = tt; diamond = tt }) (sym none)
-    (rw is.occasions (λ shape. omega (arith, settled.there shape, ap (λ s. there_at before c.args.side.now.occasions s shape) c.index_mut-stays.ensures.value)))
+    (rw is.occasions (λ shape. omega (arith, settled.there shape, ap (λ s. there_at before c.args.self.now.occasions s shape) c.index_mut-stays.ensures.value)))
     settled.played
     (subst (λ shapes. Meets (shapes_of before) (here_on field mover point) shapes) (sym settled.shapes)
     (subst (λ patterns. Meets (shapes_of before) patterns (shapes_of before)) (sym none) (meets_none (shapes_of before))))) in
@@ -100,6 +100,6 @@ returns-clause-looked c = λ mover.
     let field = c.args.field.now in
     let size = field.board.size in
     let row = c.args.row in
-    let side = c.args.side.now in
-    subst (λ left. HasLooked field mover (points_in size row c.args.columns) left c.args.meetings.now side c.loop-bits.meetings c.loop-bits.side)
+    let side = c.args.self.now in
+    subst (λ left. HasLooked field mover (points_in size row c.args.columns) left c.args.meetings.now side c.loop-bits.meetings c.loop-bits.self)
     (row-none size row c.loop-bits.bits c.loop-bits-test.false) ((c.loop-bits.invariant.looked) mover)

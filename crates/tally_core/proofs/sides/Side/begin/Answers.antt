@@ -1,7 +1,7 @@
 use Rattle.std.proofs.Common.{◌≡◌, ◌*◌, ◌-◌, ◌^◌, ◌%◌, replicate, refl, ap, ap₂, ◌∙◌}
 use Rattle.tally_core.specs.Inner.Standing.{no_stays}
 use Rattle.tally_core.proofs.Beginning.{row-full, new-side}
-use Rattle.tally_core.proofs.walks.new_side.Goals as goal
+use Rattle.tally_core.proofs.sides.Side.begin.Goals as goal
 
 pub returns-clause-side : goal.returns-clause-side
 returns-clause-side c =

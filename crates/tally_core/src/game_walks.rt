@@ -1,0 +1,112 @@
+//! The walk of one game, action by action.
+ghost use Rattle.std.specs.Prelude.{◌≡◌, ℕ, IfErr, IfOk, OnOk};
+ghost use Rattle.go_board.specs.Board.{position_of};
+ghost use Rattle.go_record.specs.Actions.{IsActionOn};
+ghost use Rattle.go_record.specs.Replay.{Does};
+ghost use Rattle.tally_core.specs.Walk.{shapes_of, there_among};
+ghost use Rattle.tally_core.specs.Inner.Standing.{there_both, AreSides, HaveRoom, IsNewSide};
+ghost use Rattle.tally_core.specs.Inner.Standing.{KeepsCounts};
+ghost use Rattle.tally_core.specs.Inner.Sight.{Fit, PlayedStays, CountsAction};
+ghost use Rattle.tally_core.specs.declared.faults.HarvestFault.TheVariants as fault;
+
+use crate::faults::HarvestFault;
+use crate::meetings::Meetings;
+use crate::sides::Side;
+use go_board::{Colour, Stone};
+use go_record::{Action, apply};
+use shape_core::Field;
+use std::alloc::Global;
+
+/// A game that is being walked: the board as it is, what was met so far, and what stays for each colour.
+///
+/// Contracts speak of what would be counted if all that stays were settled now.
+#[derive(Drop)]
+pub struct GameWalk {
+    pub field: Field,
+    pub meetings: Meetings,
+    pub black: Side,
+    pub white: Side,
+}
+
+impl GameWalk {
+    /// The walk before the first action. It takes memory for each point.
+    pub fn begin(alloc: Global, field: Field, meetings: Meetings) -> Result<GameWalk, HarvestFault>
+        ensures field { IfOk result (λ walk. walk.field ≡ field) }
+        ensures meetings { IfOk result (λ walk. walk.meetings ≡ meetings) }
+        ensures black { IfOk result (λ walk. IsNewSide walk.field.board.size walk.black) }
+        ensures white { IfOk result (λ walk. IsNewSide walk.field.board.size walk.white) }
+        ensures fault { IfErr result (λ found. found ≡ fault.Memory) }
+    {
+        let black = Side::begin(alloc, field.size())?;
+        let white = Side::begin(alloc, field.size())?;
+        Ok(GameWalk {
+            field,
+            meetings,
+            black,
+            white,
+        })
+    }
+
+    /// Counts what an action is the occasion of, and says how many occasions it is: a move onto an empty point is one.
+    pub fn count(&mut self, action: Action) -> Result<u64, HarvestFault>
+        requires on_board { IsActionOn self.old.field.board.size action }
+        requires sides { AreSides self.old }
+        requires room { HaveRoom self.old }
+        ensures counted { IfOk result (CountsAction action self.old self.new) }
+        ensures sides { OnOk result (AreSides self.new) }
+        ensures field { self.new.field ≡ self.old.field }
+        ensures fault { IfErr result (λ found. found ≡ fault.Memory) }
+    {
+        let Action::Move { colour, at } = action else {
+            return Ok(0);
+        };
+        if self.field.cell(at) != Stone::Empty {
+            return Ok(0);
+        }
+        match colour {
+            Colour::Black => self
+                .black
+                .count(&mut self.meetings, &self.field, colour, at)?,
+            Colour::White => self
+                .white
+                .count(&mut self.meetings, &self.field, colour, at)?,
+        }
+        Ok(1)
+    }
+
+    /// Does an action. The points whose words change join the sets of both colours.
+    pub fn act(&mut self, action: Action)
+        requires on_board { IsActionOn self.old.field.board.size action }
+        requires sides { AreSides self.old }
+        ensures sides { AreSides self.new }
+        ensures counts { KeepsCounts self.old self.new }
+        ensures size { self.new.field.board.size ≡ self.old.field.board.size }
+        ensures kinds { self.new.field.kinds ≡ self.old.field.kinds }
+        ensures does { Does self.old.field.board.size action (position_of self.old.field.board)
+            (position_of self.new.field.board) }
+    {
+        apply(&mut self.field, action);
+        self.field
+            .move_changed(&mut self.black.changed, &mut self.white.changed);
+    }
+
+    /// Settles all that stays; the answer is what the game met.
+    pub fn finish(self) -> Meetings
+        requires sides { AreSides self }
+        requires few { Fit (there_both self) }
+        ensures shapes { shapes_of result ≡ shapes_of self.meetings }
+        ensures there { (shape : ℕ) → there_among result shape ≡ there_both self shape }
+        ensures played { PlayedStays self.meetings result }
+    {
+        let GameWalk {
+            field: _,
+            meetings,
+            black,
+            white,
+        } = self;
+        let mut meetings = meetings;
+        black.settle(&mut meetings);
+        white.settle(&mut meetings);
+        meetings
+    }
+}
