@@ -152,6 +152,29 @@ fn assert_words(rt: &impl Abort, field: &Field, board: &Board) {
     }
 }
 
+/// Both patterns of every point of the field are those of the board, for both colours to move, and the columns of a row that
+/// the field calls empty are those of the board.
+fn assert_patterns(rt: &impl Abort, field: &Field, board: &Board) {
+    for row in 0..board.size().rows() {
+        assert!(rt; row < field.size().rows() && field.kinds() == Kinds::Both);
+        let empty = field.empty_columns(row);
+        for column in 0..board.size().columns() {
+            let point = Point { column, row };
+            assert!(rt; field.size().has(point) && board.size().has(point));
+            assert_eq!(rt;
+                (empty >> column) & 1 == 1,
+                board.cell(point) == Stone::Empty
+            );
+            for mover in [Colour::Black, Colour::White] {
+                let square = canonical(around(board, point), mover);
+                assert_eq!(rt; field.canonical(point, mover), square);
+                let own = canonical(diamond(board, point), mover);
+                assert_eq!(rt; field.canonical_diamond(point, mover), own);
+            }
+        }
+    }
+}
+
 /// The field's marks are taken out row by row from the top, each row from the left, and each point whose square or
 /// diamond is another than that of the board is among them.
 fn assert_marks(rt: &impl Abort, field: &mut Field, before: &Board) {
@@ -204,6 +227,7 @@ fn play_along(rt: &impl Abort, alloc: Global, columns: u8, rows: u8) -> Result<(
         assert!(rt; before.size().has(point));
         before.play(colour, point);
     }
+    assert_patterns(rt, &field, &board);
     Ok(())
 }
 
