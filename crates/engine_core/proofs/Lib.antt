@@ -7,3 +7,4 @@ pub mod Joined
 pub mod Causes
 pub mod Regrouped
 pub mod Batched
+pub mod Parted

@@ -1,20 +1,45 @@
 //! `count`: from the bytes of a collection to a text of the dictionary of its games.
-ghost use Rattle.std.specs.Prelude.{◌^◌, IfOk, IfErr};
+ghost use Rattle.std.specs.Prelude.{◌≡◌, ◌^◌, IfOk, IfErr};
+ghost use Rattle.shape_dict.specs.Parts.{joined};
+ghost use Rattle.shape_dict.specs.Text.{text_of};
+ghost use Rattle.shape_dict.specs.declared.faults.DictFault.TheVariants as dict_fault;
 ghost use Rattle.engine_core.specs.Counts.{IsCountText, HasCountText, IsCountRunFault};
 ghost use Rattle.engine_core.specs.Runs.{HasRead, Wrote, IsRunFault};
 
 use crate::faults::RunFault;
 use crate::input::read_input;
-use crate::output::write_output;
+use crate::output::write_parts;
 use harvest_core::{FreeGate, harvest};
-use shape_dict::Text;
+use shape_dict::{DictFault, Dictionary, Text};
 use std::alloc::Global;
 use std::io::{Read, Write};
 use std::sync::Wait;
 use std::thread::Threads;
 use tally_core::{Report, Settings};
 
-/// The text of the dictionary of the input's games, and how many trees it has of each sort.
+/// A text of a dictionary in parts, to be written one after another. This thread makes it as one part where there is one
+/// worker, and else threads make the parts.
+fn text_parts<T: Threads + Sync>(
+    rt: &T,
+    alloc: Global,
+    workers: u8,
+    text: Text,
+    dictionary: &Dictionary,
+) -> Result<Vec<Vec<u8>>, DictFault>
+    ensures ok { IfOk result (λ parts. joined parts.items ≡ text_of text dictionary.now) }
+    ensures fault { IfErr result (λ found. found ≡ dict_fault.Memory) }
+{
+    if workers != 1 {
+        return dictionary.parts(rt, alloc, text);
+    }
+    let mut written = Vec::new(alloc);
+    dictionary.write(text, &mut written)?;
+    let mut parts = Vec::new(alloc);
+    parts.push(written)?;
+    Ok(parts)
+}
+
+/// The text of the dictionary of the input's games, in parts, and how many trees it has of each sort.
 #[tactic(auto, using(crate::proofs::Runs::comes_first))]
 fn counted_text<T: Threads + Wait + Sync>(
     rt: &T,
@@ -22,21 +47,22 @@ fn counted_text<T: Threads + Wait + Sync>(
     settings: Settings,
     text: Text,
     input: &[u8],
-) -> Result<(Vec<u8>, Report), RunFault>
-    ensures written { IfOk result (λ p. IsCountText settings.kinds text p.1 input.now p.0.items) }
+) -> Result<(Vec<Vec<u8>>, Report), RunFault>
+    ensures written { IfOk result (λ p. IsCountText settings.kinds text p.1 input.now
+        (joined p.0.items)) }
     ensures fault { IfErr result (IsCountRunFault (2 ^ settings.k) settings.kinds input.now) }
 {
     let counted = harvest(rt, alloc, settings, input, &FreeGate)?;
-    let mut written = Vec::new(alloc);
-    counted.dictionary.write(text, &mut written)?;
+    let written = text_parts(rt, alloc, settings.workers(), text, &counted.dictionary)?;
     Ok((written, counted.report))
 }
 
 /// Reads a collection and writes a text of the dictionary of its games; the answer is how many trees it has of each sort.
 /// The kinds of pattern that are counted are those of the settings: where diamonds are not counted, texts 2 and 3 say so,
 /// and text 1 is that of the squares. This thread reads, and as many workers as the settings say count. They number the
-/// patterns in one table of 2^k slots; the text is the same whatever the settings' workers. It takes memory for the input,
-/// the table, and for each thread for the largest tree and its record, the board, and each pattern; and for the text.
+/// patterns in one table of 2^k slots; the text is the same whatever the settings' workers. Where there are several
+/// workers, threads make the text in parts, which are written one after another. It takes memory for the input, the table,
+/// and for each thread for the largest tree and its record, the board, and each pattern; and for the text.
 ///
 /// # Errors
 ///
@@ -62,6 +88,6 @@ pub fn run_count<T: Threads + Wait + Sync, R: Read, W: Write>(
 {
     let input = read_input(alloc, reader)?;
     let (written, report) = counted_text(rt, alloc, settings, text, &input)?;
-    write_output(writer, &written)?;
+    write_parts(writer, &written)?;
     Ok(report)
 }

@@ -27,5 +27,5 @@ pub use faults::{RunFault, status_of};
 pub use finds::run_find;
 pub use input::read_input;
 pub use joins::run_join;
-pub use output::write_output;
+pub use output::{write_output, write_parts};
 pub use patterns::pattern_of;

@@ -10,4 +10,6 @@ mod harvests;
 #[cfg(test)]
 mod jobs;
 #[cfg(test)]
+mod parts;
+#[cfg(test)]
 mod sheets;

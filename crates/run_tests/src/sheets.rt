@@ -146,9 +146,9 @@ impl<'a> Read for Bytes<'a> {
 
 /// A writer that takes this many bytes, and then fails.
 #[derive(Drop)]
-struct Full {
-    got: Vec<u8>,
-    most: usize,
+pub(crate) struct Full {
+    pub(crate) got: Vec<u8>,
+    pub(crate) most: usize,
 }
 
 impl Write for Full {

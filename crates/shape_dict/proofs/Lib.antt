@@ -11,3 +11,4 @@ pub mod Read
 pub mod Stopped
 pub mod Unique
 pub mod Worked
+pub mod Chunked

@@ -2,3 +2,4 @@
 pub mod Merging
 pub mod Parsing
 pub mod Reading
+pub mod Parts

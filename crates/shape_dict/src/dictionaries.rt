@@ -1,6 +1,6 @@
 //! A dictionary of patterns.
 ghost use Rattle.std.specs.Prelude.{◌≡◌, ◌++◌, OnOk};
-ghost use Rattle.shape_dict.specs.Text.{text_of};
+ghost use Rattle.shape_dict.specs.Text.{text_of, header_of, header_text};
 ghost use Rattle.shape_dict.specs.Writing.{Begins};
 
 use crate::entries::{Entry, Text};
@@ -8,10 +8,12 @@ use crate::faults::DictFault;
 use crate::finding::find_entry;
 use crate::joining::{merge, sum_of};
 use crate::kinds::count_of;
-use crate::texts::{push_header, push_lines, push_squares};
+use crate::parts::{made_parts, push_made};
+use crate::texts::{push_entries, push_header};
 use shape_core::{Kind, Shape};
 use std::alloc::{AllocError, Global};
 use std::marker::Model;
+use std::thread::Threads;
 
 /// How often each pattern was there and was played in a number of games, and their moves.
 #[derive(Debug, Drop)]
@@ -45,6 +47,7 @@ impl Model for Dictionary {
 impl Dictionary {
     ghost use Rattle.std.specs.Prelude.{◌≡◌, ◌++◌, OnOk, IfOk, IfErr};
     ghost use Rattle.shape_dict.specs.Text.{text_of};
+    ghost use Rattle.shape_dict.specs.Parts.{joined};
     ghost use Rattle.shape_dict.specs.declared.faults.DictFault.TheVariants as fault;
     ghost use Rattle.shape_dict.specs.Contents.{IsDictionary, entry_of};
     ghost use Rattle.shape_dict.specs.Join.{IsJoin, IsOverflow, IsJoinFault};
@@ -154,11 +157,37 @@ impl Dictionary {
         }
         Ok(())
     }
+
+    /// A text of the dictionary in parts, to be read one after another: the same bytes as `write` appends. The first part
+    /// is the header, and each other has the lines of up to 65,536 entries, in their order. These are made at the same
+    /// time, each by a thread where one can be started and else by this one. It takes memory for the text, and for each
+    /// thread.
+    ///
+    /// # Errors
+    ///
+    /// `Memory` where memory for the text was refused. The dictionary stays as it is.
+    pub fn parts<R: Threads + Sync>(
+        &self,
+        rt: &R,
+        alloc: Global,
+        text: Text,
+    ) -> Result<Vec<Vec<u8>>, DictFault>
+        ensures ok { IfOk result (λ parts. joined parts.items ≡ text_of text self.now) }
+        ensures fault { IfErr result (λ found. found ≡ fault.Memory) }
+    {
+        let mut header = Vec::new(alloc);
+        append_header(self, text, &mut header)?;
+        let mut parts = Vec::new(alloc);
+        parts.push(header)?;
+        push_made(&mut parts, made_parts(rt, alloc, text, self.entries())?)?;
+        Ok(parts)
+    }
 }
 
-/// Appends a text, whole or in part.
-fn append(dictionary: &Dictionary, text: Text, out: &mut Vec<u8>) -> Result<(), AllocError>
-    ensures ok { OnOk result (out.new.items ≡ out.old.items ++ text_of text dictionary.now) }
+/// Appends the header of a text, whole or in part.
+fn append_header(dictionary: &Dictionary, text: Text, out: &mut Vec<u8>) -> Result<(), AllocError>
+    ensures ok { OnOk result (out.new.items
+        ≡ out.old.items ++ header_text (header_of text dictionary.now)) }
     ensures begins { Begins out.old.items out.new.items }
 {
     let entries = dictionary.entries();
@@ -175,9 +204,14 @@ fn append(dictionary: &Dictionary, text: Text, out: &mut Vec<u8>) -> Result<(), 
         dictionary.moves(),
         squares,
         diamonds,
-    )?;
-    match text {
-        Text::One => push_squares(out, entries),
-        Text::Two | Text::Three => push_lines(out, text, entries),
-    }
+    )
+}
+
+/// Appends a text, whole or in part.
+fn append(dictionary: &Dictionary, text: Text, out: &mut Vec<u8>) -> Result<(), AllocError>
+    ensures ok { OnOk result (out.new.items ≡ out.old.items ++ text_of text dictionary.now) }
+    ensures begins { Begins out.old.items out.new.items }
+{
+    append_header(dictionary, text, out)?;
+    push_entries(out, text, dictionary.entries())
 }

@@ -12,6 +12,7 @@ mod kinds;
 mod laws;
 mod lines;
 mod numbers;
+mod parts;
 mod reading;
 mod texts;
 mod totals;

@@ -4,6 +4,7 @@ ghost use Rattle.std.specs.List.{flat_map};
 ghost use Rattle.shape_dict.specs.Contents.{squares_of};
 ghost use Rattle.shape_dict.specs.Text.{front_text, counts_text, games_text, header_text};
 ghost use Rattle.shape_dict.specs.Text.{line_text};
+ghost use Rattle.shape_dict.specs.Inner.Parts.{lines_of};
 ghost use Rattle.shape_dict.specs.Writing.{Begins};
 ghost use Rattle.shape_dict.specs.declared.entries.Text.TheVariants as kind;
 
@@ -85,7 +86,7 @@ pub(crate) fn push_header(
 }
 
 /// Appends a line for each pattern.
-pub(crate) fn push_lines(out: &mut Vec<u8>, text: Text, entries: &[Entry]) -> Result<(), AllocError>
+fn push_lines(out: &mut Vec<u8>, text: Text, entries: &[Entry]) -> Result<(), AllocError>
     ensures ok { OnOk result (out.new.items
         ≡ out.old.items ++ flat_map (line_text text) entries.now) }
     ensures begins { Begins out.old.items out.new.items }
@@ -97,7 +98,7 @@ pub(crate) fn push_lines(out: &mut Vec<u8>, text: Text, entries: &[Entry]) -> Re
 }
 
 /// Appends a line of text 1 for each square.
-pub(crate) fn push_squares(out: &mut Vec<u8>, entries: &[Entry]) -> Result<(), AllocError>
+fn push_squares(out: &mut Vec<u8>, entries: &[Entry]) -> Result<(), AllocError>
     ensures ok { OnOk result (out.new.items
         ≡ out.old.items ++ flat_map (line_text kind.One) (squares_of entries.now)) }
     ensures begins { Begins out.old.items out.new.items }
@@ -108,4 +109,19 @@ pub(crate) fn push_squares(out: &mut Vec<u8>, entries: &[Entry]) -> Result<(), A
         }
     }
     Ok(())
+}
+
+/// Appends the lines that a text has of entries.
+pub(crate) fn push_entries(
+    out: &mut Vec<u8>,
+    text: Text,
+    entries: &[Entry],
+) -> Result<(), AllocError>
+    ensures ok { OnOk result (out.new.items ≡ out.old.items ++ lines_of text entries.now) }
+    ensures begins { Begins out.old.items out.new.items }
+{
+    match text {
+        Text::One => push_squares(out, entries),
+        Text::Two | Text::Three => push_lines(out, text, entries),
+    }
 }

@@ -1,0 +1,56 @@
+//! The text of a dictionary in parts, which threads make.
+ghost use Rattle.std.specs.Prelude.{◌≡◌, ◌++◌, All, IsOk, IfOk, OnOk};
+ghost use Rattle.std.specs.List.{flat_map};
+ghost use Rattle.shape_dict.specs.Parts.{joined};
+ghost use Rattle.shape_dict.specs.Inner.Parts.{lines_of, bytes_of, AreMade};
+
+use crate::entries::{Entry, Text};
+use crate::texts::push_entries;
+use std::alloc::{AllocError, Global};
+use std::thread;
+use std::thread::Threads;
+
+/// How many entries a part has the lines of. The last part may have fewer.
+const PART: usize = 65_536;
+
+/// The lines that a text has of entries, in bytes of their own.
+fn lines_part(alloc: Global, text: Text, entries: &[Entry]) -> Result<Vec<u8>, AllocError>
+    ensures { IfOk result (λ part. part.items ≡ lines_of text entries.now) }
+{
+    let mut part = Vec::new(alloc);
+    push_entries(&mut part, text, entries)?;
+    Ok(part)
+}
+
+/// The lines that a text has of entries, in parts, in order. Threads make them, and each part may be refused memory.
+pub(crate) fn made_parts<R: Threads + Sync>(
+    rt: &R,
+    alloc: Global,
+    text: Text,
+    entries: &[Entry],
+) -> Result<Vec<Result<Vec<u8>, AllocError>>, AllocError>
+    ensures { IfOk result (λ made. AreMade (lines_of text entries.now) made.items) }
+{
+    thread::map_chunks(
+        rt,
+        alloc,
+        entries,
+        PART,
+        &|_, chunk: &[Entry]| lines_part(alloc, text, chunk),
+    )
+}
+
+/// Appends the parts that were made, up to the first that was refused memory.
+pub(crate) fn push_made(
+    parts: &mut Vec<Vec<u8>>,
+    made: Vec<Result<Vec<u8>, AllocError>>,
+) -> Result<(), AllocError>
+    ensures ok { OnOk result (joined parts.new.items
+        ≡ joined parts.old.items ++ flat_map bytes_of made.items) }
+    ensures all { OnOk result (All IsOk made.items) }
+{
+    for part in made {
+        parts.push(part?)?;
+    }
+    Ok(())
+}
