@@ -24,6 +24,7 @@ pub mod Ordered
 mod Summed
 mod Totalled
 mod OfNumber
+mod Blocked
 mod Visits
 pub mod Confirmed
 mod SoughtRows

@@ -62,7 +62,7 @@ found_in (r ∷ rows) number row is =
           ((suc deep.0.0, (let low = deep.0.1 in let l : suc deep.0.0 < suc (length rows) = omega arith in l), deep.0.2), deep.1)
     ] refl is
 
-no_others : (row : Row) (rows : List Row) (number : ℕ) → AreOfNumbers (row ∷ rows) → (row.number == number) ≡ true → row_of rows number ≡ None
+pub no_others : (row : Row) (rows : List Row) (number : ℕ) → AreOfNumbers (row ∷ rows) → (row.number == number) ≡ true → row_of rows number ≡ None
 no_others row rows number h same =
     let equal : row.number ≡ number = Prim.grind (arith, nat_tests) in
     found_none rows number (subst (HasNoRow rows) equal (others_differ row rows h))

@@ -1,5 +1,6 @@
 -- What serves the contracts of private functions, and invariants: nothing here has to be believed.
 pub mod Adding
+pub mod Blocks
 pub mod Checking
 pub mod Confirming
 pub mod Covering

@@ -16,6 +16,7 @@ mod workings;
 // shares put together
 mod adding_up;
 mod agreeing;
+mod blocks;
 mod confirming;
 mod covering;
 mod faults;

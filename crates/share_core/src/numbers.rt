@@ -6,6 +6,7 @@ ghost use Rattle.share_core.specs.Checking.{all_rows};
 ghost use Rattle.share_core.specs.Inner.Checking.{unlike_of};
 ghost use Rattle.share_core.specs.Inner.Totals.{with_row, IsTooMuch};
 ghost use Rattle.share_core.specs.Inner.Numbers.{none_summed, AreSums};
+ghost use Rattle.share_core.specs.Inner.Blocks.{rows_at};
 
 use crate::rows::Row;
 use crate::shares::Share;
@@ -100,6 +101,17 @@ pub(crate) fn sums_at(shares: &[Share], number: usize, found: Option<u64>) -> Nu
         if let Some(row) = share.row_at(number) {
             sums = add(sums, row, found);
         }
+    }
+    sums
+}
+
+/// What these rows of a number are together, where this pattern is asked for. It takes no memory.
+pub(crate) fn sums_of(rows: &[Row], number: usize, found: Option<u64>) -> NumberSums
+    ensures { (all : List Row) → rows.now ≡ rows_at number all → AreSums all number found result }
+{
+    let mut sums = no_sums();
+    for row in rows {
+        sums = add(sums, *row, found);
     }
     sums
 }
