@@ -10,9 +10,9 @@ pub mod Leasts
 pub mod Ledgers
 pub mod Making
 pub mod Numbers
-pub mod Places
 pub mod Preparing
 pub mod Raising
 pub mod Rows
+pub mod Small
 pub mod Totals
 pub mod Visiting

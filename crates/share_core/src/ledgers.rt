@@ -1,5 +1,6 @@
 //! What a share has counted: its games, their moves, and the rows of their patterns.
 ghost use Rattle.std.specs.Prelude.{◌≡◌, ◌+◌, ◌^◌, ◌≤◌, ◌<◌, length, OnOk, OnErr, IfErr, take};
+ghost use Rattle.sgf_core.specs.Limit.{most_bytes};
 ghost use Rattle.share_core.specs.Inner.Ledgers.{CountsIn, IsCountFault};
 ghost use Rattle.share_core.specs.Inner.Making.{AreBelow, AreNumbered, Gained, IsMakingFault};
 ghost use Rattle.share_core.specs.Inner.Raising.{AreRowsOf};
@@ -98,7 +99,7 @@ impl Ledger {
         make_all(&mut self.rows, places, slots, meetings, entered)
     }
 
-    /// Counts a game whose meetings have their rows at these places.
+    /// Counts a game below 2^28 whose meetings have their rows at these places.
     ///
     /// # Errors
     ///
@@ -112,6 +113,7 @@ impl Ledger {
         places: &[usize],
     ) -> Result<(), HarvestFault>
         requires rows { AreRowsOf meetings.now places.now self.old.rows }
+        requires game { game < most_bytes }
         ensures ok { OnOk result (CountsIn game moves meetings.now places.now self.old self.new) }
         ensures err { OnErr result (self.new ≡ self.old) }
         ensures fault { IfErr result (IsCountFault moves meetings.now self.old) }

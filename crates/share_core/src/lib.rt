@@ -3,13 +3,14 @@
 
 // one share, and what adding a game to it takes
 mod entering;
+mod kept_rows;
 mod leasts;
 mod ledgers;
 mod making;
-mod places;
 mod rows;
 mod share_rows;
 mod shares;
+mod small;
 mod sums;
 mod workings;
 

@@ -5,7 +5,8 @@ ghost use Rattle.share_core.specs.Rows.{row_at, AreOfNumbers};
 ghost use Rattle.share_core.specs.Inner.Rows.{place_in, HasNoRow};
 
 use crate::faults::HarvestFault;
-use crate::places::RowPlace;
+use crate::kept_rows::KeptRow;
+use crate::small::SmallOption;
 use shape_core::Shape;
 use std::alloc::{AllocError, Global};
 use std::marker::Model;
@@ -23,7 +24,7 @@ pub struct Row {
 }
 
 /// Gives an index at least this many slots, the new ones without a row.
-fn widen(index: &mut Vec<RowPlace>, slots: usize) -> Result<(), AllocError>
+fn widen(index: &mut Vec<SmallOption>, slots: usize) -> Result<(), AllocError>
     ensures wide { OnOk result (slots ≤ length index.new.items) }
     ensures few { (high : ℕ) → slots ≤ high → length index.old.items ≤ high
         → length index.new.items ≤ high }
@@ -31,13 +32,13 @@ fn widen(index: &mut Vec<RowPlace>, slots: usize) -> Result<(), AllocError>
         ≡ place_in index.old.items number }
 {
     if index.len() < slots {
-        index.resize(slots, RowPlace::none())?;
+        index.resize(slots, SmallOption::none())?;
     }
     Ok(())
 }
 
 /// Writes into an index, at the number of each row, the row's place. At other numbers it stays as it was.
-fn reindex(index: &mut [RowPlace], rows: &[Row])
+fn reindex(index: &mut [SmallOption], rows: &[KeptRow])
     requires within { All (λ row. row.number < length index.old) rows.now }
     requires numbers { AreOfNumbers rows.now }
     requires few { length rows.now < 2 ^ 32 }
@@ -48,7 +49,7 @@ fn reindex(index: &mut [RowPlace], rows: &[Row])
         → place_in index.new number ≡ place_in index.old number }
 {
     for place in 0..rows.len() {
-        index[rows[place].number] = RowPlace::of(place);
+        index[rows[place].number()] = SmallOption::of(place);
     }
 }
 
@@ -56,8 +57,8 @@ fn reindex(index: &mut [RowPlace], rows: &[Row])
 /// row: four bytes for each slot of the table. Contracts see the rows.
 #[derive(Drop)]
 pub(crate) struct Rows {
-    index: Vec<RowPlace>,
-    rows: Vec<Row>,
+    index: Vec<SmallOption>,
+    rows: Vec<KeptRow>,
 }
 
 impl Model for Rows {
@@ -73,6 +74,7 @@ impl Model for Rows {
 }
 
 impl Rows {
+    ghost use Rattle.sgf_core.specs.Limit.{most_bytes};
     ghost use Rattle.std.specs.Prelude.{◌≡◌, ◌+◌, ◌^◌, ◌<◌, ◌≤◌, ◌++◌, ◌∷◌, [], length};
     ghost use Rattle.std.specs.Prelude.{IfSome, IfNone, IfOk, IfErr, OnErr, slice_set};
     ghost use Rattle.std.specs.List.Sorted.{IsPermutation, IsNonDecreasingBy};
@@ -93,7 +95,7 @@ impl Rows {
     }
 
     /// The rows, in their order.
-    pub fn as_slice(&self) -> &[Row]
+    pub fn as_slice(&self) -> &[KeptRow]
         ensures rows { result.now ≡ self.now }
         ensures numbers { AreOfNumbers self.now }
     {
@@ -107,7 +109,7 @@ impl Rows {
         ensures none { IfNone result (HasNoRow self.now number) }
     {
         if number < self.index.len() {
-            self.index[number].place()
+            self.index[number].get()
         } else {
             None
         }
@@ -120,7 +122,7 @@ impl Rows {
     {
         for later in from..self.index.len() {
             if let Some(place) = self.place(later) {
-                return Some(self.rows[place]);
+                return Some(self.rows[place].row());
             }
         }
         None
@@ -141,7 +143,7 @@ impl Rows {
         ensures same { OnErr result (self.new ≡ self.old) }
     {
         if let Some(place) = self.place(number) {
-            let held = self.rows[place].shape;
+            let held = self.rows[place].shape();
             return if held == shape {
                 Ok(place)
             } else {
@@ -162,16 +164,9 @@ impl Rows {
         ensures same { OnErr result (self.new ≡ self.old) }
     {
         let place = self.rows.as_slice().len();
-        let row = Row {
-            number,
-            shape,
-            there: 0,
-            played: 0,
-            first: None,
-        };
         widen(&mut self.index, slots)?;
-        self.rows.push(row)?;
-        self.index[number] = RowPlace::of(place);
+        self.rows.push(KeptRow::blank(number, shape))?;
+        self.index[number] = SmallOption::of(place);
         Ok(place)
     }
 
@@ -180,16 +175,11 @@ impl Rows {
         requires place { place < length self.old }
         requires there { (row_at self.old place).there + meeting.there < 2 ^ 64 }
         requires played { (row_at self.old place).played + meeting.played < 2 ^ 64 }
+        requires game { game < most_bytes }
         ensures { self.new ≡ slice_set self.old place
             (raised (row_at self.old place) meeting game) }
     {
-        let row = &mut self.rows[place];
-        row.there += meeting.there;
-        row.played += meeting.played;
-        row.first = match row.first {
-            None => Some(game),
-            Some(first) => Some(first.min(game)),
-        };
+        self.rows[place].raise(meeting, game);
     }
 
     /// Puts the rows in the order of their numbers, by an unstable sort, and then makes the index anew. It takes no memory.
@@ -197,7 +187,7 @@ impl Rows {
         ensures same { IsPermutation self.old self.new }
         ensures rises { IsNonDecreasingBy (λ row. row.number) self.new }
     {
-        self.rows.sort_unstable_by_key(|row| row.number);
+        self.rows.sort_unstable_by_key(|row| row.number());
         reindex(self.index.as_mut_slice(), self.rows.as_slice());
     }
 }

@@ -4,6 +4,7 @@ ghost use Rattle.sgf_core.specs.Limit.{most_bytes};
 
 use crate::entering::mark_all;
 use crate::faults::HarvestFault;
+use crate::kept_rows::KeptRow;
 use crate::ledgers::Ledger;
 use crate::rows::Row;
 use crate::share_rows::ShareRows;
@@ -104,13 +105,13 @@ impl Share {
     {
         let made = self.made_rows();
         match self.ledger.rows().place(number) {
-            Some(place) => Some(made[place]),
+            Some(place) => Some(made[place].row()),
             None => None,
         }
     }
 
     /// The rows, in their order. It takes no memory.
-    pub(crate) fn made_rows(&self) -> &[Row]
+    pub(crate) fn made_rows(&self) -> &[KeptRow]
         ensures rows { result.now ≡ self.now.rows }
         ensures numbers { AreOfNumbers self.now.rows }
     {

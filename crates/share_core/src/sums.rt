@@ -1,5 +1,6 @@
 //! A game's meetings are added to the rows of their patterns.
 ghost use Rattle.std.specs.Prelude.{◌≡◌, ◌+◌, ◌^◌, ◌<◌, ◌≤◌, length, IfSome, IfNone};
+ghost use Rattle.sgf_core.specs.Limit.{most_bytes};
 ghost use Rattle.share_core.specs.Raising.{weight_of, weight_among};
 ghost use Rattle.share_core.specs.Inner.Raising.{AreRowsOf, AreRaised};
 
@@ -23,6 +24,7 @@ pub(crate) fn weight(meetings: &[Meeting]) -> Option<u64>
 /// Adds each meeting of a game to the row at its place.
 pub(crate) fn raise_all(rows: &mut Rows, meetings: &[Meeting], places: &[usize], game: u64)
     requires rows { AreRowsOf meetings.now places.now rows.old }
+    requires game { game < most_bytes }
     requires fits { weight_of rows.old + weight_among meetings.now < 2 ^ 64 }
     ensures { AreRaised meetings.now places.now game rows.old rows.new }
 {

@@ -8,9 +8,9 @@ pub loop-row-preserved : goal.loop-row-preserved
 loop-row-preserved c rows h =
     let i = c.loop-row.row-index in
     let more = c.args.more.now in
-    let row = c.row-item.result in
+    let row = c.row.result in
     subst (λ (rs : List Row). IsLeastSought c.args.sought rs c.lesser-found.result)
-    (append_assoc rows (take i more) (row ∷ []) ∙ ap (λ (rs : List Row). rows ++ rs) (ap (λ (r : Row). take i more ++ r ∷ []) c.row-item.is ∙ sym (take_more more i row (omega arith))))
+    (append_assoc rows (take i more) (row ∷ []) ∙ ap (λ (rs : List Row). rows ++ rs) (ap (λ (r : Row). take i more ++ r ∷ []) (c.row.ensures ∙ c.row-item.is) ∙ sym (take_more more i c.row-item.result (omega arith))))
     (c.lesser-found.ensures (rows ++ take i more) (c.loop-row.invariant rows h))
 
 pub returns : goal.returns

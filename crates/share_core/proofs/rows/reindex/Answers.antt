@@ -1,4 +1,4 @@
-use Rattle.std.proofs.Common.{◌+◌, sym, subst, arith}
+use Rattle.std.proofs.Common.{◌+◌, ap, sym, subst, ◌∙◌, arith}
 use Rattle.std.proofs.Math.ListN.{set}
 use Rattle.std.proofs.lemmas.List.{get_or_default}
 use Rattle.share_core.specs.declared.rows.Row.{Row}
@@ -16,7 +16,7 @@ loop-place-preserved c =
     let low = c.loop-place-test.true in
     let read = get_or_default rows place c.index-rows-place.result (blank 0 0) low in
     let more = written_more c.args.index.now c.loop-place.index rows place c.requires.numbers low (c.requires.within place (blank 0 0) low) c.loop-place.invariant in
-    subst (λ (row : Row). AreWritten c.args.index.now (set c.loop-place.index row.number c.of.result) rows (place + 1)) (sym read)
+    subst (λ number. AreWritten c.args.index.now (set c.loop-place.index number c.of.result) rows (place + 1)) (sym (c.number.ensures ∙ ap (λ (row : Row). row.number) (c.index-rows-place.is ∙ read)))
     (subst (λ p. AreWritten c.args.index.now (set c.loop-place.index (row_at rows place).number p) rows (place + 1)) (sym c.of.ensures) more)
 
 pub returns-clause-listed : goal.returns-clause-listed

@@ -24,9 +24,10 @@ invariant_of-self-2 c =
     let before = c.requires.number in
     subst (λ place. IsIndexed (set index c.args.number place) c.push.new.self.items) (sym c.of.ensures)
     (subst (IsIndexed (set index c.args.number (Some (length c.as_slice-place.result.now)))) (sym c.in_ok-push.ensures.items)
-    (subst (λ place. IsIndexed (set index c.args.number (Some place)) (rows ++ blank c.args.number c.args.shape ∷ [])) (ap length (sym c.as_slice-place.ensures.value))
+    (subst (λ place. IsIndexed (set index c.args.number (Some place)) (rows ++ c.blank.result ∷ [])) (ap length (sym c.as_slice-place.ensures.value))
+    (subst (λ (row : Row). IsIndexed (set index c.args.number (Some (length rows))) (rows ++ row ∷ [])) (sym c.blank.ensures)
     (appended index rows (blank c.args.number c.args.shape) (omega arith) (subst (λ (rows : List Row). HasNoRow rows c.args.number) (sym c.self.view_is) c.requires.none)
-    (widened c.self.inside.index.items index rows c.widen.ensures.same (c.widen.ensures.few (2 ^ 22) c.requires.few c.self.invariant.few) c.self.invariant))))
+    (widened c.self.inside.index.items index rows c.widen.ensures.same (c.widen.ensures.few (2 ^ 22) c.requires.few c.self.invariant.few) c.self.invariant)))))
 
 pub of-requires : goal.of-requires
 of-requires c =

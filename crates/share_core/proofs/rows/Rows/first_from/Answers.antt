@@ -19,7 +19,7 @@ returns-in-Some-clause-first c =
     let low = c.loop-later.auto.later in
     let number = some.1 in
     let high : c.args.from ≤ (row_at rows place).number = omega arith in
-    subst (λ row. IsLeastFrom c.args.from rows (Some row)) (sym read) (first_row rows c.args.from place numbers some.0 high beyond)
+    subst (λ row. IsLeastFrom c.args.from rows (Some row)) (sym (c.row.ensures ∙ read)) (first_row rows c.args.from place numbers some.0 high beyond)
 
 pub loop-later-preserved : goal.loop-later-preserved
 loop-later-preserved c = step_beyond c.args.self.now c.args.from c.loop-later.later c.in_default.ensures.none c.loop-later.invariant
