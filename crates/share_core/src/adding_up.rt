@@ -12,7 +12,7 @@ ghost use Rattle.share_core.specs.Gathering.{AreWithin, all_moves, IsGathered};
 use crate::faults::HarvestFault;
 use crate::rows::Row;
 use crate::shares::Share;
-use rayon::prelude::*;
+use crate::sorting::sort;
 use shape_core::{Kinds, kinds_stay};
 use shape_dict::{Dictionary, Entry};
 use std::thread::Threads;
@@ -51,18 +51,6 @@ pub(crate) fn push(entries: &mut Vec<Entry>, total: Option<Row>) -> Result<(), H
     }
     entries.push(entry(row))?;
     Ok(())
-}
-
-/// Puts entries in the order of their patterns' words: in several threads where several workers counted.
-fn sort<R: Threads + Sync>(rt: &R, entries: &mut Vec<Entry>, several: bool)
-    ensures same { IsPermutation entries.old.items entries.new.items }
-    ensures sorted { IsNonDecreasingBy (λ entry. entry.shape) entries.new.items }
-{
-    if several {
-        par_sort_unstable_by_key(rt, entries.as_mut_slice(), |entry| entry.shape);
-    } else {
-        entries.sort_unstable_by_key(|entry| entry.shape);
-    }
 }
 
 /// The moves of all shares together.
@@ -107,6 +95,6 @@ pub(crate) fn add_up<R: Threads + Sync>(
     // A canonical word is of the kind that was looked at.
     kinds_stay();
     let moves = moves_of(shares)?;
-    sort(rt, &mut entries, shares.len() > 2);
+    sort(rt, &mut entries, shares.len());
     Ok(Dictionary::new(games, moves, entries, has_diamonds(kinds)))
 }

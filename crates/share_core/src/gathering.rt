@@ -42,7 +42,7 @@ fn check_numbers(differs: Option<Differs>, is_large: bool) -> Result<(), Harvest
 /// all rows, and the least game. A pattern that was never there is left out.
 ///
 /// Each number is asked once, in rising order, until one differs; what is marked after that is not judged. Nothing is
-/// entered or marked here. With more than two shares, threads sort a large dictionary, as many as the machine has
+/// entered or marked here. Threads sort a large dictionary, two for two shares, and for more as many as the machine has
 /// processors for; the answer is the same.
 ///
 /// The pass must be of the table, each share of these kinds, and each of its games below `games`.
