@@ -1,8 +1,6 @@
 //! `count`: from the bytes of a collection to a text of the dictionary of its games.
 ghost use Rattle.std.specs.Prelude.{◌≡◌, ◌^◌, IfOk, IfErr};
 ghost use Rattle.shape_dict.specs.Parts.{joined};
-ghost use Rattle.shape_dict.specs.Text.{text_of};
-ghost use Rattle.shape_dict.specs.declared.faults.DictFault.TheVariants as dict_fault;
 ghost use Rattle.engine_core.specs.Counts.{IsCountText, HasCountText, IsCountRunFault};
 ghost use Rattle.engine_core.specs.Runs.{HasRead, Wrote, IsRunFault};
 
@@ -10,34 +8,12 @@ use crate::faults::RunFault;
 use crate::input::read_input;
 use crate::output::write_parts;
 use harvest_core::{FreeGate, harvest};
-use shape_dict::{DictFault, Dictionary, Text};
+use shape_dict::Text;
 use std::alloc::Global;
 use std::io::{Read, Write};
 use std::sync::Wait;
 use std::thread::Threads;
 use tally_core::{Report, Settings};
-
-/// A text of a dictionary in parts, to be written one after another. This thread makes it as one part where there is one
-/// worker, and else threads make the parts.
-fn text_parts<T: Threads + Sync>(
-    rt: &T,
-    alloc: Global,
-    workers: u8,
-    text: Text,
-    dictionary: &Dictionary,
-) -> Result<Vec<Vec<u8>>, DictFault>
-    ensures ok { IfOk result (λ parts. joined parts.items ≡ text_of text dictionary.now) }
-    ensures fault { IfErr result (λ found. found ≡ dict_fault.Memory) }
-{
-    if workers != 1 {
-        return dictionary.parts(rt, alloc, text);
-    }
-    let mut written = Vec::new(alloc);
-    dictionary.write(text, &mut written)?;
-    let mut parts = Vec::new(alloc);
-    parts.push(written)?;
-    Ok(parts)
-}
 
 /// The text of the dictionary of the input's games, in parts, and how many trees it has of each sort.
 #[tactic(auto, using(crate::proofs::Runs::comes_first))]
@@ -53,16 +29,17 @@ fn counted_text<T: Threads + Wait + Sync>(
     ensures fault { IfErr result (IsCountRunFault (2 ^ settings.k) settings.kinds input.now) }
 {
     let counted = harvest(rt, alloc, settings, input, &FreeGate)?;
-    let written = text_parts(rt, alloc, settings.workers(), text, &counted.dictionary)?;
+    let threads = usize::from(settings.workers()) + 1;
+    let written = counted.dictionary.parts(rt, alloc, text, threads)?;
     Ok((written, counted.report))
 }
 
 /// Reads a collection and writes a text of the dictionary of its games; the answer is how many trees it has of each sort.
 /// The kinds of pattern that are counted are those of the settings: where diamonds are not counted, texts 2 and 3 say so,
 /// and text 1 is that of the squares. This thread reads, and as many workers as the settings say count. They number the
-/// patterns in one table of 2^k slots; the text is the same whatever the settings' workers. Where there are several
-/// workers, threads make the text in parts, which are written one after another. It takes memory for the input, the table,
-/// and for each thread for the largest tree and its record, the board, and each pattern; and for the text.
+/// patterns in one table of 2^k slots; the text is the same whatever the settings' workers. As many threads as counted make
+/// it, in parts that are written one after another. It takes memory for the input, the table, and for each thread for the
+/// largest tree and its record, the board, and each pattern; and for the text.
 ///
 /// # Errors
 ///

@@ -159,9 +159,9 @@ impl Dictionary {
     }
 
     /// A text of the dictionary in parts, to be read one after another: the same bytes as `write` appends. The first part
-    /// is the header, and each other has the lines of up to 65,536 entries, in their order. These are made at the same
-    /// time, each by a thread where one can be started and else by this one. It takes memory for the text, and for each
-    /// thread.
+    /// is the header; the others have the lines of the entries in their order, and are at most as many as `threads`, or
+    /// one for 0. They are made at the same time, each by a thread where one can be started and else by this one; a text of
+    /// 65,536 entries or fewer is made by this one. It takes memory for the text, and for each thread.
     ///
     /// # Errors
     ///
@@ -171,6 +171,7 @@ impl Dictionary {
         rt: &R,
         alloc: Global,
         text: Text,
+        threads: usize,
     ) -> Result<Vec<Vec<u8>>, DictFault>
         ensures ok { IfOk result (λ parts. joined parts.items ≡ text_of text self.now) }
         ensures fault { IfErr result (λ found. found ≡ fault.Memory) }
@@ -179,7 +180,10 @@ impl Dictionary {
         append_header(self, text, &mut header)?;
         let mut parts = Vec::new(alloc);
         parts.push(header)?;
-        push_made(&mut parts, made_parts(rt, alloc, text, self.entries())?)?;
+        push_made(
+            &mut parts,
+            made_parts(rt, alloc, text, self.entries(), threads)?,
+        )?;
         Ok(parts)
     }
 }

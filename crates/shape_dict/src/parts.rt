@@ -1,5 +1,5 @@
 //! The text of a dictionary in parts, which threads make.
-ghost use Rattle.std.specs.Prelude.{◌≡◌, ◌++◌, All, IsOk, IfOk, OnOk};
+ghost use Rattle.std.specs.Prelude.{◌≡◌, ◌<◌, ◌++◌, All, IsOk, IfOk, OnOk};
 ghost use Rattle.std.specs.List.{flat_map};
 ghost use Rattle.shape_dict.specs.Parts.{joined};
 ghost use Rattle.shape_dict.specs.Inner.Parts.{lines_of, bytes_of, AreMade};
@@ -10,8 +10,15 @@ use std::alloc::{AllocError, Global};
 use std::thread;
 use std::thread::Threads;
 
-/// How many entries a part has the lines of. The last part may have fewer.
-const PART: usize = 65_536;
+/// A part has the lines of at least this many entries, but for the last one.
+const LEAST: usize = 65_536;
+
+/// How many entries a part has the lines of, where this many threads make parts of all.
+fn part_length(entries: usize, threads: usize) -> usize
+    ensures { 0 < result }
+{
+    entries.div_ceil(threads.max(1)).max(LEAST)
+}
 
 /// The lines that a text has of entries, in bytes of their own.
 fn lines_part(alloc: Global, text: Text, entries: &[Entry]) -> Result<Vec<u8>, AllocError>
@@ -22,12 +29,14 @@ fn lines_part(alloc: Global, text: Text, entries: &[Entry]) -> Result<Vec<u8>, A
     Ok(part)
 }
 
-/// The lines that a text has of entries, in parts, in order. Threads make them, and each part may be refused memory.
+/// The lines that a text has of entries, in parts, in order. At most this many threads make them, and each part may be
+/// refused memory.
 pub(crate) fn made_parts<R: Threads + Sync>(
     rt: &R,
     alloc: Global,
     text: Text,
     entries: &[Entry],
+    threads: usize,
 ) -> Result<Vec<Result<Vec<u8>, AllocError>>, AllocError>
     ensures { IfOk result (λ made. AreMade (lines_of text entries.now) made.items) }
 {
@@ -35,7 +44,7 @@ pub(crate) fn made_parts<R: Threads + Sync>(
         rt,
         alloc,
         entries,
-        PART,
+        part_length(entries.len(), threads),
         &|_, chunk: &[Entry]| lines_part(alloc, text, chunk),
     )
 }

@@ -1,4 +1,4 @@
-use Rattle.std.proofs.Common.{rules, ◌≡◌, get_or, subst, List, Err, IfOk, arith}
+use Rattle.std.proofs.Common.{rules, ◌≡◌, get_or, subst, List, Err, IfOk}
 use Rattle.std.specs.Prelude.{alloc_error}
 use Rattle.shape_dict.specs.declared.entries.Entry.{Entry}
 use Rattle.shape_dict.specs.Inner.Parts.{lines_of}
@@ -7,7 +7,7 @@ use Rattle.shape_dict.proofs.parts.made_parts.Goals as goal
 
 pub returns : goal.returns
 returns g c =
-    if_ok_both c.map_chunks.result _ _ _ (λ made count each. are_made c.args.text 65536 c.args.entries.now made.items (Err alloc_error) (omega arith) (search rules)
+    if_ok_both c.map_chunks.result _ _ _ (λ made count each. are_made c.args.text c.part_length.result c.args.entries.now made.items (Err alloc_error) c.part_length.ensures (search rules)
     (λ n inside. let call = (each n (Err alloc_error) inside).1 in
     subst (λ (chunk : List Entry). IfOk (get_or made.items n (Err alloc_error)) (λ part. part.items ≡ lines_of c.args.text chunk)) call.argument_is.value (let made_call = call.call in search rules)))
     c.map_chunks.ensures.len c.map_chunks.ensures.each
