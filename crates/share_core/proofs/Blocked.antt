@@ -28,7 +28,7 @@ first_same (row ∷ rows) number =
       | false ↦ λ other. first_same rows number
     ] refl
 
-found_same : (rows : List Row) (number : ℕ) → row_of (rows_at number rows) number ≡ row_of rows number
+pub found_same : (rows : List Row) (number : ℕ) → row_of (rows_at number rows) number ≡ row_of rows number
 found_same [] number = refl
 found_same (row ∷ rows) number =
     elim (row.number == number) as (λ b. (row.number == number) ≡ b → row_of (cond b (row ∷ rows_at number rows) (rows_at number rows)) number ≡ cond b (Some row) (row_of rows number)) [

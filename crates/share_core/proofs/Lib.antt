@@ -25,6 +25,7 @@ mod Summed
 mod Totalled
 mod OfNumber
 mod Blocked
+mod Pieced
 mod Visits
 pub mod Confirmed
 mod SoughtRows

@@ -38,7 +38,7 @@ like_one (Some one) shape h =
     ] refl h
 
 -- a row of the number is then of the pattern
-like_all : (rows : List Row) (number : ℕ) (found : Option ℕ) (row : Row) → stranger_in rows number found ≡ None → Contains rows row → row.number ≡ number → found ≡ Some row.shape
+pub like_all : (rows : List Row) (number : ℕ) (found : Option ℕ) (row : Row) → stranger_in rows number found ≡ None → Contains rows row → row.number ≡ number → found ≡ Some row.shape
 like_all rows number found row none among same =
     let passes = none_found (is_stranger number found) rows among.0 row among.1 none in
     let here : is_stranger number found row ≡ false = ap (is_stranger number found) (sym among.2) ∙ passes in

@@ -10,6 +10,7 @@ pub mod Leasts
 pub mod Ledgers
 pub mod Making
 pub mod Numbers
+pub mod Pieces
 pub mod Preparing
 pub mod Raising
 pub mod Rows

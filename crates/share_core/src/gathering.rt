@@ -42,8 +42,9 @@ fn check_numbers(differs: Option<Differs>, is_large: bool) -> Result<(), Harvest
 /// all rows, and the least game. A pattern that was never there is left out.
 ///
 /// Each number is asked once, in rising order, until one differs; what is marked after that is not judged. Nothing is
-/// entered or marked here. Threads sort a large dictionary, two for two shares, and for more as many as the machine has
-/// processors for; the answer is the same.
+/// entered or marked here. Where there are many patterns, threads add the rows up and sort the dictionary: as many as there
+/// are shares, but for the sort with more than two shares, which takes as many as the machine has processors for. The answer
+/// is the same.
 ///
 /// The pass must be of the table, each share of these kinds, and each of its games below `games`.
 ///
@@ -78,7 +79,7 @@ pub fn gather<R: Threads + Sync, O: ProbeOrder>(
         pass.old pass.new) }
 {
     check_games(alloc, games, shares)?;
-    let visited = visit_all(alloc, table, pass, shares)?;
+    let visited = visit_all(rt, alloc, table, pass, shares)?;
     check_beyond(shares, table.capacity().slots())?;
     check_numbers(visited.differs, visited.is_large)?;
     add_up(rt, kinds, games, visited.entries, shares)

@@ -24,6 +24,7 @@ mod faults;
 mod gathering;
 pub mod laws;
 mod numbers;
+mod pieces;
 mod sorting;
 mod standing;
 mod visiting;

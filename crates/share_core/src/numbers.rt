@@ -7,6 +7,7 @@ ghost use Rattle.share_core.specs.Inner.Checking.{unlike_of};
 ghost use Rattle.share_core.specs.Inner.Totals.{with_row, IsTooMuch};
 ghost use Rattle.share_core.specs.Inner.Numbers.{none_summed, AreSums};
 ghost use Rattle.share_core.specs.Inner.Blocks.{rows_at};
+ghost use Rattle.share_core.specs.Inner.Pieces.{total_at, AreAlikeAt};
 
 use crate::rows::Row;
 use crate::shares::Share;
@@ -66,7 +67,7 @@ fn with_row(total: Option<Row>, row: Row) -> Option<Row>
 }
 
 /// What no rows are together.
-fn no_sums() -> NumberSums
+pub(crate) fn no_sums() -> NumberSums
     ensures { result ≡ none_summed }
 {
     NumberSums {
@@ -114,4 +115,27 @@ pub(crate) fn sums_of(rows: &[Row], number: usize, found: Option<u64>) -> Number
         sums = add(sums, *row, found);
     }
     sums
+}
+
+/// What the rows of a number are together, those of all shares, where this pattern is asked for and they have this total.
+/// The shares are not looked at unless the total is of another pattern. It takes no memory.
+pub(crate) fn sums_by(
+    shares: &[Share],
+    number: usize,
+    total: &Row,
+    found: Option<u64>,
+) -> NumberSums
+    ensures { Some total.now ≡ total_at (all_rows shares.now) number
+        → AreAlikeAt (all_rows shares.now) number
+        → AreSums (all_rows shares.now) number found result }
+{
+    if unlike(*total, found).is_some() {
+        return sums_at(shares, number, found);
+    }
+    NumberSums {
+        total: Some(*total),
+        first: total.first,
+        stranger: None,
+        is_large: false,
+    }
 }

@@ -1,9 +1,9 @@
-use Rattle.std.proofs.Common.{◌≡◌, ◌^◌, subst, ◌∙◌, arith}
+use Rattle.std.proofs.Common.{◌≡◌, ◌^◌, subst, arith}
 use Rattle.std.proofs.lemmas.Result.{err_from_is_err_and}
+use Rattle.share_core.specs.Checking.{all_rows}
 use Rattle.share_core.specs.Inner.Visiting.{AreVisited}
-use Rattle.share_core.proofs.Blocked.{listed_at}
 use Rattle.share_core.proofs.Entered.{calls_through}
-use Rattle.share_core.proofs.visiting.visit_block.Goals as goal
+use Rattle.share_core.proofs.visiting.visit_piece.Goals as goal
 
 pub returns-in_err-visit-clause-later : goal.returns-in_err-visit-clause-later
 returns-in_err-visit-clause-later g c =
@@ -12,27 +12,20 @@ returns-in_err-visit-clause-later g c =
 pub returns-in_err-visit-clause-fault : goal.returns-in_err-visit-clause-fault
 returns-in_err-visit-clause-fault g c =
     let p = err_from_is_err_and c.from_residual.result c.from_residual.ensures.1 in
-    let list = c.index-lists-number.result in
     rw (p.1, p.2)
-    (λ all are first h.
-    c.in_err-visit.ensures.fault all
-    (c.as_slice-rows.ensures.value ∙ listed_at c.args.lists.now c.args.from c.loop-number.number list all (omega arith) (omega arith) c.index-lists-number.is are)
-    first (c.loop-number.invariant.visited all are first h))
+    (λ first h. c.in_err-visit.ensures.fault c.args.high c.loop-number-test.true c.loop-number.invariant.rest first (c.loop-number.invariant.visited first h))
 
 pub loop-number-preserved : goal.loop-number-preserved
 loop-number-preserved g c =
-    let list = c.index-lists-number.result in
     record {
       pass = c.visit.ensures.pass;
       later = calls_through (2 ^ g.O.ProbeOrder.exponent c.args.table.now.order) (λ _. ⊥) (λ _. ⊥) c.args.pass.now c.loop-number.pass c.visit.new.pass c.loop-number.invariant.later c.visit.ensures.later;
-      visited = λ all are first h.
-          c.in_ok-visit.ensures.ok all
-          (c.as_slice-rows.ensures.value ∙ listed_at c.args.lists.now c.args.from c.loop-number.number list all (omega arith) (omega arith) c.index-lists-number.is are)
-          first (c.loop-number.invariant.visited all are first h);
+      rest = c.visit.ensures.rest c.args.high c.loop-number-test.true c.loop-number.invariant.rest;
+      visited = λ first h. c.in_ok-visit.ensures.ok c.args.high c.loop-number-test.true c.loop-number.invariant.rest first (c.loop-number.invariant.visited first h);
     }
 
 pub returns-clause-ok : goal.returns-clause-ok
-returns-clause-ok g c all are first h =
+returns-clause-ok g c first h =
     let n = 2 ^ g.O.ProbeOrder.exponent c.args.table.now.order in
     let last : c.loop-number.number ≡ c.args.high = omega arith in
-    subst (λ k. AreVisited n all k first c.loop-number.pass c.loop-number.visited) last (c.loop-number.invariant.visited all are first h)
+    subst (λ k. AreVisited n (all_rows c.args.shares.now) k first c.loop-number.pass c.loop-number.visited) last (c.loop-number.invariant.visited first h)

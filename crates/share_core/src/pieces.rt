@@ -1,0 +1,197 @@
+//! The numbers of a table in pieces, each with the totals of its numbers, which threads make.
+ghost use Rattle.std.specs.Prelude.{◌≡◌, ℕ, ◌+◌, ◌*◌, ◌^◌, ◌<◌, ◌≤◌, min, drop, length, List, OnOk, IfOk};
+ghost use Rattle.share_core.specs.declared.rows.Row.{Row};
+ghost use Rattle.share_core.specs.Checking.{all_rows};
+ghost use Rattle.share_core.specs.Inner.Blocks.{rows_at, AreRowsOf};
+ghost use Rattle.share_core.specs.Inner.Numbers.{AreSums};
+ghost use Rattle.share_core.specs.Inner.Pieces.{total_at, AreTotals, IsPiece, IsRest, ArePieces};
+
+use crate::blocks::{empty_lists, fill};
+use crate::numbers::{NumberSums, no_sums, sums_at, sums_by, sums_of};
+use crate::rows::Row;
+use crate::shares::Share;
+use std::alloc::{AllocError, Global};
+use std::thread::{Threads, map_indices};
+
+/// How many numbers are looked at together. Each share is asked for all of them before the next share is, so its index and
+/// its rows are read in sequence; and the rows of so few numbers, those of all shares, stay in the cache until they are
+/// added up.
+const BLOCK: usize = 256;
+
+/// How many numbers a piece has at least, so that a thread is worth its making.
+const LEAST: usize = 65_536;
+
+/// A range of numbers: for each that has rows their total, numbers rising. It is odd where some number of the range has
+/// rows of several patterns, or a sum passes 2^64 - 1; then the totals have no meaning.
+#[derive(Drop)]
+pub(crate) struct Piece {
+    pub rows: Vec<Row>,
+    pub is_odd: bool,
+}
+
+/// Adds the total of a number that has these rows to the piece of the numbers before it.
+fn add_total(piece: &mut Piece, number: usize, rows: &[Row]) -> Result<(), AllocError>
+    ensures { OnOk result ((all : List Row) → (from : ℕ) → rows.now ≡ rows_at number all
+        → from ≤ number → IsPiece all from number piece.old
+        → IsPiece all from (number + 1) piece.new) }
+{
+    let Some(first) = rows.first() else {
+        return Ok(());
+    };
+    let sums = sums_of(rows, number, Some(first.shape.word().bits()));
+    if sums.stranger.is_some() || sums.is_large {
+        piece.is_odd = true;
+        return Ok(());
+    }
+    if let Some(total) = sums.total {
+        piece.rows.push(Row { number, ..total })?;
+    }
+    Ok(())
+}
+
+/// Adds the totals of the numbers of a block, from one up to another, each with the rows in its list: the first list has
+/// those of the number with which the block begins.
+fn add_block(
+    piece: &mut Piece,
+    lists: &[Vec<Row>],
+    low: usize,
+    high: usize,
+) -> Result<(), AllocError>
+    requires order { low ≤ high }
+    requires listed { high ≤ low + length lists.now }
+    ensures { OnOk result ((all : List Row) → (from : ℕ) → AreRowsOf lists.now low all
+        → from ≤ low → IsPiece all from low piece.old → IsPiece all from high piece.new) }
+{
+    for number in low..high {
+        let rows = lists[number - low].as_slice();
+        add_total(piece, number, rows)?;
+    }
+    Ok(())
+}
+
+/// The piece of the numbers from one up to another. It takes memory for the totals, and for the rows of one block of
+/// numbers.
+fn piece_of(alloc: Global, shares: &[Share], from: usize, high: usize) -> Result<Piece, AllocError>
+    requires order { from ≤ high }
+    requires high { high < 2 ^ 32 }
+    ensures { IfOk result (IsPiece (all_rows shares.now) from high) }
+{
+    let mut made = empty_lists(alloc, BLOCK.min(high - from))?;
+    let lists = made.as_mut_slice();
+    let mut piece = Piece {
+        rows: Vec::new(alloc),
+        is_odd: false,
+    };
+    let mut low = from;
+    while low < high {
+        let next = high.min(low + BLOCK);
+        fill(shares, low, lists)?;
+        add_block(&mut piece, lists, low, next)?;
+        low = next;
+    }
+    Ok(piece)
+}
+
+/// The piece at a place, where each has this many numbers, and the last one those that are left.
+fn piece_at(
+    alloc: Global,
+    shares: &[Share],
+    slots: usize,
+    span: usize,
+    place: usize,
+) -> Result<Piece, AllocError>
+    requires slots { slots < 2 ^ 32 }
+    requires span { span < 2 ^ 32 }
+    requires place { place * span < slots }
+    ensures { IfOk result (IsPiece (all_rows shares.now) (place * span)
+        (min slots (place * span + span))) }
+{
+    let from = place * span;
+    piece_of(alloc, shares, from, slots.min(from + span))
+}
+
+/// How many numbers each piece has: as many pieces as shares, unless they would be small.
+pub(crate) fn span_of(shares: &[Share], slots: usize) -> usize
+    ensures some { 0 < result }
+    ensures small { slots < 2 ^ 32 → result < 2 ^ 32 }
+{
+    LEAST.max(slots.div_ceil(shares.len().max(1)))
+}
+
+/// All numbers below `slots` in pieces of this many, in order. Threads make them, and each may be refused memory. One piece
+/// is made by this thread.
+pub(crate) fn pieces<R: Threads + Sync>(
+    rt: &R,
+    alloc: Global,
+    shares: &[Share],
+    slots: usize,
+    span: usize,
+) -> Result<Vec<Result<Piece, AllocError>>, AllocError>
+    requires slots { slots < 2 ^ 32 }
+    requires some { 0 < span }
+    requires span { span < 2 ^ 32 }
+    ensures { IfOk result (λ made. ArePieces (all_rows shares.now) slots span made.items) }
+{
+    map_indices(
+        rt,
+        alloc,
+        slots.div_ceil(span),
+        &|place| piece_at(alloc, shares, slots, span, place),
+    )
+}
+
+/// How many totals pieces have together.
+pub(crate) fn totals_in(made: &[Result<Piece, AllocError>]) -> usize {
+    let mut totals: usize = 0;
+    for piece in made {
+        if let Ok(piece) = piece {
+            totals = totals.saturating_add(piece.rows.len());
+        }
+    }
+    totals
+}
+
+/// The total of a number, where the totals from a place on are those of this number and later ones; the place goes on past
+/// the number.
+fn next_total(rows: &[Row], next: &mut usize, number: usize) -> Option<Row>
+    ensures total { (all : List Row) → (high : ℕ) → number < high
+        → AreTotals all number high (drop next.old rows.now) → result ≡ total_at all number }
+    ensures rest { (all : List Row) → (high : ℕ) → number < high
+        → AreTotals all number high (drop next.old rows.now)
+        → AreTotals all (number + 1) high (drop next.new rows.now) }
+{
+    if *next >= rows.len() {
+        return None;
+    }
+    let row = rows[*next];
+    if row.number != number {
+        return None;
+    }
+    *next += 1;
+    Some(row)
+}
+
+/// What the rows of a number are together, where this pattern is asked for: out of the piece, whose totals from a place on
+/// are those of this number and later ones, or else out of the shares. The place goes on past the number.
+pub(crate) fn sums_in(
+    shares: &[Share],
+    piece: &Piece,
+    next: &mut usize,
+    number: usize,
+    found: Option<u64>,
+) -> NumberSums
+    ensures sums { (high : ℕ) → number < high
+        → IsRest (all_rows shares.now) number high piece.now next.old
+        → AreSums (all_rows shares.now) number found result }
+    ensures rest { (high : ℕ) → number < high
+        → IsRest (all_rows shares.now) number high piece.now next.old
+        → IsRest (all_rows shares.now) (number + 1) high piece.now next.new }
+{
+    if piece.is_odd {
+        return sums_at(shares, number, found);
+    }
+    match next_total(piece.rows.as_slice(), next, number) {
+        None => no_sums(),
+        Some(total) => sums_by(shares, number, &total, found),
+    }
+}
