@@ -30,6 +30,10 @@ pub struct GameWalk {
 
 impl GameWalk {
     /// The walk before the first action. It takes memory for each point.
+    ///
+    /// # Errors
+    ///
+    /// `Memory` where memory was refused.
     pub fn begin(alloc: Global, field: Field, meetings: Meetings) -> Result<GameWalk, HarvestFault>
         ensures field { IfOk result (λ walk. walk.field ≡ field) }
         ensures meetings { IfOk result (λ walk. walk.meetings ≡ meetings) }
@@ -48,6 +52,10 @@ impl GameWalk {
     }
 
     /// Counts what an action is the occasion of, and says how many occasions it is: a move onto an empty point is one.
+    ///
+    /// # Errors
+    ///
+    /// `Memory` where memory was refused; the walk has no meaning then.
     pub fn count(&mut self, action: Action) -> Result<u64, HarvestFault>
         requires on_board { IsActionOn self.old.field.board.size action }
         requires sides { AreSides self.old }

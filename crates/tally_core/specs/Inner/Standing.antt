@@ -122,7 +122,7 @@ pub record HaveRoom (walk : GameWalk) : Type 0 where
   pub black : walk.black.occasions + 1 < 2 ^ 64
   pub white : walk.white.occasions + 1 < 2 ^ 64
 
--- these occasions, this number of them, were counted
+-- these occasions, this number of them and at most one, were counted
 pub record CountsOccasions (done : List Occasion) (before after : GameWalk) (moves : ℕ) : Type 0 where
   pub moves_counted : moves ≡ length done
   pub few : moves ≤ 1
