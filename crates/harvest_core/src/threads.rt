@@ -10,7 +10,7 @@ ghost use Rattle.share_core.specs.declared.faults.HarvestFault.TheVariants as fa
 use crate::gates::Gate;
 use crate::reading::{Reading, close, read_games};
 use crate::working::{Worked, work};
-use job_core::{Desk, Games, new_queue};
+use job_core::{Desk, Games};
 use probe_core::ProbeOrder;
 use shape_core::Kinds;
 use share_core::HarvestFault;
