@@ -24,7 +24,7 @@ abbrev pub AreAlikeAt : List Row → ℕ → Type 0
 AreAlikeAt all number = (row : Row) → row_of all number ≡ Some row → stranger_in all number (Some row.shape) ≡ None
 
 -- ---- a range of numbers
--- the totals of so many numbers, from this one on, of those that have rows
+-- the totals of this number and those after it, `count` numbers in all, of those that have rows
 abbrev pub totals_of : List Row → ℕ → ℕ → List Row
 totals_of all from count = filter_map (total_at all) (count_from from count)
 
@@ -42,7 +42,8 @@ abbrev pub IsRest : List Row → ℕ → ℕ → Piece → ℕ → Type 0
 IsRest all from high piece next = piece.is_odd ≡ false → AreTotals all from high (drop next piece.rows.items)
 
 -- ---- all pieces
--- each piece that was made is that of its range: the first of the first numbers, so many as the span, the next of the next
+-- each piece that was made is that of its range: the first has the first `span` numbers, the next one the next, and the last
+-- those that are left
 pub record ArePieces (all : List Row) (slots span : ℕ) (made : List (Result Piece AllocError)) : Type 0 where
   pub enough : slots ≤ length made * span
   pub each : (place : ℕ) (d : Result Piece AllocError) → place < length made
