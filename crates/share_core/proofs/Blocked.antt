@@ -45,7 +45,7 @@ sum_same count (row ∷ rows) number =
       | false ↦ λ other. let deep = sum_same count rows number in omega arith
     ] refl ∙ sym (sum_by-cons one row rows)
 
-stranger_same : (rows : List Row) (number : ℕ) (found : Option ℕ) → find (is_stranger number found) (rows_at number rows) ≡ find (is_stranger number found) rows
+pub stranger_same : (rows : List Row) (number : ℕ) (found : Option ℕ) → find (is_stranger number found) (rows_at number rows) ≡ find (is_stranger number found) rows
 stranger_same [] number found = refl
 stranger_same (row ∷ rows) number found =
     let odd = not (is_shape found row.shape) in
@@ -55,7 +55,7 @@ stranger_same (row ∷ rows) number found =
       | false ↦ λ other. stranger_same rows number found
     ] refl
 
-total_same : (rows : List Row) (number : ℕ) (total : Option Row) → IsTotalAt (rows_at number rows) number total → IsTotalAt rows number total
+pub total_same : (rows : List Row) (number : ℕ) (total : Option Row) → IsTotalAt (rows_at number rows) number total → IsTotalAt rows number total
 total_same rows number None h = sym (found_same rows number) ∙ h
 total_same rows number (Some total) h = record {
   first_row = h.first_row;

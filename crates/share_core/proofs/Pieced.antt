@@ -1,23 +1,27 @@
 -- Totals of numbers, one number after another.
-use Rattle.std.proofs.Common.{◌≡◌, ℕ, zero, suc, ◌+◌, ◌-◌, ◌*◌, min, ◌<◌, ◌≤◌, false, List, [], ◌∷◌, ◌++◌, get_or, length, drop, Option, Some, None, refl, ap, sym, subst, ◌∙◌, arith, append-nil, length-append, add-one, ⊎_elim}
+use Rattle.std.proofs.Common.{◌≡◌, ℕ, zero, suc, ◌+◌, ◌-◌, ◌*◌, min, ◌<◌, ◌≤◌, ◌==◌, ◌&&◌, not, true, false, cond, All, find, List, [], ◌∷◌, ◌++◌, get_or, length, drop, Option, Some, None, refl, ap, sym, subst, ◌∙◌, arith, append-nil, length-append, add-one, ⊎_elim}
+use Rattle.std.specs.Prelude.{slice_get}
 use Rattle.std.specs.List.{filter_map, cons_option}
 use Rattle.std.specs.Option.{option_map, is_some}
 use Rattle.std.proofs.Math.Seq.{drop-cons}
 use Rattle.std.proofs.Math.Nat.{add-mul, one-mul}
 use Rattle.std.proofs.lemmas.Bool.{cases_lt}
+use Rattle.std.proofs.lemmas.Bool.Decides.{nat_tests}
 use Rattle.std.proofs.lemmas.List.{drop_all}
-use Rattle.std.proofs.lemmas.List.Elements.{filter_map-append}
+use Rattle.std.proofs.lemmas.List.Elements.{filter_map-append, filter_passes}
 use Rattle.shape_core.specs.Word.{count_from}
 use Rattle.share_core.specs.declared.rows.Row.{Row}
 use Rattle.share_core.specs.Rows.{row_of}
-use Rattle.share_core.specs.Checking.{stranger_in}
-use Rattle.share_core.specs.Inner.Totals.{IsTotal}
-use Rattle.share_core.specs.Inner.Numbers.{none_summed, AreSums}
+use Rattle.share_core.specs.Checking.{is_shape, is_stranger, stranger_in}
+use Rattle.share_core.specs.Inner.Checking.{unlike_of}
+use Rattle.share_core.specs.Inner.Totals.{IsTotal, IsTotalAt}
+use Rattle.share_core.specs.Inner.Numbers.{none_summed, like_sums, AreSums}
 use Rattle.share_core.specs.Inner.Blocks.{rows_at}
 use Rattle.share_core.specs.Inner.Pieces.{summed_as, total_at, totals_of, AreAlikeAt, AreTotals}
-use Rattle.share_core.proofs.Blocked.{found_same, rows_none, sums_same}
-use Rattle.share_core.proofs.Stood.{like_all}
-use Rattle.share_core.proofs.Totalled.{found_in}
+use Rattle.share_core.proofs.Blocked.{found_same, rows_none, sums_same, total_same, stranger_same, one_number, one_found}
+use Rattle.share_core.proofs.Stood.{like_one, like_all}
+use Rattle.share_core.proofs.Strangers.{asked, stranger_of_row}
+use Rattle.share_core.proofs.Totalled.{found_in, total_with}
 
 -- ---- one number
 no_total : (all : List Row) (number : ℕ) → row_of all number ≡ None → total_at all number ≡ None
@@ -94,6 +98,21 @@ totals_some all from number totals found total row made low none is h = record {
   alike = alike_more all from number (alike_with all number found none) h.alike;
 }
 
+-- a number with one row has that row as its total, and no row of another pattern
+pub one_row : (all : List Row) (number : ℕ) (row : Row) → row ∷ [] ≡ rows_at number all → IsTotal all number row × (stranger_in all number (Some row.shape) ≡ None)
+one_row all number row is =
+    let passes = filter_passes (λ (r : Row). r.number == number) all in
+    let same : (row.number == number) ≡ true = subst (λ (rs : List Row). All (λ (r : Row). (r.number == number) ≡ true) rs) (sym is) passes 0 row (omega arith) in
+    let here = one_found row number same in
+    let alone : IsTotalAt (row ∷ []) number (Some row) = total_with [] (row ∷ []) number None row (one_number row) here refl in
+    let none : stranger_in (row ∷ []) number (Some row.shape) ≡ None =
+    stranger_of_row (row ∷ []) number (Some row.shape) (one_number row)
+    ∙ ap (λ o. asked o (Some row.shape)) here
+    ∙ ap (λ b. cond b None (Some row.shape)) (let e : (row.shape == row.shape) ≡ true = Prim.grind (arith, nat_tests) in e) in
+    (total_same all number (Some row) (subst (λ (rs : List Row). IsTotalAt rs number (Some row)) is alone),
+    sym (ap (option_map (λ (r : Row). r.shape)) (stranger_same all number (Some row.shape)))
+    ∙ subst (λ (rs : List Row). stranger_in rs number (Some row.shape) ≡ None) is none)
+
 -- before the first number there is nothing
 pub totals_begin : (all : List Row) (from : ℕ) → AreTotals all from from []
 totals_begin all from = record {
@@ -161,6 +180,66 @@ sums_nothing all number found is =
     (subst (λ (rows : List Row). AreSums rows number found none_summed) (sym none)
     (record { first = refl; stranger = refl; total = λ fits. refl; large = λ is_large. absurd cc }))
 
+-- ---- a total and the pattern that a table has
+like_found : (found : Option ℕ) (shape : ℕ) → cond (is_shape found shape) None (Some shape) ≡ None → found ≡ Some shape
+like_found found shape none =
+    elim (is_shape found shape) as (λ b. is_shape found shape ≡ b → cond b None (Some shape) ≡ None → found ≡ Some shape) [
+      | true ↦ λ same e. like_one found shape (ap not same)
+      | false ↦ λ other e. absurd cc
+    ] refl none
+
+-- a total of the pattern that is asked for is what the rows are together
+pub sums_total : (all : List Row) (number : ℕ) (found : Option ℕ) (total : Row) → Some total ≡ total_at all number → AreAlikeAt all number → unlike_of total found ≡ None →
+    AreSums all number found (like_sums (Some total) total.first false)
+sums_total all number found total is alike none =
+    elim (row_of all number) as (λ o. row_of all number ≡ o → Some total ≡ option_map (summed_as all number) o → AreSums all number found (like_sums (Some total) total.first false)) [
+      | None ↦ λ nothing e. absurd cc
+      | Some row ↦ λ some e.
+          let it : total ≡ summed_as all number row = cc in
+          let shape = ap (λ (r : Row). r.shape) it in
+          let asked : Some row.shape ≡ found = sym (like_found found total.shape none ∙ ap (λ x. Some x) shape) in
+          record {
+            first = ap (λ (r : Row). r.first) it;
+            stranger = sym (subst (λ f. stranger_in all number f ≡ None) asked (alike row some));
+            total = λ fits. record {
+              first_row = row;
+              found = some;
+              shape = shape;
+              there = ap (λ (r : Row). r.there) it;
+              played = ap (λ (r : Row). r.played) it;
+              first = ap (λ (r : Row). r.first) it;
+            };
+            large = λ large. absurd cc;
+          }
+    ] refl is
+
+first_stranger : (rows : List Row) (number : ℕ) (found : Option ℕ) (row : Row) (held : ℕ) → row_of rows number ≡ Some row → unlike_of row found ≡ Some held → stranger_in rows number found ≡ Some held
+first_stranger [] number found row held is unlike = absurd cc
+first_stranger (r ∷ rows) number found row held is unlike =
+    elim (r.number == number) as (λ b. cond b (Some r) (row_of rows number) ≡ Some row →
+    option_map (λ (x : Row). x.shape) (cond (b && not (is_shape found r.shape)) (Some r) (find (is_stranger number found) rows)) ≡ Some held) [
+      | true ↦ λ e.
+          let it : r ≡ row = cc in
+          let same : cond (is_shape found r.shape) None (Some r.shape) ≡ Some held = ap (λ (x : Row). unlike_of x found) it ∙ unlike in
+          elim (is_shape found r.shape) as (λ t. cond t None (Some r.shape) ≡ Some held →
+          option_map (λ (x : Row). x.shape) (cond (not t) (Some r) (find (is_stranger number found) rows)) ≡ Some held) [
+            | true ↦ λ none. absurd cc
+            | false ↦ λ some. some
+          ] same
+      | false ↦ λ e. first_stranger rows number found row held e unlike
+    ] is
+
+-- a total of another pattern is a stranger
+pub stranger_total : (all : List Row) (number : ℕ) (found : Option ℕ) (total : Row) (held : ℕ) → Some total ≡ total_at all number → unlike_of total found ≡ Some held →
+    Some held ≡ stranger_in all number found
+stranger_total all number found total held is unlike =
+    elim (row_of all number) as (λ o. row_of all number ≡ o → Some total ≡ option_map (summed_as all number) o → Some held ≡ stranger_in all number found) [
+      | None ↦ λ nothing e. absurd cc
+      | Some row ↦ λ some e.
+          let it : total ≡ summed_as all number row = cc in
+          sym (first_stranger all number found row held some (sym (ap (λ (r : Row). unlike_of r found) it) ∙ unlike))
+    ] refl is
+
 -- ---- a place in totals
 -- past the last one no total is left
 pub nothing_left : (rows : List Row) (next number : ℕ) → length rows ≤ next → (row : Row) (tail : List Row) → drop next rows ≡ row ∷ tail → row.number ≡ number → ⊥
@@ -176,6 +255,11 @@ next_of rows next row inside is =
 pub nothing_in : (rows : List Row) → length rows ≤ 0 → [] ≡ rows
 nothing_in [] few = refl
 nothing_in (row ∷ rows) few = absurd (omega arith)
+
+pub only_row : (rows : List Row) (row : Row) → length rows ≡ 1 → Some row ≡ slice_get rows 0 → row ∷ [] ≡ rows
+only_row [] row long is = absurd (omega arith)
+only_row (r ∷ []) row long is = let it : row ≡ r = cc in ap (λ (x : Row). x ∷ []) it
+only_row (r ∷ s ∷ rows) row long is = absurd (omega arith)
 
 pub nothing_given : (o : Option ℕ) → is_some o ≡ false → o ≡ None
 nothing_given None h = refl

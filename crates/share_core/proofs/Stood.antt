@@ -29,7 +29,7 @@ none_found p (row ∷ rows) (suc k) d low none =
     ] none
 
 -- what a test of a pattern tells
-like_one : (found : Option ℕ) (shape : ℕ) → not (is_shape found shape) ≡ false → found ≡ Some shape
+pub like_one : (found : Option ℕ) (shape : ℕ) → not (is_shape found shape) ≡ false → found ≡ Some shape
 like_one None shape h = absurd cc
 like_one (Some one) shape h =
     elim (one == shape) as (λ b. (one == shape) ≡ b → not b ≡ false → Some one ≡ Some shape) [

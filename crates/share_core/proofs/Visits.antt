@@ -17,7 +17,7 @@ use Rattle.share_core.specs.Agreeing.{agreeing_firsts}
 use Rattle.share_core.specs.Checking.{stranger_in, shape_at, StandBelow, IsStranger}
 use Rattle.share_core.specs.Inner.Checking.{IsFound}
 use Rattle.share_core.specs.Inner.Totals.{entries_of_total, AreEntriesBelow}
-use Rattle.share_core.specs.Inner.Numbers.{AreSums}
+use Rattle.share_core.specs.Inner.Numbers.{like_sums, AreSums}
 use Rattle.share_core.specs.Inner.Visiting.{AgreeBelow, AreVisited}
 use Rattle.share_core.proofs.Stood.{stand_more}
 use Rattle.share_core.proofs.Ordered.{entries_more}
@@ -37,11 +37,12 @@ asked_next n rows number first old new (Some differs) of_table none later h = ab
 
 -- the answer agrees
 pub agree_more : {O : Type 0} (n : ℕ) (rows : List Row) (number : ℕ) (first old new : Known O) (before : Option Differs) (of_table : Option ℕ) → is_some before ≡ false →
-    IsLater n old (call.First number of_table ∷ []) new → of_table ≡ first_at rows number → AgreeBelow n rows number first old before → AgreeBelow n rows (number + 1) first new None
-agree_more n rows number first old new before of_table none later same h =
+    IsLater n old (call.First number of_table ∷ []) new → of_table ≡ first_at rows number → AgreeBelow n rows number first old before → AgreeBelow n rows (number + 1) first new before
+agree_more n rows number first old new None of_table none later same h =
     subst (λ k. IsLater n first (agreeing_firsts rows k) new) (sym (add-one number))
     (subst (λ o. IsLater n first (agreeing_firsts rows number ++ call.First number o ∷ []) new) same
-    (asked_next n rows number first old new before of_table none later h))
+    (asked_next n rows number first old new None of_table none later h))
+agree_more n rows number first old new (Some differs) of_table none later same h = absurd cc
 
 -- and where it does not
 pub differs_here : {O : Type 0} (n : ℕ) (rows : List Row) (number high : ℕ) (first old new : Known O) (before : Option Differs) (of_shares of_table : Option ℕ) → is_some before ≡ false →
@@ -69,6 +70,11 @@ stranger_found n seen history rows number held found of_table stranger keeps tol
   table = same ∙ told;
   least = λ row among low. keeps.numbers row.shape row.number (stand row among low);
 }
+
+-- sums without a stranger
+pub plain_sums : (rows : List Row) (number : ℕ) (found : Option ℕ) (sums : NumberSums) → sums.stranger ≡ None → AreSums rows number found sums →
+    AreSums rows number found (like_sums sums.total sums.first sums.is_large)
+plain_sums rows number found sums none h = record { first = h.first; stranger = sym none ∙ h.stranger; total = h.total; large = h.large }
 
 -- a look changes nothing of what is known of lesser numbers
 pub visited_later : {O : Type 0} (n : ℕ) (rows : List Row) (high : ℕ) (first old look : Known O) (visited : Visited) → IsLater n old [] look →

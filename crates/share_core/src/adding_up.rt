@@ -10,7 +10,7 @@ ghost use Rattle.share_core.specs.Inner.Totals.{entries_of_total, AreEntriesOf};
 ghost use Rattle.share_core.specs.Gathering.{AreWithin, all_moves, IsGathered};
 
 use crate::faults::HarvestFault;
-use crate::rows::Row;
+use crate::kept_rows::KeptRow;
 use crate::shares::Share;
 use crate::sorting::sort;
 use shape_core::{Kinds, kinds_stay};
@@ -19,7 +19,7 @@ use std::thread::Threads;
 use tally_core::has_diamonds;
 
 /// A row as an entry. Its word is the least of its images, by the type of shapes.
-fn entry(row: Row) -> Entry
+fn entry(row: KeptRow) -> Entry
     ensures value { result ≡ record {
       shape = row.shape;
       there = row.there;
@@ -28,17 +28,18 @@ fn entry(row: Row) -> Entry
     } }
     ensures shape { IsShape result }
 {
-    let _ = row.shape.word();
+    let shape = row.shape();
+    let _ = shape.word();
     Entry {
-        shape: row.shape,
-        there: row.there,
-        played: row.played,
-        first: row.first,
+        shape,
+        there: row.there(),
+        played: row.played(),
+        first: row.first(),
     }
 }
 
 /// Adds the entry of a row, if it is given and counts something.
-pub(crate) fn push(entries: &mut Vec<Entry>, total: Option<Row>) -> Result<(), HarvestFault>
+pub(crate) fn push(entries: &mut Vec<Entry>, total: Option<KeptRow>) -> Result<(), HarvestFault>
     ensures ok { OnOk result (entries.new.items ≡ entries.old.items ++ entries_of_total total) }
     ensures shapes { OnOk result (All IsShape (entries_of_total total)) }
     ensures fault { IfErr result (λ found. found ≡ fault.Memory) }
@@ -46,7 +47,7 @@ pub(crate) fn push(entries: &mut Vec<Entry>, total: Option<Row>) -> Result<(), H
     let Some(row) = total else {
         return Ok(());
     };
-    if row.there == 0 {
+    if row.there() == 0 {
         return Ok(());
     }
     entries.push(entry(row))?;

@@ -30,35 +30,35 @@ pub(crate) fn marks_fault(differs: Differs) -> HarvestFault
     }
 }
 
-/// Asks the least game of a number, and compares it with that of the shares' rows. Where the games of a lesser number
-/// differ, nothing is asked.
+/// Asks the least game of a number, and compares it with that of the shares' rows: where they differ, that is noted. Where
+/// the games of a lesser number differ, nothing is asked.
 #[tactic(auto, using(crate::proofs::Entered::calls_self))]
 pub(crate) fn compare<O: ProbeOrder>(
     table: &SlotTable<O>,
     pass: &mut Pass<O>,
     number: usize,
     of_shares: Option<u64>,
-    before: Option<Differs>,
-) -> Option<Differs>
+    differs: &mut Option<Differs>,
+)
     requires pass { IsPassOf (2 ^ O.exponent table.now.order) table.now pass.old }
     requires number { number < 2 ^ O.exponent table.now.order }
     ensures pass { IsPassOf (2 ^ O.exponent table.now.order) table.now pass.new }
     ensures later { AsksOnly (2 ^ O.exponent table.now.order) pass.old pass.new }
     ensures agree { (rows : List Row) → (first : Known O) → of_shares ≡ first_at rows number
-        → AgreeBelow (2 ^ O.exponent table.now.order) rows number first pass.old before
-        → AgreeBelow (2 ^ O.exponent table.now.order) rows (number + 1) first pass.new result }
+        → AgreeBelow (2 ^ O.exponent table.now.order) rows number first pass.old differs.old
+        → AgreeBelow (2 ^ O.exponent table.now.order) rows (number + 1) first pass.new
+        differs.new }
 {
-    if before.is_some() {
-        return before;
+    if differs.is_some() {
+        return;
     }
     let of_table = table.first(pass, number);
     if of_shares == of_table {
-        None
-    } else {
-        Some(Differs {
-            number,
-            of_shares,
-            of_table,
-        })
+        return;
     }
+    *differs = Some(Differs {
+        number,
+        of_shares,
+        of_table,
+    });
 }

@@ -3,12 +3,12 @@ ghost use Rattle.std.specs.Prelude.{◌≡◌, ℕ, ◌+◌, ◌^◌, ◌<◌, �
 ghost use Rattle.share_core.specs.Checking.{all_rows};
 ghost use Rattle.share_core.specs.Inner.Blocks.{rows_at, items_at, AreRowsOf};
 
-use crate::rows::Row;
+use crate::kept_rows::KeptRow;
 use crate::shares::Share;
 use std::alloc::{AllocError, Global};
 
 /// This many lists without rows. It takes memory for the lists, and none for their rows.
-pub(crate) fn empty_lists(alloc: Global, count: usize) -> Result<Vec<Vec<Row>>, AllocError>
+pub(crate) fn empty_lists(alloc: Global, count: usize) -> Result<Vec<Vec<KeptRow>>, AllocError>
     ensures { IfOk result (λ lists. length lists.items ≡ count) }
 {
     let mut lists = Vec::with_capacity(alloc, count)?;
@@ -19,7 +19,7 @@ pub(crate) fn empty_lists(alloc: Global, count: usize) -> Result<Vec<Vec<Row>>, 
 }
 
 /// Takes the rows out of all lists. The lists keep their memory.
-fn clear(lists: &mut [Vec<Row>])
+fn clear(lists: &mut [Vec<KeptRow>])
     ensures { (place : ℕ) → items_at lists.new place ≡ [] }
 {
     for place in 0..lists.len() {
@@ -28,10 +28,10 @@ fn clear(lists: &mut [Vec<Row>])
 }
 
 /// Adds a share's row of a number to a list, if the share has one. It takes memory where the list has no room.
-fn add_row(share: &Share, number: usize, list: &mut Vec<Row>) -> Result<(), AllocError>
+fn add_row(share: &Share, number: usize, list: &mut Vec<KeptRow>) -> Result<(), AllocError>
     ensures { OnOk result (list.new.items ≡ list.old.items ++ rows_at number share.now.rows) }
 {
-    if let Some(row) = share.row_at(number) {
+    if let Some(row) = share.kept_at(number) {
         list.push(row)?;
     }
     Ok(())
@@ -39,7 +39,7 @@ fn add_row(share: &Share, number: usize, list: &mut Vec<Row>) -> Result<(), Allo
 
 /// Adds the rows that a share has of the block's numbers, each to the list of its number. It takes memory where a list
 /// has no room.
-fn add_share(share: &Share, from: usize, lists: &mut [Vec<Row>]) -> Result<(), AllocError>
+fn add_share(share: &Share, from: usize, lists: &mut [Vec<KeptRow>]) -> Result<(), AllocError>
     requires { from + length lists.old < 2 ^ 64 }
     ensures { OnOk result ((place : ℕ) → place < length lists.new
         → items_at lists.new place
@@ -58,7 +58,7 @@ fn add_share(share: &Share, from: usize, lists: &mut [Vec<Row>]) -> Result<(), A
 /// # Errors
 ///
 /// Where memory was refused; the rows in the lists have no meaning then.
-pub(crate) fn fill(shares: &[Share], from: usize, lists: &mut [Vec<Row>]) -> Result<(), AllocError>
+pub(crate) fn fill(shares: &[Share], from: usize, lists: &mut [Vec<KeptRow>]) -> Result<(), AllocError>
     requires { from + length lists.old < 2 ^ 64 }
     ensures { OnOk result (AreRowsOf lists.new from (all_rows shares.now)) }
 {

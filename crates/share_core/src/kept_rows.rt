@@ -1,6 +1,7 @@
 //! How a share keeps a row: in half a line of memory.
-ghost use Rattle.std.specs.Prelude.{◌≡◌, ◌+◌, ◌^◌, ◌<◌};
+ghost use Rattle.std.specs.Prelude.{◌≡◌, ◌+◌, ◌^◌, ◌<◌, IfSome, IfNone};
 ghost use Rattle.sgf_core.specs.Limit.{most_bytes};
+ghost use Rattle.share_core.specs.Rows.{earlier};
 
 use crate::rows::Row;
 use crate::small::SmallOption;
@@ -40,10 +41,28 @@ impl Model for KeptRow {
     } };
 }
 
+/// The lesser of two games, where None is no game.
+fn earlier(one: SmallOption, other: SmallOption) -> SmallOption
+    ensures { result ≡ earlier one other }
+{
+    match (one.get(), other.get()) {
+        (None, _) => other,
+        (Some(_), None) => one,
+        (Some(first), Some(second)) => {
+            if first <= second {
+                one
+            } else {
+                other
+            }
+        }
+    }
+}
+
 impl KeptRow {
-    ghost use Rattle.std.specs.Prelude.{◌≡◌, ◌+◌, ◌^◌, ◌<◌};
+    ghost use Rattle.std.specs.Prelude.{◌≡◌, ◌+◌, ◌^◌, ◌<◌, Some, IfSome, IfNone};
     ghost use Rattle.share_core.specs.Rows.{blank};
     ghost use Rattle.share_core.specs.Inner.Raising.{raised};
+    ghost use Rattle.share_core.specs.Inner.Totals.{with_row, IsTooMuch};
 
     /// A row that counts nothing.
     pub fn blank(number: usize, shape: Shape) -> KeptRow
@@ -73,21 +92,68 @@ impl KeptRow {
         self.shape
     }
 
+    /// How often the pattern was there.
+    pub fn there(self) -> u64
+        ensures { result ≡ self.there }
+    {
+        self.there
+    }
+
+    /// How often it was played.
+    pub fn played(self) -> u64
+        ensures { result ≡ self.played }
+    {
+        self.played
+    }
+
+    /// The least game in which it was there.
+    pub fn first(self) -> Option<u64>
+        ensures { result ≡ self.first }
+    {
+        match self.first.get() {
+            None => None,
+            Some(game) => Some(game as u64),
+        }
+    }
+
     /// The row.
     pub fn row(self) -> Row
         ensures { result ≡ self }
     {
-        let first = match self.first.get() {
-            None => None,
-            Some(game) => Some(game as u64),
-        };
         Row {
             number: self.number(),
             shape: self.shape,
             there: self.there,
             played: self.played,
-            first,
+            first: self.first(),
         }
+    }
+
+    /// This row as one of this number.
+    pub fn at(self, number: usize) -> KeptRow
+        requires { number < 2 ^ 32 }
+        ensures { result ≡ record self { number = number } }
+    {
+        KeptRow {
+            number: number as u32,
+            ..self
+        }
+    }
+
+    /// This row with what another row of its number counts besides; None where a sum passes 2^64 - 1.
+    pub fn with(self, row: KeptRow) -> Option<KeptRow>
+        ensures some { IfSome result (λ both. both ≡ with_row (Some self) row) }
+        ensures none { IfNone result (IsTooMuch (Some self) row) }
+    {
+        let there = self.there.checked_add(row.there)?;
+        let played = self.played.checked_add(row.played)?;
+        Some(KeptRow {
+            shape: self.shape,
+            there,
+            played,
+            number: self.number,
+            first: earlier(self.first, row.first),
+        })
     }
 
     /// Adds a game's meeting.

@@ -9,7 +9,7 @@ ghost use Rattle.share_core.specs.Inner.Numbers.{none_summed, AreSums};
 ghost use Rattle.share_core.specs.Inner.Blocks.{rows_at};
 ghost use Rattle.share_core.specs.Inner.Pieces.{total_at, AreAlikeAt};
 
-use crate::rows::Row;
+use crate::kept_rows::KeptRow;
 use crate::shares::Share;
 use shape_core::Word;
 
@@ -18,17 +18,17 @@ use shape_core::Word;
 /// meaning where one does.
 #[derive(Clone, Copy)]
 pub(crate) struct NumberSums {
-    pub total: Option<Row>,
+    pub total: Option<KeptRow>,
     pub first: Option<u64>,
     pub stranger: Option<Word>,
     pub is_large: bool,
 }
 
 /// The pattern of a row, if it is another one than this.
-fn unlike(row: Row, found: Option<u64>) -> Option<Word>
+pub(crate) fn unlike(row: KeptRow, found: Option<u64>) -> Option<Word>
     ensures { result ≡ unlike_of row found }
 {
-    let word = row.shape.word();
+    let word = row.shape().word();
     if found == Some(word.bits()) {
         None
     } else {
@@ -48,22 +48,14 @@ fn earlier(one: Option<u64>, other: Option<u64>) -> Option<u64>
 }
 
 /// A row, if it is given, with what another row of its number counts besides; None where a sum passes 2^64 - 1.
-fn with_row(total: Option<Row>, row: Row) -> Option<Row>
+fn with_row(total: Option<KeptRow>, row: KeptRow) -> Option<KeptRow>
     ensures some { IfSome result (λ both. both ≡ with_row total row) }
     ensures none { IfNone result (IsTooMuch total row) }
 {
-    let Some(total) = total else {
-        return Some(row);
-    };
-    let there = total.there.checked_add(row.there)?;
-    let played = total.played.checked_add(row.played)?;
-    let first = earlier(total.first, row.first);
-    Some(Row {
-        there,
-        played,
-        first,
-        ..total
-    })
+    match total {
+        None => Some(row),
+        Some(total) => total.with(row),
+    }
 }
 
 /// What no rows are together.
@@ -79,7 +71,7 @@ pub(crate) fn no_sums() -> NumberSums
 }
 
 /// The rows of a number and one more.
-fn add(sums: NumberSums, row: Row, found: Option<u64>) -> NumberSums
+fn add(sums: NumberSums, row: KeptRow, found: Option<u64>) -> NumberSums
     ensures { (rows more : List Row) → (number : ℕ) → AreOfNumbers more
         → row_of more number ≡ Some row → AreSums rows number found sums
         → AreSums (rows ++ more) number found result }
@@ -87,7 +79,7 @@ fn add(sums: NumberSums, row: Row, found: Option<u64>) -> NumberSums
     let both = with_row(sums.total, row);
     NumberSums {
         total: both,
-        first: earlier(sums.first, row.first),
+        first: earlier(sums.first, row.first()),
         stranger: sums.stranger.or(unlike(row, found)),
         is_large: sums.is_large || both.is_none(),
     }
@@ -99,7 +91,7 @@ pub(crate) fn sums_at(shares: &[Share], number: usize, found: Option<u64>) -> Nu
 {
     let mut sums = no_sums();
     for share in shares {
-        if let Some(row) = share.row_at(number) {
+        if let Some(row) = share.kept_at(number) {
             sums = add(sums, row, found);
         }
     }
@@ -107,7 +99,7 @@ pub(crate) fn sums_at(shares: &[Share], number: usize, found: Option<u64>) -> Nu
 }
 
 /// What these rows of a number are together, where this pattern is asked for. It takes no memory.
-pub(crate) fn sums_of(rows: &[Row], number: usize, found: Option<u64>) -> NumberSums
+pub(crate) fn sums_of(rows: &[KeptRow], number: usize, found: Option<u64>) -> NumberSums
     ensures { (all : List Row) → rows.now ≡ rows_at number all → AreSums all number found result }
 {
     let mut sums = no_sums();
@@ -115,27 +107,4 @@ pub(crate) fn sums_of(rows: &[Row], number: usize, found: Option<u64>) -> Number
         sums = add(sums, *row, found);
     }
     sums
-}
-
-/// What the rows of a number are together, those of all shares, where this pattern is asked for and they have this total.
-/// The shares are not looked at unless the total is of another pattern. It takes no memory.
-pub(crate) fn sums_by(
-    shares: &[Share],
-    number: usize,
-    total: &Row,
-    found: Option<u64>,
-) -> NumberSums
-    ensures { Some total.now ≡ total_at (all_rows shares.now) number
-        → AreAlikeAt (all_rows shares.now) number
-        → AreSums (all_rows shares.now) number found result }
-{
-    if unlike(*total, found).is_some() {
-        return sums_at(shares, number, found);
-    }
-    NumberSums {
-        total: Some(*total),
-        first: total.first,
-        stranger: None,
-        is_large: false,
-    }
 }

@@ -3,12 +3,11 @@ ghost use Rattle.std.specs.Prelude.{◌≡◌, ℕ, ◌+◌, ◌*◌, ◌^◌, �
 ghost use Rattle.share_core.specs.declared.rows.Row.{Row};
 ghost use Rattle.share_core.specs.Checking.{all_rows};
 ghost use Rattle.share_core.specs.Inner.Blocks.{rows_at, AreRowsOf};
-ghost use Rattle.share_core.specs.Inner.Numbers.{AreSums};
-ghost use Rattle.share_core.specs.Inner.Pieces.{total_at, AreTotals, IsPiece, IsRest, ArePieces};
+ghost use Rattle.share_core.specs.Inner.Pieces.{total_at, AreTotals, IsPiece, ArePieces};
 
 use crate::blocks::{empty_lists, fill};
-use crate::numbers::{NumberSums, no_sums, sums_at, sums_by, sums_of};
-use crate::rows::Row;
+use crate::kept_rows::KeptRow;
+use crate::numbers::sums_of;
 use crate::shares::Share;
 use std::alloc::{AllocError, Global};
 use std::thread::{Threads, map_indices};
@@ -25,12 +24,13 @@ const LEAST: usize = 65_536;
 /// rows of several patterns, or a sum passes 2^64 - 1; then the totals have no meaning.
 #[derive(Drop)]
 pub(crate) struct Piece {
-    pub rows: Vec<Row>,
+    pub rows: Vec<KeptRow>,
     pub is_odd: bool,
 }
 
 /// Adds the total of a number that has these rows to the piece of the numbers before it.
-fn add_total(piece: &mut Piece, number: usize, rows: &[Row]) -> Result<(), AllocError>
+fn add_total(piece: &mut Piece, number: usize, rows: &[KeptRow]) -> Result<(), AllocError>
+    requires { number < 2 ^ 32 }
     ensures { OnOk result ((all : List Row) → (from : ℕ) → rows.now ≡ rows_at number all
         → from ≤ number → IsPiece all from number piece.old
         → IsPiece all from (number + 1) piece.new) }
@@ -38,13 +38,18 @@ fn add_total(piece: &mut Piece, number: usize, rows: &[Row]) -> Result<(), Alloc
     let Some(first) = rows.first() else {
         return Ok(());
     };
-    let sums = sums_of(rows, number, Some(first.shape.word().bits()));
+    // Most numbers have one row, which is their total.
+    if rows.len() == 1 {
+        piece.rows.push(first.at(number))?;
+        return Ok(());
+    }
+    let sums = sums_of(rows, number, Some(first.shape().word().bits()));
     if sums.stranger.is_some() || sums.is_large {
         piece.is_odd = true;
         return Ok(());
     }
     if let Some(total) = sums.total {
-        piece.rows.push(Row { number, ..total })?;
+        piece.rows.push(total.at(number))?;
     }
     Ok(())
 }
@@ -53,11 +58,12 @@ fn add_total(piece: &mut Piece, number: usize, rows: &[Row]) -> Result<(), Alloc
 /// those of the number with which the block begins.
 fn add_block(
     piece: &mut Piece,
-    lists: &[Vec<Row>],
+    lists: &[Vec<KeptRow>],
     low: usize,
     high: usize,
 ) -> Result<(), AllocError>
     requires order { low ≤ high }
+    requires high { high ≤ 2 ^ 32 }
     requires listed { high ≤ low + length lists.now }
     ensures { OnOk result ((all : List Row) → (from : ℕ) → AreRowsOf lists.now low all
         → from ≤ low → IsPiece all from low piece.old → IsPiece all from high piece.new) }
@@ -153,7 +159,11 @@ pub(crate) fn totals_in(made: &[Result<Piece, AllocError>]) -> usize {
 
 /// The total of a number, where the totals from a place on are those of this number and later ones; the place goes on past
 /// the number.
-fn next_total(rows: &[Row], next: &mut usize, number: usize) -> Option<Row>
+pub(crate) fn next_total(
+    rows: &[KeptRow],
+    next: &mut usize,
+    number: usize,
+) -> Option<KeptRow>
     ensures total { (all : List Row) → (high : ℕ) → number < high
         → AreTotals all number high (drop next.old rows.now) → result ≡ total_at all number }
     ensures rest { (all : List Row) → (high : ℕ) → number < high
@@ -164,34 +174,9 @@ fn next_total(rows: &[Row], next: &mut usize, number: usize) -> Option<Row>
         return None;
     }
     let row = rows[*next];
-    if row.number != number {
+    if row.number() != number {
         return None;
     }
     *next += 1;
     Some(row)
-}
-
-/// What the rows of a number are together, where this pattern is asked for: out of the piece, whose totals from a place on
-/// are those of this number and later ones, or else out of the shares. The place goes on past the number.
-pub(crate) fn sums_in(
-    shares: &[Share],
-    piece: &Piece,
-    next: &mut usize,
-    number: usize,
-    found: Option<u64>,
-) -> NumberSums
-    ensures sums { (high : ℕ) → number < high
-        → IsRest (all_rows shares.now) number high piece.now next.old
-        → AreSums (all_rows shares.now) number found result }
-    ensures rest { (high : ℕ) → number < high
-        → IsRest (all_rows shares.now) number high piece.now next.old
-        → IsRest (all_rows shares.now) (number + 1) high piece.now next.new }
-{
-    if piece.is_odd {
-        return sums_at(shares, number, found);
-    }
-    match next_total(piece.rows.as_slice(), next, number) {
-        None => no_sums(),
-        Some(total) => sums_by(shares, number, &total, found),
-    }
 }

@@ -103,9 +103,20 @@ impl Share {
         ensures row { result ≡ row_of self.now.rows number }
         ensures numbers { AreOfNumbers self.now.rows }
     {
+        match self.kept_at(number) {
+            Some(row) => Some(row.row()),
+            None => None,
+        }
+    }
+
+    /// The same as it is kept.
+    pub(crate) fn kept_at(&self, number: usize) -> Option<KeptRow>
+        ensures row { result ≡ row_of self.now.rows number }
+        ensures numbers { AreOfNumbers self.now.rows }
+    {
         let made = self.made_rows();
         match self.ledger.rows().place(number) {
-            Some(place) => Some(made[place].row()),
+            Some(place) => Some(made[place]),
             None => None,
         }
     }

@@ -1,5 +1,5 @@
 //! All numbers of a table, each visited once, in rising order, together with the rows that shares have of it.
-ghost use Rattle.std.specs.Prelude.{◌≡◌, ◌+◌, ◌^◌, ◌<◌, ◌≤◌, ℕ, List, Option, None};
+ghost use Rattle.std.specs.Prelude.{◌≡◌, ◌+◌, ◌^◌, ◌<◌, ◌≤◌, ℕ, List, Option, drop};
 ghost use Rattle.std.specs.Prelude.{IfOk, IfErr, OnOk};
 ghost use Rattle.slot_table.specs.Passes.{IsPassOf};
 ghost use Rattle.share_core.specs.declared.rows.Row.{Row};
@@ -7,15 +7,16 @@ ghost use Rattle.share_core.specs.declared.faults.HarvestFault.TheVariants as fa
 ghost use Rattle.share_core.specs.Checking.{all_rows};
 ghost use Rattle.share_core.specs.Inner.Checking.{IsFound};
 ghost use Rattle.share_core.specs.Entering.{AsksOnly};
-ghost use Rattle.share_core.specs.Inner.Numbers.{AreSums};
-ghost use Rattle.share_core.specs.Inner.Pieces.{IsPiece, IsRest};
+ghost use Rattle.share_core.specs.Inner.Numbers.{AreSums, like_sums};
+ghost use Rattle.share_core.specs.Inner.Pieces.{AreTotals, IsPiece};
 ghost use Rattle.share_core.specs.Inner.Visiting.{AreVisited, IsVisit, EndsVisit, IsVisitFault};
 
 use crate::adding_up::push;
 use crate::agreeing::{Differs, compare};
 use crate::faults::HarvestFault;
-use crate::numbers::NumberSums;
-use crate::pieces::{Piece, pieces, span_of, sums_in, totals_in};
+use crate::kept_rows::KeptRow;
+use crate::numbers::{sums_at, unlike};
+use crate::pieces::{Piece, next_total, pieces, span_of, totals_in};
 use crate::shares::Share;
 use crate::standing::{bits_of, word_of};
 use probe_core::ProbeOrder;
@@ -33,39 +34,64 @@ pub(crate) struct Visited {
     pub is_large: bool,
 }
 
-/// Takes what the rows of a number are together, which are all of the number's pattern in the table: compares their least
-/// game with the table's, and adds their entry.
+/// Takes what the rows of a number are together, which are all of the number's pattern in the table: their total, their
+/// least game, and whether a sum passes 2^64 - 1. Compares their least game with the table's, and adds their entry.
 fn take<O: ProbeOrder>(
     table: &SlotTable<O>,
     pass: &mut Pass<O>,
     number: usize,
-    sums: NumberSums,
+    total: Option<KeptRow>,
+    first: Option<u64>,
+    is_large: bool,
     visited: &mut Visited,
 ) -> Result<(), HarvestFault>
     requires pass { IsPassOf (2 ^ O.exponent table.now.order) table.now pass.old }
     requires number { number < 2 ^ O.exponent table.now.order }
-    requires like { sums.stranger ≡ None }
     ensures pass { IsPassOf (2 ^ O.exponent table.now.order) table.now pass.new }
     ensures later { AsksOnly (2 ^ O.exponent table.now.order) pass.old pass.new }
     ensures ok { OnOk result ((rows : List Row) → (found : Option ℕ)
         → IsFound (2 ^ O.exponent table.now.order) pass.old.seen number found
-        → AreSums rows number found sums
+        → AreSums rows number found (like_sums total first is_large)
         → IsVisit (2 ^ O.exponent table.now.order) rows number (number + 1) pass.old pass.new
         visited.old visited.new) }
     ensures fault { IfErr result (λ found. found ≡ fault.Memory) }
 {
-    visited.differs = compare(table, pass, number, sums.first, visited.differs);
-    visited.is_large = visited.is_large || sums.is_large;
-    push(&mut visited.entries, sums.total)
+    compare(table, pass, number, first, &mut visited.differs);
+    visited.is_large = visited.is_large || is_large;
+    push(&mut visited.entries, total)
 }
 
-/// Looks at a number, and compares the patterns and the least games of its rows with the table's. The piece has the sums of
-/// the rows, its totals from a place on being those of this number and later ones; the place goes on past the number.
-fn visit<O: ProbeOrder>(
+/// Looks at a number, and compares the patterns and the least games of its rows with the table's. The rows are looked for in
+/// the shares.
+fn visit_odd<O: ProbeOrder>(
     table: &SlotTable<O>,
     pass: &mut Pass<O>,
     shares: &[Share],
-    piece: &Piece,
+    number: usize,
+    visited: &mut Visited,
+) -> Result<(), HarvestFault>
+    requires pass { IsPassOf (2 ^ O.exponent table.now.order) table.now pass.old }
+    requires number { number < 2 ^ O.exponent table.now.order }
+    ensures pass { IsPassOf (2 ^ O.exponent table.now.order) table.now pass.new }
+    ensures later { AsksOnly (2 ^ O.exponent table.now.order) pass.old pass.new }
+    ensures ok { OnOk result (IsVisit (2 ^ O.exponent table.now.order) (all_rows shares.now)
+        number (number + 1) pass.old pass.new visited.old visited.new) }
+    ensures fault { IfErr result (EndsVisit (2 ^ O.exponent table.now.order) (all_rows shares.now)
+        number pass.old pass.new visited.old) }
+{
+    let found = bits_of(table.word_at(pass, number));
+    let sums = sums_at(shares, number, found);
+    if let Some(held) = sums.stranger {
+        return Err(HarvestFault::stranger(number, held, word_of(found)));
+    }
+    take(table, pass, number, sums.total, sums.first, sums.is_large, visited)
+}
+
+/// The same where the totals from a place on are those of this number and later ones; the place goes on past the number.
+fn visit_even<O: ProbeOrder>(
+    table: &SlotTable<O>,
+    pass: &mut Pass<O>,
+    totals: &[KeptRow],
     next: &mut usize,
     number: usize,
     visited: &mut Visited,
@@ -74,28 +100,84 @@ fn visit<O: ProbeOrder>(
     requires number { number < 2 ^ O.exponent table.now.order }
     ensures pass { IsPassOf (2 ^ O.exponent table.now.order) table.now pass.new }
     ensures later { AsksOnly (2 ^ O.exponent table.now.order) pass.old pass.new }
-    ensures rest { (high : ℕ) → number < high
-        → IsRest (all_rows shares.now) number high piece.now next.old
-        → IsRest (all_rows shares.now) (number + 1) high piece.now next.new }
-    ensures ok { OnOk result ((high : ℕ) → number < high
-        → IsRest (all_rows shares.now) number high piece.now next.old
-        → IsVisit (2 ^ O.exponent table.now.order) (all_rows shares.now)
+    ensures rest { (rows : List Row) → (high : ℕ) → number < high
+        → AreTotals rows number high (drop next.old totals.now)
+        → AreTotals rows (number + 1) high (drop next.new totals.now) }
+    ensures ok { OnOk result ((rows : List Row) → (high : ℕ) → number < high
+        → AreTotals rows number high (drop next.old totals.now)
+        → IsVisit (2 ^ O.exponent table.now.order) rows
         number (number + 1) pass.old pass.new visited.old visited.new) }
-    ensures fault { IfErr result (λ found. (high : ℕ) → number < high
-        → IsRest (all_rows shares.now) number high piece.now next.old
-        → EndsVisit (2 ^ O.exponent table.now.order) (all_rows shares.now)
+    ensures fault { IfErr result (λ found. (rows : List Row) → (high : ℕ) → number < high
+        → AreTotals rows number high (drop next.old totals.now)
+        → EndsVisit (2 ^ O.exponent table.now.order) rows
         number pass.old pass.new visited.old found) }
 {
     let found = bits_of(table.word_at(pass, number));
-    let sums = sums_in(shares, piece, next, number, found);
-    if let Some(held) = sums.stranger {
+    let Some(total) = next_total(totals, next, number) else {
+        return take(table, pass, number, None, None, false, visited);
+    };
+    if let Some(held) = unlike(total, found) {
         return Err(HarvestFault::stranger(number, held, word_of(found)));
     }
-    take(table, pass, number, sums, visited)
+    take(table, pass, number, Some(total), total.first(), false, visited)
+}
+
+/// Looks at the numbers from one up to another. Their rows are looked for in the shares.
+#[tactic(auto, using(crate::proofs::Entered::calls_self))]
+fn visit_odd_piece<O: ProbeOrder>(
+    table: &SlotTable<O>,
+    pass: &mut Pass<O>,
+    shares: &[Share],
+    from: usize,
+    high: usize,
+    visited: &mut Visited,
+) -> Result<(), HarvestFault>
+    requires pass { IsPassOf (2 ^ O.exponent table.now.order) table.now pass.old }
+    requires order { from ≤ high }
+    requires high { high ≤ 2 ^ O.exponent table.now.order }
+    ensures pass { IsPassOf (2 ^ O.exponent table.now.order) table.now pass.new }
+    ensures later { AsksOnly (2 ^ O.exponent table.now.order) pass.old pass.new }
+    ensures ok { OnOk result (IsVisit (2 ^ O.exponent table.now.order) (all_rows shares.now)
+        from high pass.old pass.new visited.old visited.new) }
+    ensures fault { IfErr result (EndsVisit (2 ^ O.exponent table.now.order) (all_rows shares.now)
+        from pass.old pass.new visited.old) }
+{
+    for number in from..high {
+        visit_odd(table, pass, shares, number, visited)?;
+    }
+    Ok(())
+}
+
+/// The same where these are the totals of the numbers.
+#[tactic(auto, using(crate::proofs::Entered::calls_self))]
+fn visit_even_piece<O: ProbeOrder>(
+    table: &SlotTable<O>,
+    pass: &mut Pass<O>,
+    totals: &[KeptRow],
+    from: usize,
+    high: usize,
+    visited: &mut Visited,
+) -> Result<(), HarvestFault>
+    requires pass { IsPassOf (2 ^ O.exponent table.now.order) table.now pass.old }
+    requires order { from ≤ high }
+    requires high { high ≤ 2 ^ O.exponent table.now.order }
+    ensures pass { IsPassOf (2 ^ O.exponent table.now.order) table.now pass.new }
+    ensures later { AsksOnly (2 ^ O.exponent table.now.order) pass.old pass.new }
+    ensures ok { OnOk result ((rows : List Row) → AreTotals rows from high totals.now
+        → IsVisit (2 ^ O.exponent table.now.order) rows
+        from high pass.old pass.new visited.old visited.new) }
+    ensures fault { IfErr result (λ found. (rows : List Row) → AreTotals rows from high totals.now
+        → EndsVisit (2 ^ O.exponent table.now.order) rows
+        from pass.old pass.new visited.old found) }
+{
+    let mut next = 0;
+    for number in from..high {
+        visit_even(table, pass, totals, &mut next, number, visited)?;
+    }
+    Ok(())
 }
 
 /// Looks at the numbers of a piece, from one up to another.
-#[tactic(auto, using(crate::proofs::Entered::calls_self))]
 fn visit_piece<O: ProbeOrder>(
     table: &SlotTable<O>,
     pass: &mut Pass<O>,
@@ -116,11 +198,12 @@ fn visit_piece<O: ProbeOrder>(
     ensures fault { IfErr result (EndsVisit (2 ^ O.exponent table.now.order) (all_rows shares.now)
         from pass.old pass.new visited.old) }
 {
-    let mut next = 0;
-    for number in from..high {
-        visit(table, pass, shares, piece, &mut next, number, visited)?;
+    if piece.is_odd {
+        visit_odd_piece(table, pass, shares, from, high, visited)
+    } else {
+        let totals = piece.rows.as_slice();
+        visit_even_piece(table, pass, totals, from, high, visited)
     }
-    Ok(())
 }
 
 /// Looks at each number of the table, and asks each once, in rising order, for its least game, until one differs from that

@@ -1,5 +1,5 @@
 -- What the rows of one number are together, those of all shares.
-use Rattle.std.specs.Prelude.{◌≡◌, ℕ, true, false, List, Option, None}
+use Rattle.std.specs.Prelude.{◌≡◌, ℕ, Bool, true, false, List, Option, None}
 use Rattle.share_core.specs.declared.rows.Row.{Row}
 use Rattle.share_core.specs.declared.numbers.NumberSums.{NumberSums}
 use Rattle.share_core.specs.Rows.{first_at}
@@ -9,6 +9,10 @@ use Rattle.share_core.specs.Inner.Totals.{IsTotalAt, IsLargeAt}
 -- what no rows are together
 abbrev pub none_summed : NumberSums
 none_summed = record { total = None; first = None; stranger = None; is_large = false }
+
+-- what rows of the pattern that is asked for are together
+abbrev pub like_sums : Option Row → Option ℕ → Bool → NumberSums
+like_sums total first is_large = record { total = total; first = first; stranger = None; is_large = is_large }
 
 -- the rows of a number have the least of their games, the first row of another pattern than this one, and these sums, unless
 -- one of the sums is too large

@@ -37,10 +37,6 @@ pub record AreTotals (all : List Row) (from high : ℕ) (totals : List Row) : Ty
 abbrev pub IsPiece : List Row → ℕ → ℕ → Piece → Type 0
 IsPiece all from high piece = piece.is_odd ≡ false → AreTotals all from high piece.rows.items
 
--- the totals of a piece from a place on are those of the numbers from one up to another, unless it is odd
-abbrev pub IsRest : List Row → ℕ → ℕ → Piece → ℕ → Type 0
-IsRest all from high piece next = piece.is_odd ≡ false → AreTotals all from high (drop next piece.rows.items)
-
 -- ---- all pieces
 -- each piece that was made is that of its range: the first has the first `span` numbers, the next one the next, and the last
 -- those that are left

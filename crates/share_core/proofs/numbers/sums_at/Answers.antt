@@ -13,12 +13,12 @@ loop-share-preserved c =
     let share = c.share-item.result in
     let before = all_rows (take i shares) in
     let inside : i < length shares = c.loop-share-test.true in
-    subst (λ (rows : List Row). AreSums rows c.args.number c.args.found c.match-row_at.sums) (next_rows shares i share inside c.share-item.is)
-    (elim c.match-row_at.branch [
+    subst (λ (rows : List Row). AreSums rows c.args.number c.args.found c.match-kept_at.sums) (next_rows shares i share inside c.share-item.is)
+    (elim c.match-kept_at.branch [
       | in-Some w ↦
           subst (AreSums (before ++ share.rows) c.args.number c.args.found) (sym w.sums-is)
-          (w.add-sums.ensures before share.rows c.args.number c.row_at.ensures.numbers (sym w.in-Some.ensures.row) c.loop-share.invariant)
+          (w.add-sums.ensures before share.rows c.args.number c.kept_at.ensures.numbers (sym w.in-Some.ensures.row) c.loop-share.invariant)
       | in_default w ↦
           subst (AreSums (before ++ share.rows) c.args.number c.args.found) (sym w.sums-is)
-          (sums_kept before share.rows c.args.number c.args.found c.loop-share.sums c.row_at.ensures.numbers (sym w.in_default.ensures.row) c.loop-share.invariant)
+          (sums_kept before share.rows c.args.number c.args.found c.loop-share.sums c.kept_at.ensures.numbers (sym w.in_default.ensures.row) c.loop-share.invariant)
     ])

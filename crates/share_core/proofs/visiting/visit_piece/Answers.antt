@@ -1,31 +1,21 @@
-use Rattle.std.proofs.Common.{◌≡◌, ◌^◌, subst, arith}
-use Rattle.std.proofs.lemmas.Result.{err_from_is_err_and}
+use Rattle.std.proofs.Common.{◌^◌, List, sym, subst}
+use Rattle.std.proofs.lemmas.Result.{on_ok_weaker, IfErr-weaker}
+use Rattle.share_core.specs.declared.rows.Row.{Row}
 use Rattle.share_core.specs.Checking.{all_rows}
-use Rattle.share_core.specs.Inner.Visiting.{AreVisited}
-use Rattle.share_core.proofs.Entered.{calls_through}
+use Rattle.share_core.specs.Inner.Pieces.{AreTotals}
+use Rattle.share_core.specs.Inner.Visiting.{EndsVisit}
 use Rattle.share_core.proofs.visiting.visit_piece.Goals as goal
 
-pub returns-in_err-visit-clause-later : goal.returns-in_err-visit-clause-later
-returns-in_err-visit-clause-later g c =
-    calls_through (2 ^ g.O.ProbeOrder.exponent c.args.table.now.order) (λ _. ⊥) (λ _. ⊥) c.args.pass.now c.loop-number.pass c.visit.new.pass c.loop-number.invariant.later c.visit.ensures.later
+pub returns-else-piece-clause-ok : goal.returns-else-piece-clause-ok
+returns-else-piece-clause-ok g c =
+    let all = all_rows c.args.shares.now in
+    let totals = subst (λ (rows : List Row). AreTotals all c.args.from c.args.high rows) (sym c.as_slice-totals.ensures.value) (c.requires.piece c.if-piece.false) in
+    on_ok_weaker c.visit_even_piece.result (λ visits. visits all totals) c.visit_even_piece.ensures.ok
 
-pub returns-in_err-visit-clause-fault : goal.returns-in_err-visit-clause-fault
-returns-in_err-visit-clause-fault g c =
-    let p = err_from_is_err_and c.from_residual.result c.from_residual.ensures.1 in
-    rw (p.1, p.2)
-    (λ first h. c.in_err-visit.ensures.fault c.args.high c.loop-number-test.true c.loop-number.invariant.rest first (c.loop-number.invariant.visited first h))
-
-pub loop-number-preserved : goal.loop-number-preserved
-loop-number-preserved g c =
-    record {
-      pass = c.visit.ensures.pass;
-      later = calls_through (2 ^ g.O.ProbeOrder.exponent c.args.table.now.order) (λ _. ⊥) (λ _. ⊥) c.args.pass.now c.loop-number.pass c.visit.new.pass c.loop-number.invariant.later c.visit.ensures.later;
-      rest = c.visit.ensures.rest c.args.high c.loop-number-test.true c.loop-number.invariant.rest;
-      visited = λ first h. c.in_ok-visit.ensures.ok c.args.high c.loop-number-test.true c.loop-number.invariant.rest first (c.loop-number.invariant.visited first h);
-    }
-
-pub returns-clause-ok : goal.returns-clause-ok
-returns-clause-ok g c first h =
+pub returns-else-piece-clause-fault : goal.returns-else-piece-clause-fault
+returns-else-piece-clause-fault g c =
     let n = 2 ^ g.O.ProbeOrder.exponent c.args.table.now.order in
-    let last : c.loop-number.number ≡ c.args.high = omega arith in
-    subst (λ k. AreVisited n (all_rows c.args.shares.now) k first c.loop-number.pass c.loop-number.visited) last (c.loop-number.invariant.visited first h)
+    let all = all_rows c.args.shares.now in
+    let totals = subst (λ (rows : List Row). AreTotals all c.args.from c.args.high rows) (sym c.as_slice-totals.ensures.value) (c.requires.piece c.if-piece.false) in
+    IfErr-weaker c.visit_even_piece.result _ (EndsVisit n all c.args.from c.args.pass.now c.visit_even_piece.new.pass c.args.visited.now)
+    (λ found ends. ends all totals) c.visit_even_piece.ensures.fault

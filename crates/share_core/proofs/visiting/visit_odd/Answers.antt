@@ -4,17 +4,17 @@ use Rattle.slot_table.specs.History.{TellsAt}
 use Rattle.share_core.specs.Checking.{all_rows}
 use Rattle.share_core.specs.Inner.Visiting.{IsVisitFault}
 use Rattle.share_core.proofs.Entered.{calls_seen, calls_through}
-use Rattle.share_core.proofs.Visits.{told_found, stranger_found, visited_later}
-use Rattle.share_core.proofs.visiting.visit.Goals as goal
+use Rattle.share_core.proofs.Visits.{told_found, plain_sums, stranger_found, visited_later}
+use Rattle.share_core.proofs.visiting.visit_odd.Goals as goal
 
 pub returns-in-Some-clause-fault : goal.returns-in-Some-clause-fault
-returns-in-Some-clause-fault g c high low rest first h =
+returns-in-Some-clause-fault g c first h =
     let n = 2 ^ g.O.ProbeOrder.exponent c.args.table.now.order in
     let rows = all_rows c.args.shares.now in
     let seen = c.word_at.new.pass.seen in
     subst (IsVisitFault n seen rows) (sym c.stranger.ensures)
-    (stranger_found n c.args.pass.now.seen seen rows c.args.number c.in-Some.held c.bits_of-found.result c.word_of.result c.sums_in-sums.result.stranger
-    c.word_at.ensures.later.keeps (c.bits_of-found.ensures.bits ∙ c.word_at.ensures.key) c.word_of.ensures c.in-Some.is (c.sums_in-sums.ensures.sums high low rest).stranger h.stand)
+    (stranger_found n c.args.pass.now.seen seen rows c.args.number c.in-Some.held c.bits_of-found.result c.word_of.result c.sums_at-sums.result.stranger
+    c.word_at.ensures.later.keeps (c.bits_of-found.ensures.bits ∙ c.word_at.ensures.key) c.word_of.ensures c.in-Some.is c.sums_at-sums.ensures.stranger h.stand)
 
 pub returns-clause-ok : goal.returns-clause-ok
 returns-clause-ok g c =
@@ -24,8 +24,9 @@ returns-clause-ok g c =
     let look = c.word_at.new.pass in
     let found = c.bits_of-found.result in
     on_ok_weaker c.take.result
-    (λ visits high low rest first h.
-    visits rows found (told_found n look.seen number found (subst (TellsAt n look.seen number) (sym c.bits_of-found.ensures.bits) c.word_at.ensures.told)) (c.sums_in-sums.ensures.sums high low rest)
+    (λ visits first h.
+    visits rows found (told_found n look.seen number found (subst (TellsAt n look.seen number) (sym c.bits_of-found.ensures.bits) c.word_at.ensures.told))
+    (plain_sums rows number found c.sums_at-sums.result c.in_default.is c.sums_at-sums.ensures)
     first (visited_later n rows number first c.args.pass.now look c.args.visited.now c.word_at.ensures.later h))
     c.take.ensures.ok
 

@@ -2,17 +2,15 @@ use Rattle.std.proofs.Common.{◌^◌}
 use Rattle.slot_table.specs.Passes.{IsPassOf}
 use Rattle.share_core.specs.Checking.{all_rows}
 use Rattle.share_core.specs.Entering.{AsksOnly}
-use Rattle.share_core.specs.Inner.Pieces.{IsRest}
 use Rattle.share_core.specs.Inner.Visiting.{IsVisit}
-use Rattle.share_core.proofs.visiting.visit_piece.Given as goal
+use Rattle.share_core.proofs.visiting.visit_odd_piece.Given as goal
 
--- the numbers of the piece so far were visited, and the totals of the others are left
+-- the numbers so far were visited
 abbrev pub invariant-loop-number : goal.invariant-loop-number
 invariant-loop-number g l =
     let n = 2 ^ g.O.ProbeOrder.exponent l.table.order in
     record {
       pass : IsPassOf n l.table l.pass;
       later : AsksOnly n l.fn.pass l.pass;
-      rest : IsRest (all_rows l.shares) l.number l.high l.piece l.next;
       visited : IsVisit n (all_rows l.shares) l.from l.number l.fn.pass l.pass l.fn.visited l.visited;
     }

@@ -5,7 +5,7 @@ use Rattle.share_core.specs.Shares.{Held}
 use Rattle.share_core.specs.Rows.{row_at, blank}
 use Rattle.share_core.specs.Inner.Rows.{HasNoRow}
 use Rattle.share_core.proofs.Found.{found_none, found_row}
-use Rattle.share_core.proofs.shares.Share.row_at.Goals as goal
+use Rattle.share_core.proofs.shares.Share.kept_at.Goals as goal
 
 pub returns-in-Some-clause-row : goal.returns-in-Some-clause-row
 returns-in-Some-clause-row c =
@@ -17,7 +17,7 @@ returns-in-Some-clause-row c =
     let number = ap (λ (rs : List Row). (row_at rs c.in-Some.place).number) (sym same) ∙ some.1 in
     let numbers = c.made_rows-made.ensures.numbers in
     let read = c.index-made-place.is ∙ ap (λ (rs : List Row). get_or rs c.in-Some.place c.index-made-place.result) made ∙ get_or_default rows c.in-Some.place c.index-made-place.result (blank 0 0) inside in
-    ap (λ r. Some r) (c.row.ensures ∙ read) ∙ sym (found_row rows c.args.number c.in-Some.place numbers inside number)
+    ap (λ r. Some r) read ∙ sym (found_row rows c.args.number c.in-Some.place numbers inside number)
 
 pub returns-in-None-clause-row : goal.returns-in-None-clause-row
 returns-in-None-clause-row c =
