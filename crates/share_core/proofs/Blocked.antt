@@ -1,5 +1,5 @@
 -- Rows of a block of numbers, number by number.
-use Rattle.std.proofs.Common.{◌≡◌, ℕ, ◌+◌, ◌-◌, ◌<◌, ◌≤◌, ◌==◌, true, false, cond, not, ◌&&◌, List, [], ◌∷◌, ◌++◌, length, map, get_or, take, find, Option, Some, None, refl, ap, ap₂, sym, ◌∙◌, arith}
+use Rattle.std.proofs.Common.{◌≡◌, ℕ, ◌+◌, ◌-◌, ◌<◌, ◌≤◌, ◌==◌, true, false, cond, not, ◌&&◌, List, [], ◌∷◌, ◌++◌, length, map, get_or, take, find, Option, Some, None, refl, ap, ap₂, sym, ◌∙◌, arith, zero, suc, append-nil, below_more}
 use Rattle.std.specs.Option.{option_map}
 use Rattle.std.proofs.lemmas.List.Sums.{sum_by-cons}
 use Rattle.share_core.specs.declared.rows.Row.{Row}
@@ -8,15 +8,20 @@ use Rattle.share_core.specs.Rows.{row_of, first_at, earlier, AreOfNumbers}
 use Rattle.share_core.specs.Checking.{is_shape, is_stranger}
 use Rattle.share_core.specs.Inner.Totals.{IsTotalAt, IsLargeAt}
 use Rattle.share_core.specs.Inner.Numbers.{AreSums}
-use Rattle.share_core.specs.Inner.Blocks.{rows_at, items_at, AreRowsOf}
+use Rattle.share_core.specs.Inner.Blocks.{rows_at, items_at, picked, AreWithin, AreFound, AreRowsOf}
+use Rattle.share_core.specs.declared.blocks.Found.{Found}
+use Rattle.share_core.specs.Rows.{row_at}
+use Rattle.share_core.specs.Inner.Rows.{HasNoRow}
 use Rattle.share_core.specs.Shares.{Held}
 use Rattle.share_core.specs.Checking.{all_rows}
 use Rattle.share_core.proofs.OfNumber.{next_rows}
 use Rattle.std.specs.Global.{Vec}
 use Rattle.std.specs.Prelude.{slice_set}
-use Rattle.std.proofs.lemmas.List.{map-set, get_or-map, get_or-set_same, get_or-set_other, length-map}
-use Rattle.std.proofs.lemmas.List.Elements.{filter-append}
-use Rattle.share_core.proofs.Found.{tail_numbers}
+use Rattle.std.specs.List.{filter}
+use Rattle.std.proofs.lemmas.Bool.Decides.{nat_tests}
+use Rattle.std.proofs.lemmas.List.{map-set, map-append, get_or-map, get_or-set_same, get_or-set_other, length-map}
+use Rattle.std.proofs.lemmas.List.Elements.{filter-append, All-push}
+use Rattle.share_core.proofs.Found.{tail_numbers, found_none, found_row}
 use Rattle.share_core.proofs.Totalled.{at_number, no_others}
 
 -- ---- what the rows of a number tell of all rows
@@ -135,3 +140,62 @@ pub listed_at : (lists : List (Vec Row)) (from number : ℕ) (list : Vec Row) (a
 listed_at lists from number list all low inside is are =
     let back : from + (number - from) ≡ number = omega arith in
     ap (λ (v : Vec Row). v.items) is ∙ sym (items_is lists (number - from) list inside) ∙ are (number - from) inside ∙ ap (λ k. rows_at k all) back
+
+-- ---- what was found of a share
+picked_more : (rows : List Row) (found : List Found) (one : Found) (place : ℕ) →
+    picked rows (found ++ one ∷ []) place ≡ picked rows found place ++ cond (one.list == place) (row_at rows one.row ∷ []) []
+picked_more rows found one place =
+    let here = λ (f : Found). f.list == place in
+    let row = λ (f : Found). row_at rows f.row in
+    ap (map row) (filter-append here found (one ∷ []))
+    ∙ map-append row (filter here found) (filter here (one ∷ []))
+    ∙ ap (λ (rs : List Row). picked rows found place ++ rs)
+    (elim (one.list == place) as (λ b. map row (cond b (one ∷ []) []) ≡ cond b (row_at rows one.row ∷ []) []) [ true ↦ refl | false ↦ refl ])
+
+-- one more for this list
+pub picked_here : (rows : List Row) (found : List Found) (one : Found) (place : ℕ) → one.list ≡ place →
+    picked rows (found ++ one ∷ []) place ≡ picked rows found place ++ row_at rows one.row ∷ []
+picked_here rows found one place same =
+    let test : (one.list == place) ≡ true = Prim.grind (arith, nat_tests) in
+    picked_more rows found one place ∙ ap (λ b. picked rows found place ++ cond b (row_at rows one.row ∷ []) []) test
+
+-- and for another one
+pub picked_other : (rows : List Row) (found : List Found) (one : Found) (place : ℕ) → (one.list ≡ place → ⊥) → picked rows (found ++ one ∷ []) place ≡ picked rows found place
+picked_other rows found one place other =
+    let test : (one.list == place) ≡ false = Prim.grind (arith, nat_tests) in
+    picked_more rows found one place ∙ ap (λ b. picked rows found place ++ cond b (row_at rows one.row ∷ []) []) test ∙ append-nil (picked rows found place)
+
+-- nothing was found for a list past the others
+pub picked_none : (rows : List Row) (found : List Found) (count place : ℕ) → AreWithin (length rows) count found → count ≤ place → picked rows found place ≡ []
+picked_none rows [] count place within past = refl
+picked_none rows (one ∷ found) count place within past =
+    let low = (within 0 one (omega arith)).1 in
+    let test : (one.list == place) ≡ false = Prim.grind (arith, nat_tests) in
+    ap (λ b. map (λ (f : Found). row_at rows f.row) (cond b (one ∷ filter (λ f. f.list == place) found) (filter (λ f. f.list == place) found))) test
+    ∙ picked_none rows found count place (λ k d inside. within (suc k) d (omega arith)) past
+
+pub nothing_found : (rows : List Row) (from : ℕ) → AreFound rows from 0 []
+nothing_found rows from = record { within = λ k d inside. absurd (omega arith); each = λ place below. absurd (omega arith) }
+
+-- nothing more was found where the next number has no row
+pub found_none_more : (rows : List Row) (from count : ℕ) (found : List Found) → HasNoRow rows (from + count) → AreFound rows from count found → AreFound rows from (count + 1) found
+found_none_more rows from count found none h = record {
+  within = λ k d inside. let at = h.within k d inside in let low = at.1 in (at.0, (let l : (get_or found k d).list < count + 1 = omega arith in l));
+  each = below_more _ _ h.each
+      (picked_none rows found count count h.within (omega arith) ∙ sym (rows_none rows (from + count) (found_none rows (from + count) none)));
+}
+
+-- the next number has a row
+pub found_one_more : (rows : List Row) (from count : ℕ) (found : List Found) (row : ℕ) → AreOfNumbers rows → row < length rows → (row_at rows row).number ≡ from + count →
+    AreFound rows from count found → AreFound rows from (count + 1) (found ++ record { list = count; row = row } ∷ [])
+found_one_more rows from count found row numbers low same h =
+    let one : Found = record { list = count; row = row } in
+    record {
+      within = All-push (λ (f : Found). (f.row < length rows) × (f.list < count + 1)) found one
+          (λ k d inside. let at = h.within k d inside in let low = at.1 in (at.0, (let l : (get_or found k d).list < count + 1 = omega arith in l)))
+          (low, (let l : count < count + 1 = omega arith in l));
+      each = below_more _ _
+          (λ k below. picked_other rows found one k (λ equal. absurd (omega arith)) ∙ h.each k below)
+          (picked_here rows found one count refl ∙ ap (λ (rs : List Row). rs ++ row_at rows row ∷ []) (picked_none rows found count count h.within (omega arith))
+          ∙ sym (rows_one rows (from + count) (row_at rows row) numbers (found_row rows (from + count) row numbers low same)));
+    }

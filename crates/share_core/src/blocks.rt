@@ -1,11 +1,19 @@
 //! The rows of a block of numbers, those of all shares, number by number.
 ghost use Rattle.std.specs.Prelude.{◌≡◌, ℕ, ◌+◌, ◌^◌, ◌<◌, ◌++◌, [], length, OnOk, IfOk};
 ghost use Rattle.share_core.specs.Checking.{all_rows};
-ghost use Rattle.share_core.specs.Inner.Blocks.{rows_at, items_at, AreRowsOf};
+ghost use Rattle.share_core.specs.Inner.Blocks.{rows_at, items_at, picked, AreWithin, AreFound};
+ghost use Rattle.share_core.specs.Inner.Blocks.{AreRowsOf};
 
 use crate::kept_rows::KeptRow;
 use crate::shares::Share;
 use std::alloc::{AllocError, Global};
+
+/// A number of a block that has a row in a share: the place of its list, and that of the row in the share.
+#[derive(Clone, Copy)]
+pub(crate) struct Found {
+    pub list: usize,
+    pub row: usize,
+}
 
 /// This many lists without rows. It takes memory for the lists, and none for their rows.
 pub(crate) fn empty_lists(alloc: Global, count: usize) -> Result<Vec<Vec<KeptRow>>, AllocError>
@@ -27,44 +35,80 @@ fn clear(lists: &mut [Vec<KeptRow>])
     }
 }
 
-/// Adds a share's row of a number to a list, if the share has one. It takes memory where the list has no room.
-fn add_row(share: &Share, number: usize, list: &mut Vec<KeptRow>) -> Result<(), AllocError>
-    ensures { OnOk result (list.new.items ≡ list.old.items ++ rows_at number share.now.rows) }
+/// Notes, for each of the block's numbers that has a row in the share, where that is. It takes memory where there is no room
+/// for a note.
+fn find_rows(
+    share: &Share,
+    from: usize,
+    count: usize,
+    found: &mut Vec<Found>,
+) -> Result<(), AllocError>
+    requires { from + count < 2 ^ 64 }
+    ensures { OnOk result (AreFound share.now.rows from count found.new.items) }
 {
-    if let Some(row) = share.kept_at(number) {
-        list.push(row)?;
+    found.clear();
+    for list in 0..count {
+        if let Some(row) = share.place_of(from + list) {
+            found.push(Found { list, row })?;
+        }
     }
     Ok(())
 }
 
-/// Adds the rows that a share has of the block's numbers, each to the list of its number. It takes memory where a list
-/// has no room.
-fn add_share(share: &Share, from: usize, lists: &mut [Vec<KeptRow>]) -> Result<(), AllocError>
+/// Adds the rows that were found, each to the list of its number. It takes memory where a list has no room.
+fn add_found(
+    rows: &[KeptRow],
+    found: &[Found],
+    lists: &mut [Vec<KeptRow>],
+) -> Result<(), AllocError>
+    requires { AreWithin (length rows.now) (length lists.old) found.now }
+    ensures { OnOk result ((place : ℕ) → place < length lists.new
+        → items_at lists.new place ≡ items_at lists.old place ++ picked rows.now found.now place) }
+{
+    for one in found {
+        lists[one.list].push(rows[one.row])?;
+    }
+    Ok(())
+}
+
+/// Adds the rows that a share has of the block's numbers, each to the list of its number. Where they are is found before any
+/// is read, so that the reads, which mostly go to lines of memory in no cache, wait together. It takes memory where a list has
+/// no room.
+fn add_share(
+    share: &Share,
+    from: usize,
+    found: &mut Vec<Found>,
+    lists: &mut [Vec<KeptRow>],
+) -> Result<(), AllocError>
     requires { from + length lists.old < 2 ^ 64 }
     ensures { OnOk result ((place : ℕ) → place < length lists.new
         → items_at lists.new place
         ≡ items_at lists.old place ++ rows_at (from + place) share.now.rows) }
 {
-    for place in 0..lists.len() {
-        add_row(share, from + place, &mut lists[place])?;
-    }
-    Ok(())
+    find_rows(share, from, lists.len(), found)?;
+    add_found(share.made_rows(), found.as_slice(), lists)
 }
 
 /// Puts into each list the rows of its number, those of all shares in their order: into the first list the rows of the
 /// number with which the block begins. What the lists had before goes. Each share is asked for the whole block before the
-/// next one is, so that its rows are read one after another. It takes memory where a list has no room.
+/// next one is, so that its rows are read one after another. It takes memory where a list has no
+/// room.
 ///
 /// # Errors
 ///
 /// Where memory was refused; the rows in the lists have no meaning then.
-pub(crate) fn fill(shares: &[Share], from: usize, lists: &mut [Vec<KeptRow>]) -> Result<(), AllocError>
+pub(crate) fn fill(
+    shares: &[Share],
+    from: usize,
+    found: &mut Vec<Found>,
+    lists: &mut [Vec<KeptRow>],
+) -> Result<(), AllocError>
     requires { from + length lists.old < 2 ^ 64 }
     ensures { OnOk result (AreRowsOf lists.new from (all_rows shares.now)) }
 {
     clear(lists);
     for share in shares {
-        add_share(share, from, lists)?;
+        add_share(share, from, found, lists)?;
     }
     Ok(())
 }

@@ -84,6 +84,7 @@ fn piece_of(alloc: Global, shares: &[Share], from: usize, high: usize) -> Result
 {
     let mut made = empty_lists(alloc, BLOCK.min(high - from))?;
     let lists = made.as_mut_slice();
+    let mut found = Vec::new(alloc);
     let mut piece = Piece {
         rows: Vec::new(alloc),
         is_odd: false,
@@ -91,7 +92,7 @@ fn piece_of(alloc: Global, shares: &[Share], from: usize, high: usize) -> Result
     let mut low = from;
     while low < high {
         let next = high.min(low + BLOCK);
-        fill(shares, low, lists)?;
+        fill(shares, low, &mut found, lists)?;
         add_block(&mut piece, lists, low, next)?;
         low = next;
     }

@@ -51,10 +51,12 @@ impl Model for Share {
 }
 
 impl Share {
-    ghost use Rattle.std.specs.Prelude.{◌≡◌, ◌^◌, ◌<◌, [], OnOk, OnErr, IfErr};
+    ghost use Rattle.std.specs.Prelude.{◌≡◌, ◌^◌, ◌<◌, [], length, OnOk, OnErr, IfErr};
+    ghost use Rattle.std.specs.Prelude.{IfSome, IfNone};
     ghost use Rattle.std.specs.List.Sorted.{IsPermutation, IsNonDecreasingBy};
     ghost use Rattle.slot_table.specs.Passes.{IsPassOf};
-    ghost use Rattle.share_core.specs.Rows.{row_of, AreOfNumbers};
+    ghost use Rattle.share_core.specs.Rows.{row_at, row_of, AreOfNumbers};
+    ghost use Rattle.share_core.specs.Inner.Rows.{HasNoRow};
     ghost use Rattle.share_core.specs.Shares.{IsShare, IsPatternOf};
     ghost use Rattle.share_core.specs.Adding.{IsAdded, HasGrown, IsMarked, IsKept, IsAddFault};
     ghost use Rattle.share_core.specs.Entering.{CallsOnly, EntersOnly};
@@ -119,6 +121,18 @@ impl Share {
             Some(place) => Some(made[place]),
             None => None,
         }
+    }
+
+    /// The place of a number's row among the share's rows, if the number has one. It takes no memory.
+    pub(crate) fn place_of(&self, number: usize) -> Option<usize>
+        ensures some { IfSome result (λ place. (place < length self.now.rows)
+            × ((row_at self.now.rows place).number ≡ number)) }
+        ensures none { IfNone result (HasNoRow self.now.rows number) }
+        ensures numbers { AreOfNumbers self.now.rows }
+    {
+        // Its contract says that no two rows are of one number.
+        let _ = self.made_rows();
+        self.ledger.rows().place(number)
     }
 
     /// The rows, in their order. It takes no memory.
