@@ -2,8 +2,6 @@
 use Rattle.std.proofs.Common.{◌≡◌, ℕ, ◌<◌, ◌≤◌, ◌*◌, ◌^◌, Some, inl, inr, List, [], ◌∷◌, ◌++◌, length, ap, sym, subst, ◌∙◌, arith, ⊎_elim, Contains}
 use Rattle.std.proofs.lemmas.List.{map-append, get_or_default}
 use Rattle.std.proofs.lemmas.List.Elements.{All-push, Contains-append_cases, Contains-get_or}
-use Rattle.std.specs.List.Sorted.{IsPermutation}
-use Rattle.std.proofs.lemmas.List.Sorted.{Contains-permutation, IsPermutation-sym}
 use Rattle.go_record.specs.Actions.{Actions}
 use Rattle.shape_core.specs.declared.words.Kinds.{Kinds}
 use Rattle.slot_table.specs.declared.entries.Happened.{Happened}
@@ -16,7 +14,6 @@ use Rattle.share_core.specs.Shares.{Held, Added, IsPatternOf}
 use Rattle.share_core.specs.Adding.{IsAdded, HasGrown, IsKept, AreFresh, IsAddFault, IsTooLarge}
 use Rattle.share_core.proofs.Raised.{same_shape, same_length}
 use Rattle.share_core.proofs.Added.{still_of, share_of_more}
-use Rattle.share_core.proofs.Reordered.{of_stays}
 use Rattle.harvest_core.specs.Working.{IsGame, IsPatternOfGame, IsPatternIn, IsWorked, IsRefusal}
 
 -- rows that were made for a game are of its patterns
@@ -78,16 +75,6 @@ worked_added bytes n seen kinds game actions old new is added grown h =
           subst (IsPatternIn bytes kinds) (sym shape)
           (known_more bytes n seen kinds game actions old.rows grown.fresh is made h.known (row_at both at) (Contains-get_or both at (blank 0 0) inside));
     }
-
--- the rows of a share were put in another order
-pub worked_stays : (bytes : List ℕ) (kinds : Kinds) (old new : Held) → new ≡ record old { rows = new.rows } → IsPermutation old.rows new.rows → IsWorked bytes kinds old → IsWorked bytes kinds new
-worked_stays bytes kinds old new is same h = subst (IsWorked bytes kinds) (sym is) (record {
-  kinds_are = h.kinds_are;
-  added = h.added;
-  is_of = of_stays h.added old new.rows same h.is_of;
-  games = h.games;
-  known = λ row among. h.known row (Contains-permutation new.rows old.rows row (IsPermutation-sym old.rows new.rows same) among);
-})
 
 -- why a game of an input was not added
 pub refusal_is : (bytes : List ℕ) (n : ℕ) (seen : List Happened) (kinds : Kinds) (game : ℕ) (actions : Actions) (old new : Held) (found : HarvestFault) → IsGame bytes game actions → IsWorked bytes kinds old →

@@ -70,16 +70,6 @@ ends_offered job desk one after two offered = ⊎_elim
     (λ (here : (after ≡ desk) × IsCounted job.game one two). ap (λ (v : Hand). v.ends_put) here.0)
     offered
 
--- what was dealt out does not hang on rows
-pub dealt_stays : (low high : ℕ) (desk : Hand) (one two : Worked) → two.share.games ≡ one.share.games → two.refused ≡ one.refused → AreDealt low high desk one → AreDealt low high desk two
-dealt_stays low high desk one two games refused h game from below = ⊎_elim
-    (λ (put : Contains desk.put game). inl put)
-    (λ (other : Contains one.share.games game ⊎ ((found : HarvestFault) × (one.refused ≡ Some found))). inr (⊎_elim
-    (λ (mine : Contains one.share.games game). inl (subst (λ (xs : List ℕ). Contains xs game) (sym games) mine))
-    (λ (was : (found : HarvestFault) × (one.refused ≡ Some found)). inr (was.0, refused ∙ was.1))
-    other))
-    (h game from below)
-
 -- what holds where a call answers well holds where it has no fault
 pub none_where_ok : {T E : Type 0} (r : Result T E) (P : Type 0) → OnOk r P → IfNone (result_err r) P
 none_where_ok (Ok x) P h = h

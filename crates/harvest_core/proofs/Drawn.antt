@@ -50,15 +50,3 @@ drawn_more old one two v w job counted is draws h = ⊎_elim
     (λ (less : (two.share.games ≡ one.share.games) × ((found : HarvestFault) × (two.refused ≡ Some found))).
     dropped old one two v w job less.1.0 less.0 less.1.1 is draws h)
     counted
-
--- what a worker drew does not hang on its rows
-pub drawn_stays : (old : Hand) (one two : Worked) (new : Hand) → two.share.games ≡ one.share.games → two.refused ≡ one.refused → HasDrawn old one new → HasDrawn old two new
-drawn_stays old one two new games refused h = record {
-  drawn = h.drawn;
-  all = h.all;
-  bytes = h.bytes;
-  rest = h.rest;
-  first = h.first ∙ ap (λ (xs : List ℕ). xs ++ h.rest) (sym games);
-  whole = λ none. h.whole (sym refused ∙ none);
-  rises = h.rises;
-}

@@ -131,8 +131,7 @@ pub(crate) struct Reading {
     pub fault: Option<HarvestFault>,
 }
 
-/// Reads all games and puts an end for each worker that was started. At its end it puts the rows of its share in the order
-/// of their numbers. It waits for the workers.
+/// Reads all games and puts an end for each worker that was started. It waits for the workers.
 pub(crate) fn read_games<'a, R: Wait, O: ProbeOrder, G: Gate>(
     rt: &R,
     alloc: Global,
@@ -170,7 +169,6 @@ pub(crate) fn read_games<'a, R: Wait, O: ProbeOrder, G: Gate>(
         alone,
     );
     close(rt, desk, workers);
-    worked.sort_rows();
     Reading {
         worked,
         report: games.report(),

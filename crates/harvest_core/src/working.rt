@@ -63,23 +63,11 @@ impl Worked {
             self.refused = Some(fault);
         }
     }
-
-    /// Puts the rows of the share in the order in which they are gathered, while other workers still count. It takes no
-    /// memory.
-    pub(crate) fn sort_rows(&mut self)
-        ensures worker { self.new.share.worker ≡ self.old.share.worker }
-        ensures games { self.new.share.games ≡ self.old.share.games }
-        ensures refused { self.new.refused ≡ self.old.refused }
-        ensures worked { (bytes : List ℕ) → (kinds : Kinds) → IsWorked bytes kinds self.old.share
-            → IsWorked bytes kinds self.new.share }
-    {
-        self.share.sort_rows();
-    }
 }
 
 /// A worker's loop: it draws jobs from the queue and counts their games, and ends at its first end. While the queue is
-/// empty it lets other threads run. Once a game was refused it goes on drawing and drops what it draws. At its end it puts
-/// the rows of its share in the order of their numbers. It waits for the reader.
+/// empty it lets other threads run. Once a game was refused it goes on drawing and drops what it draws. It waits for the
+/// reader.
 pub fn work<R: Wait, O: ProbeOrder, G: Gate>(
     rt: &R,
     alloc: Global,
@@ -106,6 +94,5 @@ pub fn work<R: Wait, O: ProbeOrder, G: Gate>(
             None => thread::yield_now(),
         }
     }
-    worked.sort_rows();
     worked
 }

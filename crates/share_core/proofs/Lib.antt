@@ -1,6 +1,4 @@
 mod Indexed
-mod Reindexed
-pub mod Reordered
 pub mod Raised
 mod Made
 mod Entered

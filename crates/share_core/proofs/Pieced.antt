@@ -108,10 +108,11 @@ one_row all number row is =
     let none : stranger_in (row ∷ []) number (Some row.shape) ≡ None =
     stranger_of_row (row ∷ []) number (Some row.shape) (one_number row)
     ∙ ap (λ o. asked o (Some row.shape)) here
-    ∙ ap (λ b. cond b None (Some row.shape)) (let e : (row.shape == row.shape) ≡ true = Prim.grind (arith, nat_tests) in e) in
-    (total_same all number (Some row) (subst (λ (rs : List Row). IsTotalAt rs number (Some row)) is alone),
-    sym (ap (option_map (λ (r : Row). r.shape)) (stranger_same all number (Some row.shape)))
-    ∙ subst (λ (rs : List Row). stranger_in rs number (Some row.shape) ≡ None) is none)
+    ∙ ap (λ b. cond b None (Some row.shape)) (let e : (row.shape == row.shape) ≡ true = Prim.grind (arith, nat_tests) in e) in (
+      total_same all number (Some row) (subst (λ (rs : List Row). IsTotalAt rs number (Some row)) is alone),
+      sym (ap (option_map (λ (r : Row). r.shape)) (stranger_same all number (Some row.shape)))
+          ∙ subst (λ (rs : List Row). stranger_in rs number (Some row.shape) ≡ None) is none,
+    )
 
 -- before the first number there is nothing
 pub totals_begin : (all : List Row) (from : ℕ) → AreTotals all from from []

@@ -43,8 +43,7 @@ fn check_numbers(differs: Option<Differs>, is_large: bool) -> Result<(), Harvest
 ///
 /// Each number is asked once, in rising order, until one differs; what is marked after that is not judged. Nothing is
 /// entered or marked here. Where there are many patterns, threads add the rows up and sort the dictionary: as many as there
-/// are shares, but for the sort with more than two shares, which takes as many as the machine has processors for. The answer
-/// is the same.
+/// are shares, for the sort rounded up to a power of two, 64 at most. The answer is the same.
 ///
 /// The pass must be of the table, each share of these kinds, and each of its games below `games`.
 ///

@@ -48,13 +48,7 @@ fn earlier(one: SmallOption, other: SmallOption) -> SmallOption
     match (one.get(), other.get()) {
         (None, _) => other,
         (Some(_), None) => one,
-        (Some(first), Some(second)) => {
-            if first <= second {
-                one
-            } else {
-                other
-            }
-        }
+        (Some(first), Some(second)) => { if first <= second { one } else { other } }
     }
 }
 

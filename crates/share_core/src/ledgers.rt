@@ -1,5 +1,5 @@
 //! What a share has counted: its games, their moves, and the rows of their patterns.
-ghost use Rattle.std.specs.Prelude.{◌≡◌, ◌+◌, ◌^◌, ◌≤◌, ◌<◌, length, OnOk, OnErr, IfErr, take};
+ghost use Rattle.std.specs.Prelude.{◌≡◌, ◌^◌, ◌≤◌, ◌<◌, length, OnOk, OnErr, IfErr, take};
 ghost use Rattle.sgf_core.specs.Limit.{most_bytes};
 ghost use Rattle.share_core.specs.Inner.Ledgers.{CountsIn, IsCountFault};
 ghost use Rattle.share_core.specs.Inner.Making.{AreBelow, AreNumbered, Gained, IsMakingFault};
@@ -37,8 +37,6 @@ impl Model for Ledger {
 
 impl Ledger {
     ghost use Rattle.std.specs.Prelude.{◌≡◌, []};
-    ghost use Rattle.std.specs.List.Sorted.{IsPermutation, IsNonDecreasingBy};
-    ghost use Rattle.share_core.specs.Rows.{AreOfNumbers};
 
     /// Nothing was counted yet. It takes no memory.
     pub fn begin(alloc: Global) -> Ledger
@@ -132,14 +130,5 @@ impl Ledger {
         self.moves = moves;
         self.weight = total;
         Ok(())
-    }
-
-    /// Puts the rows in the order of their numbers. It takes no memory.
-    pub fn sort_rows(&mut self)
-        ensures same { self.new ≡ record self.old { rows = self.new.rows } }
-        ensures rows { IsPermutation self.old.rows self.new.rows }
-        ensures rises { IsNonDecreasingBy (λ row. row.number) self.new.rows }
-    {
-        self.rows.sort();
     }
 }

@@ -160,11 +160,7 @@ pub(crate) fn totals_in(made: &[Result<Piece, AllocError>]) -> usize {
 
 /// The total of a number, where the totals from a place on are those of this number and later ones; the place goes on past
 /// the number.
-pub(crate) fn next_total(
-    rows: &[KeptRow],
-    next: &mut usize,
-    number: usize,
-) -> Option<KeptRow>
+pub(crate) fn next_total(rows: &[KeptRow], next: &mut usize, number: usize) -> Option<KeptRow>
     ensures total { (all : List Row) → (high : ℕ) → number < high
         → AreTotals all number high (drop next.old rows.now) → result ≡ total_at all number }
     ensures rest { (all : List Row) → (high : ℕ) → number < high

@@ -1,8 +1,6 @@
 //! Rows of a share, each found by its number.
-ghost use Rattle.std.specs.Prelude.{◌≡◌, ◌^◌, ◌<◌, ◌≤◌, ℕ, length, OnOk, Some};
-ghost use Rattle.std.specs.List.{All};
-ghost use Rattle.share_core.specs.Rows.{row_at, AreOfNumbers};
-ghost use Rattle.share_core.specs.Inner.Rows.{place_in, HasNoRow};
+ghost use Rattle.std.specs.Prelude.{◌≡◌, ◌≤◌, ℕ, length, OnOk};
+ghost use Rattle.share_core.specs.Inner.Rows.{place_in};
 
 use crate::faults::HarvestFault;
 use crate::kept_rows::KeptRow;
@@ -37,24 +35,8 @@ fn widen(index: &mut Vec<SmallOption>, slots: usize) -> Result<(), AllocError>
     Ok(())
 }
 
-/// Writes into an index, at the number of each row, the row's place. At other numbers it stays as it was.
-fn reindex(index: &mut [SmallOption], rows: &[KeptRow])
-    requires within { All (λ row. row.number < length index.old) rows.now }
-    requires numbers { AreOfNumbers rows.now }
-    requires few { length rows.now < 2 ^ 32 }
-    ensures len { length index.new ≡ length index.old }
-    ensures listed { (place : ℕ) → place < length rows.now
-        → place_in index.new (row_at rows.now place).number ≡ Some place }
-    ensures rest { (number : ℕ) → HasNoRow rows.now number
-        → place_in index.new number ≡ place_in index.old number }
-{
-    for place in 0..rows.len() {
-        index[rows[place].number()] = SmallOption::of(place);
-    }
-}
-
-/// Rows in the order in which they were made or that of their numbers, with an index that has the place of each number's
-/// row: four bytes for each slot of the table. Contracts see the rows.
+/// Rows in the order in which they were made, with an index that has the place of each number's row: four bytes for each slot
+/// of the table. Contracts see the rows.
 #[derive(Drop)]
 pub(crate) struct Rows {
     index: Vec<SmallOption>,
@@ -77,7 +59,6 @@ impl Rows {
     ghost use Rattle.sgf_core.specs.Limit.{most_bytes};
     ghost use Rattle.std.specs.Prelude.{◌≡◌, ◌+◌, ◌^◌, ◌<◌, ◌≤◌, ◌++◌, ◌∷◌, [], length};
     ghost use Rattle.std.specs.Prelude.{IfSome, IfNone, IfOk, IfErr, OnErr, slice_set};
-    ghost use Rattle.std.specs.List.Sorted.{IsPermutation, IsNonDecreasingBy};
     ghost use Rattle.share_core.specs.Rows.{row_at, blank, AreOfNumbers};
     ghost use Rattle.share_core.specs.Inner.Rows.{HasNoRow};
     ghost use Rattle.share_core.specs.Checking.{IsLeastFrom};
@@ -180,14 +161,5 @@ impl Rows {
             (raised (row_at self.old place) meeting game) }
     {
         self.rows[place].raise(meeting, game);
-    }
-
-    /// Puts the rows in the order of their numbers, by an unstable sort, and then makes the index anew. It takes no memory.
-    pub fn sort(&mut self)
-        ensures same { IsPermutation self.old self.new }
-        ensures rises { IsNonDecreasingBy (λ row. row.number) self.new }
-    {
-        self.rows.sort_unstable_by_key(|row| row.number());
-        reindex(self.index.as_mut_slice(), self.rows.as_slice());
     }
 }

@@ -19,8 +19,7 @@ use std::marker::Model;
 /// What one worker has counted: games, each with all its patterns, under the numbers that these have in a table.
 ///
 /// Contracts see the worker, the kinds of pattern, the games in the order in which they were added, their moves, and the
-/// rows in the order in which they were made, or in that of their numbers after `sort_rows`. A share is of some games, by
-/// its type: its sums are theirs.
+/// rows in the order in which they were made. A share is of some games, by its type: its sums are theirs.
 #[derive(Drop)]
 pub struct Share {
     worker: usize,
@@ -53,7 +52,6 @@ impl Model for Share {
 impl Share {
     ghost use Rattle.std.specs.Prelude.{◌≡◌, ◌^◌, ◌<◌, [], length, OnOk, OnErr, IfErr};
     ghost use Rattle.std.specs.Prelude.{IfSome, IfNone};
-    ghost use Rattle.std.specs.List.Sorted.{IsPermutation, IsNonDecreasingBy};
     ghost use Rattle.slot_table.specs.Passes.{IsPassOf};
     ghost use Rattle.share_core.specs.Rows.{row_at, row_of, AreOfNumbers};
     ghost use Rattle.share_core.specs.Inner.Rows.{HasNoRow};
@@ -201,15 +199,5 @@ impl Share {
         self.ledger.count(game, moves, meetings, places)?;
         mark_all(table, pass, entered, meetings, game);
         Ok(())
-    }
-
-    /// Puts the rows in the order of their numbers, so that `gather`, which goes by numbers, reads them one after another.
-    /// What the share has counted stays. It takes no memory.
-    pub fn sort_rows(&mut self)
-        ensures same { self.new ≡ record self.old { rows = self.new.rows } }
-        ensures rows { IsPermutation self.old.rows self.new.rows }
-        ensures rises { IsNonDecreasingBy (λ row. row.number) self.new.rows }
-    {
-        self.ledger.sort_rows();
     }
 }

@@ -84,7 +84,15 @@ fn visit_odd<O: ProbeOrder>(
     if let Some(held) = sums.stranger {
         return Err(HarvestFault::stranger(number, held, word_of(found)));
     }
-    take(table, pass, number, sums.total, sums.first, sums.is_large, visited)
+    take(
+        table,
+        pass,
+        number,
+        sums.total,
+        sums.first,
+        sums.is_large,
+        visited,
+    )
 }
 
 /// The same where the totals from a place on are those of this number and later ones; the place goes on past the number.
@@ -119,7 +127,15 @@ fn visit_even<O: ProbeOrder>(
     if let Some(held) = unlike(total, found) {
         return Err(HarvestFault::stranger(number, held, word_of(found)));
     }
-    take(table, pass, number, Some(total), total.first(), false, visited)
+    take(
+        table,
+        pass,
+        number,
+        Some(total),
+        total.first(),
+        false,
+        visited,
+    )
 }
 
 /// Looks at the numbers from one up to another. Their rows are looked for in the shares.

@@ -115,17 +115,14 @@ fn no_row_comes_after_the_last(rt: HostRuntime) -> Result<(), Fail> {
     Ok(())
 }
 
+/// The numbers of this table lie in eight pages of a share's index.
 #[test]
-fn sorting_keeps_what_was_counted(rt: HostRuntime) -> Result<(), Fail> {
+fn each_row_is_found_by_its_number(rt: HostRuntime) -> Result<(), Fail> {
     let alloc = rt.alloc();
-    let (table, mut pass) = SlotTable::new(alloc, order_of(&rt, 4))?;
-    let mut share = share_of_both(alloc, &table, &mut pass)?;
-    let before = rows_of(alloc, &share)?;
-    share.sort_rows();
-    let after = rows_of(alloc, &share)?;
-    assert!(rt; after.as_slice() == before.as_slice());
+    let (table, mut pass) = SlotTable::new(alloc, order_of(&rt, 7))?;
+    let share = share_of_both(alloc, &table, &mut pass)?;
     assert!(rt; share.games() == [1, 0].as_slice() && share.moves() == 3);
-    for row in before {
+    for row in rows_of(alloc, &share)? {
         assert!(rt; share.row_at(row.number) == Some(row));
     }
     Ok(())

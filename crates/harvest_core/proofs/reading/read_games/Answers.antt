@@ -4,18 +4,16 @@ use Rattle.tally_core.specs.declared.reports.Report.{Report}
 use Rattle.job_core.specs.declared.hands.Hand.{Hand}
 use Rattle.harvest_core.specs.Working.{IsRefused}
 use Rattle.harvest_core.specs.Inner.Reading.{AreDealt}
-use Rattle.harvest_core.proofs.Dealt.{dealt_stays, none_where_ok}
+use Rattle.harvest_core.proofs.Dealt.{none_where_ok}
 use Rattle.harvest_core.proofs.reading.read_games.Goals as goal
 
 pub returns-clause-worked : goal.returns-clause-worked
 returns-clause-worked g c =
-    c.sort_rows.ensures.worked c.args.games.bytes c.args.kinds
     (c.read_all-outcome.ensures.worked c.args.kinds (c.begin-worked.ensures.worked c.args.games.bytes)
     (subst (IsRefused c.args.games.bytes c.args.kinds) (sym c.begin-worked.ensures.refused) tt)).0
 
 pub returns-clause-refused : goal.returns-clause-refused
 returns-clause-refused g c =
-    subst (IsRefused c.args.games.bytes c.args.kinds) (sym c.sort_rows.ensures.refused)
     (c.read_all-outcome.ensures.worked c.args.kinds (c.begin-worked.ensures.worked c.args.games.bytes)
     (subst (IsRefused c.args.games.bytes c.args.kinds) (sym c.begin-worked.ensures.refused) tt)).1
 
@@ -24,12 +22,10 @@ returns-clause-dealt g c =
     let low = c.args.games.report.games in
     let high = c.report.result.games in
     let worked = c.read_all-outcome.new.worked in
-    let sorted = c.sort_rows.new.self in
     let outcome = c.read_all-outcome.result in
     let same = ap (λ (r : Report). r.games) c.report.ensures.report in
-    subst (λ o. IfNone o (AreDealt low high c.close.new.desk sorted)) (sym c.err.ensures.value)
-    (none_where_ok outcome (AreDealt low high c.close.new.desk sorted)
+    subst (λ o. IfNone o (AreDealt low high c.close.new.desk worked)) (sym c.err.ensures.value)
+    (none_where_ok outcome (AreDealt low high c.close.new.desk worked)
     (on_ok_weaker outcome
-    (λ dealt. dealt_stays low high c.close.new.desk worked sorted c.sort_rows.ensures.games c.sort_rows.ensures.refused
-    (subst (λ (v : Hand). AreDealt low high v worked) (sym c.close.ensures) (subst (λ n. AreDealt low n c.read_all-outcome.new.desk worked) (sym same) dealt)))
+    (λ dealt. subst (λ (v : Hand). AreDealt low high v worked) (sym c.close.ensures) (subst (λ n. AreDealt low n c.read_all-outcome.new.desk worked) (sym same) dealt))
     c.read_all-outcome.ensures.dealt))

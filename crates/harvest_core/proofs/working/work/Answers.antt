@@ -1,10 +1,10 @@
-use Rattle.std.proofs.Common.{rules, ◌≡◌, ℕ, List, ap, sym, subst, ◌∙◌}
+use Rattle.std.proofs.Common.{◌≡◌, ℕ, List, ap, sym, subst, ◌∙◌}
 use Rattle.job_core.specs.declared.hands.Hand.{Hand}
 use Rattle.job_core.specs.declared.jobs.Item.{Item}
 use Rattle.job_core.specs.declared.jobs.Item.TheVariants.{Job}
 use Rattle.job_core.specs.Rule.{drawing, Draws}
-use Rattle.harvest_core.specs.Working.{IsWorked, IsRefused, HasDrawn}
-use Rattle.harvest_core.proofs.Drawn.{drawn_more, drawn_stays}
+use Rattle.harvest_core.specs.Working.{IsWorked, IsRefused}
+use Rattle.harvest_core.proofs.Drawn.{drawn_more}
 use Rattle.harvest_core.proofs.working.work.Goals as goal
 
 pub loop-preserved-in-Some-Job : goal.loop-preserved-in-Some-Job
@@ -25,11 +25,3 @@ loop-preserved-in-Some-Job g c =
       drawn = drawn_more old c.loop.worked c.count.new.self c.loop.desk c.draw.new.self job c.count.ensures.games drawn.0 drawn.1 h.drawn;
       ended = ap (λ (v : Hand). v.ends_drawn) drawn.0 ∙ h.ended;
     }
-
-pub returns-clause-worked : goal.returns-clause-worked
-returns-clause-worked g c = c.sort_rows.ensures.worked c.args.desk.now.bytes c.args.kinds c.loop.invariant.worked
-
-pub returns-clause-drawn : goal.returns-clause-drawn
-returns-clause-drawn g c =
-    let drawn : HasDrawn c.args.desk.now c.loop.worked c.match-next.desk = Prim.search rules in
-    drawn_stays c.args.desk.now c.loop.worked c.sort_rows.new.self c.match-next.desk c.sort_rows.ensures.games c.sort_rows.ensures.refused drawn

@@ -1,5 +1,4 @@
-use Rattle.std.proofs.Common.{◌+◌, Some, ap, sym, subst, ◌∙◌, arith}
-use Rattle.share_core.specs.declared.rows.Row.{Row}
+use Rattle.std.proofs.Common.{◌+◌, Some, sym, subst, ◌∙◌, arith}
 use Rattle.share_core.specs.Inner.Totals.{IsTotalAt}
 use Rattle.share_core.specs.Inner.Pieces.{AreTotals}
 use Rattle.share_core.proofs.Pieced.{totals_none, totals_some, none_listed, one_row, nothing_in, only_row, nothing_given}

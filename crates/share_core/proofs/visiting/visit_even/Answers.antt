@@ -1,4 +1,4 @@
-use Rattle.std.proofs.Common.{◌≡◌, ◌^◌, false, Some, refl, sym, subst, ◌∙◌, arith}
+use Rattle.std.proofs.Common.{◌^◌, false, Some, refl, sym, subst, ◌∙◌, arith}
 use Rattle.std.proofs.lemmas.Result.{on_ok_weaker}
 use Rattle.slot_table.specs.History.{TellsAt}
 use Rattle.share_core.specs.Inner.Numbers.{like_sums, AreSums}
