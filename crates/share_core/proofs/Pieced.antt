@@ -267,10 +267,8 @@ nothing_given None h = refl
 nothing_given (Some x) h = absurd cc
 
 -- ---- where pieces begin
-pub next_begin : {X : Type 0} (slots span from high : ℕ) (done : List X) (x : X) → from ≡ min slots (length done * span) → high ≡ min slots (from + span) →
-    high ≡ min slots (length (done ++ x ∷ []) * span)
-next_begin slots span from high done x is next =
-    let long : length (done ++ x ∷ []) ≡ length done + 1 = length-append done (x ∷ []) in
-    let more = ap (λ k. k * span) long ∙ add-mul (length done) 1 span in
+pub next_begin : (high span first from next place : ℕ) → from ≡ min high (first + place * span) → next ≡ min high (from + span) → next ≡ min high (first + (place + 1) * span)
+next_begin high span first from next place is more =
+    let longer : (place + 1) * span ≡ place * span + 1 * span = add-mul place 1 span in
     let one = one-mul span in
     omega arith

@@ -13,6 +13,7 @@ pub mod Numbers
 pub mod Pieces
 pub mod Preparing
 pub mod Raising
+pub mod Rounds
 pub mod Rows
 pub mod Small
 pub mod Totals

@@ -25,6 +25,7 @@ mod gathering;
 pub mod laws;
 mod numbers;
 mod pieces;
+mod rounds;
 mod sorting;
 mod standing;
 mod visiting;

@@ -1,4 +1,4 @@
-//! The numbers of a table in pieces, each with the totals of its numbers, which threads make.
+//! Ranges of a table's numbers in pieces, each with the totals of its numbers, which threads make.
 ghost use Rattle.std.specs.Prelude.{◌≡◌, ℕ, ◌+◌, ◌*◌, ◌^◌, ◌<◌, ◌≤◌, min, drop, length, List, OnOk, IfOk};
 ghost use Rattle.share_core.specs.declared.rows.Row.{Row};
 ghost use Rattle.share_core.specs.Checking.{all_rows};
@@ -16,9 +16,6 @@ use std::thread::{Threads, map_indices};
 /// its rows are read in sequence; and the rows of so few numbers, those of all shares, stay in the cache until they are
 /// added up.
 const BLOCK: usize = 256;
-
-/// How many numbers a piece has at least, so that a thread is worth its making.
-const LEAST: usize = 65_536;
 
 /// A range of numbers: for each that has rows their total, numbers rising. It is odd where some number of the range has
 /// rows of several patterns, or a sum passes 2^64 - 1; then the totals have no meaning.
@@ -99,63 +96,48 @@ fn piece_of(alloc: Global, shares: &[Share], from: usize, high: usize) -> Result
     Ok(piece)
 }
 
-/// The piece at a place, where each has this many numbers, and the last one those that are left.
+/// The piece at a place of the numbers from one up to another, where each piece has this many, and the last one those that
+/// are left.
 fn piece_at(
     alloc: Global,
     shares: &[Share],
-    slots: usize,
+    from: usize,
+    high: usize,
     span: usize,
     place: usize,
 ) -> Result<Piece, AllocError>
-    requires slots { slots < 2 ^ 32 }
+    requires high { high < 2 ^ 32 }
     requires span { span < 2 ^ 32 }
-    requires place { place * span < slots }
-    ensures { IfOk result (IsPiece (all_rows shares.now) (place * span)
-        (min slots (place * span + span))) }
+    requires place { from + place * span < high }
+    ensures { IfOk result (IsPiece (all_rows shares.now) (from + place * span)
+        (min high (from + place * span + span))) }
 {
-    let from = place * span;
-    piece_of(alloc, shares, from, slots.min(from + span))
+    let low = from + place * span;
+    piece_of(alloc, shares, low, high.min(low + span))
 }
 
-/// How many numbers each piece has: as many pieces as shares, unless they would be small.
-pub(crate) fn span_of(shares: &[Share], slots: usize) -> usize
-    ensures some { 0 < result }
-    ensures small { slots < 2 ^ 32 → result < 2 ^ 32 }
-{
-    LEAST.max(slots.div_ceil(shares.len().max(1)))
-}
-
-/// All numbers below `slots` in pieces of this many, in order. Threads make them, and each may be refused memory. One piece
-/// is made by this thread.
+/// The numbers from one up to another in pieces of this many, in order. Threads make them, and each may be refused memory.
+/// One piece is made by this thread.
 pub(crate) fn pieces<R: Threads + Sync>(
     rt: &R,
     alloc: Global,
     shares: &[Share],
-    slots: usize,
+    from: usize,
+    high: usize,
     span: usize,
 ) -> Result<Vec<Result<Piece, AllocError>>, AllocError>
-    requires slots { slots < 2 ^ 32 }
+    requires order { from ≤ high }
+    requires high { high < 2 ^ 32 }
     requires some { 0 < span }
     requires span { span < 2 ^ 32 }
-    ensures { IfOk result (λ made. ArePieces (all_rows shares.now) slots span made.items) }
+    ensures { IfOk result (λ made. ArePieces (all_rows shares.now) from high span made.items) }
 {
     map_indices(
         rt,
         alloc,
-        slots.div_ceil(span),
-        &|place| piece_at(alloc, shares, slots, span, place),
+        (high - from).div_ceil(span),
+        &|place| piece_at(alloc, shares, from, high, span, place),
     )
-}
-
-/// How many totals pieces have together.
-pub(crate) fn totals_in(made: &[Result<Piece, AllocError>]) -> usize {
-    let mut totals: usize = 0;
-    for piece in made {
-        if let Ok(piece) = piece {
-            totals = totals.saturating_add(piece.rows.len());
-        }
-    }
-    totals
 }
 
 /// The total of a number, where the totals from a place on are those of this number and later ones; the place goes on past

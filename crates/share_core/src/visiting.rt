@@ -1,6 +1,6 @@
-//! All numbers of a table, each visited once, in rising order, together with the rows that shares have of it.
+//! Numbers of a table, each visited once, in rising order, together with the rows that shares have of it.
 ghost use Rattle.std.specs.Prelude.{◌≡◌, ◌+◌, ◌^◌, ◌<◌, ◌≤◌, ℕ, List, Option, drop};
-ghost use Rattle.std.specs.Prelude.{IfOk, IfErr, OnOk};
+ghost use Rattle.std.specs.Prelude.{IfErr, OnOk};
 ghost use Rattle.slot_table.specs.Passes.{IsPassOf};
 ghost use Rattle.share_core.specs.declared.rows.Row.{Row};
 ghost use Rattle.share_core.specs.declared.faults.HarvestFault.TheVariants as fault;
@@ -9,21 +9,19 @@ ghost use Rattle.share_core.specs.Inner.Checking.{IsFound};
 ghost use Rattle.share_core.specs.Entering.{AsksOnly};
 ghost use Rattle.share_core.specs.Inner.Numbers.{AreSums, like_sums};
 ghost use Rattle.share_core.specs.Inner.Pieces.{AreTotals, IsPiece};
-ghost use Rattle.share_core.specs.Inner.Visiting.{AreVisited, IsVisit, EndsVisit, IsVisitFault};
+ghost use Rattle.share_core.specs.Inner.Visiting.{IsVisit, EndsVisit};
 
 use crate::adding_up::push;
 use crate::agreeing::{Differs, compare};
 use crate::faults::HarvestFault;
 use crate::kept_rows::KeptRow;
 use crate::numbers::{sums_at, unlike};
-use crate::pieces::{Piece, next_total, pieces, span_of, totals_in};
+use crate::pieces::{Piece, next_total};
 use crate::shares::Share;
 use crate::standing::{bits_of, word_of};
 use probe_core::ProbeOrder;
 use shape_dict::Entry;
 use slot_table::{Pass, SlotTable};
-use std::alloc::Global;
-use std::thread::Threads;
 
 /// What the numbers so far have given: the entries of the patterns of their rows, the first of them whose marks differ
 /// from what shares counted, and whether a sum of rows passes 2^64 - 1. The entries have no meaning where one does.
@@ -194,7 +192,7 @@ fn visit_even_piece<O: ProbeOrder>(
 }
 
 /// Looks at the numbers of a piece, from one up to another.
-fn visit_piece<O: ProbeOrder>(
+pub(crate) fn visit_piece<O: ProbeOrder>(
     table: &SlotTable<O>,
     pass: &mut Pass<O>,
     shares: &[Share],
@@ -220,41 +218,4 @@ fn visit_piece<O: ProbeOrder>(
         let totals = piece.rows.as_slice();
         visit_even_piece(table, pass, totals, from, high, visited)
     }
-}
-
-/// Looks at each number of the table, and asks each once, in rising order, for its least game, until one differs from that
-/// of the shares' rows. Threads add the rows up before. It takes memory for a total and an entry of each pattern.
-#[tactic(auto, using(crate::proofs::Entered::calls_self))]
-pub(crate) fn visit_all<R: Threads + Sync, O: ProbeOrder>(
-    rt: &R,
-    alloc: Global,
-    table: &SlotTable<O>,
-    pass: &mut Pass<O>,
-    shares: &[Share],
-) -> Result<Visited, HarvestFault>
-    requires { IsPassOf (2 ^ O.exponent table.now.order) table.now pass.old }
-    ensures pass { IsPassOf (2 ^ O.exponent table.now.order) table.now pass.new }
-    ensures later { AsksOnly (2 ^ O.exponent table.now.order) pass.old pass.new }
-    ensures ok { IfOk result (AreVisited (2 ^ O.exponent table.now.order) (all_rows shares.now)
-        (2 ^ O.exponent table.now.order) pass.old pass.new) }
-    ensures fault { IfErr result (IsVisitFault (2 ^ O.exponent table.now.order) pass.new.seen
-        (all_rows shares.now)) }
-{
-    let slots = table.capacity().slots();
-    let span = span_of(shares, slots);
-    let made = pieces(rt, alloc, shares, slots, span)?;
-    let entries = Vec::with_capacity(alloc, totals_in(made.as_slice()))?;
-    let mut visited = Visited {
-        entries,
-        differs: None,
-        is_large: false,
-    };
-    let mut from = 0;
-    for piece in made {
-        let piece = piece?;
-        let high = slots.min(from + span);
-        visit_piece(table, pass, shares, &piece, from, high, &mut visited)?;
-        from = high;
-    }
-    Ok(visited)
 }

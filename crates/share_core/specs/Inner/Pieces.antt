@@ -37,10 +37,10 @@ pub record AreTotals (all : List Row) (from high : ℕ) (totals : List Row) : Ty
 abbrev pub IsPiece : List Row → ℕ → ℕ → Piece → Type 0
 IsPiece all from high piece = piece.is_odd ≡ false → AreTotals all from high piece.rows.items
 
--- ---- all pieces
--- each piece that was made is that of its range: the first has the first `span` numbers, the next one the next, and the last
--- those that are left
-pub record ArePieces (all : List Row) (slots span : ℕ) (made : List (Result Piece AllocError)) : Type 0 where
-  pub enough : slots ≤ length made * span
+-- ---- pieces of a range
+-- each piece that was made is that of its numbers: the first has the first `span` of the range, the next one the next, and the
+-- last those that are left
+pub record ArePieces (all : List Row) (from high span : ℕ) (made : List (Result Piece AllocError)) : Type 0 where
+  pub enough : high ≤ from + length made * span
   pub each : (place : ℕ) (d : Result Piece AllocError) → place < length made
-      → IfOk (slice_index_or made place d) (IsPiece all (place * span) (min slots (place * span + span)))
+      → IfOk (slice_index_or made place d) (IsPiece all (from + place * span) (min high (from + place * span + span)))
