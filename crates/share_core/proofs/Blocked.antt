@@ -1,5 +1,5 @@
 -- Rows of a block of numbers, number by number.
-use Rattle.std.proofs.Common.{◌≡◌, ℕ, ◌+◌, ◌-◌, ◌<◌, ◌≤◌, ◌==◌, true, false, cond, not, ◌&&◌, List, [], ◌∷◌, ◌++◌, length, map, get_or, take, find, Option, Some, None, refl, ap, ap₂, sym, ◌∙◌, arith, zero, suc, append-nil, below_more}
+use Rattle.std.proofs.Common.{◌≡◌, ℕ, ◌+◌, ◌-◌, ◌<◌, ◌≤◌, ◌==◌, true, false, cond, not, ◌&&◌, List, [], ◌∷◌, ◌++◌, length, map, get_or, take, find, Option, Some, None, refl, ap, ap₂, sym, ◌∙◌, arith, suc, append-nil, below_more}
 use Rattle.std.specs.Option.{option_map}
 use Rattle.std.proofs.lemmas.List.Sums.{sum_by-cons}
 use Rattle.share_core.specs.declared.rows.Row.{Row}
@@ -173,9 +173,6 @@ picked_none rows (one ∷ found) count place within past =
     let test : (one.list == place) ≡ false = Prim.grind (arith, nat_tests) in
     ap (λ b. map (λ (f : Found). row_at rows f.row) (cond b (one ∷ filter (λ f. f.list == place) found) (filter (λ f. f.list == place) found))) test
     ∙ picked_none rows found count place (λ k d inside. within (suc k) d (omega arith)) past
-
-pub nothing_found : (rows : List Row) (from : ℕ) → AreFound rows from 0 []
-nothing_found rows from = record { within = λ k d inside. absurd (omega arith); each = λ place below. absurd (omega arith) }
 
 -- nothing more was found where the next number has no row
 pub found_none_more : (rows : List Row) (from count : ℕ) (found : List Found) → HasNoRow rows (from + count) → AreFound rows from count found → AreFound rows from (count + 1) found

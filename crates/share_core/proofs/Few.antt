@@ -1,5 +1,5 @@
 -- Rows of different numbers: at most as many as the numbers.
-use Rattle.std.proofs.Common.{◌≡◌, ℕ, ◌<◌, ◌≤◌, ◌||◌, true, false, suc, List, [], ◌∷◌, length, map, eqb, Option, Some, None, refl, ap, sym, ◌∙◌, arith, ⊎_elim}
+use Rattle.std.proofs.Common.{◌≡◌, ℕ, ◌<◌, ◌≤◌, ◌||◌, true, false, suc, List, [], ◌∷◌, length, map, eqb, Option, None, ◌^◌, refl, sym, subst, arith, ⊎_elim}
 use Rattle.std.specs.List.{AllByRecursion, IsDistinct, list_any}
 use Rattle.std.proofs.lemmas.Bool.{cases_lt, eqb-true}
 use Rattle.std.proofs.lemmas.Bool.Decides.{nat_tests}
@@ -7,7 +7,7 @@ use Rattle.std.proofs.lemmas.List.{get_or_past, length-map}
 use Rattle.std.proofs.lemmas.Map.Steps.{length-le_from_distinct_below}
 use Rattle.share_core.specs.declared.rows.Row.{Row}
 use Rattle.share_core.specs.Rows.{row_at, AreOfNumbers}
-use Rattle.share_core.specs.Inner.Rows.{place_in, IsIndexed, HasNoRow}
+use Rattle.share_core.specs.Inner.Rows.{bucket_of, IsLast, IsIndexed, HasNoRow}
 use Rattle.share_core.proofs.Found.{tail_none, tail_numbers, others_differ}
 
 abbrev pub numbers_of : List Row → List ℕ
@@ -36,23 +36,20 @@ within (row ∷ rows) n h q is =
     ] refl is
 
 -- ---- an index
--- the number of each row is one of an index
-pub number_within : (index : List (Option ℕ)) (rows : List Row) (place : ℕ) → IsIndexed index rows → place < length rows → (row_at rows place).number < length index
-number_within index rows place h low =
-    let number = (row_at rows place).number in
+-- the bucket of each row is one of an index
+pub bucket_within : (shift : ℕ) (index older : List (Option ℕ)) (rows : List Row) (place : ℕ) → IsIndexed shift index older rows → place < length rows
+    → bucket_of shift (row_at rows place).number < length index
+bucket_within shift index older rows place h low =
+    let bucket = bucket_of shift (row_at rows place).number in
     ⊎_elim
-    (λ (inside : number < length index). inside)
-    (λ (past : length index ≤ number). let clash = sym (get_or_past index number None past) ∙ h.listed place low in absurd cc)
-    (cases_lt number (length index))
+    (λ (inside : bucket < length index). inside)
+    (λ (over : length index ≤ bucket).
+    let none = subst (IsLast shift bucket rows (length rows)) (get_or_past index bucket None over) (h.last bucket) in
+    absurd (none.last place (omega arith) low refl))
+    (cases_lt bucket (length index))
 
-pub of_numbers : (index : List (Option ℕ)) (rows : List Row) → IsIndexed index rows → AreOfNumbers rows
-of_numbers index rows h one other low high same =
-    let equal : Some one ≡ Some other = sym (h.listed one low) ∙ ap (place_in index) same ∙ h.listed other high in
-    cc
-
-pub few_rows : (index : List (Option ℕ)) (rows : List Row) → IsIndexed index rows → length rows ≤ length index
-few_rows index rows h =
-    let numbers = of_numbers index rows h in
-    let few = length-le_from_distinct_below (numbers_of rows) (length index) (distinct rows numbers) (within rows (length index) (λ place low. number_within index rows place h low)) in
+pub few_rows : (shift : ℕ) (index older : List (Option ℕ)) (rows : List Row) → IsIndexed shift index older rows → length rows ≤ 2 ^ 22
+few_rows shift index older rows h =
+    let few = length-le_from_distinct_below (numbers_of rows) (2 ^ 22) (distinct rows h.numbers) (within rows (2 ^ 22) h.small) in
     let long = length-map rows (λ (row : Row). row.number) in
     omega arith

@@ -1,4 +1,5 @@
 mod Indexed
+mod Chained
 pub mod Raised
 mod Made
 mod Entered
@@ -23,6 +24,7 @@ mod Summed
 mod Totalled
 mod OfNumber
 mod Blocked
+mod Noted
 mod Pieced
 mod Visits
 pub mod Confirmed

@@ -1,5 +1,5 @@
 -- Totals of numbers, one number after another.
-use Rattle.std.proofs.Common.{◌≡◌, ℕ, zero, suc, ◌+◌, ◌-◌, ◌*◌, min, ◌<◌, ◌≤◌, ◌==◌, ◌&&◌, not, true, false, cond, All, find, List, [], ◌∷◌, ◌++◌, get_or, length, drop, Option, Some, None, refl, ap, sym, subst, ◌∙◌, arith, append-nil, length-append, add-one, ⊎_elim}
+use Rattle.std.proofs.Common.{◌≡◌, ℕ, zero, suc, ◌+◌, ◌-◌, ◌*◌, min, ◌<◌, ◌≤◌, ◌==◌, ◌&&◌, not, true, false, cond, All, find, List, [], ◌∷◌, ◌++◌, get_or, length, drop, Option, Some, None, refl, ap, sym, subst, ◌∙◌, arith, append-nil, add-one, ⊎_elim}
 use Rattle.std.specs.Prelude.{slice_get}
 use Rattle.std.specs.List.{filter_map, cons_option}
 use Rattle.std.specs.Option.{option_map, is_some}

@@ -1,5 +1,5 @@
 -- Rows by rising numbers.
-use Rattle.std.proofs.Common.{◌≡◌, ℕ, ◌+◌, ◌<◌, ◌≤◌, List, length, Option, Some, None, refl, ap, sym, ◌∙◌, arith, Contains, ⊎_elim}
+use Rattle.std.proofs.Common.{◌≡◌, ℕ, ◌+◌, ◌*◌, ◌^◌, ◌<◌, ◌≤◌, List, length, Option, Some, None, refl, ap, sym, ◌∙◌, arith, Contains, ⊎_elim}
 use Rattle.std.proofs.lemmas.Bool.{cases_lt}
 use Rattle.std.proofs.lemmas.List.{get_or_default}
 use Rattle.share_core.specs.declared.rows.Row.{Row}
@@ -7,7 +7,8 @@ use Rattle.share_core.specs.Rows.{row_at, blank, AreOfNumbers}
 use Rattle.share_core.specs.Inner.Rows.{HasNoRow, IsIndexed}
 use Rattle.share_core.specs.Checking.{IsLeastFrom}
 use Rattle.share_core.proofs.Found.{found_row}
-use Rattle.share_core.proofs.Few.{number_within}
+use Rattle.share_core.proofs.Indexed.{below_buckets}
+use Rattle.share_core.proofs.Few.{bucket_within}
 
 -- the rows of numbers from one on are all of numbers from another on
 abbrev pub AreBeyond : List Row → ℕ → ℕ → Type 0
@@ -32,10 +33,11 @@ pub first_row : (rows : List Row) (from place : ℕ) → AreOfNumbers rows → p
 first_row rows from place numbers inside high h = (high, found_row rows (row_at rows place).number place numbers inside refl, h)
 
 -- none is found at the end of an index
-pub no_row : (index : List (Option ℕ)) (rows : List Row) (from : ℕ) → IsIndexed index rows → (low : ℕ) → length index ≤ low → AreBeyond rows from low → IsLeastFrom from rows None
-no_row index rows from indexed low long h row among =
+pub no_row : (shift : ℕ) (index older : List (Option ℕ)) (rows : List Row) (from : ℕ) → IsIndexed shift index older rows → (low : ℕ) → length index * 2 ^ shift ≤ low
+    → AreBeyond rows from low → IsLeastFrom from rows None
+no_row shift index older rows from indexed low long h row among =
     let number = ap (λ (r : Row). r.number) (row_there rows row among) in
-    let inside = number_within index rows among.0 indexed among.1 in
+    let inside = below_buckets shift (row_at rows among.0).number (length index) (bucket_within shift index older rows among.0 indexed among.1) in
     ⊎_elim
     (λ (under : row.number < from). under)
     (λ (over : from ≤ row.number). let beyond = h row among over in absurd (omega arith))

@@ -2,8 +2,10 @@
 ghost use Rattle.std.specs.Prelude.{◌≡◌, ℕ, ◌+◌, ◌^◌, ◌<◌, ◌++◌, [], length, OnOk, IfOk};
 ghost use Rattle.share_core.specs.Checking.{all_rows};
 ghost use Rattle.share_core.specs.Inner.Blocks.{rows_at, items_at, picked, AreWithin, AreFound};
-ghost use Rattle.share_core.specs.Inner.Blocks.{AreRowsOf};
+ghost use Rattle.share_core.specs.Inner.Blocks.{AreRowsOf, AreNoted};
+ghost use Rattle.share_core.specs.Inner.Rows.{IsIndexed};
 
+use crate::chains::Chains;
 use crate::kept_rows::KeptRow;
 use crate::shares::Share;
 use std::alloc::{AllocError, Global};
@@ -35,6 +37,81 @@ fn clear(lists: &mut [Vec<KeptRow>])
     }
 }
 
+/// Notes, for each of a block's numbers that has a row, where that is: number by number. The buckets have one number each,
+/// so no row is read. It takes memory where there is no room for a note.
+fn find_each(
+    chains: &Chains<'_>,
+    from: usize,
+    count: usize,
+    found: &mut Vec<Found>,
+) -> Result<(), AllocError>
+    requires block { from + count < 2 ^ 64 }
+    requires one { chains.now.shift ≡ 0 }
+    requires indexed { IsIndexed chains.now.shift chains.now.index.now chains.now.older.now
+        chains.now.rows.now }
+    requires none { found.old.items ≡ [] }
+    ensures { OnOk result (AreFound chains.now.rows.now from count found.new.items) }
+{
+    for list in 0..count {
+        if let Some(row) = chains.last_in(from + list) {
+            found.push(Found { list, row })?;
+        }
+    }
+    Ok(())
+}
+
+/// Notes the rows of one bucket whose numbers are of a block. It walks the bucket's chain, and reads each row for its number.
+/// It takes memory where there is no room for a note.
+fn find_in_bucket(
+    chains: &Chains<'_>,
+    bucket: usize,
+    from: usize,
+    count: usize,
+    found: &mut Vec<Found>,
+) -> Result<(), AllocError>
+    requires block { from + count < 2 ^ 64 }
+    requires indexed { IsIndexed chains.now.shift chains.now.index.now chains.now.older.now
+        chains.now.rows.now }
+    requires before { AreNoted chains.now.shift chains.now.rows.now from count bucket
+        (length chains.now.rows.now) found.old.items }
+    ensures { OnOk result (AreNoted chains.now.shift chains.now.rows.now from count bucket 0
+        found.new.items) }
+{
+    let mut at = chains.last_in(bucket);
+    'chain: while let Some(row) = at {
+        let number = chains.rows[row].number();
+        if from <= number && number < from + count {
+            found.push(Found {
+                list: number - from,
+                row,
+            })?;
+        }
+        at = chains.before(row);
+    }
+    Ok(())
+}
+
+/// Notes, for each of a block's numbers that has a row, where that is: bucket by bucket. It takes memory where there is no
+/// room for a note.
+fn find_in_buckets(
+    chains: &Chains<'_>,
+    from: usize,
+    count: usize,
+    found: &mut Vec<Found>,
+) -> Result<(), AllocError>
+    requires block { from + count < 2 ^ 64 }
+    requires indexed { IsIndexed chains.now.shift chains.now.index.now chains.now.older.now
+        chains.now.rows.now }
+    requires none { found.old.items ≡ [] }
+    ensures { OnOk result (AreFound chains.now.rows.now from count found.new.items) }
+{
+    let numbers = 1 << chains.shift;
+    for bucket in (from >> chains.shift)..(from + count).div_ceil(numbers) {
+        find_in_bucket(chains, bucket, from, count, found)?;
+    }
+    Ok(())
+}
+
 /// Notes, for each of the block's numbers that has a row in the share, where that is. It takes memory where there is no room
 /// for a note.
 fn find_rows(
@@ -47,12 +124,12 @@ fn find_rows(
     ensures { OnOk result (AreFound share.now.rows from count found.new.items) }
 {
     found.clear();
-    for list in 0..count {
-        if let Some(row) = share.place_of(from + list) {
-            found.push(Found { list, row })?;
-        }
+    let chains = share.chains();
+    if chains.shift == 0 {
+        find_each(&chains, from, count, found)
+    } else {
+        find_in_buckets(&chains, from, count, found)
     }
-    Ok(())
 }
 
 /// Adds the rows that were found, each to the list of its number. It takes memory where a list has no room.

@@ -36,17 +36,18 @@ impl Model for Ledger {
 }
 
 impl Ledger {
-    ghost use Rattle.std.specs.Prelude.{◌≡◌, []};
+    ghost use Rattle.std.specs.Prelude.{◌≡◌, ◌≤◌, []};
 
-    /// Nothing was counted yet. It takes no memory.
-    pub fn begin(alloc: Global) -> Ledger
+    /// Nothing was counted yet. Each bucket of the rows' index has 2^shift numbers. It takes no memory.
+    pub fn begin(alloc: Global, shift: u32) -> Ledger
+        requires { shift ≤ 8 }
         ensures { result ≡ record { games = []; moves = 0; rows = [] } }
     {
         Ledger {
             games: Vec::new(alloc),
             moves: 0,
             weight: 0,
-            rows: Rows::begin(alloc),
+            rows: Rows::begin(alloc, shift),
         }
     }
 

@@ -1,7 +1,8 @@
 //! Rows of a share, each found by its number.
-ghost use Rattle.std.specs.Prelude.{◌≡◌, ◌≤◌, ℕ, length, OnOk};
-ghost use Rattle.share_core.specs.Inner.Rows.{place_in};
+ghost use Rattle.std.specs.Prelude.{◌≡◌, ◌≤◌, ℕ, length, OnOk, OnErr};
+ghost use Rattle.share_core.specs.Inner.Rows.{place_in, chained};
 
+use crate::chains::Chains;
 use crate::faults::HarvestFault;
 use crate::kept_rows::KeptRow;
 use crate::small::SmallOption;
@@ -21,25 +22,43 @@ pub struct Row {
     pub first: Option<u64>,
 }
 
-/// Gives an index at least this many slots, the new ones without a row.
-fn widen(index: &mut Vec<SmallOption>, slots: usize) -> Result<(), AllocError>
-    ensures wide { OnOk result (slots ≤ length index.new.items) }
-    ensures few { (high : ℕ) → slots ≤ high → length index.old.items ≤ high
+/// Gives an index at least this many buckets, the new ones without a row.
+fn widen(index: &mut Vec<SmallOption>, buckets: usize) -> Result<(), AllocError>
+    ensures wide { OnOk result (buckets ≤ length index.new.items) }
+    ensures few { (high : ℕ) → buckets ≤ high → length index.old.items ≤ high
         → length index.new.items ≤ high }
-    ensures same { (number : ℕ) → place_in index.new.items number
-        ≡ place_in index.old.items number }
+    ensures same { (bucket : ℕ) → place_in index.new.items bucket
+        ≡ place_in index.old.items bucket }
 {
-    if index.len() < slots {
-        index.resize(slots, SmallOption::none())?;
+    if index.len() < buckets {
+        index.resize(buckets, SmallOption::none())?;
     }
     Ok(())
 }
 
-/// Rows in the order in which they were made, with an index that has the place of each number's row: four bytes for each slot
-/// of the table. Contracts see the rows.
+/// Notes the last row of a bucket as the one before the next. Where each bucket has one number it notes nothing: the next row
+/// is the first then.
+fn chain(older: &mut Vec<SmallOption>, shift: u32, last: SmallOption) -> Result<(), AllocError>
+    ensures ok { OnOk result (older.new.items ≡ chained shift older.old.items last) }
+    ensures same { OnErr result (older.new.items ≡ older.old.items) }
+{
+    if shift > 0 {
+        older.push(last)?;
+    }
+    Ok(())
+}
+
+/// Rows in the order in which they were made, with an index by which a number's row is found. The numbers are parted into
+/// buckets of 2^shift, and the rows of a bucket are a chain. The index takes four bytes for each bucket of the table. The
+/// chains take four bytes for each row, and nothing where a bucket has one number. Contracts see the rows.
 #[derive(Drop)]
 pub(crate) struct Rows {
+    /// Each bucket has 2^shift numbers.
+    shift: u32,
+    /// For each bucket the place of its last row.
     index: Vec<SmallOption>,
+    /// For each row the place of the one before it in its bucket; empty where a bucket has one number.
+    older: Vec<SmallOption>,
     rows: Vec<KeptRow>,
 }
 
@@ -52,7 +71,7 @@ impl Model for Rows {
 
     ghost view = { λ r. r.rows.items };
 
-    ghost invariant = { λ r. IsIndexed r.index.items r.rows.items };
+    ghost invariant = { λ r. IsIndexed r.shift r.index.items r.older.items r.rows.items };
 }
 
 impl Rows {
@@ -60,17 +79,20 @@ impl Rows {
     ghost use Rattle.std.specs.Prelude.{◌≡◌, ◌+◌, ◌^◌, ◌<◌, ◌≤◌, ◌++◌, ◌∷◌, [], length};
     ghost use Rattle.std.specs.Prelude.{IfSome, IfNone, IfOk, IfErr, OnErr, slice_set};
     ghost use Rattle.share_core.specs.Rows.{row_at, blank, AreOfNumbers};
-    ghost use Rattle.share_core.specs.Inner.Rows.{HasNoRow};
+    ghost use Rattle.share_core.specs.Inner.Rows.{HasNoRow, IsIndexed};
     ghost use Rattle.share_core.specs.Checking.{IsLeastFrom};
     ghost use Rattle.share_core.specs.Inner.Making.{IsMade, IsRowFault};
     ghost use Rattle.share_core.specs.Inner.Raising.{raised};
 
-    /// No rows yet. It takes no memory.
-    pub fn begin(alloc: Global) -> Rows
+    /// No rows yet. Each bucket has 2^shift numbers. It takes no memory.
+    pub fn begin(alloc: Global, shift: u32) -> Rows
+        requires { shift ≤ 8 }
         ensures { result ≡ [] }
     {
         Rows {
+            shift,
             index: Vec::new(alloc),
+            older: Vec::new(alloc),
             rows: Vec::new(alloc),
         }
     }
@@ -83,25 +105,34 @@ impl Rows {
         self.rows.as_slice()
     }
 
-    /// The place of a number's row, if it has one.
+    /// The rows with their chains.
+    pub fn chains(&self) -> Chains<'_>
+        ensures rows { result.rows.now ≡ self.now }
+        ensures indexed { IsIndexed result.shift result.index.now result.older.now self.now }
+    {
+        Chains {
+            shift: self.shift,
+            index: self.index.as_slice(),
+            older: self.older.as_slice(),
+            rows: self.rows.as_slice(),
+        }
+    }
+
+    /// The place of a number's row, if it has one. It walks the chain of the number's bucket.
     pub fn place(&self, number: usize) -> Option<usize>
         ensures some { IfSome result (λ place. (place < length self.now)
             × ((row_at self.now place).number ≡ number)) }
         ensures none { IfNone result (HasNoRow self.now number) }
     {
-        if number < self.index.len() {
-            self.index[number].get()
-        } else {
-            None
-        }
+        self.chains().place(number)
     }
 
-    /// The row of the least number at or above this one that has a row. It walks the index up to that number.
+    /// The row of the least number at or above this one that has a row. It looks up each number up to that one.
     pub fn first_from(&self, from: usize) -> Option<Row>
         ensures first { IsLeastFrom from self.now result }
         ensures small { IfSome result (λ row. row.number < 2 ^ 22) }
     {
-        for later in from..self.index.len() {
+        for later in from..(self.index.len() << self.shift) {
             if let Some(place) = self.place(later) {
                 return Some(self.rows[place].row());
             }
@@ -110,7 +141,7 @@ impl Rows {
     }
 
     /// The place of a number's row, which is made where the number has none and then counts nothing. The index gets room
-    /// for this many slots, where it has less.
+    /// for the buckets of this many slots, where it has less.
     ///
     /// # Errors
     ///
@@ -134,7 +165,7 @@ impl Rows {
         self.append(slots, number, shape)
     }
 
-    /// Makes a row for a number that has none.
+    /// Makes a row for a number that has none. It is the last of its bucket.
     fn append(&mut self, slots: usize, number: usize, shape: Shape) -> Result<usize, HarvestFault>
         requires number { number < slots }
         requires few { slots ≤ 2 ^ 22 }
@@ -145,9 +176,12 @@ impl Rows {
         ensures same { OnErr result (self.new ≡ self.old) }
     {
         let place = self.rows.as_slice().len();
-        widen(&mut self.index, slots)?;
-        self.rows.push(KeptRow::blank(number, shape))?;
-        self.index[number] = SmallOption::of(place);
+        let bucket = number >> self.shift;
+        widen(&mut self.index, ((slots - 1) >> self.shift) + 1)?;
+        self.rows.reserve(1)?;
+        chain(&mut self.older, self.shift, self.index[bucket])?;
+        self.rows.push_reserved(KeptRow::blank(number, shape));
+        self.index[bucket] = SmallOption::of(place);
         Ok(place)
     }
 

@@ -7,7 +7,7 @@ use std::iter::FusedIterator;
 use std::marker::Model;
 
 /// The rows of a share, each once, numbers rising. It walks the share's index as it goes, and takes no memory: all rows
-/// together take a step for each slot of the table.
+/// together take a step for each slot of the table, and a walk of the chain of the slot's bucket.
 ///
 /// Contracts see the rows, and the number from which on they are still to come.
 #[derive(Drop)]

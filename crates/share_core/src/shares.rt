@@ -2,6 +2,7 @@
 ghost use Rattle.std.specs.Prelude.{◌≡◌, ◌^◌, ◌≤◌, length, IfOk, IfErr, OnOk, OnErr};
 ghost use Rattle.sgf_core.specs.Limit.{most_bytes};
 
+use crate::chains::Chains;
 use crate::entering::mark_all;
 use crate::faults::HarvestFault;
 use crate::kept_rows::KeptRow;
@@ -15,6 +16,17 @@ use shape_core::Kinds;
 use slot_table::{Pass, SlotTable};
 use std::alloc::Global;
 use std::marker::Model;
+
+/// Of which power of two the buckets of a share are: 0 for the workers 0 to 7, 2 for those up to 15, 3 up to 31, and so on,
+/// at most 8. The higher a worker's number, the more workers there are, and the fewer rows each share has.
+fn shift_for(worker: usize) -> u32
+    ensures { result ≤ 8 }
+{
+    if worker < 8 {
+        return 0;
+    }
+    (worker / 2).ilog2().min(8)
+}
 
 /// What one worker has counted: games, each with all its patterns, under the numbers that these have in a table.
 ///
@@ -51,10 +63,9 @@ impl Model for Share {
 
 impl Share {
     ghost use Rattle.std.specs.Prelude.{◌≡◌, ◌^◌, ◌<◌, [], length, OnOk, OnErr, IfErr};
-    ghost use Rattle.std.specs.Prelude.{IfSome, IfNone};
     ghost use Rattle.slot_table.specs.Passes.{IsPassOf};
-    ghost use Rattle.share_core.specs.Rows.{row_at, row_of, AreOfNumbers};
-    ghost use Rattle.share_core.specs.Inner.Rows.{HasNoRow};
+    ghost use Rattle.share_core.specs.Rows.{row_of, AreOfNumbers};
+    ghost use Rattle.share_core.specs.Inner.Rows.{IsIndexed};
     ghost use Rattle.share_core.specs.Shares.{IsShare, IsPatternOf};
     ghost use Rattle.share_core.specs.Adding.{IsAdded, HasGrown, IsMarked, IsKept, IsAddFault};
     ghost use Rattle.share_core.specs.Entering.{CallsOnly, EntersOnly};
@@ -72,7 +83,7 @@ impl Share {
         Share {
             worker,
             workings: Workings::begin(alloc, kinds),
-            ledger: Ledger::begin(alloc),
+            ledger: Ledger::begin(alloc, shift_for(worker)),
         }
     }
 
@@ -121,16 +132,13 @@ impl Share {
         }
     }
 
-    /// The place of a number's row among the share's rows, if the number has one. It takes no memory.
-    pub(crate) fn place_of(&self, number: usize) -> Option<usize>
-        ensures some { IfSome result (λ place. (place < length self.now.rows)
-            × ((row_at self.now.rows place).number ≡ number)) }
-        ensures none { IfNone result (HasNoRow self.now.rows number) }
-        ensures numbers { AreOfNumbers self.now.rows }
+    /// The chains of the rows, by buckets of numbers. It takes no memory.
+    pub(crate) fn chains(&self) -> Chains<'_>
+        ensures rows { result.rows.now ≡ self.now.rows }
+        ensures indexed { IsIndexed result.shift result.index.now result.older.now
+            self.now.rows }
     {
-        // Its contract says that no two rows are of one number.
-        let _ = self.made_rows();
-        self.ledger.rows().place(number)
+        self.ledger.rows().chains()
     }
 
     /// The rows, in their order. It takes no memory.

@@ -1,10 +1,10 @@
-use Rattle.std.proofs.Common.{◌≡◌, ◌<◌, ◌+◌, ◌++◌, ◌∷◌, [], List, get_or, length, take, refl, ap, sym, subst, ◌∙◌, arith, append-nil, ⊎_elim}
+use Rattle.std.proofs.Common.{◌≡◌, ◌+◌, ◌++◌, ◌∷◌, [], List, get_or, take, refl, ap, sym, subst, ◌∙◌, arith, append-nil, ⊎_elim}
 use Rattle.std.specs.Prelude.{slice_set}
 use Rattle.std.proofs.lemmas.Bool.{cases_eq}
 use Rattle.std.proofs.lemmas.List.{append_assoc, length-set, take_more, take_all, get_or_default}
 use Rattle.share_core.specs.declared.rows.Row.{Row}
 use Rattle.share_core.specs.declared.blocks.Found.{Found}
-use Rattle.share_core.specs.Rows.{row_at, blank}
+use Rattle.share_core.specs.Rows.{blank}
 use Rattle.share_core.specs.Inner.Blocks.{items_at, picked}
 use Rattle.share_core.proofs.Blocked.{items_is, items_set, items_kept, picked_here, picked_other}
 use Rattle.share_core.proofs.blocks.add_found.Goals as goal

@@ -1,10 +1,10 @@
-use Rattle.std.proofs.Common.{◌≤◌, List, Some, get_or, ap, sym, subst, ◌∙◌, arith}
+use Rattle.std.proofs.Common.{◌≤◌, ◌≡◌, ◌*◌, ◌%◌, ◌^◌, length, List, Some, get_or, ap, sym, subst, ◌∙◌, arith}
 use Rattle.std.proofs.lemmas.List.{get_or_default}
 use Rattle.share_core.specs.declared.rows.Row.{Row}
 use Rattle.share_core.specs.Rows.{row_at, blank, AreOfNumbers}
 use Rattle.share_core.specs.Inner.Rows.{IsIndexed}
 use Rattle.share_core.specs.Checking.{IsLeastFrom}
-use Rattle.share_core.proofs.Few.{of_numbers}
+use Rattle.share_core.proofs.Indexed.{shifted}
 use Rattle.share_core.proofs.Rising.{AreBeyond, step_beyond, first_row, no_row}
 use Rattle.share_core.proofs.rows.Rows.first_from.Goals as goal
 
@@ -13,7 +13,7 @@ returns-in-Some-clause-first c =
     let rows = c.args.self.now in
     let place = c.in-Some.place in
     let some = c.in-Some.ensures.some in
-    let numbers = subst AreOfNumbers c.self.view_is (of_numbers c.self.inside.index.items c.self.inside.rows.items c.self.invariant) in
+    let numbers = subst AreOfNumbers c.self.view_is c.self.invariant.numbers in
     let read = c.index.ensures ∙ ap (λ (rs : List Row). get_or rs place c.index.result.now) c.self.view_is ∙ get_or_default rows place c.index.result.now (blank 0 0) some.0 in
     let beyond = subst (AreBeyond rows c.args.from) (sym some.1) c.loop-later.invariant in
     let low = c.loop-later.auto.later in
@@ -26,5 +26,13 @@ loop-later-preserved c = step_beyond c.args.self.now c.args.from c.loop-later.la
 
 pub returns-clause-first : goal.returns-clause-first
 returns-clause-first c =
-    let indexed = subst (IsIndexed c.self.inside.index.items) c.self.view_is c.self.invariant in
-    no_row c.self.inside.index.items c.args.self.now c.args.from indexed c.loop-later.later (omega (arith, c.loop-later-test.false, c.len-later-end.ensures)) c.loop-later.invariant
+    let shift = c.self.inside.shift in
+    let index = c.self.inside.index.items in
+    let older = c.self.inside.older.items in
+    let indexed = subst (IsIndexed shift index older) c.self.view_is c.self.invariant in
+    let short = c.self.invariant.few in
+    let long : c.len.result ≡ length index = omega (arith, c.len.ensures) in
+    let whole = shifted shift (length index) c.self.invariant.narrow short in
+    let end : length index * 2 ^ shift ≤ c.loop-later.later =
+    subst (λ n. n ≤ c.loop-later.later) (ap (λ n. (n * 2 ^ shift) % 2 ^ 64) long ∙ whole) c.loop-later-test.false in
+    no_row shift index older c.args.self.now c.args.from indexed c.loop-later.later end c.loop-later.invariant

@@ -9,6 +9,6 @@ pub invariant_of-self : goal.invariant_of-self
 invariant_of-self c =
     let rows = c.self.inside.rows.items in
     let inside = subst (λ (rows : List Row). c.args.place < length rows) (sym c.self.view_is) c.requires.place in
-    put c.self.inside.index.items rows c.args.place _ inside
+    put c.self.inside.shift c.self.inside.index.items c.self.inside.older.items rows c.args.place _ inside
     (ap (λ (r : Row). r.number) c.raise.ensures ∙ ap (λ (r : Row). r.number) (c.index_mut.ensures.value ∙ get_or_default rows c.args.place c.index_mut.result.now (blank 0 0) inside))
     c.self.invariant
