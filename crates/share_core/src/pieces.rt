@@ -72,8 +72,8 @@ fn add_block(
     Ok(())
 }
 
-/// The piece of the numbers from one up to another. It takes memory for the totals, and for the rows of one block of
-/// numbers.
+/// The piece of the numbers from one up to another. It takes memory for a total of each number, of which the system gives
+/// what is used, and for the rows of one block of numbers.
 fn piece_of(alloc: Global, shares: &[Share], from: usize, high: usize) -> Result<Piece, AllocError>
     requires order { from ≤ high }
     requires high { high < 2 ^ 32 }
@@ -83,7 +83,7 @@ fn piece_of(alloc: Global, shares: &[Share], from: usize, high: usize) -> Result
     let lists = made.as_mut_slice();
     let mut found = Vec::new(alloc);
     let mut piece = Piece {
-        rows: Vec::new(alloc),
+        rows: Vec::with_capacity(alloc, high - from)?,
         is_odd: false,
     };
     let mut low = from;

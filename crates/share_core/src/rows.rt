@@ -1,5 +1,6 @@
 //! Rows of a share, each found by its number.
-ghost use Rattle.std.specs.Prelude.{◌≡◌, ◌≤◌, ℕ, length, OnOk, OnErr};
+ghost use Rattle.std.specs.Prelude.{◌≡◌, ◌<◌, ◌≤◌, ℕ, length, OnOk, OnErr, vec_len};
+ghost use Rattle.std.specs.Vec.{vec_capacity};
 ghost use Rattle.share_core.specs.Inner.Rows.{place_in, chained};
 
 use crate::chains::Chains;
@@ -46,6 +47,19 @@ fn chain(older: &mut Vec<SmallOption>, shift: u32, last: SmallOption) -> Result<
         older.push(last)?;
     }
     Ok(())
+}
+
+/// Makes room for a row. The first request is for as many rows as there are buckets, so that rows that grow need not move:
+/// the system gives memory for those that are there alone, and it can give it in large pages. Where that much is refused,
+/// the rows grow as they come.
+fn make_room(rows: &mut Vec<KeptRow>, buckets: usize) -> Result<(), AllocError>
+    ensures same { rows.new.items ≡ rows.old.items }
+    ensures room { OnOk result (vec_len rows.new < vec_capacity rows.new) }
+{
+    if rows.capacity() == 0 {
+        let _ = rows.reserve(buckets);
+    }
+    rows.reserve(1)
 }
 
 /// Rows in the order in which they were made, with an index by which a number's row is found. The numbers are parted into
@@ -178,7 +192,7 @@ impl Rows {
         let place = self.rows.as_slice().len();
         let bucket = number >> self.shift;
         widen(&mut self.index, ((slots - 1) >> self.shift) + 1)?;
-        self.rows.reserve(1)?;
+        make_room(&mut self.rows, self.index.len())?;
         chain(&mut self.older, self.shift, self.index[bucket])?;
         self.rows.push_reserved(KeptRow::blank(number, shape));
         self.index[bucket] = SmallOption::of(place);

@@ -27,7 +27,7 @@ invariant_of-self-2 c =
     subst (λ place. IsIndexed shift (set index bucket place) c.chain.new.older.items c.push_reserved.new.self.items) (sym c.of.ensures)
     (subst (λ chain. IsIndexed shift (set index bucket (Some (length c.as_slice-place.result.now))) chain c.push_reserved.new.self.items) (sym c.in_ok-chain.ensures.ok)
     (subst (λ place. IsIndexed shift (set index bucket (Some (length c.as_slice-place.result.now))) (chained shift older place) c.push_reserved.new.self.items) (sym last)
-    (subst (IsIndexed shift (set index bucket (Some (length c.as_slice-place.result.now))) further) (sym (c.push_reserved.ensures.items ∙ ap (λ (rs : List Row). rs ++ c.blank.result ∷ []) c.reserve.ensures.items))
+    (subst (IsIndexed shift (set index bucket (Some (length c.as_slice-place.result.now))) further) (sym (c.push_reserved.ensures.items ∙ ap (λ (rs : List Row). rs ++ c.blank.result ∷ []) c.make_room.ensures.same))
     (subst (λ place. IsIndexed shift (set index bucket (Some place)) further (rows ++ c.blank.result ∷ [])) (ap length (sym c.as_slice-place.ensures.value))
     (subst (λ (row : Row). IsIndexed shift (set index bucket (Some (length rows))) further (rows ++ row ∷ [])) (sym c.blank.ensures)
     (appended shift index older rows (blank number c.args.shape) inside (omega arith) (subst (λ (rows : List Row). HasNoRow rows number) (sym c.self.view_is) c.requires.none)
