@@ -45,7 +45,8 @@ impl<'a> Chains<'a> {
         noted(self.older, place)
     }
 
-    /// The place of a number's row, if it has one. It walks the chain of the number's bucket.
+    /// The place of a number's row, if it has one. It walks the chain of the number's bucket. Where each bucket has one number
+    /// it reads no row.
     pub fn place(&self, number: usize) -> Option<usize>
         requires { IsIndexed self.now.shift self.now.index.now self.now.older.now
             self.now.rows.now }
@@ -53,6 +54,9 @@ impl<'a> Chains<'a> {
             × ((row_at self.now.rows.now place).number ≡ number)) }
         ensures none { IfNone result (HasNoRow self.now.rows.now number) }
     {
+        if self.shift == 0 {
+            return self.last_in(number);
+        }
         let mut at = self.last_in(number >> self.shift);
         'chain: while let Some(place) = at {
             if self.rows[place].number() == number {
