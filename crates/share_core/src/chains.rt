@@ -2,6 +2,7 @@
 ghost use Rattle.std.specs.Prelude.{◌≡◌, ◌<◌, length, IfSome, IfNone};
 ghost use Rattle.share_core.specs.Rows.{row_at};
 ghost use Rattle.share_core.specs.Inner.Rows.{place_in, IsIndexed, HasNoRow};
+ghost use Rattle.share_core.specs.Inner.Checking.{AreBelow};
 
 use crate::kept_rows::KeptRow;
 use crate::small::SmallOption;
@@ -43,6 +44,15 @@ impl<'a> Chains<'a> {
         ensures { result ≡ place_in self.now.older.now place }
     {
         noted(self.older, place)
+    }
+
+    /// A number that is above those of all rows: the one after the last bucket. It reads no row.
+    pub fn end(&self) -> usize
+        requires { IsIndexed self.now.shift self.now.index.now self.now.older.now
+            self.now.rows.now }
+        ensures { AreBelow result self.now.rows.now }
+    {
+        self.index.len() << self.shift
     }
 
     /// The place of a number's row, if it has one. It walks the chain of the number's bucket. Where each bucket has one number
