@@ -30,3 +30,4 @@ mod Visits
 pub mod Confirmed
 mod SoughtRows
 mod Agreed
+mod Parted

@@ -16,5 +16,6 @@ pub mod Raising
 pub mod Rounds
 pub mod Rows
 pub mod Small
+pub mod Sorting
 pub mod Totals
 pub mod Visiting
