@@ -19,7 +19,8 @@ use Rattle.share_core.specs.Inner.Checking.{AreBelow, IsBeyondFault}
 use Rattle.share_core.specs.Gathering.{IsLargeSum}
 use Rattle.share_core.specs.Inner.Gathering.{AreOneEach}
 use Rattle.share_core.specs.GatherFaults.{IsGatherFault}
-use Rattle.share_core.specs.Inner.Visiting.{AgreeBelow, HasLarge, IsNumbersFault}
+use Rattle.share_core.specs.Inner.Listing.{HasLarge}
+use Rattle.share_core.specs.Inner.Visiting.{AgreeBelow, IsNumbersFault}
 use Rattle.share_core.proofs.Listed.{large_pattern}
 use Rattle.share_core.proofs.Stood.{stand_all, beyond_fault}
 

@@ -27,6 +27,7 @@ mod Blocked
 mod Noted
 mod Pieced
 mod Visits
+mod Listings
 pub mod Confirmed
 mod SoughtRows
 mod Agreed

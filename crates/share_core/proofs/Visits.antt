@@ -1,26 +1,20 @@
 -- A table and the rows of shares, number by number.
 use Rattle.std.specs.Prelude.{Result, Ok, Err, OnOk}
-use Rattle.std.proofs.Common.{◌≡◌, ℕ, ◌+◌, ◌<◌, true, false, List, [], ◌∷◌, ◌++◌, Option, Some, None, refl, ap, sym, subst, ◌∙◌, ◌⊎◌, ⊎_elim, All, add-one, append-nil}
+use Rattle.std.proofs.Common.{◌≡◌, ℕ, ◌+◌, ◌<◌, false, List, [], ◌∷◌, ◌++◌, Option, Some, None, refl, ap, sym, subst, ◌∙◌, add-one, append-nil}
 use Rattle.std.specs.Option.{is_some}
 use Rattle.slot_table.specs.declared.entries.Happened.{Happened}
 use Rattle.slot_table.specs.declared.entries.Happened.TheVariants as call
 use Rattle.slot_table.specs.Passes.{Known, IsLater}
 use Rattle.slot_table.specs.History.{Keeps, TellsAt}
 use Rattle.slot_table.proofs.Later.{later_through}
-use Rattle.tally_core.specs.Entries.{IsShape}
 use Rattle.share_core.specs.declared.rows.Row.{Row}
 use Rattle.share_core.specs.declared.agreeing.Differs.{Differs}
-use Rattle.share_core.specs.declared.numbers.NumberSums.{NumberSums}
-use Rattle.share_core.specs.declared.visiting.Visited.{Visited}
 use Rattle.share_core.specs.Rows.{first_at}
 use Rattle.share_core.specs.Agreeing.{agreeing_firsts}
 use Rattle.share_core.specs.Checking.{stranger_in, shape_at, StandBelow, IsStranger}
 use Rattle.share_core.specs.Inner.Checking.{IsFound}
-use Rattle.share_core.specs.Inner.Totals.{entries_of_total, AreEntriesBelow}
-use Rattle.share_core.specs.Inner.Numbers.{like_sums, AreSums}
 use Rattle.share_core.specs.Inner.Visiting.{AgreeBelow, AreVisited}
 use Rattle.share_core.proofs.Stood.{stand_more}
-use Rattle.share_core.proofs.Ordered.{entries_more}
 
 -- ---- one number
 -- the pattern that a table tells is the number's
@@ -71,35 +65,24 @@ stranger_found n seen history rows number held found of_table stranger keeps tol
   least = λ row among low. keeps.numbers row.shape row.number (stand row among low);
 }
 
--- sums without a stranger
-pub plain_sums : (rows : List Row) (number : ℕ) (found : Option ℕ) (sums : NumberSums) → sums.stranger ≡ None → AreSums rows number found sums →
-    AreSums rows number found (like_sums sums.total sums.first sums.is_large)
-plain_sums rows number found sums none h = record { first = h.first; stranger = sym none ∙ h.stranger; total = h.total; large = h.large }
-
 -- a look changes nothing of what is known of lesser numbers
-pub visited_later : {O : Type 0} (n : ℕ) (rows : List Row) (high : ℕ) (first old look : Known O) (visited : Visited) → IsLater n old [] look →
-    AreVisited n rows high first old visited → AreVisited n rows high first look visited
-visited_later n rows high first old look visited later h = record {
+pub visited_later : {O : Type 0} (n : ℕ) (rows : List Row) (high : ℕ) (first old look : Known O) (differs : Option Differs) → IsLater n old [] look →
+    AreVisited n rows high first old differs → AreVisited n rows high first look differs
+visited_later n rows high first old look differs later h = record {
   stand = λ row among low. later.keeps.numbers row.shape row.number (h.stand row among low);
-  agree = looked n rows high first old look visited.differs later h.agree;
-  entries = h.entries;
-  large = h.large;
+  agree = looked n rows high first old look differs later h.agree;
 }
 
-pub visited_more : {O : Type 0} (n : ℕ) (rows : List Row) (number : ℕ) (first look new : Known O) (before after : Visited) (found : Option ℕ) (sums : NumberSums) →
-    IsFound n look.seen number found → AreSums rows number found sums → sums.stranger ≡ None → Keeps n look.seen new.seen →
-    (AgreeBelow n rows number first look before.differs → AgreeBelow n rows (number + 1) first new after.differs) →
-    (after.is_large ≡ false → (before.is_large ≡ false) × (sums.is_large ≡ false)) → (after.is_large ≡ true → (before.is_large ≡ true) ⊎ (sums.is_large ≡ true)) →
-    after.entries.items ≡ before.entries.items ++ entries_of_total sums.total → All IsShape (entries_of_total sums.total) →
+-- a number without a stranger
+pub visited_more : {O : Type 0} (n : ℕ) (rows : List Row) (number : ℕ) (first look new : Known O) (before after : Option Differs) (found : Option ℕ) →
+    IsFound n look.seen number found → stranger_in rows number found ≡ None → Keeps n look.seen new.seen →
+    (AgreeBelow n rows number first look before → AgreeBelow n rows (number + 1) first new after) →
     AreVisited n rows number first look before → AreVisited n rows (number + 1) first new after
-visited_more n rows number first look new before after found sums told are none keeps agree fits large entries shapes h = record {
+visited_more n rows number first look new before after found told none keeps agree h = record {
   stand =
-      let here = stand_more n look.seen rows number found told (sym are.stranger ∙ none) h.stand in
+      let here = stand_more n look.seen rows number found told none h.stand in
       λ row among low. keeps.numbers row.shape row.number (here row among low);
   agree = agree h.agree;
-  entries = λ each is. subst (AreEntriesBelow rows (number + 1)) (sym entries)
-      (entries_more rows number sums.total before.entries.items each (are.total (fits is).1) shapes (h.entries each (fits is).0));
-  large = λ is. ⊎_elim h.large (λ (here : sums.is_large ≡ true). (number, are.large here)) (large is);
 }
 
 -- what two clauses give where a call answers well

@@ -8,6 +8,7 @@ pub mod Entering
 pub mod Gathering
 pub mod Leasts
 pub mod Ledgers
+pub mod Listing
 pub mod Making
 pub mod Numbers
 pub mod Pieces

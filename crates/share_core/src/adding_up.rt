@@ -1,58 +1,21 @@
 //! The dictionary of all that shares have counted.
-ghost use Rattle.std.specs.Prelude.{◌≡◌, ◌≤◌, ◌++◌, ◌^◌, All, IfOk, IfErr, OnOk};
-ghost use Rattle.std.specs.List.Sorted.{IsPermutation, IsNonDecreasingBy};
-ghost use Rattle.tally_core.specs.Entries.{IsShape};
+ghost use Rattle.std.specs.Prelude.{◌≡◌, ◌≤◌, ◌^◌, All, IfOk, IfErr, OnOk};
 ghost use Rattle.share_core.specs.declared.faults.HarvestFault.TheVariants as fault;
 ghost use Rattle.share_core.specs.Shares.{IsShare};
 ghost use Rattle.share_core.specs.Covering.{all_games, Covers};
 ghost use Rattle.share_core.specs.Checking.{all_rows};
-ghost use Rattle.share_core.specs.Inner.Totals.{entries_of_total, AreEntriesOf};
+ghost use Rattle.share_core.specs.Inner.Listing.{IsParted};
+ghost use Rattle.share_core.specs.Inner.Totals.{AreEntriesOf};
 ghost use Rattle.share_core.specs.Gathering.{AreWithin, all_moves, IsGathered};
 
 use crate::faults::HarvestFault;
-use crate::kept_rows::KeptRow;
+use crate::listing::Listed;
 use crate::shares::Share;
 use crate::sorting::sort;
 use shape_core::{Kinds, kinds_stay};
-use shape_dict::{Dictionary, Entry};
+use shape_dict::Dictionary;
 use std::thread::Threads;
 use tally_core::has_diamonds;
-
-/// A row as an entry. Its word is the least of its images, by the type of shapes.
-fn entry(row: KeptRow) -> Entry
-    ensures value { result ≡ record {
-      shape = row.shape;
-      there = row.there;
-      played = row.played;
-      first = row.first;
-    } }
-    ensures shape { IsShape result }
-{
-    let shape = row.shape();
-    let _ = shape.word();
-    Entry {
-        shape,
-        there: row.there(),
-        played: row.played(),
-        first: row.first(),
-    }
-}
-
-/// Adds the entry of a row, if it is given and counts something.
-pub(crate) fn push(entries: &mut Vec<Entry>, total: Option<KeptRow>) -> Result<(), HarvestFault>
-    ensures ok { OnOk result (entries.new.items ≡ entries.old.items ++ entries_of_total total) }
-    ensures shapes { OnOk result (All IsShape (entries_of_total total)) }
-    ensures fault { IfErr result (λ found. found ≡ fault.Memory) }
-{
-    let Some(row) = total else {
-        return Ok(());
-    };
-    if row.there() == 0 {
-        return Ok(());
-    }
-    entries.push(entry(row))?;
-    Ok(())
-}
 
 /// The moves of all shares together.
 fn moves_of(shares: &[Share]) -> Result<u64, HarvestFault>
@@ -72,7 +35,7 @@ fn moves_of(shares: &[Share]) -> Result<u64, HarvestFault>
     Ok(moves)
 }
 
-/// The dictionary of the games of all shares, of the entries of their rows. The shares are of these kinds, and have the
+/// The dictionary of the games of all shares, of the listed entries of their rows. The shares are of these kinds, and have the
 /// games below `games`, each once. It takes no memory.
 ///
 /// # Errors
@@ -82,13 +45,14 @@ pub(crate) fn add_up<R: Threads + Sync>(
     rt: &R,
     kinds: Kinds,
     games: u64,
-    mut entries: Vec<Entry>,
+    listed: Listed,
     shares: &[Share],
 ) -> Result<Dictionary, HarvestFault>
     requires kinds { All (λ share. share.kinds ≡ kinds) shares.now }
     requires within { AreWithin games shares.now }
     requires covers { Covers games (all_games shares.now) }
-    requires entries { AreEntriesOf (all_rows shares.now) entries.items }
+    requires entries { AreEntriesOf (all_rows shares.now) listed.entries.items }
+    requires parted { IsParted listed }
     ensures ok { IfOk result (IsGathered kinds games shares.now) }
     ensures fault { IfErr result (λ found. (found ≡ fault.Overflow)
         × (2 ^ 64 ≤ all_moves shares.now)) }
@@ -96,6 +60,7 @@ pub(crate) fn add_up<R: Threads + Sync>(
     // A canonical word is of the kind that was looked at.
     kinds_stay();
     let moves = moves_of(shares)?;
-    sort(rt, &mut entries, shares.len());
-    Ok(Dictionary::new(games, moves, entries, has_diamonds(kinds)))
+    let mut listed = listed;
+    sort(rt, &mut listed, shares.len());
+    Ok(Dictionary::new(games, moves, listed.entries, has_diamonds(kinds)))
 }

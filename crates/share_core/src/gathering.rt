@@ -42,9 +42,9 @@ fn check_numbers(differs: Option<Differs>, is_large: bool) -> Result<(), Harvest
 /// all rows, and the least game. A pattern that was never there is left out.
 ///
 /// Each number is asked once, in rising order, until one differs; what is marked after that is not judged. Nothing is
-/// entered or marked here. Where there are many patterns, threads add rows up while this one asks, and threads sort the
-/// dictionary: at most as many as there are shares, for the sort rounded up to a power of two, 64 at most. The answer is
-/// the same.
+/// entered or marked here. Where there are many patterns, threads add rows up while this one asks and one more lists the
+/// entries, and threads sort the dictionary: at most as many as there are shares, for the sort rounded up to a power of two,
+/// 64 at most. The answer is the same.
 ///
 /// The pass must be of the table, each share of these kinds, and each of its games below `games`.
 ///
@@ -81,6 +81,6 @@ pub fn gather<R: Threads + Sync, O: ProbeOrder>(
     check_games(alloc, games, shares)?;
     let visited = visit_all(rt, alloc, table, pass, shares)?;
     check_beyond(shares, table.capacity().slots())?;
-    check_numbers(visited.differs, visited.is_large)?;
-    add_up(rt, kinds, games, visited.entries, shares)
+    check_numbers(visited.differs, visited.listed.is_large)?;
+    add_up(rt, kinds, games, visited.listed, shares)
 }

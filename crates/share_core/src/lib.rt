@@ -24,6 +24,7 @@ mod covering;
 mod faults;
 mod gathering;
 pub mod laws;
+mod listing;
 mod numbers;
 mod pieces;
 mod rounds;

@@ -1,17 +1,14 @@
-//! Numbers of a table, each visited once, in rising order, together with the rows that shares have of it.
-ghost use Rattle.std.specs.Prelude.{◌≡◌, ◌+◌, ◌^◌, ◌<◌, ◌≤◌, ℕ, List, Option, drop};
+//! Numbers of a table, each visited once, in rising order: whether the rows that shares have of it are of its pattern, and
+//! their least game is the one that is marked.
+ghost use Rattle.std.specs.Prelude.{◌≡◌, ◌+◌, ◌^◌, ◌<◌, ◌≤◌, ℕ, List, drop};
 ghost use Rattle.std.specs.Prelude.{IfErr, OnOk};
 ghost use Rattle.slot_table.specs.Passes.{IsPassOf};
 ghost use Rattle.share_core.specs.declared.rows.Row.{Row};
-ghost use Rattle.share_core.specs.declared.faults.HarvestFault.TheVariants as fault;
 ghost use Rattle.share_core.specs.Checking.{all_rows};
-ghost use Rattle.share_core.specs.Inner.Checking.{IsFound};
 ghost use Rattle.share_core.specs.Entering.{AsksOnly};
-ghost use Rattle.share_core.specs.Inner.Numbers.{AreSums, like_sums};
 ghost use Rattle.share_core.specs.Inner.Pieces.{AreTotals, IsPiece};
 ghost use Rattle.share_core.specs.Inner.Visiting.{IsVisit, EndsVisit};
 
-use crate::adding_up::push;
 use crate::agreeing::{Differs, compare};
 use crate::faults::HarvestFault;
 use crate::kept_rows::KeptRow;
@@ -20,44 +17,7 @@ use crate::pieces::{Piece, next_total};
 use crate::shares::Share;
 use crate::standing::{bits_of, word_of};
 use probe_core::ProbeOrder;
-use shape_dict::Entry;
 use slot_table::{Pass, SlotTable};
-
-/// What the numbers so far have given: the entries of the patterns of their rows, the first of them whose marks differ
-/// from what shares counted, and whether a sum of rows passes 2^64 - 1. The entries have no meaning where one does.
-#[derive(Drop)]
-pub(crate) struct Visited {
-    pub entries: Vec<Entry>,
-    pub differs: Option<Differs>,
-    pub is_large: bool,
-}
-
-/// Takes what the rows of a number are together, which are all of the number's pattern in the table: their total, their
-/// least game, and whether a sum passes 2^64 - 1. Compares their least game with the table's, and adds their entry.
-fn take<O: ProbeOrder>(
-    table: &SlotTable<O>,
-    pass: &mut Pass<O>,
-    number: usize,
-    total: Option<KeptRow>,
-    first: Option<u64>,
-    is_large: bool,
-    visited: &mut Visited,
-) -> Result<(), HarvestFault>
-    requires pass { IsPassOf (2 ^ O.exponent table.now.order) table.now pass.old }
-    requires number { number < 2 ^ O.exponent table.now.order }
-    ensures pass { IsPassOf (2 ^ O.exponent table.now.order) table.now pass.new }
-    ensures later { AsksOnly (2 ^ O.exponent table.now.order) pass.old pass.new }
-    ensures ok { OnOk result ((rows : List Row) → (found : Option ℕ)
-        → IsFound (2 ^ O.exponent table.now.order) pass.old.seen number found
-        → AreSums rows number found (like_sums total first is_large)
-        → IsVisit (2 ^ O.exponent table.now.order) rows number (number + 1) pass.old pass.new
-        visited.old visited.new) }
-    ensures fault { IfErr result (λ found. found ≡ fault.Memory) }
-{
-    compare(table, pass, number, first, &mut visited.differs);
-    visited.is_large = visited.is_large || is_large;
-    push(&mut visited.entries, total)
-}
 
 /// Looks at a number, and compares the patterns and the least games of its rows with the table's. The rows are looked for in
 /// the shares.
@@ -66,31 +26,24 @@ fn visit_odd<O: ProbeOrder>(
     pass: &mut Pass<O>,
     shares: &[Share],
     number: usize,
-    visited: &mut Visited,
+    differs: &mut Option<Differs>,
 ) -> Result<(), HarvestFault>
     requires pass { IsPassOf (2 ^ O.exponent table.now.order) table.now pass.old }
     requires number { number < 2 ^ O.exponent table.now.order }
     ensures pass { IsPassOf (2 ^ O.exponent table.now.order) table.now pass.new }
     ensures later { AsksOnly (2 ^ O.exponent table.now.order) pass.old pass.new }
     ensures ok { OnOk result (IsVisit (2 ^ O.exponent table.now.order) (all_rows shares.now)
-        number (number + 1) pass.old pass.new visited.old visited.new) }
+        number (number + 1) pass.old pass.new differs.old differs.new) }
     ensures fault { IfErr result (EndsVisit (2 ^ O.exponent table.now.order) (all_rows shares.now)
-        number pass.old pass.new visited.old) }
+        number pass.old pass.new differs.old) }
 {
     let found = bits_of(table.word_at(pass, number));
     let sums = sums_at(shares, number, found);
     if let Some(held) = sums.stranger {
         return Err(HarvestFault::stranger(number, held, word_of(found)));
     }
-    take(
-        table,
-        pass,
-        number,
-        sums.total,
-        sums.first,
-        sums.is_large,
-        visited,
-    )
+    compare(table, pass, number, sums.first, differs);
+    Ok(())
 }
 
 /// The same where the totals from a place on are those of this number and later ones; the place goes on past the number.
@@ -100,7 +53,7 @@ fn visit_even<O: ProbeOrder>(
     totals: &[KeptRow],
     next: &mut usize,
     number: usize,
-    visited: &mut Visited,
+    differs: &mut Option<Differs>,
 ) -> Result<(), HarvestFault>
     requires pass { IsPassOf (2 ^ O.exponent table.now.order) table.now pass.old }
     requires number { number < 2 ^ O.exponent table.now.order }
@@ -112,28 +65,22 @@ fn visit_even<O: ProbeOrder>(
     ensures ok { OnOk result ((rows : List Row) → (high : ℕ) → number < high
         → AreTotals rows number high (drop next.old totals.now)
         → IsVisit (2 ^ O.exponent table.now.order) rows
-        number (number + 1) pass.old pass.new visited.old visited.new) }
+        number (number + 1) pass.old pass.new differs.old differs.new) }
     ensures fault { IfErr result (λ found. (rows : List Row) → (high : ℕ) → number < high
         → AreTotals rows number high (drop next.old totals.now)
         → EndsVisit (2 ^ O.exponent table.now.order) rows
-        number pass.old pass.new visited.old found) }
+        number pass.old pass.new differs.old found) }
 {
     let found = bits_of(table.word_at(pass, number));
     let Some(total) = next_total(totals, next, number) else {
-        return take(table, pass, number, None, None, false, visited);
+        compare(table, pass, number, None, differs);
+        return Ok(());
     };
     if let Some(held) = unlike(total, found) {
         return Err(HarvestFault::stranger(number, held, word_of(found)));
     }
-    take(
-        table,
-        pass,
-        number,
-        Some(total),
-        total.first(),
-        false,
-        visited,
-    )
+    compare(table, pass, number, total.first(), differs);
+    Ok(())
 }
 
 /// Looks at the numbers from one up to another. Their rows are looked for in the shares.
@@ -144,7 +91,7 @@ fn visit_odd_piece<O: ProbeOrder>(
     shares: &[Share],
     from: usize,
     high: usize,
-    visited: &mut Visited,
+    differs: &mut Option<Differs>,
 ) -> Result<(), HarvestFault>
     requires pass { IsPassOf (2 ^ O.exponent table.now.order) table.now pass.old }
     requires order { from ≤ high }
@@ -152,12 +99,12 @@ fn visit_odd_piece<O: ProbeOrder>(
     ensures pass { IsPassOf (2 ^ O.exponent table.now.order) table.now pass.new }
     ensures later { AsksOnly (2 ^ O.exponent table.now.order) pass.old pass.new }
     ensures ok { OnOk result (IsVisit (2 ^ O.exponent table.now.order) (all_rows shares.now)
-        from high pass.old pass.new visited.old visited.new) }
+        from high pass.old pass.new differs.old differs.new) }
     ensures fault { IfErr result (EndsVisit (2 ^ O.exponent table.now.order) (all_rows shares.now)
-        from pass.old pass.new visited.old) }
+        from pass.old pass.new differs.old) }
 {
     for number in from..high {
-        visit_odd(table, pass, shares, number, visited)?;
+        visit_odd(table, pass, shares, number, differs)?;
     }
     Ok(())
 }
@@ -170,7 +117,7 @@ fn visit_even_piece<O: ProbeOrder>(
     totals: &[KeptRow],
     from: usize,
     high: usize,
-    visited: &mut Visited,
+    differs: &mut Option<Differs>,
 ) -> Result<(), HarvestFault>
     requires pass { IsPassOf (2 ^ O.exponent table.now.order) table.now pass.old }
     requires order { from ≤ high }
@@ -179,14 +126,14 @@ fn visit_even_piece<O: ProbeOrder>(
     ensures later { AsksOnly (2 ^ O.exponent table.now.order) pass.old pass.new }
     ensures ok { OnOk result ((rows : List Row) → AreTotals rows from high totals.now
         → IsVisit (2 ^ O.exponent table.now.order) rows
-        from high pass.old pass.new visited.old visited.new) }
+        from high pass.old pass.new differs.old differs.new) }
     ensures fault { IfErr result (λ found. (rows : List Row) → AreTotals rows from high totals.now
         → EndsVisit (2 ^ O.exponent table.now.order) rows
-        from pass.old pass.new visited.old found) }
+        from pass.old pass.new differs.old found) }
 {
     let mut next = 0;
     for number in from..high {
-        visit_even(table, pass, totals, &mut next, number, visited)?;
+        visit_even(table, pass, totals, &mut next, number, differs)?;
     }
     Ok(())
 }
@@ -199,7 +146,7 @@ pub(crate) fn visit_piece<O: ProbeOrder>(
     piece: &Piece,
     from: usize,
     high: usize,
-    visited: &mut Visited,
+    differs: &mut Option<Differs>,
 ) -> Result<(), HarvestFault>
     requires pass { IsPassOf (2 ^ O.exponent table.now.order) table.now pass.old }
     requires order { from ≤ high }
@@ -208,14 +155,14 @@ pub(crate) fn visit_piece<O: ProbeOrder>(
     ensures pass { IsPassOf (2 ^ O.exponent table.now.order) table.now pass.new }
     ensures later { AsksOnly (2 ^ O.exponent table.now.order) pass.old pass.new }
     ensures ok { OnOk result (IsVisit (2 ^ O.exponent table.now.order) (all_rows shares.now)
-        from high pass.old pass.new visited.old visited.new) }
+        from high pass.old pass.new differs.old differs.new) }
     ensures fault { IfErr result (EndsVisit (2 ^ O.exponent table.now.order) (all_rows shares.now)
-        from pass.old pass.new visited.old) }
+        from pass.old pass.new differs.old) }
 {
     if piece.is_odd {
-        visit_odd_piece(table, pass, shares, from, high, visited)
+        visit_odd_piece(table, pass, shares, from, high, differs)
     } else {
         let totals = piece.rows.as_slice();
-        visit_even_piece(table, pass, totals, from, high, visited)
+        visit_even_piece(table, pass, totals, from, high, differs)
     }
 }

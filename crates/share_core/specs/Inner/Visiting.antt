@@ -1,17 +1,14 @@
 -- What is known of rows and a table once the numbers up to some one were looked at.
-use Rattle.std.specs.Prelude.{◌≡◌, ℕ, Bool, true, false, List, Option, Some, None}
+use Rattle.std.specs.Prelude.{◌≡◌, ℕ, Bool, true, List, Option, Some, None}
 use Rattle.slot_table.specs.declared.entries.Happened.{Happened}
 use Rattle.slot_table.specs.Passes.{Known}
 use Rattle.share_core.specs.declared.rows.Row.{Row}
 use Rattle.share_core.specs.declared.agreeing.Differs.{Differs}
-use Rattle.share_core.specs.declared.visiting.Visited.{Visited}
 use Rattle.share_core.specs.declared.faults.HarvestFault.{HarvestFault}
 use Rattle.share_core.specs.declared.faults.HarvestFault.TheVariants as fault
 use Rattle.share_core.specs.Agreeing.{AskedFirst, IsMarksFault}
 use Rattle.share_core.specs.Checking.{StandBelow}
 use Rattle.share_core.specs.Inner.Checking.{IsStandFault}
-use Rattle.share_core.specs.Inner.Gathering.{AreOneEach}
-use Rattle.share_core.specs.Inner.Totals.{AreEntriesBelow, IsLargeAt}
 
 -- a pass asked the least games of the numbers below this one, and each answer agreed with the rows; or one differed, and it was
 -- the last that was asked
@@ -20,17 +17,11 @@ AgreeBelow n rows high old new None = AskedFirst n high rows old new
 AgreeBelow n rows high old new (Some differs) =
     IsMarksFault n rows old new (fault.Marks differs.number differs.of_shares differs.of_table)
 
--- one of the sums of some number is 2 ^ 64 or more
-abbrev pub HasLarge : List Row → Type 0
-HasLarge rows = (number : ℕ) × IsLargeAt rows number
-
--- the rows of the numbers below this one are of their patterns in the table; their games agree, or the first that differs
--- is known; and the entries are what these rows count, unless some sum is too large
-pub record AreVisited {O : Type 0} (n : ℕ) (rows : List Row) (high : ℕ) (old new : Known O) (visited : Visited) : Type 0 where
+-- the rows of the numbers below this one are of their patterns in the table; and their games agree, or the first that differs
+-- is known
+pub record AreVisited {O : Type 0} (n : ℕ) (rows : List Row) (high : ℕ) (old new : Known O) (differs : Option Differs) : Type 0 where
   pub stand : StandBelow n new.seen rows high
-  pub agree : AgreeBelow n rows high old new visited.differs
-  pub entries : AreOneEach rows → visited.is_large ≡ false → AreEntriesBelow rows high visited.entries.items
-  pub large : visited.is_large ≡ true → HasLarge rows
+  pub agree : AgreeBelow n rows high old new differs
 
 -- why a number ends the visit: its rows are not those of the table, or memory was refused
 abbrev pub IsVisitFault : ℕ → List Happened → List Row → HarvestFault → Type 0
@@ -38,12 +29,12 @@ IsVisitFault n seen rows fault.Memory = Unit {0}
 IsVisitFault n seen rows found = IsStandFault n seen rows found
 
 -- numbers from one up to another were visited: what was known of those below the first is known of them too
-abbrev pub IsVisit : {O : Type 0} → ℕ → List Row → ℕ → ℕ → Known O → Known O → Visited → Visited → Type 0
+abbrev pub IsVisit : {O : Type 0} → ℕ → List Row → ℕ → ℕ → Known O → Known O → Option Differs → Option Differs → Type 0
 IsVisit {O} n rows from high old new before after = (first : Known O) → AreVisited n rows from first old before
     → AreVisited n rows high first new after
 
 -- a number from this one on ends the visit, where those below it were visited
-abbrev pub EndsVisit : {O : Type 0} → ℕ → List Row → ℕ → Known O → Known O → Visited → HarvestFault → Type 0
+abbrev pub EndsVisit : {O : Type 0} → ℕ → List Row → ℕ → Known O → Known O → Option Differs → HarvestFault → Type 0
 EndsVisit {O} n rows from old new before found = (first : Known O) → AreVisited n rows from first old before
     → IsVisitFault n new.seen rows found
 

@@ -1,31 +1,28 @@
-use Rattle.std.proofs.Common.{◌^◌, false, Some, refl, sym, subst, ◌∙◌, arith}
-use Rattle.std.proofs.lemmas.Result.{on_ok_weaker}
+use Rattle.std.proofs.Common.{◌^◌, Some, refl, sym, subst, ◌∙◌, arith}
 use Rattle.slot_table.specs.History.{TellsAt}
-use Rattle.share_core.specs.Inner.Numbers.{like_sums, AreSums}
 use Rattle.share_core.specs.Inner.Visiting.{IsVisitFault}
 use Rattle.share_core.proofs.Entered.{calls_seen, calls_through}
 use Rattle.share_core.proofs.Pieced.{sums_nothing, sums_total, stranger_total}
-use Rattle.share_core.proofs.Visits.{told_found, stranger_found, visited_later}
+use Rattle.share_core.proofs.Visits.{told_found, stranger_found, visited_later, visited_more}
 use Rattle.share_core.proofs.visiting.visit_even.Goals as goal
 
 pub returns-in_default-clause-later : goal.returns-in_default-clause-later
 returns-in_default-clause-later g c =
     let n = 2 ^ g.O.ProbeOrder.exponent c.args.table.now.order in
     let look = c.word_at.new.pass in
-    calls_through n (λ _. ⊥) (λ _. ⊥) c.args.pass.now look c.take.new.pass (calls_seen n (λ _. ⊥) (λ _. ⊥) c.args.pass.now look c.word_at.ensures.later) c.take.ensures.later
+    calls_through n (λ _. ⊥) (λ _. ⊥) c.args.pass.now look c.compare.new.pass (calls_seen n (λ _. ⊥) (λ _. ⊥) c.args.pass.now look c.word_at.ensures.later) c.compare.ensures.later
 
 pub returns-in_default-clause-ok : goal.returns-in_default-clause-ok
-returns-in_default-clause-ok g c =
+returns-in_default-clause-ok g c rows high low h first before =
     let n = 2 ^ g.O.ProbeOrder.exponent c.args.table.now.order in
     let number = c.args.number in
     let look = c.word_at.new.pass in
     let found = c.bits_of-found.result in
-    on_ok_weaker c.take.result
-    (λ visits rows high low h first before.
-    visits rows found (told_found n look.seen number found (subst (TellsAt n look.seen number) (sym c.bits_of-found.ensures.bits) c.word_at.ensures.told))
-    (sums_nothing rows number found (c.in_default.ensures.total rows high low h))
-    first (visited_later n rows number first c.args.pass.now look c.args.visited.now c.word_at.ensures.later before))
-    c.take.ensures.ok
+    let sums = sums_nothing rows number found (c.in_default.ensures.total rows high low h) in
+    visited_more n rows number first look c.compare.new.pass c.args.differs.now c.compare.new.differs found
+    (told_found n look.seen number found (subst (TellsAt n look.seen number) (sym c.bits_of-found.ensures.bits) c.word_at.ensures.told))
+    (sym sums.stranger) c.compare.ensures.later.later.keeps (c.compare.ensures.agree rows first sums.first)
+    (visited_later n rows number first c.args.pass.now look c.args.differs.now c.word_at.ensures.later before)
 
 pub returns-in-Some-unlike-clause-fault : goal.returns-in-Some-unlike-clause-fault
 returns-in-Some-unlike-clause-fault g c rows high low h first before =
@@ -44,19 +41,17 @@ pub returns-clause-later : goal.returns-clause-later
 returns-clause-later g c =
     let n = 2 ^ g.O.ProbeOrder.exponent c.args.table.now.order in
     let look = c.word_at.new.pass in
-    calls_through n (λ _. ⊥) (λ _. ⊥) c.args.pass.now look c.take-2.new.pass (calls_seen n (λ _. ⊥) (λ _. ⊥) c.args.pass.now look c.word_at.ensures.later) c.take-2.ensures.later
+    calls_through n (λ _. ⊥) (λ _. ⊥) c.args.pass.now look c.compare-2.new.pass (calls_seen n (λ _. ⊥) (λ _. ⊥) c.args.pass.now look c.word_at.ensures.later) c.compare-2.ensures.later
 
 pub returns-clause-ok : goal.returns-clause-ok
-returns-clause-ok g c =
+returns-clause-ok g c rows high low h first before =
     let n = 2 ^ g.O.ProbeOrder.exponent c.args.table.now.order in
     let number = c.args.number in
     let look = c.word_at.new.pass in
     let found = c.bits_of-found.result in
     let total = c.in-Some.total in
-    on_ok_weaker c.take-2.result
-    (λ visits rows high low h first before.
-    visits rows found (told_found n look.seen number found (subst (TellsAt n look.seen number) (sym c.bits_of-found.ensures.bits) c.word_at.ensures.told))
-    (subst (λ f. AreSums rows number found (like_sums (Some total) f false)) (sym c.first.ensures)
-    (sums_total rows number found total (c.in-Some.ensures.total rows high low h) (h.alike number (omega arith) low) (sym c.unlike.ensures ∙ c.in_default-unlike.is)))
-    first (visited_later n rows number first c.args.pass.now look c.args.visited.now c.word_at.ensures.later before))
-    c.take-2.ensures.ok
+    let sums = sums_total rows number found total (c.in-Some.ensures.total rows high low h) (h.alike number (omega arith) low) (sym c.unlike.ensures ∙ c.in_default-unlike.is) in
+    visited_more n rows number first look c.compare-2.new.pass c.args.differs.now c.compare-2.new.differs found
+    (told_found n look.seen number found (subst (TellsAt n look.seen number) (sym c.bits_of-found.ensures.bits) c.word_at.ensures.told))
+    (sym sums.stranger) c.compare-2.ensures.later.later.keeps (c.compare-2.ensures.agree rows first (c.first.ensures ∙ sums.first))
+    (visited_later n rows number first c.args.pass.now look c.args.differs.now c.word_at.ensures.later before)

@@ -14,5 +14,5 @@ invariant-loop-number g l =
       pass : IsPassOf n l.table l.pass;
       later : AsksOnly n l.fn.pass l.pass;
       rest : (rows : List Row) → AreTotals rows l.from l.high l.totals → AreTotals rows l.number l.high (drop l.next l.totals);
-      visited : (rows : List Row) → AreTotals rows l.from l.high l.totals → IsVisit n rows l.from l.number l.fn.pass l.pass l.fn.visited l.visited;
+      visited : (rows : List Row) → AreTotals rows l.from l.high l.totals → IsVisit n rows l.from l.number l.fn.pass l.pass l.fn.differs l.differs;
     }

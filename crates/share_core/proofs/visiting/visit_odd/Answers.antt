@@ -1,10 +1,9 @@
 use Rattle.std.proofs.Common.{◌^◌, sym, subst, ◌∙◌}
-use Rattle.std.proofs.lemmas.Result.{on_ok_weaker}
 use Rattle.slot_table.specs.History.{TellsAt}
 use Rattle.share_core.specs.Checking.{all_rows}
 use Rattle.share_core.specs.Inner.Visiting.{IsVisitFault}
 use Rattle.share_core.proofs.Entered.{calls_seen, calls_through}
-use Rattle.share_core.proofs.Visits.{told_found, plain_sums, stranger_found, visited_later}
+use Rattle.share_core.proofs.Visits.{told_found, stranger_found, visited_later, visited_more}
 use Rattle.share_core.proofs.visiting.visit_odd.Goals as goal
 
 pub returns-in-Some-clause-fault : goal.returns-in-Some-clause-fault
@@ -17,18 +16,17 @@ returns-in-Some-clause-fault g c first h =
     c.word_at.ensures.later.keeps (c.bits_of-found.ensures.bits ∙ c.word_at.ensures.key) c.word_of.ensures c.in-Some.is c.sums_at-sums.ensures.stranger h.stand)
 
 pub returns-clause-ok : goal.returns-clause-ok
-returns-clause-ok g c =
+returns-clause-ok g c first h =
     let n = 2 ^ g.O.ProbeOrder.exponent c.args.table.now.order in
     let rows = all_rows c.args.shares.now in
     let number = c.args.number in
     let look = c.word_at.new.pass in
     let found = c.bits_of-found.result in
-    on_ok_weaker c.take.result
-    (λ visits first h.
-    visits rows found (told_found n look.seen number found (subst (TellsAt n look.seen number) (sym c.bits_of-found.ensures.bits) c.word_at.ensures.told))
-    (plain_sums rows number found c.sums_at-sums.result c.in_default.is c.sums_at-sums.ensures)
-    first (visited_later n rows number first c.args.pass.now look c.args.visited.now c.word_at.ensures.later h))
-    c.take.ensures.ok
+    let sums = c.sums_at-sums.ensures in
+    visited_more n rows number first look c.compare.new.pass c.args.differs.now c.compare.new.differs found
+    (told_found n look.seen number found (subst (TellsAt n look.seen number) (sym c.bits_of-found.ensures.bits) c.word_at.ensures.told))
+    (sym sums.stranger ∙ c.in_default.is) c.compare.ensures.later.later.keeps (c.compare.ensures.agree rows first sums.first)
+    (visited_later n rows number first c.args.pass.now look c.args.differs.now c.word_at.ensures.later h)
 
 pub returns-in-Some-clause-later : goal.returns-in-Some-clause-later
 returns-in-Some-clause-later g c =
@@ -38,4 +36,4 @@ pub returns-clause-later : goal.returns-clause-later
 returns-clause-later g c =
     let n = 2 ^ g.O.ProbeOrder.exponent c.args.table.now.order in
     let look = c.word_at.new.pass in
-    calls_through n (λ _. ⊥) (λ _. ⊥) c.args.pass.now look c.take.new.pass (calls_seen n (λ _. ⊥) (λ _. ⊥) c.args.pass.now look c.word_at.ensures.later) c.take.ensures.later
+    calls_through n (λ _. ⊥) (λ _. ⊥) c.args.pass.now look c.compare.new.pass (calls_seen n (λ _. ⊥) (λ _. ⊥) c.args.pass.now look c.word_at.ensures.later) c.compare.ensures.later

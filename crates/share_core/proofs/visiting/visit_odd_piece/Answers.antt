@@ -27,4 +27,4 @@ pub returns-clause-ok : goal.returns-clause-ok
 returns-clause-ok g c first h =
     let n = 2 ^ g.O.ProbeOrder.exponent c.args.table.now.order in
     let last : c.loop-number.number ≡ c.args.high = omega arith in
-    subst (λ k. AreVisited n (all_rows c.args.shares.now) k first c.loop-number.pass c.loop-number.visited) last (c.loop-number.invariant.visited first h)
+    subst (λ k. AreVisited n (all_rows c.args.shares.now) k first c.loop-number.pass c.loop-number.differs) last (c.loop-number.invariant.visited first h)

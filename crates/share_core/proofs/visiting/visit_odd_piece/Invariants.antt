@@ -12,5 +12,5 @@ invariant-loop-number g l =
     record {
       pass : IsPassOf n l.table l.pass;
       later : AsksOnly n l.fn.pass l.pass;
-      visited : IsVisit n (all_rows l.shares) l.from l.number l.fn.pass l.pass l.fn.visited l.visited;
+      visited : IsVisit n (all_rows l.shares) l.from l.number l.fn.pass l.pass l.fn.differs l.differs;
     }

@@ -17,5 +17,5 @@ returns-else-piece-clause-fault g c =
     let n = 2 ^ g.O.ProbeOrder.exponent c.args.table.now.order in
     let all = all_rows c.args.shares.now in
     let totals = subst (λ (rows : List Row). AreTotals all c.args.from c.args.high rows) (sym c.as_slice-totals.ensures.value) (c.requires.piece c.if-piece.false) in
-    IfErr-weaker c.visit_even_piece.result _ (EndsVisit n all c.args.from c.args.pass.now c.visit_even_piece.new.pass c.args.visited.now)
+    IfErr-weaker c.visit_even_piece.result _ (EndsVisit n all c.args.from c.args.pass.now c.visit_even_piece.new.pass c.args.differs.now)
     (λ found ends. ends all totals) c.visit_even_piece.ensures.fault
