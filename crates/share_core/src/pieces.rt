@@ -12,10 +12,20 @@ use crate::shares::Share;
 use std::alloc::{AllocError, Global};
 use std::thread::{Threads, map_indices};
 
+/// How many numbers are looked at together, at least and at most.
+const LEAST_BLOCK: usize = 256;
+
+const MOST_BLOCK: usize = 2048;
+
 /// How many numbers are looked at together. Each share is asked for all of them before the next share is, so its index and
-/// its rows are read in sequence; and the rows of so few numbers, those of all shares, stay in the cache until they are
-/// added up.
-const BLOCK: usize = 256;
+/// its rows are read in sequence; and the rows of that few numbers, those of all shares, stay in the cache until they are
+/// added up. The more shares there are, the fewer rows each has, so there have to be more numbers for reads to wait together.
+fn block_for(shares: usize) -> usize
+    ensures some { 0 < result }
+    ensures few { result ≤ 2048 }
+{
+    shares.saturating_mul(32).clamp(LEAST_BLOCK, MOST_BLOCK)
+}
 
 /// A range of numbers: for each that has rows their total, numbers rising. It is odd where some number of the range has
 /// rows of several patterns, or a sum passes 2^64 - 1; then the totals have no meaning.
@@ -79,7 +89,8 @@ fn piece_of(alloc: Global, shares: &[Share], from: usize, high: usize) -> Result
     requires high { high < 2 ^ 32 }
     ensures { IfOk result (IsPiece (all_rows shares.now) from high) }
 {
-    let mut made = empty_lists(alloc, BLOCK.min(high - from))?;
+    let block = block_for(shares.len());
+    let mut made = empty_lists(alloc, block.min(high - from))?;
     let lists = made.as_mut_slice();
     let mut found = Vec::new(alloc);
     let mut piece = Piece {
@@ -88,7 +99,7 @@ fn piece_of(alloc: Global, shares: &[Share], from: usize, high: usize) -> Result
     };
     let mut low = from;
     while low < high {
-        let next = high.min(low + BLOCK);
+        let next = high.min(low + block);
         fill(shares, low, &mut found, lists)?;
         add_block(&mut piece, lists, low, next)?;
         low = next;
