@@ -12,3 +12,4 @@ pub mod Stopped
 pub mod Unique
 pub mod Worked
 pub mod Chunked
+pub mod Counted

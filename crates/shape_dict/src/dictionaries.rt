@@ -1,6 +1,7 @@
 //! A dictionary of patterns.
-ghost use Rattle.std.specs.Prelude.{◌≡◌, ◌++◌, OnOk};
-ghost use Rattle.shape_dict.specs.Text.{text_of, header_of, header_text};
+ghost use Rattle.std.specs.Prelude.{◌≡◌, ◌++◌, OnOk, length};
+ghost use Rattle.shape_dict.specs.Contents.{squares_of};
+ghost use Rattle.shape_dict.specs.Text.{text_of, header_of, header_text, diamonds_counted};
 ghost use Rattle.shape_dict.specs.Writing.{Begins};
 
 use crate::entries::{Entry, Text};
@@ -188,19 +189,29 @@ impl Dictionary {
     }
 }
 
+/// How many squares a dictionary has, and how many diamonds where they are counted. One that does not count them has
+/// squares alone, so its entries need no look; else one look at each is enough, as the diamonds are the rest.
+fn counts_of(dictionary: &Dictionary) -> (u64, Option<u64>)
+    ensures squares { result.0 ≡ length (squares_of dictionary.now.entries) }
+    ensures diamonds { result.1
+        ≡ diamonds_counted dictionary.now.counts_diamonds dictionary.now.entries }
+{
+    let entries = dictionary.entries();
+    let all = entries.len() as u64;
+    if !dictionary.counts_diamonds() {
+        return (all, None);
+    }
+    let squares = count_of(Kind::Square, entries);
+    (squares, Some(all - squares))
+}
+
 /// Appends the header of a text, whole or in part.
 fn append_header(dictionary: &Dictionary, text: Text, out: &mut Vec<u8>) -> Result<(), AllocError>
     ensures ok { OnOk result (out.new.items
         ≡ out.old.items ++ header_text (header_of text dictionary.now)) }
     ensures begins { Begins out.old.items out.new.items }
 {
-    let entries = dictionary.entries();
-    let squares = count_of(Kind::Square, entries);
-    let diamonds = if dictionary.counts_diamonds() {
-        Some(count_of(Kind::Diamond, entries))
-    } else {
-        None
-    };
+    let (squares, diamonds) = counts_of(dictionary);
     push_header(
         out,
         text,
