@@ -1,5 +1,5 @@
 //! The text of a dictionary in parts, which threads make.
-ghost use Rattle.std.specs.Prelude.{◌≡◌, ◌<◌, ◌++◌, All, IsOk, IfOk, OnOk};
+ghost use Rattle.std.specs.Prelude.{◌≡◌, ◌<◌, ◌++◌, [], All, IsOk, IfOk, OnOk};
 ghost use Rattle.std.specs.List.{flat_map};
 ghost use Rattle.shape_dict.specs.Parts.{joined};
 ghost use Rattle.shape_dict.specs.Inner.Parts.{lines_of, bytes_of, AreMade};
@@ -13,6 +13,9 @@ use std::thread::Threads;
 /// A part has the lines of at least this many entries, but for the last one.
 const LEAST: usize = 65_536;
 
+/// Most lines have at most this many bytes.
+const LINE: usize = 20;
+
 /// How many entries a part has the lines of, where this many threads make parts of all.
 fn part_length(entries: usize, threads: usize) -> usize
     ensures { 0 < result }
@@ -20,11 +23,25 @@ fn part_length(entries: usize, threads: usize) -> usize
     entries.div_ceil(threads.max(1)).max(LEAST)
 }
 
+/// No bytes, with room for the lines of this many entries where they are many: bytes that grow are moved again and again,
+/// and many of them are slow to move. Where so much room is refused there is none, and the bytes grow.
+fn room_for(alloc: Global, entries: usize) -> Vec<u8>
+    ensures { result.items ≡ [] }
+{
+    if entries < LEAST {
+        return Vec::new(alloc);
+    }
+    match Vec::with_capacity(alloc, entries.saturating_mul(LINE)) {
+        Ok(room) => room,
+        Err(_) => Vec::new(alloc),
+    }
+}
+
 /// The lines that a text has of entries, in bytes of their own.
 fn lines_part(alloc: Global, text: Text, entries: &[Entry]) -> Result<Vec<u8>, AllocError>
     ensures { IfOk result (λ part. part.items ≡ lines_of text entries.now) }
 {
-    let mut part = Vec::new(alloc);
+    let mut part = room_for(alloc, entries.len());
     push_entries(&mut part, text, entries)?;
     Ok(part)
 }
