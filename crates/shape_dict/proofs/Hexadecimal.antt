@@ -1,8 +1,11 @@
 -- Words in hexadecimal digits: there is one way to read them.
-use Rattle.std.proofs.Common.{◌≡◌, ℕ, zero, suc, ◌+◌, ◌*◌, ◌/◌, ◌%◌, ◌<◌, ◌^◌, inl, inr, List, [], ◌∷◌, ◌++◌, length, get_or, take, drop, sym, refl, ap, ◌∙◌, arith, pow-suc, add-one, length-append}
+use Rattle.std.proofs.Common.{◌≡◌, ℕ, zero, suc, ◌+◌, ◌-◌, ◌*◌, ◌/◌, ◌%◌, ◌<◌, ◌≤◌, ◌^◌, inl, inr, List, [], ◌∷◌, ◌++◌, length, get_or, take, drop, sym, refl, ap, ◌∙◌, arith, pow-suc, add-one, length-append}
 use Rattle.std.proofs.lemmas.Bool.Decides.{nat_tests}
-use Rattle.std.proofs.lemmas.List.{take-append-drop, take_more, same_from_push, get_or_at, take_at, drop_at, get_or_append_left}
+use Rattle.std.proofs.lemmas.List.{take-append-drop, take_more, take_more_set, take_all, same_from_push, get_or_at, take_at, drop_at, get_or_append_left}
 use Rattle.std.proofs.lemmas.Bool.{cases_lt}
+use Rattle.std.proofs.lemmas.Nat.{pow-add, div-add-mod', mod_below}
+use Rattle.std.proofs.Math.Nat.{div-div-eq-div-mul}
+use Rattle.std.proofs.Math.ListN.{set}
 use Rattle.std.proofs.lemmas.List.Prefix.{front_reads, front_fits}
 use Rattle.shape_dict.specs.Text.{hexadecimal_digit, hexadecimal, word_text}
 
@@ -30,6 +33,46 @@ hexadecimal_more k n d bytes small inside read same =
     let low : (16 * n + d) % 16 ≡ d = omega arith in
     rw (take_more bytes k 0 inside) (ap (λ j. hexadecimal j (16 * n + d)) (add-one k) ∙ (ap (λ x. hexadecimal k x ++ hexadecimal_digit ((16 * n + d) % 16) ∷ []) high
     ∙ (ap (λ x. hexadecimal k n ++ hexadecimal_digit x ∷ []) low ∙ (ap (λ x. x ++ hexadecimal_digit d ∷ []) read ∙ ap (λ x. take k bytes ++ x ∷ []) same))))
+
+below_sixteen : (n k : ℕ) → n / 2 ^ (k + 4) ≡ n / 2 ^ k / 16
+below_sixteen n k = ap (λ x. n / x) (pow-add 2 k 4) ∙ sym (div-div-eq-div-mul n (2 ^ k) 16)
+
+shift_before : (p : ℕ) → p < 13 → 52 - 4 * p ≡ 48 - 4 * p + 4
+shift_before p small = omega arith
+
+shift_after : (p : ℕ) → p < 13 → 52 - 4 * (p + 1) ≡ 48 - 4 * p
+shift_after p small = omega arith
+
+-- one more digit of a number written from its highest digit on
+pub digit_written : (n p digit : ℕ) (digits : List ℕ) → p < 13 → p < length digits → take p digits ≡ hexadecimal p (n / 2 ^ (52 - 4 * p)) → digit ≡ hexadecimal_digit (n / 2 ^ (48 - 4 * p) % 16) → take (p + 1) (set digits p digit) ≡ hexadecimal (p + 1) (n / 2 ^ (52 - 4 * (p + 1)))
+digit_written n p digit digits small inside written is =
+    take_more_set digits p digit inside
+    ∙ (ap (λ x. x ++ digit ∷ []) (written ∙ ap (hexadecimal p) (ap (λ x. n / 2 ^ x) (shift_before p small) ∙ below_sixteen n (48 - 4 * p)))
+    ∙ (ap (λ x. hexadecimal p (n / 2 ^ (48 - 4 * p) / 16) ++ x ∷ []) is
+    ∙ (ap (λ j. hexadecimal j (n / 2 ^ (48 - 4 * p))) (sym (add-one p)) ∙ ap (λ x. hexadecimal (p + 1) (n / 2 ^ x)) (sym (shift_after p small)))))
+
+no_shift : (p : ℕ) → p ≡ 13 → 52 - 4 * p ≡ 0
+no_shift p done = omega arith
+
+-- `omega` does not end on `n / 1`, so its parts are named
+some : 0 < 1
+some = omega arith
+
+one_part : (q r n : ℕ) → q * 1 + r ≡ n → r < 1 → q ≡ n
+one_part q r n is none = omega arith
+
+whole : (n : ℕ) → n / 2 ^ 0 ≡ n
+whole n = one_part (n / 1) (n % 1) n (div-add-mod' n 1) (mod_below n 1 some)
+
+enough : (p long : ℕ) → p ≡ 13 → long ≡ 13 → long ≤ p
+enough p long done room = omega arith
+
+-- all digits of a number that is written
+pub all_written : (n p : ℕ) (digits : List ℕ) → p ≡ 13 → length digits ≡ 13 → take p digits ≡ hexadecimal p (n / 2 ^ (52 - 4 * p)) → digits ≡ word_text n
+unfolding word_text
+all_written n p digits done room written =
+    sym (take_all p digits (enough p (length digits) done room))
+    ∙ (written ∙ (ap (hexadecimal p) (ap (λ x. n / 2 ^ x) (no_shift p done) ∙ whole n) ∙ ap (λ j. hexadecimal j n) done))
 
 -- the byte at a place is a digit
 pub digit_at : (k n i : ℕ) → i < k → (d : ℕ) × (d < 16) × (hexadecimal_digit d ≡ get_or (hexadecimal k n) i 0)

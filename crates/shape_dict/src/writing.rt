@@ -45,16 +45,13 @@ pub fn push_number(out: &mut Vec<u8>, number: u64) -> Result<(), AllocError>
     push_bytes(out, digits.as_bytes())
 }
 
-/// A hexadecimal digit in lower case.
+/// A hexadecimal digit in lower case. There is no branch on it, since no processor can foresee which digit comes.
 fn hexadecimal_digit(digit: u8) -> u8
     requires { digit < 16 }
     ensures { result ≡ hexadecimal_digit digit }
 {
-    if digit < 10 {
-        b'0' + digit
-    } else {
-        b'a' + (digit - 10)
-    }
+    let is_letter = u8::from(9 < digit);
+    b'0' + digit + (b'a' - b'9' - 1) * is_letter
 }
 
 /// Appends a word in 13 hexadecimal digits.
@@ -75,10 +72,8 @@ fn word_digits(number: u64) -> [u8; 13]
     ensures { result ≡ word_text number }
 {
     let mut digits = [0u8; 13];
-    let mut left = number;
-    for place in (0..13).rev() {
-        digits[place] = hexadecimal_digit((left % 16) as u8);
-        left /= 16;
+    for place in 0..13 {
+        digits[place] = hexadecimal_digit(((number >> (48 - 4 * place)) % 16) as u8);
     }
     digits
 }
@@ -108,11 +103,22 @@ fn push_first(out: &mut Vec<u8>, text: Text, first: Option<u64>) -> Result<(), A
     }
 }
 
-/// Appends how often a pattern was there, and how often it was played.
+/// Appends how often a pattern was there, and how often it was played. Most numbers have one digit: they are appended at
+/// once.
+#[tactic(auto, using(std::proofs::lemmas::Fmt::decimal_digit))]
 fn push_uses(out: &mut Vec<u8>, entry: &Entry) -> Result<(), AllocError>
     ensures ok { OnOk result (out.new.items ≡ out.old.items ++ uses_text entry.now) }
     ensures begins { Begins out.old.items out.new.items }
 {
+    if entry.there < 10 && entry.played < 10 {
+        let uses = [
+            b' ',
+            b'0' + entry.there as u8,
+            b' ',
+            b'0' + entry.played as u8,
+        ];
+        return push_bytes(out, &uses);
+    }
     push_byte(out, b' ')?;
     push_number(out, entry.there)?;
     push_byte(out, b' ')?;
