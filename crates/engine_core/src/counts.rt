@@ -29,7 +29,7 @@ fn counted_text<T: Threads + Wait + Sync>(
     ensures fault { IfErr result (IsCountRunFault (2 ^ settings.k) settings.kinds input.now) }
 {
     let counted = harvest(rt, alloc, settings, input, &FreeGate)?;
-    let threads = usize::from(settings.workers()) + 1;
+    let threads = usize::from(settings.workers()).max(2);
     let written = counted.dictionary.parts(rt, alloc, text, threads)?;
     Ok((written, counted.report))
 }
@@ -37,9 +37,9 @@ fn counted_text<T: Threads + Wait + Sync>(
 /// Reads a collection and writes a text of the dictionary of its games; the answer is how many trees it has of each sort.
 /// The kinds of pattern that are counted are those of the settings: where diamonds are not counted, texts 2 and 3 say so,
 /// and text 1 is that of the squares. This thread reads, and as many workers as the settings say count. They number the
-/// patterns in one table of 2^k slots; the text is the same whatever the settings' workers. As many threads as counted make
-/// it, in parts that are written one after another. It takes memory for the input, the table, and for each thread for the
-/// largest tree and its record, the board, and each pattern; and for the text.
+/// patterns in one table of 2^k slots; the text is the same whatever the settings' workers. As many threads as there are
+/// workers, and two at least, make it, in parts that are written one after another. It takes memory for the input, the table,
+/// and for each thread for the largest tree and its record, the board, and each pattern; and for the text.
 ///
 /// # Errors
 ///
