@@ -9,6 +9,7 @@ ghost use Rattle.share_core.specs.Entering.{EntersOnly};
 ghost use Rattle.share_core.specs.Inner.Entering.{MarksOnly, IsMetIn};
 ghost use Rattle.share_core.specs.declared.faults.HarvestFault.TheVariants as fault;
 
+use crate::ahead::{BLOCK, look_ahead};
 use crate::faults::HarvestFault;
 use crate::making::Entered;
 use probe_core::{Answer, Key, ProbeOrder};
@@ -60,8 +61,8 @@ fn enter_one<O: ProbeOrder>(
     }
 }
 
-/// Enters the patterns of a game in their order. Where no number is free for one, that is the answer, and those before it
-/// have their numbers.
+/// Enters the patterns of a game in their order, block by block, each after a look ahead. Where no number is free for one, that
+/// is the answer, and those before it have their numbers.
 pub(crate) fn enter_all<O: ProbeOrder>(
     table: &SlotTable<O>,
     pass: &mut Pass<O>,
@@ -83,7 +84,10 @@ pub(crate) fn enter_all<O: ProbeOrder>(
     ensures fault { IfErr result (λ found. found ≡ fault.Memory) }
 {
     entered.clear();
-    for meeting in meetings {
+    for (i, meeting) in meetings.iter().enumerate() {
+        if i % BLOCK == 0 {
+            look_ahead(table, &meetings[i..]);
+        }
         let Some(one) = enter_one(table, pass, meeting.shape, game) else {
             return Ok(Some(meeting.shape));
         };

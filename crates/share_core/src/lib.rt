@@ -2,6 +2,7 @@
 #![tactic(auto)]
 
 // one share, and what adding a game to it takes
+mod ahead;
 mod chains;
 mod entering;
 mod kept_rows;

@@ -141,6 +141,21 @@ impl Rows {
         self.chains().place(number)
     }
 
+    /// Whether a number's bucket has no row. It reads no row.
+    pub fn looks_new(&self, number: usize) -> bool {
+        self.chains().last_in(number >> self.shift).is_none()
+    }
+
+    /// Makes room for this many rows more, if there are rows already. After a refusal the rows are as they were.
+    pub fn reserve(&mut self, count: usize) -> Result<(), AllocError>
+        ensures { self.new ≡ self.old }
+    {
+        if self.rows.is_empty() {
+            return Ok(());
+        }
+        self.rows.reserve(count)
+    }
+
     /// The row of the least number at or above this one that has a row. It looks up each number up to that one.
     pub fn first_from(&self, from: usize) -> Option<Row>
         ensures first { IsLeastFrom from self.now result }

@@ -68,6 +68,22 @@ fn an_absent_key_takes_no_number(rt: HostRuntime) -> Result<(), Fail> {
 }
 
 #[test]
+fn a_place_of_another_key_is_passed(rt: HostRuntime) -> Result<(), Fail> {
+    let capacity = capacity_of(&rt, 1);
+    let (table, mut pass) = SlotTable::new(rt.alloc(), Linear { capacity })?;
+    let (five, six) = (key_of(&rt, 5), key_of(&rt, 6));
+    assert!(&rt; table.capacity().slots() == 2);
+    assert!(&rt; !table.is_passed(five, 0));
+    assert!(&rt; table.enter(&mut pass, five) == Answer::Number(0));
+    assert!(&rt; !table.is_passed(five, 0));
+    assert!(&rt; !table.is_passed(five, 1));
+    assert!(&rt; table.enter(&mut pass, six) == Answer::Number(1));
+    assert!(&rt; table.is_passed(five, 1));
+    assert!(&rt; table.is_passed(six, 1));
+    Ok(())
+}
+
+#[test]
 fn the_least_game_is_first(rt: HostRuntime) -> Result<(), Fail> {
     let capacity = capacity_of(&rt, 1);
     let (table, mut pass) = SlotTable::new(rt.alloc(), OddStep { capacity })?;

@@ -150,6 +150,18 @@ impl<O: ProbeOrder> SlotTable<O> {
         self.ask(pass, Call::LookUp(key))
     }
 
+    /// Whether the slot at the place that a key has at an index holds another key, by one load of which no pass knows. It is a
+    /// hint: no clause says what it answers. A caller with many keys to enter asks of all of them first. The lines of memory of
+    /// their slots are then on their way together, while `enter` would wait for one after another. It takes no memory.
+    ///
+    /// The index must be below the number of slots.
+    pub fn is_passed(&self, key: Key, i: usize) -> bool
+        requires { i < 2 ^ O.exponent self.now.order }
+    {
+        let found = self.words.shared.peek(2 * self.order.place(key, i));
+        found != 0 && found != key.bits() + 1
+    }
+
     /// The key that has this number, or None where the number is free, by one load. It takes no memory and waits for no
     /// other thread.
     ///

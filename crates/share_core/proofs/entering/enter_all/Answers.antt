@@ -24,42 +24,42 @@ entered_so_far n meetings i read first old new inside is before one =
 
 pub returns-in_default-clause-later : goal.returns-in_default-clause-later
 returns-in_default-clause-later g c =
-    entered_so_far (2 ^ g.O.ProbeOrder.exponent c.args.table.now.order) c.args.meetings.now c.loop-meeting.meeting-index c.meeting-item.result c.args.pass.now c.loop-meeting.pass
-    c.enter_one.new.pass (omega arith) c.meeting-item.is c.loop-meeting.invariant.later c.enter_one.ensures.later
+    entered_so_far (2 ^ g.O.ProbeOrder.exponent c.args.table.now.order) c.args.meetings.now c.loop-i.i c.index-meetings-i.result c.args.pass.now c.loop-i.pass
+    c.enter_one.new.pass (omega arith) c.index-meetings-i.is c.loop-i.invariant.later c.enter_one.ensures.later
 
 pub returns-in_default-clause-each : goal.returns-in_default-clause-each
 returns-in_default-clause-each g c =
-    all_kept (2 ^ g.O.ProbeOrder.exponent c.args.table.now.order) c.args.game c.loop-meeting.pass.seen c.enter_one.new.pass.seen c.args.meetings.now c.loop-meeting.entered.items
-    c.enter_one.ensures.later.later.keeps c.loop-meeting.invariant.each
+    all_kept (2 ^ g.O.ProbeOrder.exponent c.args.table.now.order) c.args.game c.loop-i.pass.seen c.enter_one.new.pass.seen c.args.meetings.now c.loop-i.entered.items
+    c.enter_one.ensures.later.later.keeps c.loop-i.invariant.each
 
 pub returns-in_err-push-clause-later : goal.returns-in_err-push-clause-later
 returns-in_err-push-clause-later g c =
-    entered_so_far (2 ^ g.O.ProbeOrder.exponent c.args.table.now.order) c.args.meetings.now c.loop-meeting.meeting-index c.meeting-item.result c.args.pass.now c.loop-meeting.pass
-    c.enter_one.new.pass (omega arith) c.meeting-item.is c.loop-meeting.invariant.later c.enter_one.ensures.later
+    entered_so_far (2 ^ g.O.ProbeOrder.exponent c.args.table.now.order) c.args.meetings.now c.loop-i.i c.index-meetings-i.result c.args.pass.now c.loop-i.pass
+    c.enter_one.new.pass (omega arith) c.index-meetings-i.is c.loop-i.invariant.later c.enter_one.ensures.later
 
 pub returns-in_err-push-clause-each : goal.returns-in_err-push-clause-each
 returns-in_err-push-clause-each g c =
     let n = 2 ^ g.O.ProbeOrder.exponent c.args.table.now.order in
     subst (λ (es : List Entered). AreEntered n c.enter_one.new.pass.seen c.args.game c.args.meetings.now es) (sym c.in_err-push.ensures.items)
-    (all_kept n c.args.game c.loop-meeting.pass.seen c.enter_one.new.pass.seen c.args.meetings.now c.loop-meeting.entered.items
-    c.enter_one.ensures.later.later.keeps c.loop-meeting.invariant.each)
+    (all_kept n c.args.game c.loop-i.pass.seen c.enter_one.new.pass.seen c.args.meetings.now c.loop-i.entered.items
+    c.enter_one.ensures.later.later.keeps c.loop-i.invariant.each)
 
-pub loop-meeting-preserved : goal.loop-meeting-preserved
-loop-meeting-preserved g c =
+pub loop-i-preserved : goal.loop-i-preserved
+loop-i-preserved g c =
     let n = 2 ^ g.O.ProbeOrder.exponent c.args.table.now.order in
     let meetings = c.args.meetings.now in
-    let i = c.loop-meeting.meeting-index in
-    let before = c.loop-meeting.entered.items in
+    let i = c.loop-i.i in
+    let before = c.loop-i.entered.items in
     let items = c.in_ok-push.ensures.items in
     let long = length-append before (c.in-Some.one ∷ []) in
     let longer = ap length items in
-    let count = c.loop-meeting.invariant.count in
+    let count = c.loop-i.invariant.count in
     record {
       pass = c.enter_one.ensures.pass;
-      later = entered_so_far n meetings i c.meeting-item.result c.args.pass.now c.loop-meeting.pass c.enter_one.new.pass (omega arith) c.meeting-item.is c.loop-meeting.invariant.later
+      later = entered_so_far n meetings i c.index-meetings-i.result c.args.pass.now c.loop-i.pass c.enter_one.new.pass (omega arith) c.index-meetings-i.is c.loop-i.invariant.later
           c.enter_one.ensures.later;
       count = omega arith;
       each = subst (λ (es : List Entered). AreEntered n c.enter_one.new.pass.seen c.args.game meetings es) (sym items)
-          (entered_more n c.args.game c.loop-meeting.pass.seen c.enter_one.new.pass.seen meetings before c.in-Some.one c.meeting-item.result.shape c.enter_one.ensures.later.later.keeps
-          (ap (λ (m : Meeting). m.shape) c.meeting-item.is ∙ shape_read meetings i (length before) c.meeting-item.result (omega arith) count) c.loop-meeting.invariant.each c.in-Some.ensures.some);
+          (entered_more n c.args.game c.loop-i.pass.seen c.enter_one.new.pass.seen meetings before c.in-Some.one c.index-meetings-i.result.shape c.enter_one.ensures.later.later.keeps
+          (ap (λ (m : Meeting). m.shape) c.index-meetings-i.is ∙ shape_read meetings i (length before) c.index-meetings-i.result (omega arith) count) c.loop-i.invariant.each c.in-Some.ensures.some);
     }

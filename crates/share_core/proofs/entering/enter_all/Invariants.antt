@@ -5,12 +5,12 @@ use Rattle.share_core.specs.Inner.Entering.{AreEntered, IsMetIn}
 use Rattle.share_core.proofs.entering.enter_all.Given as goal
 
 -- the meetings so far have numbers
-abbrev pub invariant-loop-meeting : goal.invariant-loop-meeting
-invariant-loop-meeting g l =
+abbrev pub invariant-loop-i : goal.invariant-loop-i
+invariant-loop-i g l =
     let n = 2 ^ g.O.ProbeOrder.exponent l.table.order in
     record {
       pass : IsPassOf n l.table l.pass;
       later : EntersOnly n (IsMetIn l.meetings) l.fn.pass l.pass;
-      count : length l.entered.items ≡ l.meeting-index;
+      count : length l.entered.items ≡ l.i;
       each : AreEntered n l.pass.seen l.game l.meetings l.entered.items;
     }

@@ -20,7 +20,7 @@ returns-in_err-place-clause-fault c =
     let i = c.loop-i.i in
     let few = c.requires.few in
     let inside : i < length entered = c.loop-i-test.true in
-    let p = err_from_is_err_and c.from_residual.result c.from_residual.ensures.1 in
+    let p = err_from_is_err_and c.from_residual-in_err-place.result c.from_residual-in_err-place.ensures.1 in
     rw (p.1, p.2) (subst (λ (rows : List Row). IsMakingFault meetings entered rows c.in_err-place.field-0.0) (sym c.in_err-place.ensures.same)
     (making_fault meetings entered c.loop-i.rows i _ _ c.in_err-place.field-0.0 inside refl
     (shape_read meetings i c.index-meetings-i.result (omega arith)) c.in_err-place.ensures.fault))
