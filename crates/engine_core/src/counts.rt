@@ -15,6 +15,9 @@ use std::sync::Wait;
 use std::thread::Threads;
 use tally_core::{Report, Settings};
 
+/// How many threads make a text at most. With more, each part would be too small for large pages.
+const MOST_THREADS: usize = 16;
+
 /// The text of the dictionary of the input's games, in parts, and how many trees it has of each sort.
 #[tactic(auto, using(crate::proofs::Runs::comes_first))]
 fn counted_text<T: Threads + Wait + Sync>(
@@ -29,7 +32,7 @@ fn counted_text<T: Threads + Wait + Sync>(
     ensures fault { IfErr result (IsCountRunFault (2 ^ settings.k) settings.kinds input.now) }
 {
     let counted = harvest(rt, alloc, settings, input, &FreeGate)?;
-    let threads = usize::from(settings.workers()).max(2);
+    let threads = usize::from(settings.workers()).clamp(2, MOST_THREADS);
     let written = counted.dictionary.parts(rt, alloc, text, threads)?;
     Ok((written, counted.report))
 }
@@ -38,8 +41,8 @@ fn counted_text<T: Threads + Wait + Sync>(
 /// The kinds of pattern that are counted are those of the settings: where diamonds are not counted, texts 2 and 3 say so,
 /// and text 1 is that of the squares. This thread reads, and as many workers as the settings say count. They number the
 /// patterns in one table of 2^k slots; the text is the same whatever the settings' workers. As many threads as there are
-/// workers, and two at least, make it, in parts that are written one after another. It takes memory for the input, the table,
-/// and for each thread for the largest tree and its record, the board, and each pattern; and for the text.
+/// workers, two at least and 16 at most, make it, in parts that are written one after another. It takes memory for the input,
+/// the table, and for each thread for the largest tree and its record, the board, and each pattern; and for the text.
 ///
 /// # Errors
 ///

@@ -24,7 +24,8 @@ mod Summed
 mod Totalled
 mod OfNumber
 mod Blocked
-mod Noted
+mod Dealt
+mod Evened
 mod Pieced
 mod Visits
 mod Listings

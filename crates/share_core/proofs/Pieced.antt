@@ -1,27 +1,23 @@
 -- Totals of numbers, one number after another.
-use Rattle.std.proofs.Common.{◌≡◌, ℕ, zero, suc, ◌+◌, ◌-◌, ◌*◌, min, ◌<◌, ◌≤◌, ◌==◌, ◌&&◌, not, true, false, cond, All, find, List, [], ◌∷◌, ◌++◌, get_or, length, drop, Option, Some, None, refl, ap, sym, subst, ◌∙◌, arith, append-nil, add-one, ⊎_elim}
-use Rattle.std.specs.Prelude.{slice_get}
+use Rattle.std.proofs.Common.{◌≡◌, ℕ, zero, suc, ◌+◌, ◌-◌, ◌*◌, min, ◌<◌, ◌≤◌, ◌==◌, ◌&&◌, not, true, false, cond, find, List, [], ◌∷◌, ◌++◌, get_or, length, drop, Option, Some, None, refl, ap, sym, subst, ◌∙◌, arith, append-nil, add-one, ⊎_elim}
 use Rattle.std.specs.List.{filter_map, cons_option}
-use Rattle.std.specs.Option.{option_map, is_some}
+use Rattle.std.specs.Option.{option_map}
 use Rattle.std.proofs.Math.Seq.{drop-cons}
 use Rattle.std.proofs.Math.Nat.{add-mul, one-mul}
 use Rattle.std.proofs.lemmas.Bool.{cases_lt}
-use Rattle.std.proofs.lemmas.Bool.Decides.{nat_tests}
 use Rattle.std.proofs.lemmas.List.{drop_all}
-use Rattle.std.proofs.lemmas.List.Elements.{filter_map-append, filter_passes}
+use Rattle.std.proofs.lemmas.List.Elements.{filter_map-append}
 use Rattle.shape_core.specs.Word.{count_from}
 use Rattle.share_core.specs.declared.rows.Row.{Row}
 use Rattle.share_core.specs.Rows.{row_of}
 use Rattle.share_core.specs.Checking.{is_shape, is_stranger, stranger_in}
 use Rattle.share_core.specs.Inner.Checking.{unlike_of}
-use Rattle.share_core.specs.Inner.Totals.{IsTotal, IsTotalAt}
+use Rattle.share_core.specs.Inner.Totals.{IsTotal}
 use Rattle.share_core.specs.Inner.Numbers.{none_summed, like_sums, AreSums}
-use Rattle.share_core.specs.Inner.Blocks.{rows_at}
 use Rattle.share_core.specs.Inner.Pieces.{summed_as, total_at, totals_of, AreAlikeAt, AreTotals}
-use Rattle.share_core.proofs.Blocked.{found_same, rows_none, sums_same, total_same, stranger_same, one_number, one_found}
+use Rattle.share_core.proofs.Blocked.{rows_none, sums_same}
 use Rattle.share_core.proofs.Stood.{like_one, like_all}
-use Rattle.share_core.proofs.Strangers.{asked, stranger_of_row}
-use Rattle.share_core.proofs.Totalled.{found_in, total_with}
+use Rattle.share_core.proofs.Totalled.{found_in}
 
 -- ---- one number
 no_total : (all : List Row) (number : ℕ) → row_of all number ≡ None → total_at all number ≡ None
@@ -98,32 +94,12 @@ totals_some all from number totals found total row made low none is h = record {
   alike = alike_more all from number (alike_with all number found none) h.alike;
 }
 
--- a number with one row has that row as its total, and no row of another pattern
-pub one_row : (all : List Row) (number : ℕ) (row : Row) → row ∷ [] ≡ rows_at number all → IsTotal all number row × (stranger_in all number (Some row.shape) ≡ None)
-one_row all number row is =
-    let passes = filter_passes (λ (r : Row). r.number == number) all in
-    let same : (row.number == number) ≡ true = subst (λ (rs : List Row). All (λ (r : Row). (r.number == number) ≡ true) rs) (sym is) passes 0 row (omega arith) in
-    let here = one_found row number same in
-    let alone : IsTotalAt (row ∷ []) number (Some row) = total_with [] (row ∷ []) number None row (one_number row) here refl in
-    let none : stranger_in (row ∷ []) number (Some row.shape) ≡ None =
-    stranger_of_row (row ∷ []) number (Some row.shape) (one_number row)
-    ∙ ap (λ o. asked o (Some row.shape)) here
-    ∙ ap (λ b. cond b None (Some row.shape)) (let e : (row.shape == row.shape) ≡ true = Prim.grind (arith, nat_tests) in e) in (
-      total_same all number (Some row) (subst (λ (rs : List Row). IsTotalAt rs number (Some row)) is alone),
-      sym (ap (option_map (λ (r : Row). r.shape)) (stranger_same all number (Some row.shape)))
-          ∙ subst (λ (rs : List Row). stranger_in rs number (Some row.shape) ≡ None) is none,
-    )
-
 -- before the first number there is nothing
 pub totals_begin : (all : List Row) (from : ℕ) → AreTotals all from from []
 totals_begin all from = record {
   totals_are = let none : from - from ≡ 0 = omega arith in ap (totals_of all from) (sym none);
   alike = λ number low high. absurd (omega arith);
 }
-
--- a list without rows is that of a number without rows
-pub none_listed : (all : List Row) (number : ℕ) → [] ≡ rows_at number all → row_of all number ≡ None
-none_listed all number is = sym (found_same all number) ∙ ap (λ (rows : List Row). row_of rows number) (sym is)
 
 -- ---- one total after another
 -- the numbers of totals are no lesser than the first number
@@ -253,18 +229,6 @@ next_of rows next row inside is =
     drop-cons rows next row inside ∙ ap (λ (r : Row). r ∷ drop (suc next) rows) (sym is) ∙ ap (λ k. row ∷ drop k rows) (sym (add-one next))
 
 -- ---- what tests tell
-pub nothing_in : (rows : List Row) → length rows ≤ 0 → [] ≡ rows
-nothing_in [] few = refl
-nothing_in (row ∷ rows) few = absurd (omega arith)
-
-pub only_row : (rows : List Row) (row : Row) → length rows ≡ 1 → Some row ≡ slice_get rows 0 → row ∷ [] ≡ rows
-only_row [] row long is = absurd (omega arith)
-only_row (r ∷ []) row long is = let it : row ≡ r = cc in ap (λ (x : Row). x ∷ []) it
-only_row (r ∷ s ∷ rows) row long is = absurd (omega arith)
-
-pub nothing_given : (o : Option ℕ) → is_some o ≡ false → o ≡ None
-nothing_given None h = refl
-nothing_given (Some x) h = absurd cc
 
 -- ---- where pieces begin
 pub next_begin : (high span first from next place : ℕ) → from ≡ min high (first + place * span) → next ≡ min high (from + span) → next ≡ min high (first + (place + 1) * span)

@@ -4,6 +4,7 @@ pub mod Blocks
 pub mod Checking
 pub mod Confirming
 pub mod Covering
+pub mod Dealing
 pub mod Entering
 pub mod Gathering
 pub mod Leasts

@@ -22,6 +22,7 @@ mod agreeing;
 mod blocks;
 mod confirming;
 mod covering;
+mod dealing;
 mod faults;
 mod gathering;
 pub mod laws;

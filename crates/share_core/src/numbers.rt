@@ -6,7 +6,6 @@ ghost use Rattle.share_core.specs.Checking.{all_rows};
 ghost use Rattle.share_core.specs.Inner.Checking.{unlike_of};
 ghost use Rattle.share_core.specs.Inner.Totals.{with_row, IsTooMuch};
 ghost use Rattle.share_core.specs.Inner.Numbers.{none_summed, AreSums};
-ghost use Rattle.share_core.specs.Inner.Blocks.{rows_at};
 ghost use Rattle.share_core.specs.Inner.Pieces.{total_at, AreAlikeAt};
 
 use crate::kept_rows::KeptRow;
@@ -94,17 +93,6 @@ pub(crate) fn sums_at(shares: &[Share], number: usize, found: Option<u64>) -> Nu
         if let Some(row) = share.kept_at(number) {
             sums = add(sums, row, found);
         }
-    }
-    sums
-}
-
-/// What these rows of a number are together, where this pattern is asked for. It takes no memory.
-pub(crate) fn sums_of(rows: &[KeptRow], number: usize, found: Option<u64>) -> NumberSums
-    ensures { (all : List Row) → rows.now ≡ rows_at number all → AreSums all number found result }
-{
-    let mut sums = no_sums();
-    for row in rows {
-        sums = add(sums, *row, found);
     }
     sums
 }

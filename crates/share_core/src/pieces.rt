@@ -1,31 +1,18 @@
 //! Ranges of a table's numbers in pieces, each with the totals of its numbers, which threads make.
-ghost use Rattle.std.specs.Prelude.{◌≡◌, ℕ, ◌+◌, ◌*◌, ◌^◌, ◌<◌, ◌≤◌, min, drop, length, List, OnOk, IfOk};
+ghost use Rattle.std.specs.Prelude.{◌≡◌, ℕ, ◌+◌, ◌*◌, ◌^◌, ◌<◌, ◌≤◌, min, drop, length, List};
+ghost use Rattle.std.specs.Prelude.{OnOk, IfOk};
 ghost use Rattle.share_core.specs.declared.rows.Row.{Row};
 ghost use Rattle.share_core.specs.Checking.{all_rows};
-ghost use Rattle.share_core.specs.Inner.Blocks.{rows_at, AreRowsOf};
+ghost use Rattle.share_core.specs.Inner.Dealing.{block_of, AreDealt};
+ghost use Rattle.share_core.specs.Inner.Blocks.{AreEven};
 ghost use Rattle.share_core.specs.Inner.Pieces.{total_at, AreTotals, IsPiece, ArePieces};
 
-use crate::blocks::{empty_lists, fill};
+use crate::blocks::{add_up_rows, collect};
+use crate::dealing::{Dealt, SHIFT};
 use crate::kept_rows::KeptRow;
-use crate::numbers::sums_of;
 use crate::shares::Share;
 use std::alloc::{AllocError, Global};
 use std::thread::{Threads, map_indices};
-
-/// How many numbers are looked at together, at least and at most.
-const LEAST_BLOCK: usize = 256;
-
-const MOST_BLOCK: usize = 2048;
-
-/// How many numbers are looked at together. Each share is asked for all of them before the next share is, so its index and
-/// its rows are read in sequence; and the rows of that few numbers, those of all shares, stay in the cache until they are
-/// added up. The more shares there are, the fewer rows each has, so there have to be more numbers for reads to wait together.
-fn block_for(shares: usize) -> usize
-    ensures some { 0 < result }
-    ensures few { result ≤ 2048 }
-{
-    shares.saturating_mul(32).clamp(LEAST_BLOCK, MOST_BLOCK)
-}
 
 /// A range of numbers: for each that has rows their total, numbers rising. It is odd where some number of the range has
 /// rows of several patterns, or a sum passes 2^64 - 1; then the totals have no meaning.
@@ -35,73 +22,95 @@ pub(crate) struct Piece {
     pub is_odd: bool,
 }
 
-/// Adds the total of a number that has these rows to the piece of the numbers before it.
-fn add_total(piece: &mut Piece, number: usize, rows: &[KeptRow]) -> Result<(), AllocError>
-    requires { number < 2 ^ 32 }
-    ensures { OnOk result ((all : List Row) → (from : ℕ) → rows.now ≡ rows_at number all
-        → from ≤ number → IsPiece all from number piece.old
-        → IsPiece all from (number + 1) piece.new) }
+/// Adds the totals of a number and those after it to the piece of the numbers before it.
+fn add_totals(piece: &mut Piece, from: usize, totals: &[Option<KeptRow>]) -> Result<(), AllocError>
+    requires { from + length totals.now ≤ 2 ^ 32 }
+    ensures same { piece.new.is_odd ≡ piece.old.is_odd }
+    ensures added { OnOk result ((all : List Row) → (first : ℕ) → AreEven all from totals.now
+        → first ≤ from → IsPiece all first from piece.old
+        → IsPiece all first (from + length totals.now) piece.new) }
 {
-    let Some(first) = rows.first() else {
-        return Ok(());
-    };
-    // Most numbers have one row, which is their total.
-    if rows.len() == 1 {
-        piece.rows.push(first.at(number))?;
-        return Ok(());
-    }
-    let sums = sums_of(rows, number, Some(first.shape().word().bits()));
-    if sums.stranger.is_some() || sums.is_large {
-        piece.is_odd = true;
-        return Ok(());
-    }
-    if let Some(total) = sums.total {
-        piece.rows.push(total.at(number))?;
+    for (i, total) in totals.iter().enumerate() {
+        if let Some(total) = total {
+            piece.rows.push(total.at(from + i))?;
+        }
     }
     Ok(())
 }
 
-/// Adds the totals of the numbers of a block, from one up to another, each with the rows in its list: the first list has
-/// those of the number with which the block begins.
+/// Adds the totals of numbers of one block to the piece of the numbers before them: as many as there is room for.
 fn add_block(
     piece: &mut Piece,
-    lists: &[Vec<KeptRow>],
-    low: usize,
-    high: usize,
+    shares: &[Share],
+    dealt: &[Result<Dealt, AllocError>],
+    from: usize,
+    rows: &mut Vec<KeptRow>,
+    totals: &mut [Option<KeptRow>],
 ) -> Result<(), AllocError>
-    requires order { low ≤ high }
-    requires high { high ≤ 2 ^ 32 }
-    requires listed { high ≤ low + length lists.now }
-    ensures { OnOk result ((all : List Row) → (from : ℕ) → AreRowsOf lists.now low all
-        → from ≤ low → IsPiece all from low piece.old → IsPiece all from high piece.new) }
+    requires dealt { (count : ℕ) × AreDealt shares.now count dealt.now × (block_of from < count) }
+    requires block { (place : ℕ) → place < length totals.old
+        → block_of (from + place) ≡ block_of from }
+    requires few { from + length totals.old ≤ 2 ^ 32 }
+    ensures long { length totals.new ≡ length totals.old }
+    ensures added { OnOk result ((first : ℕ) → first ≤ from
+        → IsPiece (all_rows shares.now) first from piece.old
+        → IsPiece (all_rows shares.now) first (from + length totals.old) piece.new) }
 {
-    for number in low..high {
-        let rows = lists[number - low].as_slice();
-        add_total(piece, number, rows)?;
-    }
-    Ok(())
+    collect(shares, dealt, from >> SHIFT, rows)?;
+    let goes = add_up_rows(rows.as_slice(), from, totals);
+    piece.is_odd = piece.is_odd || !goes;
+    add_totals(piece, from, totals)
+}
+
+/// The end of a number's block, or this other number where that is less.
+fn block_end(number: usize, high: usize) -> usize
+    requires order { number < high }
+    requires high { high < 2 ^ 32 }
+    ensures after { number < result }
+    ensures within { result ≤ high }
+    ensures few { result ≤ number + 2 ^ 13 }
+    ensures block { (place : ℕ) → number + place < result
+        → block_of (number + place) ≡ block_of number }
+{
+    high.min(((number >> SHIFT) + 1) << SHIFT)
+}
+
+/// This many totals of nothing.
+fn no_totals(alloc: Global, count: usize) -> Result<Vec<Option<KeptRow>>, AllocError>
+    ensures { IfOk result (λ totals. length totals.items ≡ count) }
+{
+    let mut totals = Vec::new(alloc);
+    totals.resize(count, None)?;
+    Ok(totals)
 }
 
 /// The piece of the numbers from one up to another. It takes memory for a total of each number, of which the system gives
-/// what is used, and for the rows of one block of numbers.
-fn piece_of(alloc: Global, shares: &[Share], from: usize, high: usize) -> Result<Piece, AllocError>
+/// what is used, and for the rows and totals of one block of numbers.
+fn piece_of(
+    alloc: Global,
+    shares: &[Share],
+    dealt: &[Result<Dealt, AllocError>],
+    from: usize,
+    high: usize,
+) -> Result<Piece, AllocError>
     requires order { from ≤ high }
     requires high { high < 2 ^ 32 }
+    requires dealt { (count : ℕ) × AreDealt shares.now count dealt.now
+        × (high ≤ count * 2 ^ 13) }
     ensures { IfOk result (IsPiece (all_rows shares.now) from high) }
 {
-    let block = block_for(shares.len());
-    let mut made = empty_lists(alloc, block.min(high - from))?;
-    let lists = made.as_mut_slice();
-    let mut found = Vec::new(alloc);
+    let mut made = no_totals(alloc, (high - from).min(1 << SHIFT))?;
+    let mut rows = Vec::new(alloc);
     let mut piece = Piece {
         rows: Vec::with_capacity(alloc, high - from)?,
         is_odd: false,
     };
+    let totals = made.as_mut_slice();
     let mut low = from;
     while low < high {
-        let next = high.min(low + block);
-        fill(shares, low, &mut found, lists)?;
-        add_block(&mut piece, lists, low, next)?;
+        let next = block_end(low, high);
+        let few = &mut totals[..next - low];
+        add_block(&mut piece, shares, dealt, low, &mut rows, few)?;
         low = next;
     }
     Ok(piece)
@@ -112,19 +121,22 @@ fn piece_of(alloc: Global, shares: &[Share], from: usize, high: usize) -> Result
 fn piece_at(
     alloc: Global,
     shares: &[Share],
+    dealt: &[Result<Dealt, AllocError>],
     from: usize,
     high: usize,
     span: usize,
     place: usize,
 ) -> Result<Piece, AllocError>
     requires high { high < 2 ^ 32 }
+    requires dealt { (count : ℕ) × AreDealt shares.now count dealt.now
+        × (high ≤ count * 2 ^ 13) }
     requires span { span < 2 ^ 32 }
     requires place { from + place * span < high }
     ensures { IfOk result (IsPiece (all_rows shares.now) (from + place * span)
         (min high (from + place * span + span))) }
 {
     let low = from + place * span;
-    piece_of(alloc, shares, low, high.min(low + span))
+    piece_of(alloc, shares, dealt, low, high.min(low + span))
 }
 
 /// The numbers from one up to another in pieces of this many, in order. Threads make them, and each may be refused memory.
@@ -133,10 +145,13 @@ pub(crate) fn pieces<R: Threads + Sync>(
     rt: &R,
     alloc: Global,
     shares: &[Share],
+    dealt: &[Result<Dealt, AllocError>],
     from: usize,
     high: usize,
     span: usize,
 ) -> Result<Vec<Result<Piece, AllocError>>, AllocError>
+    requires dealt { (count : ℕ) × AreDealt shares.now count dealt.now
+        × (high ≤ count * 2 ^ 13) }
     requires order { from ≤ high }
     requires high { high < 2 ^ 32 }
     requires some { 0 < span }
@@ -147,7 +162,7 @@ pub(crate) fn pieces<R: Threads + Sync>(
         rt,
         alloc,
         (high - from).div_ceil(span),
-        &|place| piece_at(alloc, shares, from, high, span, place),
+        &|place| piece_at(alloc, shares, dealt, from, high, span, place),
     )
 }
 

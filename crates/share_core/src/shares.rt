@@ -149,6 +149,14 @@ impl Share {
         self.ledger.rows().as_slice()
     }
 
+    /// The same, of which there are few.
+    pub(crate) fn small_rows(&self) -> &[KeptRow]
+        ensures rows { result.now ≡ self.now.rows }
+        ensures few { length result.now < 2 ^ 32 }
+    {
+        self.chains().rows
+    }
+
     /// The rows, numbers rising. It takes no memory.
     pub fn rows(&self) -> ShareRows<'_>
         ensures rows { result ≡ record { rows = self.now.rows; from = 0 } }

@@ -1,17 +1,33 @@
-use Rattle.std.proofs.Common.{◌≡◌, subst, ◌∙◌, arith}
-use Rattle.share_core.specs.Inner.Pieces.{IsPiece}
-use Rattle.share_core.proofs.Blocked.{listed_at}
+use Rattle.std.proofs.Common.{◌≡◌, ◌+◌, Bool, List, not, true, false, refl, sym, subst, ◌∙◌, arith}
+use Rattle.std.proofs.lemmas.Result.{on_ok_weaker}
+use Rattle.share_core.specs.declared.rows.Row.{Row}
+use Rattle.share_core.specs.Checking.{all_rows}
+use Rattle.share_core.specs.Inner.Dealing.{block_of, rows_in}
+use Rattle.share_core.specs.Inner.Blocks.{AreEven}
+use Rattle.share_core.specs.Inner.Pieces.{AreTotals}
+use Rattle.share_core.proofs.Evened.{evens_in}
 use Rattle.share_core.proofs.pieces.add_block.Goals as goal
+use Rattle.share_core.proofs.pieces.add_block.Goals.{then-piece, else-piece}
 
-pub loop-number-preserved : goal.loop-number-preserved
-loop-number-preserved c all from are low h =
-    let number = c.loop-number.number in
-    let list = c.index-lists-number.result in
-    c.in_ok-add_total.ensures all from
-    (c.as_slice-rows.ensures.value ∙ listed_at c.args.lists.now c.args.low number list all (omega arith) (omega arith) c.index-lists-number.is are)
-    (omega arith) (c.loop-number.invariant all from are low h)
+is_so : (b : Bool) → not b ≡ false → b ≡ true
+is_so true h = refl
+is_so false h = absurd cc
 
-pub returns : goal.returns
-returns c all from are low h =
-    let last : c.loop-number.number ≡ c.args.high = omega arith in
-    subst (λ k. IsPiece all from k c.loop-number.piece) last (c.loop-number.invariant all from are low h)
+pub returns-clause-added : goal.returns-clause-added
+returns-clause-added c =
+    let all = all_rows c.args.shares.now in
+    let from = c.args.from in
+    let totals = c.add_up_rows-goes.new.totals in
+    let long = c.add_up_rows-goes.ensures.long in
+    on_ok_weaker c.add_totals.result
+    (λ added first low before even.
+    let still : c.if-piece.piece ≡ false = sym c.add_totals.ensures.same ∙ even in
+    let facts : (c.args.piece.now.is_odd ≡ false) × (c.add_up_rows-goes.result ≡ true) = elim c.if-piece.branch [
+      | then-piece w ↦ let clash : true ≡ false = sym w.if-piece.true ∙ sym w.piece-is ∙ still in absurd cc
+      | else-piece w ↦ (w.if-piece.false, is_so c.add_up_rows-goes.result (sym w.piece-is ∙ still))
+    ] in
+    let evens : AreEven (rows_in (block_of from) all) from totals =
+    subst (λ (rows : List Row). AreEven rows from totals) (c.as_slice.ensures.value ∙ c.in_ok-collect.ensures) (c.add_up_rows-goes.ensures.even facts.1) in
+    let are = evens_in all (block_of from) from totals (λ place inside. c.requires.block place (omega arith)) evens in
+    subst (λ n. AreTotals all first (from + n) c.add_totals.new.piece.rows.items) long (added all first are low (λ _. before facts.0) even))
+    c.add_totals.ensures.added

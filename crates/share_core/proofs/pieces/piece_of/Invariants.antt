@@ -8,7 +8,7 @@ abbrev pub invariant-loop-low : goal.invariant-loop-low
 invariant-loop-low l = record {
   after : l.from ≤ l.low;
   within : l.low ≤ l.high;
-  listed : length l.lists ≡ min l.block (l.high - l.from);
+  room : length l.totals ≡ min (l.high - l.from) 8192;
   made : IsPiece (all_rows l.shares) l.from l.low l.piece;
 }
 
