@@ -43,7 +43,7 @@ fn check_numbers(differs: Option<Differs>, is_large: bool) -> Result<(), Harvest
 ///
 /// Each number is asked once, in rising order, until one differs; what is marked after that is not judged. Nothing is
 /// entered or marked here. Where there are many patterns, threads add rows up while this one asks and one more lists the
-/// entries: together as many as there are shares, and four at least. Then threads sort the dictionary: as many as there are
+/// entries: together one fewer than there are shares, and four at least. Then threads sort the dictionary: as many as there are
 /// shares, rounded up to a power of two, 64 at most. The answer is the same.
 ///
 /// The pass must be of the table, each share of these kinds, and each of its games below `games`.
