@@ -158,6 +158,7 @@ where
         pass: table.split(pass),
         gate,
         worker: 0,
+        workers: usize::from(settings.workers()),
         kinds: settings.kinds(),
     };
     let crew = Crew { games, bench };

@@ -155,7 +155,7 @@ pub(crate) fn read_games<'a, R: Wait, O: ProbeOrder, G: Gate>(
     ensures fault { IfSome result.fault (IsReadFault games.entry.bytes) }
 {
     let mut games = games;
-    let mut worked = Worked::begin(alloc, 0, kinds);
+    let mut worked = Worked::begin_among(alloc, 0, workers, kinds);
     let alone = workers == 0;
     let outcome = read_all(
         rt,

@@ -9,7 +9,7 @@ ghost use Rattle.share_core.specs.declared.faults.HarvestFault.TheVariants as fa
 
 use crate::gates::Gate;
 use crate::reading::{Reading, close, read_games};
-use crate::working::{Worked, work};
+use crate::working::{Worked, work_among};
 use job_core::{Desk, Games};
 use probe_core::ProbeOrder;
 use shape_core::Kinds;
@@ -29,6 +29,8 @@ pub(crate) struct Bench<'q, 'a, 't, O: ProbeOrder, G: Gate> {
     pub pass: Pass<O>,
     pub gate: &'t G,
     pub worker: usize,
+    /// How many workers there are, beside the thread that reads.
+    pub workers: usize,
     pub kinds: Kinds,
 }
 
@@ -48,11 +50,14 @@ impl<'q, 'a, 't, O: ProbeOrder, G: Gate> Bench<'q, 'a, 't, O, G> {
             pass,
             gate,
             worker,
+            workers,
             kinds,
         } = self;
         let mut desk = desk;
         let mut pass = pass;
-        work(rt, alloc, &mut desk, worker, kinds, table, &mut pass, gate)
+        work_among(
+            rt, alloc, &mut desk, worker, workers, kinds, table, &mut pass, gate,
+        )
     }
 }
 
@@ -84,6 +89,7 @@ impl<'q, 'a, 't, O: ProbeOrder, G: Gate> Crew<'q, 'a, 't, O, G> {
             pass: self.bench.table.split(&mut self.bench.pass),
             gate: self.bench.gate,
             worker,
+            workers: self.bench.workers,
             kinds: self.bench.kinds,
         }
     }
@@ -102,6 +108,7 @@ impl<'q, 'a, 't, O: ProbeOrder, G: Gate> Crew<'q, 'a, 't, O, G> {
             pass,
             gate,
             worker: _,
+            workers: _,
             kinds,
         } = bench;
         let mut pass = pass;

@@ -31,8 +31,19 @@ impl Worked {
         ensures worked { (bytes : List ℕ) → IsWorked bytes kinds result.share }
         ensures refused { result.refused ≡ None }
     {
+        Worked::begin_among(alloc, worker, worker, kinds)
+    }
+
+    /// The same, of one of this many workers.
+    pub(crate) fn begin_among(alloc: Global, worker: usize, workers: usize, kinds: Kinds) -> Worked
+        ensures worker { result.share.worker ≡ worker }
+        ensures kinds { result.share.kinds ≡ kinds }
+        ensures games { result.share.games ≡ [] }
+        ensures worked { (bytes : List ℕ) → IsWorked bytes kinds result.share }
+        ensures refused { result.refused ≡ None }
+    {
         Worked {
-            share: Share::begin(alloc, worker, kinds),
+            share: Share::begin_among(alloc, worker, workers, kinds),
             refused: None,
         }
     }
@@ -86,7 +97,30 @@ pub fn work<R: Wait, O: ProbeOrder, G: Gate>(
     ensures drawn { HasDrawn desk.old result desk.new }
     ensures ended { desk.new.ends_drawn ≡ desk.old.ends_drawn + 1 }
 {
-    let mut worked = Worked::begin(alloc, worker, kinds);
+    work_among(rt, alloc, desk, worker, worker, kinds, table, pass, gate)
+}
+
+/// The same, of one of this many workers.
+pub(crate) fn work_among<R: Wait, O: ProbeOrder, G: Gate>(
+    rt: &R,
+    alloc: Global,
+    desk: &mut Desk<'_, '_>,
+    worker: usize,
+    workers: usize,
+    kinds: Kinds,
+    table: &SlotTable<O>,
+    pass: &mut Pass<O>,
+    gate: &G,
+) -> Worked
+    requires { IsPassOf (2 ^ O.exponent table.now.order) table.now pass.old }
+    ensures pass { IsPassOf (2 ^ O.exponent table.now.order) table.now pass.new }
+    ensures worker { result.share.worker ≡ worker }
+    ensures worked { IsWorked desk.old.bytes kinds result.share }
+    ensures refused { IsRefused desk.old.bytes kinds result.refused }
+    ensures drawn { HasDrawn desk.old result desk.new }
+    ensures ended { desk.new.ends_drawn ≡ desk.old.ends_drawn + 1 }
+{
+    let mut worked = Worked::begin_among(alloc, worker, workers, kinds);
     for _ in rt.forever() {
         match desk.draw(rt) {
             Some(Item::Job(job)) => worked.count(table, pass, gate, &job),

@@ -17,15 +17,15 @@ use slot_table::{Pass, SlotTable};
 use std::alloc::Global;
 use std::marker::Model;
 
-/// Of which power of two the buckets of a share are: 0 for the workers 0 to 7, 2 for those up to 15, 3 up to 31, and so on,
-/// at most 8. The higher a worker's number, the more workers there are, and the fewer rows each share has.
-fn shift_for(worker: usize) -> u32
+/// Of which power of two the buckets of a share are, where this many workers count: 0 for up to 7 workers, 1 for 8, 2 for up to
+/// 16, 3 for up to 32, 4 for up to 64, and so on, at most 8. The more workers there are, the fewer rows each share has.
+fn shift_for(workers: usize) -> u32
     ensures { result ≤ 8 }
 {
-    if worker < 8 {
+    if workers < 8 {
         return 0;
     }
-    (worker / 2).ilog2().min(8)
+    ((workers - 1) / 2).ilog2().min(8)
 }
 
 /// What one worker has counted: games, each with all its patterns, under the numbers that these have in a table.
@@ -80,10 +80,24 @@ impl Share {
           rows = [];
         } }
     {
+        Share::begin_among(alloc, worker, worker, kinds)
+    }
+
+    /// The same, of one of this many workers. The more there are, the less memory the share takes later to find its rows by their
+    /// numbers; nothing else depends on it.
+    pub fn begin_among(alloc: Global, worker: usize, workers: usize, kinds: Kinds) -> Share
+        ensures { result ≡ record {
+          worker = worker;
+          kinds = kinds;
+          games = [];
+          moves = 0;
+          rows = [];
+        } }
+    {
         Share {
             worker,
             workings: Workings::begin(alloc, kinds),
-            ledger: Ledger::begin(alloc, shift_for(worker)),
+            ledger: Ledger::begin(alloc, shift_for(workers)),
         }
     }
 

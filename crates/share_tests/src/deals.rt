@@ -72,8 +72,8 @@ fn share_of<O: ProbeOrder>(
     ensures kinds { IfOk result (λ share. share.kinds ≡ kinds.Both) }
     ensures games { IfOk result (λ share. All (λ game. game < length records.now) share.games) }
 {
-    // The shares of workers 16, 32 and 48 have smaller indexes, with chains.
-    let mut share = Share::begin(alloc, turn.saturating_mul(16), Kinds::Both);
+    // A share among 16 or 32 workers has a smaller index, with chains.
+    let mut share = Share::begin_among(alloc, turn, turn.saturating_mul(16), Kinds::Both);
     for step in 0..records.len() {
         let game = if turn % 2 == 0 {
             step

@@ -1,7 +1,7 @@
 use Rattle.std.proofs.Common.{◌≡◌, ◌^◌}
 use Rattle.slot_table.specs.Passes.{IsPassOf}
 use Rattle.harvest_core.specs.Working.{IsWorked, IsRefused, HasDrawn}
-use Rattle.harvest_core.proofs.working.work.Given as goal
+use Rattle.harvest_core.proofs.working.work_among.Given as goal
 
 -- the games so far
 abbrev pub invariant-loop : goal.invariant-loop

@@ -5,7 +5,7 @@ use Rattle.job_core.specs.declared.jobs.Item.TheVariants.{Job}
 use Rattle.job_core.specs.Rule.{drawing, Draws}
 use Rattle.harvest_core.specs.Working.{IsWorked, IsRefused}
 use Rattle.harvest_core.proofs.Drawn.{drawn_more}
-use Rattle.harvest_core.proofs.working.work.Goals as goal
+use Rattle.harvest_core.proofs.working.work_among.Goals as goal
 
 pub loop-preserved-in-Some-Job : goal.loop-preserved-in-Some-Job
 loop-preserved-in-Some-Job g c =
