@@ -119,14 +119,13 @@ fn conclude<R: Threads + Sync, O: ProbeOrder>(
     }
 }
 
-/// How many places the queue of this number of workers has: 16 for each, but at least 16 and at most 1024. Where there are more
-/// workers than processors, the reader waits for its turn while they count, and what it has put has to last so long.
+/// How many places the queue of this number of workers has: 16 for each, but at least 16 and at most 128.
 fn places_for(workers: u8) -> usize
-    ensures places { result ≡ min 1024 (16 * max 1 workers) }
+    ensures places { result ≡ min 128 (16 * max 1 workers) }
     ensures least { 16 ≤ result }
-    ensures most { result ≤ 1024 }
+    ensures most { result ≤ 128 }
 {
-    (16 * usize::from(workers).max(1)).min(1024)
+    (16 * usize::from(workers).max(1)).min(128)
 }
 
 /// Counts with a queue: the threads draw from it what this thread reads.
@@ -172,7 +171,7 @@ where
 ///
 /// This thread reads, and counts what the queue has no room for; as many workers as the settings say count what they draw
 /// from it. The slots of the settings are not looked at: those of the table count. The pass must be of the table, which
-/// may have numbers already. It takes memory for a queue of at most 1024 games, for each thread for the largest tree and its record,
+/// may have numbers already. It takes memory for a queue of at most 128 games, for each thread for the largest tree and its record,
 /// the board and the patterns of its games, and for the dictionary.
 ///
 /// # Errors
