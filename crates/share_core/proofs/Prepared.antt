@@ -1,6 +1,8 @@
 -- Rows that are made for the patterns of a game.
-use Rattle.std.proofs.Common.{◌≡◌, ℕ, ◌<◌, ◌≤◌, List, length, Some, refl, ap, ap₂, sym, subst, ◌∙◌, arith}
-use Rattle.std.proofs.lemmas.List.Elements.{All-get_or}
+use Rattle.std.proofs.Common.{◌≡◌, ℕ, ◌+◌, ◌<◌, ◌≤◌, List, ◌∷◌, ◌++◌, length, length-take, get_or, take, drop, Some, refl, ap, ap₂, sym, subst, ◌∙◌, arith}
+use Rattle.std.proofs.lemmas.List.{length-map, get_or-map, get_or-take, take-append-drop, drop_more}
+use Rattle.std.proofs.lemmas.List.Elements.{All-get_or, All-from_get_or}
+use Rattle.std.specs.Prelude.{slice_index}
 use Rattle.go_record.specs.Actions.{Actions}
 use Rattle.shape_core.specs.declared.words.Kinds.{Kinds}
 use Rattle.probe_core.specs.Sequential.{IsNumber}
@@ -9,19 +11,19 @@ use Rattle.slot_table.specs.History.{content_of}
 use Rattle.slot_table.specs.Passes.{Known}
 use Rattle.tally_core.specs.declared.meetings.Meeting.{Meeting}
 use Rattle.tally_core.specs.Counts.{kinds_of, there_in}
-use Rattle.tally_core.specs.Walk.{IsWalk}
+use Rattle.tally_core.specs.Walk.{IsWalk, shapes_of}
 use Rattle.share_core.specs.declared.rows.Row.{Row}
 use Rattle.share_core.specs.declared.making.Entered.{Entered}
 use Rattle.share_core.specs.declared.faults.HarvestFault.{HarvestFault}
 use Rattle.share_core.specs.declared.faults.HarvestFault.TheVariants as fault
 use Rattle.share_core.specs.Rows.{row_at, blank}
-use Rattle.share_core.specs.Inner.Raising.{meeting_at}
-use Rattle.share_core.specs.Inner.Making.{Gained, IsMakingFault, entered_at}
+use Rattle.share_core.specs.Inner.Raising.{meeting_at, AreRowsOf}
+use Rattle.share_core.specs.Inner.Making.{Gained, IsMakingFault, AreNumbered, entered_at}
 use Rattle.share_core.specs.Entering.{EntersOnly}
 use Rattle.share_core.specs.Inner.Entering.{AreEntered, IsRefused, IsMetIn}
 use Rattle.share_core.specs.Shares.{IsPatternOf}
 use Rattle.share_core.proofs.Entered.{calls_weaker}
-use Rattle.share_core.specs.Adding.{IsPrepareFault}
+use Rattle.share_core.specs.Adding.{HasItsRow, IsFirstRefused, IsPrepareFault}
 use Rattle.share_core.specs.Inner.Adding.{HasFresh}
 
 -- what is met in a game is a pattern of it
@@ -73,7 +75,64 @@ stranger_of n game seen kinds actions meetings entered moves rows (fault.Strange
     )
 stranger_of n game seen kinds actions meetings entered moves rows _ walk few each h = absurd h
 
-pub full_of : (n game : ℕ) (seen : List Happened) (kinds : Kinds) (actions : Actions) (meetings : List Meeting) (moves shape : ℕ) (rows : List Row) →
-    IsWalk kinds actions meetings moves → IsRefused n seen meetings shape → IsPrepareFault n seen game kinds actions rows (fault.Full game shape)
-full_of n game seen kinds actions meetings moves shape rows walk h =
-    (refl, subst (IsPatternOf kinds actions) (sym h.shape_is) (met_pattern kinds actions meetings moves h.place walk h.within), h.absent, h.full)
+-- the shape at a place of a list of meetings
+shape_at : (meetings : List Meeting) (i : ℕ) → i < length meetings → get_or (shapes_of meetings) i 0 ≡ (meeting_at meetings i).shape
+shape_at meetings i inside = get_or-map (λ (m : Meeting). m.shape) meetings i (record { shape = 0; there = 0; played = 0 }) 0 inside
+
+-- the meetings that were entered have their rows
+rowed_of : (n game : ℕ) (seen : List Happened) (meetings : List Meeting) (entered : List Entered) (places : List ℕ) (rows : List Row) → length entered ≤ length meetings →
+    AreEntered n seen game meetings entered → AreRowsOf (take (length entered) meetings) places rows → AreNumbered entered places rows →
+    (i : ℕ) → i < length entered → HasItsRow n seen rows (meeting_at meetings i).shape
+rowed_of n game seen meetings entered places rows few each of numbered i low =
+    let none : Meeting = record { shape = 0; there = 0; played = 0 } in
+    let front = length-take (length entered) meetings in
+    let as_many = of.each in
+    let inside : i < length places = omega arith in (
+      (entered_at entered i).number,
+      (each i low).number,
+      record {
+        place = slice_index places i;
+        within = of.within i inside;
+        number_is = numbered i inside;
+        shape_is = of.of_shape i inside ∙ ap (λ (m : Meeting). m.shape) (get_or-take (length entered) meetings i none low);
+      },
+    )
+
+-- a list before a place, what is there, and what comes after
+parted_at : (shapes : List ℕ) (k : ℕ) → k < length shapes → shapes ≡ take k shapes ++ get_or shapes k 0 ∷ drop (k + 1) shapes
+parted_at shapes k inside = sym (take-append-drop k shapes) ∙ ap (λ rest. take k shapes ++ rest) (drop_more shapes k 0 inside)
+
+-- the pattern that was refused is the first
+first_refused : (n game : ℕ) (seen : List Happened) (kinds : Kinds) (actions : Actions) (meetings : List Meeting) (entered : List Entered) (places : List ℕ) (moves shape : ℕ) (rows : List Row) →
+    IsWalk kinds actions meetings moves → AreEntered n seen game meetings entered → AreRowsOf (take (length entered) meetings) places rows → AreNumbered entered places rows →
+    IsRefused n seen meetings entered shape → IsFirstRefused n seen kinds actions rows shape
+first_refused n game seen kinds actions meetings entered places moves shape rows walk each of numbered h =
+    let k = length entered in
+    let shapes = shapes_of meetings in
+    let long : length shapes ≡ length meetings = length-map meetings (λ (m : Meeting). m.shape) in
+    let within = h.within in
+    let here : get_or shapes k 0 ≡ shape = shape_at meetings k within ∙ sym h.shape_is in
+    let front = length-take k shapes in
+    record {
+      meetings = meetings;
+      moves = moves;
+      walked = walk;
+      before = take k shapes;
+      after = drop (k + 1) shapes;
+      in_walk = parted_at shapes k (omega arith) ∙ ap (λ s. take k shapes ++ s ∷ drop (k + 1) shapes) here;
+      rowed = All-from_get_or (HasItsRow n seen rows) (take k shapes) 0 (λ i inside.
+          let low : i < k = omega arith in
+          subst (HasItsRow n seen rows) (sym (get_or-take k shapes i 0 low ∙ shape_at meetings i (omega arith)))
+          (rowed_of n game seen meetings entered places rows (omega arith) each of numbered i low));
+    }
+
+pub full_of : (n game : ℕ) (seen : List Happened) (kinds : Kinds) (actions : Actions) (meetings : List Meeting) (entered : List Entered) (places : List ℕ) (moves shape : ℕ) (rows : List Row) →
+    IsWalk kinds actions meetings moves → AreEntered n seen game meetings entered → AreRowsOf (take (length entered) meetings) places rows → AreNumbered entered places rows →
+    IsRefused n seen meetings entered shape → IsPrepareFault n seen game kinds actions rows (fault.Full game shape)
+full_of n game seen kinds actions meetings entered places moves shape rows walk each of numbered h = (
+  refl,
+  subst (IsPatternOf kinds actions) (sym h.shape_is) (met_pattern kinds actions meetings moves (length entered) walk h.within),
+  h.absent,
+  h.full,
+  first_refused n game seen kinds actions meetings entered places moves shape rows walk each of numbered h,
+)

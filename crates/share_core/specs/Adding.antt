@@ -1,5 +1,5 @@
 -- What adding a game to a share does, and why it may be refused.
-use Rattle.std.specs.Prelude.{◌≡◌, ◌≢◌, ℕ, ◌+◌, ◌*◌, ◌^◌, ◌<◌, ◌≤◌, ◌⊎◌, List, [], ◌∷◌, ◌++◌, length, Some}
+use Rattle.std.specs.Prelude.{◌≡◌, ◌≢◌, ℕ, ◌+◌, ◌*◌, ◌^◌, ◌<◌, ◌≤◌, ◌⊎◌, List, [], ◌∷◌, ◌++◌, length, Some, All}
 use Rattle.go_record.specs.Actions.{Actions}
 use Rattle.shape_core.specs.declared.words.Kinds.{Kinds}
 use Rattle.probe_core.specs.Sequential.{IsNumber, IsAbsent, IsFull}
@@ -8,7 +8,7 @@ use Rattle.slot_table.specs.History.{content_of, least_at, IsAtMost}
 use Rattle.tally_core.specs.declared.meetings.Meeting.{Meeting}
 use Rattle.tally_core.specs.Occasions.{Occasion, AreOccasions}
 use Rattle.tally_core.specs.Counts.{kinds_of, there_in, played_in}
-use Rattle.tally_core.specs.Walk.{IsWalk}
+use Rattle.tally_core.specs.Walk.{IsWalk, shapes_of}
 use Rattle.share_core.specs.declared.rows.Row.{Row}
 use Rattle.share_core.specs.declared.faults.HarvestFault.{HarvestFault}
 use Rattle.share_core.specs.declared.faults.HarvestFault.TheVariants as fault
@@ -69,11 +69,25 @@ pub record IsTooLarge (actions : Actions) (old : Held) : Type 0 where
   pub walked : IsWalk old.kinds actions meetings moves
   pub large : (2 ^ 64 ≤ weight_of old.rows + weight_among meetings) ⊎ (2 ^ 64 ≤ old.moves + moves)
 
--- why no counting of a game was begun: no number is free for a pattern of it; the row of the number of a pattern of it is of
--- another one; memory was refused; the game has more actions than any input
+-- a pattern has a number after a history, and there is a row of both
+abbrev pub HasItsRow : ℕ → List Happened → List Row → ℕ → Type 0
+HasItsRow n seen rows shape = (number : ℕ) × IsNumber (content_of n seen) shape number × HasRow rows number shape
+
+-- the pattern is the first of a game's walk that found no number: each before it has one, and its row
+pub record IsFirstRefused (n : ℕ) (seen : List Happened) (kinds : Kinds) (actions : Actions) (rows : List Row) (word : ℕ) : Type 0 where
+  pub meetings : List Meeting
+  pub moves : ℕ
+  pub walked : IsWalk kinds actions meetings moves
+  pub before : List ℕ
+  pub after : List ℕ
+  pub in_walk : shapes_of meetings ≡ before ++ word ∷ after
+  pub rowed : All (HasItsRow n seen rows) before
+
+-- why no counting of a game was begun: no number is free for a pattern of it, and it is the first such in the game's walk; the
+-- row of the number of a pattern of it is of another one; memory was refused; the game has more actions than any input
 abbrev pub IsPrepareFault : ℕ → List Happened → ℕ → Kinds → Actions → List Row → HarvestFault → Type 0
 IsPrepareFault n seen game kinds actions rows (fault.Full at word) = (at ≡ game) × IsPatternOf kinds actions word
-    × IsAbsent (content_of n seen) word × IsFull (content_of n seen)
+    × IsAbsent (content_of n seen) word × IsFull (content_of n seen) × IsFirstRefused n seen kinds actions rows word
 IsPrepareFault n seen game kinds actions rows (fault.Stranger number (Some held) (Some other)) = IsPatternOf kinds actions other
     × IsNumber (content_of n seen) other number × (held ≢ other) × HasRow rows number held
 IsPrepareFault n seen game kinds actions rows fault.Memory = Unit {0}

@@ -80,7 +80,8 @@ pub(crate) fn enter_all<O: ProbeOrder>(
     ensures all { IfOk result (λ refused. IfNone refused
         (length entered.new.items ≡ length meetings.now)) }
     ensures refused { IfOk result (λ refused. IfSome refused
-        (IsRefused (2 ^ O.exponent table.now.order) pass.new.seen meetings.now)) }
+        (IsRefused (2 ^ O.exponent table.now.order) pass.new.seen meetings.now
+        entered.new.items)) }
     ensures fault { IfErr result (λ found. found ≡ fault.Memory) }
 {
     entered.clear();

@@ -24,7 +24,9 @@ pub enum HarvestFault {
     /// Shares have this game twice.
     #[error("F3 game {0} twice")]
     Twice(u64),
-    /// A share has a row of a number at which the table has another pattern, or none.
+    /// Rows and the table do not go together at this number: `of_share` is the pattern of a row of it, None where no share has
+    /// one, and `of_table` the table's pattern there, None where the number is free. From `confirm_full` both may be the same:
+    /// then a row has the refused pattern.
     #[error("F4 stranger at number {number}")]
     Stranger {
         number: usize,
@@ -40,7 +42,7 @@ pub enum HarvestFault {
     /// The collection is not one that can be read.
     #[error("{0}")]
     Sgf(SgfFault),
-    /// A count is over 2^64 - 1.
+    /// A count is over 2^64 - 1, or a game has more actions than any input.
     #[error("F8 count too large")]
     Overflow,
     /// The least game marked at a number is not the least game of the number's rows in the shares.

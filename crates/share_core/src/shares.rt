@@ -188,8 +188,9 @@ impl Share {
     ///
     /// # Errors
     ///
-    /// `Full` where no number is free for a pattern of the game; `Stranger` where the share's row of a pattern's number is
-    /// of another pattern, as one from another table; `Overflow` where the share's moves or all its counts together would
+    /// `Full` where no number is free for a pattern of the game: the first such in the order of its walk, and each pattern before
+    /// it has a number and its row; `Stranger` where the share's row of a pattern's number is of another pattern, as one from
+    /// another table; `Overflow` where the share's moves or all its counts together would
     /// pass 2^64 - 1, or the game has more actions than any input; `Memory` where memory was refused. After each the
     /// share's games, moves and sums are as they were and the game is nowhere marked. Rows without counts may have come,
     /// and numbers in the table, of patterns of the game.

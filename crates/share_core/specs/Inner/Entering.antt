@@ -30,11 +30,10 @@ abbrev pub AreEntered : ℕ → List Happened → ℕ → List Meeting → List 
 AreEntered n seen game meetings entered = (i : ℕ) → i < length entered
     → IsEntered n seen game (meeting_at meetings i).shape (entered_at entered i)
 
--- the pattern of some meeting has no number, and no number is free
-pub record IsRefused (n : ℕ) (seen : List Happened) (meetings : List Meeting) (shape : ℕ) : Type 0 where
-  pub place : ℕ
-  pub within : place < length meetings
-  pub shape_is : shape ≡ (meeting_at meetings place).shape
+-- the pattern of the meeting after those that have numbers has none, and no number is free
+pub record IsRefused (n : ℕ) (seen : List Happened) (meetings : List Meeting) (entered : List Entered) (shape : ℕ) : Type 0 where
+  pub within : length entered < length meetings
+  pub shape_is : shape ≡ (meeting_at meetings (length entered)).shape
   pub absent : IsAbsent (content_of n seen) shape
   pub full : IsFull (content_of n seen)
 

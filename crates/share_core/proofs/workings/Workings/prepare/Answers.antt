@@ -64,9 +64,13 @@ returns-in-Some-clause-fault g c =
     let rows = c.make_rows.new.self.rows in
     let meetings = c.meetings-meetings.result.now in
     let walked = subst (λ (ms : List Meeting). IsWalk kinds actions ms c.in_ok-moves.moves) (sym c.meetings-meetings.ensures) c.in_ok-moves.ensures.walked in
-    let refused : IsRefused n seen meetings c.in-Some.shape = subst (λ o. IfSome o (IsRefused n seen meetings)) c.in-Some.is c.in_ok-refused.ensures.refused in
+    let entered = c.enter_all.new.entered.items in
+    let value = c.as_slice-entered.ensures.value in
+    let refused : IsRefused n seen meetings entered c.in-Some.shape = subst (λ o. IfSome o (IsRefused n seen meetings entered)) c.in-Some.is c.in_ok-refused.ensures.refused in
+    let rows_are = subst (λ (es : List Entered). AreRowsOf (take (length es) meetings) c.make_rows.new.places.items rows) value c.in_ok-make_rows.ensures.rows in
+    let numbered = subst (λ (es : List Entered). AreNumbered es c.make_rows.new.places.items rows) value c.in_ok-make_rows.ensures.numbered in
     subst (IsPrepareFault n seen c.args.game kinds actions rows) (sym (c.full.ensures ∙ ap (λ w. fault.Full c.args.game w) c.word.ensures.value))
-    (full_of n c.args.game seen kinds actions meetings c.in_ok-moves.moves c.in-Some.shape rows walked refused)
+    (full_of n c.args.game seen kinds actions meetings entered c.make_rows.new.places.items c.in_ok-moves.moves c.in-Some.shape rows walked c.enter_all.ensures.each rows_are numbered refused)
 
 pub returns-in-None-clause-fresh : goal.returns-in-None-clause-fresh
 returns-in-None-clause-fresh g c =
