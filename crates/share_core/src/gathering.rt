@@ -42,9 +42,9 @@ fn check_numbers(differs: Option<Differs>, is_large: bool) -> Result<(), Harvest
 /// all rows, and the least game. A pattern that was never there is left out.
 ///
 /// Each number is asked once, in rising order, until one differs; what is marked after that is not judged. Nothing is
-/// entered or marked here. Where there are many patterns, threads add rows up while this one asks and one more lists the
-/// entries: together one fewer than there are shares, and four at least. Then threads sort the dictionary: as many as there are
-/// shares, rounded up to a power of two, 64 at most. The answer is the same.
+/// entered or marked here. Where there are many patterns, threads add rows up, one fewer than there are shares and two at least,
+/// while this one asks and one more lists the entries. Then threads sort the dictionary: as many as there are shares, rounded
+/// up to a power of two, 64 at most. The answer is the same.
 ///
 /// The pass must be of the table, each share of these kinds, and each of its games below `games`.
 ///
