@@ -17,7 +17,7 @@ pub struct Played {
 
 /// A position on a board, and the points that the last move emptied.
 ///
-/// All memory is taken by `new` and `copied`, for each point of the board.
+/// All memory is taken by `new`, `copied` and `clone`, for each point of the board.
 #[derive(Clone, Debug, Drop)]
 pub struct Board {
     size: Size,

@@ -11,7 +11,7 @@ pub trait Replayable {
     /// The board as it is now.
     ghost board_of: { Self → Stones };
 
-    /// What it keeps beside the board has not changed from the first to the second.
+    /// How what it keeps beside the board may change from the first to the second. For a board alone this says nothing.
     ghost Stays: { Self → Self → Type 0 };
 
     /// `Stays` is reflexive.

@@ -2,6 +2,7 @@
 ghost use Rattle.std.specs.Prelude.{◌≡◌, All, Ok, IfOk, IfErr};
 ghost use Rattle.sgf_core.specs.Tree.{GameTree, main_line_of};
 ghost use Rattle.sgf_core.specs.Marks.{marks_of};
+ghost use Rattle.sgf_core.specs.Written.{IsSomeTree};
 ghost use Rattle.sgf_core.specs.Values.{value_of};
 ghost use Rattle.go_record.specs.Record.{record_of, is_go, board_of, root_of, first_value};
 ghost use Rattle.go_record.specs.Record.{collected, node_deeds};
@@ -71,13 +72,15 @@ fn actions_of(alloc: Global, size: Size, line: MainLine<'_, '_>) -> Result<Vec<A
 ///
 /// # Errors
 ///
-/// `BadSize` where the value of SZ is no size from 1 to 52 by 1 to 52. Otherwise the first of these, in the order of
-/// the actions: `BadPoint` where a value spells no point, rectangle or pass, and `OffBoard` where a point of it is off
-/// the board. Each has the place of its value. `Memory` where memory for the actions was refused. The tree is only
-/// read, so the call may be tried again.
+/// None where the tree is of another game, whatever its SZ is. `BadSize` where the value of SZ is no size from 1 to 52
+/// by 1 to 52. Otherwise the first of these, in the order of the actions: `BadPoint` where a value spells no point,
+/// rectangle or pass, and `OffBoard` where a point of it is off the board. Each has the place of its value. `Memory`
+/// where memory for the actions was refused: never for a tree of another game, with a bad size, or without actions. The
+/// tree is only read, so the call may be tried again.
 pub fn read_record(alloc: Global, tree: &Tree<'_>) -> Result<Kind, RecordFault>
-    ensures { (game : GameTree) → tree.now.marks ≡ marks_of game
+    ensures reads { (game : GameTree) → tree.now.marks ≡ marks_of game
         → IsUnlessMemory result (record_of (main_line_of game)) }
+    ensures tree { IsSomeTree tree.now }
 {
     if !is_go(root_value(tree.main_line(), b"GM")) {
         return Ok(Kind::Other);

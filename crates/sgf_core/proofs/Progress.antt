@@ -256,7 +256,7 @@ module _ (bytes : List ℕ) (from at place : ℕ) (marks : List Mark) (e : Expec
   is_fault (fault.BadByte bad) k = is_bad bad k
   is_fault (fault.NoValue bad) k = is_no_value bad k.0 k.1
   is_fault fault.TooLarge k = k
-  is_fault fault.Memory k = tt
+  is_fault fault.Memory k = (at, first)
 
 -- where a tree begins
 pub begins_at : (bytes : List ℕ) (at : ℕ) → BeginsTree (drop at bytes) → (at < length bytes) × (slice_index bytes at ≡ open_parenthesis)

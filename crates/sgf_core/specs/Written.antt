@@ -1,5 +1,7 @@
--- What a tree that was read is: its bounds in the whole input, and its marks.
-use Rattle.std.specs.Prelude.{ℕ, List}
+-- What a tree that was read is: its bounds in the whole input, and its marks, which are those of some tree.
+use Rattle.std.specs.Prelude.{◌≡◌, ℕ, List}
+use Rattle.sgf_core.specs.Tree.{GameTree}
+use Rattle.sgf_core.specs.Marks.{marks_of}
 use Rattle.sgf_core.specs.declared.marks.Mark.{Mark}
 
 -- `at` is the place of the first parenthesis, and `end` the place after the last
@@ -7,3 +9,8 @@ pub record WrittenTree : Type 0 where
   pub at : ℕ
   pub end : ℕ
   pub marks : List Mark
+
+-- the marks are those of some tree
+pub record IsSomeTree (read : WrittenTree) : Type 0 where
+  pub tree : GameTree
+  pub marks : read.marks ≡ marks_of tree

@@ -104,8 +104,8 @@ impl<'a> Trees<'a> {
     /// identifier's first value, and `BadByte` at any other byte that can't come where it is. The reader keeps such a
     /// fault, and each later call answers the same.
     ///
-    /// `Memory` where memory was refused for the tree's marks or for the values of a property beside the first. The
-    /// reader is then as it was before the call, so the call may be tried again.
+    /// `Memory` where memory was refused for the tree's marks or for the values of a property beside the first: only
+    /// where a tree begins. The reader is then as it was before the call, so the call may be tried again.
     pub fn next_tree(&mut self, alloc: Global) -> Result<Option<Tree<'a>>, SgfFault>
         ensures tree { IfOk result (λ found. IfSome found (λ read. (tree : GameTree)
             × IsNextTree self.old.bytes self.old.from read.at read.end tree

@@ -2,13 +2,14 @@
 ghost use Rattle.std.specs.Prelude.{◌≡◌};
 ghost use Rattle.sgf_core.specs.Tree.{GameTree, main_line_of};
 ghost use Rattle.sgf_core.specs.Marks.{marks_of};
+ghost use Rattle.sgf_core.specs.Written.{IsSomeTree};
 
 use crate::lines::MainLine;
 use crate::marks::Mark;
 use std::marker::Model;
 
 /// A game tree, as SGF FF[4] has it: its bounds in the whole input, and its marks. It is read whole: a sequence of one
-/// or more nodes, then inner trees.
+/// or more nodes, then inner trees. The marks of every `Tree` are those of some tree.
 #[derive(Clone, Debug, Drop)]
 pub struct Tree<'a> {
     pub(crate) at: usize,
@@ -17,11 +18,17 @@ pub struct Tree<'a> {
 }
 
 impl<'a> Model for Tree<'a> {
-    ghost use Rattle.sgf_core.specs.Written.{WrittenTree};
+    ghost use Rattle.sgf_core.specs.Written.{WrittenTree, IsSomeTree};
 
     ghost Value = { WrittenTree };
 
     ghost view = { λ tree. record { at = tree.at; end = tree.end; marks = tree.marks.items } };
+
+    ghost invariant = { λ tree. IsSomeTree (record {
+      at = tree.at;
+      end = tree.end;
+      marks = tree.marks.items;
+    }) };
 }
 
 impl<'a> Tree<'a> {
@@ -41,7 +48,8 @@ impl<'a> Tree<'a> {
 
     /// The tree's parts, one after the other as the tree is written: its own `Begin` first, its own `End` last.
     pub fn marks(&self) -> &[Mark<'a>]
-        ensures { result.now ≡ self.now.marks }
+        ensures marks { result.now ≡ self.now.marks }
+        ensures tree { IsSomeTree self.now }
     {
         self.marks.as_slice()
     }
@@ -49,7 +57,9 @@ impl<'a> Tree<'a> {
     /// The nodes of the main line: the tree's own, then those of its first inner tree, and so on. Nothing is copied,
     /// and no memory is taken.
     pub fn main_line(&self) -> MainLine<'_, 'a>
-        ensures { (tree : GameTree) → self.now.marks ≡ marks_of tree → result ≡ main_line_of tree }
+        ensures line { (tree : GameTree) → self.now.marks ≡ marks_of tree
+            → result ≡ main_line_of tree }
+        ensures tree { IsSomeTree self.now }
     {
         MainLine::new(self.marks())
     }

@@ -1,4 +1,4 @@
--- Lists that keep a word or a mark for each point of a board.
+-- The list that keeps a mark for each point of a board: a number for each row.
 use Rattle.std.specs.Prelude.{◌≡◌, ℕ, ◌^◌, ◌<◌, List, length, All}
 use Rattle.go_board.specs.Extent.{Extent}
 

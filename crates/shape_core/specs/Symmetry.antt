@@ -66,7 +66,7 @@ abbrev pub canonical_of : ℕ → Colour → ℕ
 canonical_of word colour.Black = least_image word
 canonical_of word colour.White = least_image (exchange_of word)
 
--- a word with its mover is one of the sixteen images of another with its mover
+-- the second word with its mover is one of the sixteen images of the first with its mover
 abbrev pub IsImageOf : ℕ → Colour → ℕ → Colour → Type 0
 IsImageOf word mover image image_mover =
     (s : Symmetry) × ((image ≡ image_of s word) × (image_mover ≡ mover)

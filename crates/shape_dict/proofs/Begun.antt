@@ -1,5 +1,5 @@
 -- Bytes that begin with a header and lines: one line more, and each fault at its line.
-use Rattle.std.proofs.Common.{◌≡◌, ◌≢◌, ℕ, suc, ◌+◌, ◌-◌, ◌<◌, ◌≤◌, inl, inr, List, [], ◌∷◌, ◌++◌, length, get_or, take, sym, refl, ap, ◌∙◌, subst, arith, append_assoc}
+use Rattle.std.proofs.Common.{◌≡◌, ◌≢◌, ℕ, zero, suc, ◌+◌, ◌-◌, ◌<◌, ◌≤◌, inl, inr, All, List, [], ◌∷◌, ◌++◌, length, get_or, take, sym, refl, ap, ◌∙◌, subst, arith, append_assoc}
 use Rattle.std.specs.List.{flat_map}
 use Rattle.std.specs.List.Sorted.{IsStrictlyIncreasing}
 use Rattle.std.proofs.lemmas.Bool.{cases_lt}
@@ -10,7 +10,7 @@ use Rattle.shape_core.specs.Symmetry.{least_image}
 use Rattle.shape_dict.specs.declared.entries.Entry.{Entry}
 use Rattle.shape_dict.specs.declared.headers.Header.{Header}
 use Rattle.shape_dict.specs.Text.{header_text, line_text}
-use Rattle.shape_dict.specs.Reading.{IsLine, AreLines, AreShapes, BeginsWith, NextLine, IsNotRising, IsNotCanonical, lines_after}
+use Rattle.shape_dict.specs.Reading.{IsLine, AreLines, AreShapes, BeginsWith, HasFirstLine, NextLine, IsNotRising, IsNotCanonical, lines_after}
 use Rattle.shape_dict.proofs.Climbing.{shapes_of}
 
 rises_push : (ws : List ℕ) (w : ℕ) → IsStrictlyIncreasing ws → (0 < length ws → get_or ws (length ws - 1) 0 < w) → IsStrictlyIncreasing (ws ++ w ∷ [])
@@ -74,4 +74,28 @@ not_canonical whole header es e left rest h more line same above other = record 
   rises = shapes_rise_more es e h.shapes.rises above;
   other = other;
   at = refl;
+}
+
+-- where lines were read, there was a first one
+first_joined : (h l f left : List ℕ) → h ++ (l ++ f) ++ left ≡ h ++ (l ++ []) ++ (f ++ left)
+first_joined h l f left =
+    ap (λ x. x ++ left) (sym (append_assoc h l f)) ∙ (append_assoc (h ++ l) f left ∙ ap (λ x. h ++ x ++ (f ++ left)) (sym (append-nil l)))
+
+all_first : (P : Entry → Type 0) (e : Entry) (es : List Entry) → All P (e ∷ es) → All P (e ∷ [])
+all_first P e es h zero d small = h 0 d (omega arith)
+all_first P e es h (suc k) d small = absurd (omega arith)
+
+pub first_line : (whole : List ℕ) (header : Header) (es : List Entry) (left : List ℕ) → BeginsWith whole header es left → 0 < length es → HasFirstLine whole
+first_line whole header [] left h some = absurd (omega arith)
+first_line whole header (e ∷ es) left h some = record {
+  header = header;
+  entry = e;
+  left = flat_map (line_text header.text) es ++ left;
+  begins = record {
+    is_header = h.is_header;
+    lines = (h.lines.0, tt);
+    shapes = record { rises = λ k small. absurd (omega arith); canonical = all_first (λ x. least_image x.shape ≡ x.shape) e es h.shapes.canonical };
+    few = let all = h.few in omega arith;
+    same = h.same ∙ first_joined (header_text header) (line_text header.text e) (flat_map (line_text header.text) es) left;
+  };
 }

@@ -14,7 +14,8 @@ use Rattle.shape_dict.proofs.Known.{known, read_unique}
 use Rattle.shape_dict.proofs.Read.{fault_of_whole}
 use Rattle.shape_dict.proofs.Stopped.{IsStop, either, stop_unique, not_stopped, missing_stop, falling_stop, other_stop, wrong_stop, more_stop}
 
-header_begun : (bytes : List ℕ) (header : Header) (es : List Entry) (left : List ℕ) → BeginsWith bytes header es left → HasHeader bytes
+-- bytes that begin with a header and lines begin with a header
+pub header_begun : (bytes : List ℕ) (header : Header) (es : List Entry) (left : List ℕ) → BeginsWith bytes header es left → HasHeader bytes
 header_begun bytes header es left h = record {
   header = header;
   left = flat_map (line_text header.text) es ++ left;

@@ -80,6 +80,13 @@ pub record HasHeader (bytes : List ℕ) : Type 0 where
   pub is_header : IsHeader header
   pub same : bytes ≡ header_text header ++ left
 
+-- the bytes begin with a header and a first line, without a fault; `left` is what follows
+pub record HasFirstLine (bytes : List ℕ) : Type 0 where
+  pub header : Header
+  pub entry : Entry
+  pub left : List ℕ
+  pub begins : BeginsWith bytes header (entry ∷ []) left
+
 -- the bytes do not begin with a header
 abbrev pub HasNoHeader : List ℕ → Type 0
 HasNoHeader bytes = HasHeader bytes → ⊥
@@ -154,14 +161,14 @@ pub record HasMore (bytes : List ℕ) (line : ℕ) : Type 0 where
   pub at : line ≡ lines_after header + 2
 
 -- the fault is the first in bytes that are to begin with a text, however many they are; want of memory comes after a
--- header, whatever follows it
+-- header and a first line without a fault, whatever follows them
 abbrev pub IsFirstFault : List ℕ → DictFault → Type 0
 IsFirstFault bytes fault.BadHeader = HasNoHeader bytes
 IsFirstFault bytes (fault.BadLine line) = IsBadLine bytes line
 IsFirstFault bytes (fault.NotRising line) = IsNotRising bytes line
 IsFirstFault bytes (fault.NotCanonical line) = IsNotCanonical bytes line
 IsFirstFault bytes fault.WrongTotals = HasWrongTotals bytes
-IsFirstFault bytes fault.Memory = HasHeader bytes
+IsFirstFault bytes fault.Memory = HasFirstLine bytes
 IsFirstFault bytes fault.Overflow = ⊥
 IsFirstFault bytes fault.TooLarge = ⊥
 IsFirstFault bytes fault.MixedKinds = ⊥

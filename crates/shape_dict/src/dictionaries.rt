@@ -54,8 +54,9 @@ impl Dictionary {
     ghost use Rattle.shape_dict.specs.Join.{IsJoin, IsOverflow, IsJoinFault};
 
     /// The dictionary that holds what it is given. The words rise, each pattern was there once or more and was played at
-    /// most as often, the plays of the squares add up to the moves, and those of the diamonds where they are counted;
-    /// with no games there are no moves. It takes no memory.
+    /// most as often, and its first game, where that is known, is below `games`. The plays of the squares add up to the
+    /// moves, and those of the diamonds where they are counted; where they are not, there is no diamond. With no games
+    /// there are no moves. It takes no memory.
     pub fn new(games: u64, moves: u64, entries: Vec<Entry>, counts_diamonds: bool) -> Dictionary
         requires { IsDictionary (record {
           games = games;
@@ -120,7 +121,8 @@ impl Dictionary {
     /// # Errors
     ///
     /// `MixedKinds` exactly where one counts diamonds and the other does not; else `Overflow` where a sum is over
-    /// 2^64 - 1, and `Memory` where memory was refused. Both dictionaries stay as they are.
+    /// 2^64 - 1, and `Memory` where memory was refused, which is asked for only where the games and the moves add up to
+    /// 2^64 - 1 at most. Both dictionaries stay as they are.
     pub fn join(
         alloc: Global,
         left: &Dictionary,

@@ -151,7 +151,7 @@ impl Dictionary {
     /// header, and for each line in turn `BadLine` where it is missing or is none, `NotRising` where its word is not above
     /// the one before, `NotCanonical` where its word is not the least of its images; then `WrongTotals` where the plays do
     /// not add up to the moves, and `BadLine` where bytes follow the text. `Memory` where memory was refused, which is asked
-    /// for after a header alone.
+    /// for only after a header and a first line without a fault.
     pub fn read(alloc: Global, bytes: &[u8]) -> Result<Dictionary, DictFault>
         ensures found { IfOk result (λ d. IsTextOf d bytes.now × (length bytes.now ≤ most_bytes)) }
         ensures only { (contents : Contents) → IsTextOf contents bytes.now

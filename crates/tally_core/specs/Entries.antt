@@ -1,4 +1,4 @@
--- What a map of counts has, as entries: with the first games that it knows, or without.
+-- What holds of the pattern of an entry.
 use Rattle.std.specs.Prelude.{◌≡◌, ◌<◌, ◌^◌}
 use Rattle.shape_core.specs.Symmetry.{least_image}
 use Rattle.shape_dict.specs.declared.entries.Entry.{Entry}

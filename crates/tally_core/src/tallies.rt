@@ -59,8 +59,8 @@ impl Tally {
 ///
 /// # Errors
 ///
-/// `HarvestFault::Memory` where memory for the board or the counts was refused. `HarvestFault::Overflow`, of a count that
-/// would pass 2^64 - 1, only where the game has more actions than any input.
+/// `HarvestFault::Memory` where memory for the board or the counts was refused. `HarvestFault::Overflow` where the game has
+/// so many actions that a count might pass 2^64 - 1, which is more than any input has.
 pub fn tally_plain(alloc: Global, kinds: Kinds, game_record: &Record) -> Result<Tally, HarvestFault>
     ensures tally { IfOk result (IsTally kinds game_record.now) }
     ensures fault { IfErr result (IsTallyFault game_record.now) }

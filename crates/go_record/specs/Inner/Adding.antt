@@ -1,5 +1,5 @@
 -- What the definitions of `Adding` serve inside the crate.
-use Rattle.std.specs.Prelude.{◌≡◌, List, [], ◌++◌, map, Option, Some, None, Result, Ok, Err}
+use Rattle.std.specs.Prelude.{◌≡◌, ◌≢◌, List, [], ◌++◌, map, Option, Some, None, Result, Ok, Err}
 use Rattle.sgf_core.specs.Tree.{PropertyValue, Property}
 use Rattle.go_board.specs.Extent.{Extent}
 use Rattle.go_record.specs.declared.actions.Action.{Action}
@@ -32,13 +32,14 @@ abbrev pub round_deeds : Extent → Round → Property → List (Result (Option 
 round_deeds size round.Setups property = setups_of size (setup_stone property) property
 round_deeds size round.Moves property = moves_of size (move_colour property) property
 
--- the results were added to the actions, or their first fault was answered, or memory was wanting
+-- the results were added to the actions, or their first fault was answered, or memory was wanting, which can be only
+-- where there is something to add
 abbrev pub Adds : List (Result (Option Action) RecordFault) → List Action → List Action → Result (Unit {0}) RecordFault → Type 0
 Adds deeds before after (Ok done) = behind before (collected deeds) ≡ Ok after
-Adds deeds before after (Err fault.Memory) = Unit {0}
+Adds deeds before after (Err fault.Memory) = collected deeds ≢ Ok []
 Adds deeds before after (Err found) = behind before (collected deeds) ≡ Err found
 
--- the fault is that of these actions, or memory was wanting
+-- the fault is that of these actions, or memory was wanting for some of them
 abbrev pub IsFaultOrMemory : Result (List Action) RecordFault → RecordFault → Type 0
-IsFaultOrMemory actions fault.Memory = Unit {0}
+IsFaultOrMemory actions fault.Memory = actions ≢ Ok []
 IsFaultOrMemory actions found = actions ≡ Err found

@@ -1,4 +1,4 @@
-use Rattle.std.proofs.Common.{◌≡◌, All}
+use Rattle.std.proofs.Common.{◌≡◌, ◌≤◌, length, All}
 use Rattle.std.specs.List.{flat_map}
 use Rattle.go_record.specs.Actions.{IsActionOn}
 use Rattle.go_record.specs.Inner.Adding.{behind}
@@ -10,6 +10,7 @@ invariant-loop-node l = record {
   can_next : (goal.iterator-loop-node).can_next l.node-iterator;
   is_finite : (goal.iterator-loop-node).is_finite l.node-iterator;
   on_board : All (IsActionOn l.size) l.actions.items;
+  grown : length l.fn.actions.items ≤ length l.actions.items;
   left : behind l.actions.items (collected (flat_map (node_deeds l.size) l.node-iterator))
       ≡ behind l.fn.actions.items (collected (flat_map (node_deeds l.size) l.fn.line));
 }

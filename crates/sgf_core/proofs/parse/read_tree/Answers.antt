@@ -16,6 +16,13 @@ returns-then-depth-eq0-clause-tree c =
     goes_to_end c.args.bytes.now c.args.at l.place c.in_ok-mark.end l.marks.items c.push-then-depth-eq0.new.self.items l.expects l.depth c.in_ok-mark.mark l.invariant c.in_ok-mark.ensures.read c.in_ok-push-in-End.ensures.items
     (begins_at c.args.bytes.now c.args.at c.requires.begins).1 c.in-End.is c.if-depth-eq0.true
 
+pub invariant_of-result : goal.invariant_of-result
+invariant_of-result c =
+    let l = c.loop-marks in
+    let found = goes_to_end c.args.bytes.now c.args.at l.place c.in_ok-mark.end l.marks.items c.push-then-depth-eq0.new.self.items l.expects l.depth c.in_ok-mark.mark l.invariant c.in_ok-mark.ensures.read c.in_ok-push-in-End.ensures.items
+    (begins_at c.args.bytes.now c.args.at c.requires.begins).1 c.in-End.is c.if-depth-eq0.true in
+    record { tree = found.0; marks = found.2 }
+
 pub loop-marks-preserved : goal.loop-marks-preserved
 loop-marks-preserved c =
     let l = c.loop-marks in

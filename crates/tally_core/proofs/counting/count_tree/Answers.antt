@@ -9,14 +9,14 @@ pub count_recorded-requires : goal.count_recorded-requires
 count_recorded-requires c =
     let game = c.requires.small.0 in
     let small = c.requires.small.1 in
-    let few = few_recorded (main_line_of game) c.read_record.result (c.few_actions.ensures (main_line_of game)) (c.read_record.ensures game small.marks) in
+    let few = few_recorded (main_line_of game) c.read_record.result (c.few_actions.ensures (main_line_of game)) (c.read_record.ensures.reads game small.marks) in
     (c.args.tree.now.at, c.requires.within, omega (arith, few, small.values, small.in_input))
 
 pub returns-clause-within : goal.returns-clause-within
 returns-clause-within c =
     let game = c.requires.small.0 in
     let small = c.requires.small.1 in
-    let few = few_recorded (main_line_of game) c.read_record.result (c.few_actions.ensures (main_line_of game)) (c.read_record.ensures game small.marks) in
+    let few = few_recorded (main_line_of game) c.read_record.result (c.few_actions.ensures (main_line_of game)) (c.read_record.ensures.reads game small.marks) in
     on_ok_weaker c.count_recorded.result
     (within_later (c.args.tree.now.at + actions_in c.read_record.result + 1) c.args.tree.now.end c.count_recorded.new.counter (omega (arith, few, small.values)))
     (c.count_recorded.ensures.within c.args.tree.now.at c.requires.within)
