@@ -1,14 +1,17 @@
 -- What the reader of games has read, and what a step of it does.
-use Rattle.std.specs.Prelude.{◌≡◌, ℕ, ◌+◌, ◌≤◌, List}
+use Rattle.std.specs.Prelude.{◌≡◌, ℕ, ◌+◌, ◌≤◌, Bool, List, Option}
+use Rattle.tally_core.specs.declared.faults.HarvestFault.{HarvestFault}
 use Rattle.tally_core.specs.declared.reports.Report.{Report}
 use Rattle.job_core.specs.Games.{WrittenGame, HasReadAll}
 use Rattle.sgf_core.specs.Limit.{most_bytes}
 
--- an input, the place up to which its trees were read, and what these are
+-- an input, the place up to which its trees were read, what these are, the fault that was met, and whether no tree was left
 pub record Reading : Type 0 where
   pub bytes : List ℕ
   pub from : ℕ
   pub report : Report
+  pub fault : Option HarvestFault
+  pub ended : Bool
 
 -- the game that was next
 pub record IsNextGame (before after : Reading) (job : WrittenGame) : Type 0 where

@@ -1,5 +1,5 @@
 //! The games of an input, one after another.
-ghost use Rattle.std.specs.Prelude.{◌≡◌, ◌≢◌, ◌^◌, ◌+◌, ◌<◌, ◌≤◌, ◌↔◌, ℕ, length, Ok, Err, Some, None};
+ghost use Rattle.std.specs.Prelude.{◌≡◌, ◌≢◌, ◌^◌, ◌+◌, ◌<◌, ◌≤◌, ◌↔◌, ℕ, length, Ok, Err, Some, None, true, false};
 ghost use Rattle.std.specs.Prelude.{IfOk, IfErr, IfSome, IfNone, IsOk};
 ghost use Rattle.sgf_core.specs.Tree.{GameTree};
 ghost use Rattle.sgf_core.specs.Marks.{marks_of};
@@ -9,6 +9,7 @@ ghost use Rattle.go_record.specs.declared.faults.RecordFault.TheVariants as reco
 ghost use Rattle.tally_core.specs.Counted.{IsCountFault};
 ghost use Rattle.tally_core.specs.Inner.Counting.{IsNextFault, IsKept};
 ghost use Rattle.tally_core.specs.declared.faults.HarvestFault.TheVariants as fault;
+ghost use Rattle.job_core.specs.declared.games.Step.TheVariants as step;
 ghost use Rattle.job_core.specs.Games.{HasRead};
 ghost use Rattle.job_core.specs.Reading.{IsNextGame, HasNoGame};
 ghost use Rattle.job_core.specs.Inner.Reading.{IsStep, IsNextRecord, Counts};
@@ -53,7 +54,8 @@ struct Recorded {
 
 /// Reads the games of an input, which are numbered from 0 in their order, and counts what its trees are.
 ///
-/// Contracts see the input, the place `from` up to which its trees were read, and the report on these.
+/// Contracts see the input, the place `from` up to which its trees were read, the report on these, the `fault` that was met,
+/// if any, and whether the reader has `ended`: no tree was left.
 #[derive(Drop)]
 pub struct Games<'a> {
     bytes: &'a [u8],
@@ -67,12 +69,17 @@ impl<'a> Model for Games<'a> {
     ghost use Rattle.std.specs.Prelude.{◌≡◌};
     ghost use Rattle.job_core.specs.Games.{HasRead};
     ghost use Rattle.job_core.specs.Reading.{Reading};
-    ghost use Rattle.job_core.specs.Inner.Reading.{IsStage};
+    ghost use Rattle.job_core.specs.Inner.Reading.{IsStage, fault_of, has_ended};
 
     ghost Value = { Reading };
 
-    ghost view = { λ games. record
-        { bytes = games.bytes.now; from = games.from; report = games.report } };
+    ghost view = { λ games. record {
+      bytes = games.bytes.now;
+      from = games.from;
+      report = games.report;
+      fault = fault_of games.stage;
+      ended = has_ended games.stage;
+    } };
 
     ghost invariant = { λ games. HasRead games.bytes.now games.from games.report
         × IsStage games.bytes.now games.from games.trees.from games.trees.fault games.stage
@@ -168,6 +175,8 @@ impl<'a> Games<'a> {
           bytes = bytes.now;
           from = 0;
           report = record { games = 0; others = 0; refused = 0 };
+          fault = None;
+          ended = false;
         }) }
         ensures large { IfErr result (λ found. found ≡ fault.Sgf sgf.TooLarge) }
         ensures fault { IfErr result (IsCountFault bytes.now) }
@@ -192,6 +201,11 @@ impl<'a> Games<'a> {
         ensures bytes { self.new.bytes ≡ self.old.bytes }
         ensures step { IfOk result (IsStep self.old self.new) }
         ensures fault { IfErr result (IsCountFault self.old.bytes) }
+        ensures after_fault { IfErr result (λ found. self.new.fault ≡ Some found) }
+        ensures same { IfSome self.old.fault (λ found. (result ≡ Err found)
+            × (self.new ≡ self.old)) }
+        ensures ended { self.old.ended ≡ true
+            → (result ≡ Ok step.End) × (self.new ≡ self.old) }
     {
         match self.stage {
             Stage::Trees => (),
@@ -223,17 +237,22 @@ impl<'a> Games<'a> {
     /// The job of the next game, or None where no game is left. Trees of other games, and those whose records have a
     /// fault, are counted and passed over.
     ///
-    /// It takes memory for a tree and its record. After None each later call answers None.
+    /// It takes memory for a tree and its record. After None each later call answers None and changes nothing.
     ///
     /// # Errors
     ///
-    /// `Sgf` where the next tree has a fault of syntax; `Memory` where memory was refused. After a fault each later call
-    /// answers it again, and the report is that of the trees before it.
+    /// `Sgf` where the next tree has a fault of syntax; `Memory` where memory was refused. After a fault, want of memory too,
+    /// each later call answers it again and changes nothing, so the report stays that of the trees that were read.
     pub fn next_job(&mut self, alloc: Global) -> Result<Option<Job<'a>>, HarvestFault>
         ensures bytes { self.new.bytes ≡ self.old.bytes }
         ensures job { IfOk result (λ found. IfSome found (IsNextGame self.old self.new)) }
         ensures none { IfOk result (λ found. IfNone found (HasNoGame self.old self.new)) }
         ensures fault { IfErr result (IsCountFault self.old.bytes) }
+        ensures after_fault { IfErr result (λ found. self.new.fault ≡ Some found) }
+        ensures same { IfSome self.old.fault (λ found. (result ≡ Err found)
+            × (self.new ≡ self.old)) }
+        ensures after_none { IfOk result (λ found. IfNone found (self.new.ended ≡ true)) }
+        ensures ended { self.old.ended ≡ true → (result ≡ Ok None) × (self.new ≡ self.old) }
     {
         loop {
             match self.step(alloc)? {

@@ -11,7 +11,7 @@ use std::marker::{Brand, Model};
 use std::sync::Wait;
 use tally_core::HarvestFault;
 
-/// A new queue of that number of places, and its first pass. It takes memory for the places.
+/// A new queue of that number of places, above 0, and its first pass. It takes memory for the places.
 ///
 /// # Errors
 ///
@@ -107,8 +107,9 @@ impl<'q, 'a> Desk<'q, 'a> {
         self.queue.push_as::<Puts, R>(rt, &mut self.pass, item)
     }
 
-    /// Draws the item that was put first, or None where the queue is empty. It takes no memory, and may wait for a thread
-    /// that is in the middle of a call.
+    /// Draws an item, or answers None where it finds the queue empty. A job that is drawn is of the input of the queue, and
+    /// its game is above all that this desk drew before. The items come in the queue's own order, that of first in, first
+    /// out, of which no clause speaks. It takes no memory, and may wait for a thread that is in the middle of a call.
     pub fn draw<R: Wait>(&mut self, rt: &R) -> Option<Item<'a>>
         ensures { MatchOption result (self.new ≡ self.old)
             (λ x. (self.new ≡ drawing self.old x) × Draws self.old x) }

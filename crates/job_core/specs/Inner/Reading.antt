@@ -1,5 +1,5 @@
 -- What the definitions of `Reading` serve inside the crate.
-use Rattle.std.specs.Prelude.{◌≡◌, ◌⊎◌, ℕ, ◌+◌, ◌<◌, ◌≤◌, List, length, Option, Some, None, Result, Ok, Err}
+use Rattle.std.specs.Prelude.{◌≡◌, ◌⊎◌, ℕ, ◌+◌, ◌<◌, ◌≤◌, Bool, true, false, List, length, Option, Some, None, Result, Ok, Err}
 use Rattle.sgf_core.specs.Tree.{GameTree}
 use Rattle.sgf_core.specs.Next.{IsNextTree, HasNoTree}
 use Rattle.go_record.specs.Actions.{Actions}
@@ -9,6 +9,7 @@ use Rattle.go_record.specs.declared.faults.RecordFault.{RecordFault}
 use Rattle.tally_core.specs.Collection.{record_of_tree}
 use Rattle.sgf_core.specs.declared.faults.SgfFault.{SgfFault}
 use Rattle.tally_core.specs.Counted.{IsCountFault}
+use Rattle.tally_core.specs.declared.faults.HarvestFault.{HarvestFault}
 use Rattle.tally_core.specs.Inner.Counting.{IsKept}
 use Rattle.tally_core.specs.declared.reports.Report.{Report}
 use Rattle.job_core.specs.declared.games.Stage.{Stage}
@@ -24,12 +25,24 @@ IsStage bytes from place kept stage.Trees = (place ≡ from) × (kept ≡ None)
 IsStage bytes from place kept stage.End = HasNoTree bytes from
 IsStage bytes from place kept (stage.Fault found) = IsKept found kept × IsCountFault bytes found
 
+-- the fault that was met
+abbrev pub fault_of : Stage → Option HarvestFault
+fault_of stage.Trees = None
+fault_of stage.End = None
+fault_of (stage.Fault found) = Some found
+
+-- whether no tree was left
+abbrev pub has_ended : Stage → Bool
+has_ended stage.Trees = false
+has_ended stage.End = true
+has_ended (stage.Fault found) = false
+
 -- one tree was read, or none was left
 abbrev pub IsStep : Reading → Reading → Step → Type 0
 IsStep before after (step.Job job) = IsNextGame before after job
 IsStep before after step.Passed = (after.report.games ≡ before.report.games)
     × (before.from < after.from) × (after.from ≤ length after.bytes)
-IsStep before after step.End = HasNoGame before after
+IsStep before after step.End = HasNoGame before after × (after.ended ≡ true)
 
 -- the tree that is next, with its record
 pub record IsNextRecord (bytes : List ℕ) (from : ℕ) (read : Recorded) : Type 0 where
