@@ -1,5 +1,5 @@
 -- Shares of games of an input, once one more game was added or refused.
-use Rattle.std.proofs.Common.{◌≡◌, ℕ, ◌<◌, ◌≤◌, ◌*◌, ◌^◌, Some, inl, inr, List, [], ◌∷◌, ◌++◌, length, ap, sym, subst, ◌∙◌, arith, ⊎_elim, Contains}
+use Rattle.std.proofs.Common.{◌≡◌, ℕ, ◌<◌, ◌≤◌, ◌*◌, ◌^◌, ◌⊎◌, Some, inl, inr, refl, List, [], ◌∷◌, ◌++◌, length, ap, sym, subst, ◌∙◌, arith, ⊎_elim, Contains}
 use Rattle.std.proofs.lemmas.List.{map-append, get_or_default}
 use Rattle.std.proofs.lemmas.List.Elements.{All-push, Contains-append_cases, Contains-get_or}
 use Rattle.go_record.specs.Actions.{Actions}
@@ -12,43 +12,78 @@ use Rattle.share_core.specs.Rows.{row_at, blank}
 use Rattle.share_core.specs.Raising.{Numbered, numbered_of}
 use Rattle.share_core.specs.Shares.{Held, Added, IsPatternOf}
 use Rattle.share_core.specs.Adding.{IsAdded, HasGrown, IsKept, AreFresh, IsAddFault, IsTooLarge}
+use Rattle.share_core.specs.Confirming.{HasShape}
+use Rattle.share_core.specs.Entering.{CallsOnly}
+use Rattle.slot_table.specs.Passes.{Known}
 use Rattle.share_core.proofs.Raised.{same_shape, same_length}
 use Rattle.share_core.proofs.Added.{still_of, share_of_more}
-use Rattle.harvest_core.specs.Working.{IsGame, IsPatternOfGame, IsPatternIn, IsWorked, IsRefusal}
+use Rattle.harvest_core.proofs.Called.{calls_weaker}
+use Rattle.harvest_core.specs.Working.{IsGame, IsPatternOfGame, IsPatternIn, IsWorked, IsRefusal, AreOfGame}
+
+-- a pattern of a game's record is one of the game
+of_game : (bytes : List ℕ) (held kinds : Kinds) (game : ℕ) (actions : Actions) (key : ℕ) → IsGame bytes game actions → held ≡ kinds → IsPatternOf held actions key →
+    IsPatternOfGame bytes kinds game key
+of_game bytes held kinds game actions key is same pattern =
+    record { actions = actions; is_game = is; pattern = subst (λ k. IsPatternOf k actions key) same pattern }
 
 -- rows that were made for a game are of its patterns
-fresh_known : (bytes : List ℕ) (n : ℕ) (seen : List Happened) (kinds : Kinds) (game : ℕ) (actions : Actions) (fresh : List Row) (row : Row) → IsGame bytes game actions →
-    AreFresh n seen kinds actions fresh → Contains fresh row → IsPatternIn bytes kinds row.shape
-fresh_known bytes n seen kinds game actions fresh row is made among =
+fresh_known : (bytes : List ℕ) (n : ℕ) (seen : List Happened) (held kinds : Kinds) (game : ℕ) (actions : Actions) (fresh : List Row) (row : Row) → IsGame bytes game actions →
+    held ≡ kinds → AreFresh n seen held actions fresh → Contains fresh row → IsPatternOfGame bytes kinds game row.shape
+fresh_known bytes n seen held kinds game actions fresh row is same made among =
     let at = among.0 in
-    let here : row_at fresh at ≡ row = get_or_default fresh at (blank 0 0) row among.1 ∙ among.2 in (
-      game,
-      record {
-        actions = actions;
-        is_game = is;
-        pattern = subst (λ (r : Row). IsPatternOf kinds actions r.shape) here (made at among.1).1;
-      },
-    )
+    let here : row_at fresh at ≡ row = get_or_default fresh at (blank 0 0) row among.1 ∙ among.2 in
+    of_game bytes held kinds game actions row.shape is same (subst (λ (r : Row). IsPatternOf held actions r.shape) here (made at among.1).1)
 
-known_more : (bytes : List ℕ) (n : ℕ) (seen : List Happened) (kinds : Kinds) (game : ℕ) (actions : Actions) (rows fresh : List Row) → IsGame bytes game actions →
-    AreFresh n seen kinds actions fresh → ((row : Row) → Contains rows row → IsPatternIn bytes kinds row.shape) →
-    (row : Row) → Contains (rows ++ fresh) row → IsPatternIn bytes kinds row.shape
-known_more bytes n seen kinds game actions rows fresh is made known row among = ⊎_elim
-    (λ (old : Contains rows row). known row old)
-    (λ (new : Contains fresh row). fresh_known bytes n seen kinds game actions fresh row is made new)
+rows_more : (bytes : List ℕ) (n : ℕ) (seen : List Happened) (held kinds : Kinds) (game : ℕ) (actions : Actions) (rows fresh : List Row) (row : Row) → IsGame bytes game actions →
+    held ≡ kinds → AreFresh n seen held actions fresh → Contains (rows ++ fresh) row → HasShape rows row.shape ⊎ IsPatternOfGame bytes kinds game row.shape
+rows_more bytes n seen held kinds game actions rows fresh row is same made among = ⊎_elim
+    (λ (old : Contains rows row). inl (row, old, refl))
+    (λ (new : Contains fresh row). inr (fresh_known bytes n seen held kinds game actions fresh row is same made new))
     (Contains-append_cases rows fresh row among)
+
+-- the rows of a share, once a game was refused
+pub rows_kept : (bytes : List ℕ) (n : ℕ) (seen : List Happened) (kinds : Kinds) (game : ℕ) (actions : Actions) (old new : Held) → IsGame bytes game actions →
+    old.kinds ≡ kinds → IsKept n seen actions old new → AreOfGame bytes kinds game old new
+rows_kept bytes n seen kinds game actions old new is same kept row among =
+    rows_more bytes n seen old.kinds kinds game actions old.rows kept.fresh row is same kept.made
+    (subst (λ (share : Held). Contains share.rows row) kept.same among)
+
+-- and once it was added
+pub rows_added : (bytes : List ℕ) (n : ℕ) (seen : List Happened) (kinds : Kinds) (game : ℕ) (actions : Actions) (old new : Held) → IsGame bytes game actions →
+    old.kinds ≡ kinds → HasGrown n seen actions old new → AreOfGame bytes kinds game old new
+rows_added bytes n seen kinds game actions old new is same grown row among =
+    let both = old.rows ++ grown.fresh in
+    let alike : numbered_of new.rows ≡ numbered_of both =
+    grown.numbered ∙ sym (map-append (λ (row : Row). (let x : Numbered = record { number = row.number; shape = row.shape } in x)) old.rows grown.fresh) in
+    let at = among.0 in
+    let low = among.1 in
+    let long = same_length new.rows both alike in
+    let inside : at < length both = omega arith in
+    let here : row_at new.rows at ≡ row = get_or_default new.rows at (blank 0 0) row among.1 ∙ among.2 in
+    let shape : row.shape ≡ (row_at both at).shape = ap (λ (r : Row). r.shape) (sym here) ∙ same_shape new.rows both at alike in
+    subst (λ s. HasShape old.rows s ⊎ IsPatternOfGame bytes kinds game s) (sym shape)
+    (rows_more bytes n seen old.kinds kinds game actions old.rows grown.fresh (row_at both at) is same grown.made (Contains-get_or both at (blank 0 0) inside))
+
+-- rows of patterns of the input, and of a game of it
+known_more : (bytes : List ℕ) (kinds : Kinds) (game : ℕ) (old new : Held) → ((row : Row) → Contains old.rows row → IsPatternIn bytes kinds row.shape) →
+    AreOfGame bytes kinds game old new → (row : Row) → Contains new.rows row → IsPatternIn bytes kinds row.shape
+known_more bytes kinds game old new known rows row among = ⊎_elim
+    (λ (had : HasShape old.rows row.shape). subst (IsPatternIn bytes kinds) had.2 (known had.0 had.1))
+    (λ (of : IsPatternOfGame bytes kinds game row.shape). (let is : IsPatternIn bytes kinds row.shape = (game, of) in is))
+    (rows row among)
 
 -- a game was refused
 pub worked_kept : (bytes : List ℕ) (n : ℕ) (seen : List Happened) (kinds : Kinds) (game : ℕ) (actions : Actions) (old new : Held) → IsGame bytes game actions →
     IsKept n seen actions old new → IsWorked bytes kinds old → IsWorked bytes kinds new
 worked_kept bytes n seen kinds game actions old new is kept h =
-    let made = subst (λ k. AreFresh n seen k actions kept.fresh) h.kinds_are kept.made in
+    let more : Held = record old { rows = old.rows ++ kept.fresh } in
     subst (IsWorked bytes kinds) (sym kept.same) (record {
       kinds_are = h.kinds_are;
       added = h.added;
       is_of = still_of h.added old kept.fresh (λ k inside. (kept.made k inside).0) h.is_of;
       games = h.games;
-      known = known_more bytes n seen kinds game actions old.rows kept.fresh is made h.known;
+      known = known_more bytes kinds game old more h.known
+          (subst (AreOfGame bytes kinds game old) kept.same (rows_kept bytes n seen kinds game actions old new is h.kinds_are kept));
     })
 
 -- a game was added
@@ -56,25 +91,21 @@ pub worked_added : (bytes : List ℕ) (n : ℕ) (seen : List Happened) (kinds : 
     IsAdded game actions old new → HasGrown n seen actions old new → IsWorked bytes kinds old → IsWorked bytes kinds new
 worked_added bytes n seen kinds game actions old new is added grown h =
     let one : Added = record { game = game; actions = actions; occasions = added.occasions } in
-    let made = subst (λ k. AreFresh n seen k actions grown.fresh) h.kinds_are grown.made in
-    let both = old.rows ++ grown.fresh in
-    let same : numbered_of new.rows ≡ numbered_of both =
-    grown.numbered ∙ sym (map-append (λ (row : Row). (let x : Numbered = record { number = row.number; shape = row.shape } in x)) old.rows grown.fresh) in
     record {
       kinds_are = added.kinds ∙ h.kinds_are;
       added = h.added ++ one ∷ [];
       is_of = share_of_more h.added game actions old new added h.is_of;
       games = All-push (λ (a : Added). IsGame bytes a.game a.actions) h.added one h.games is;
-      known = λ row among.
-          let at = among.0 in
-          let low = among.1 in
-          let long = same_length new.rows both same in
-          let inside : at < length both = omega arith in
-          let here : row_at new.rows at ≡ row = get_or_default new.rows at (blank 0 0) row among.1 ∙ among.2 in
-          let shape : row.shape ≡ (row_at both at).shape = ap (λ (r : Row). r.shape) (sym here) ∙ same_shape new.rows both at same in
-          subst (IsPatternIn bytes kinds) (sym shape)
-          (known_more bytes n seen kinds game actions old.rows grown.fresh is made h.known (row_at both at) (Contains-get_or both at (blank 0 0) inside));
+      known = known_more bytes kinds game old new h.known (rows_added bytes n seen kinds game actions old new is h.kinds_are grown);
     }
+
+-- what a pass entered and marked for a game
+pub game_calls : {O : Type 0} (n : ℕ) (bytes : List ℕ) (held kinds : Kinds) (game : ℕ) (actions : Actions) (marks : ℕ → Type 0) (old new : Known O) → IsGame bytes game actions →
+    held ≡ kinds → ((marked : ℕ) → marks marked → marked ≡ game) → CallsOnly n (IsPatternOf held actions) marks old new →
+    CallsOnly n (IsPatternOfGame bytes kinds game) (λ marked. marked ≡ game) old new
+game_calls n bytes held kinds game actions marks old new is same own calls =
+    calls_weaker n (IsPatternOf held actions) (IsPatternOfGame bytes kinds game) marks (λ marked. marked ≡ game) old new
+    (λ key pattern. of_game bytes held kinds game actions key is same pattern) own calls
 
 -- why a game of an input was not added
 pub refusal_is : (bytes : List ℕ) (n : ℕ) (seen : List Happened) (kinds : Kinds) (game : ℕ) (actions : Actions) (old new : Held) (found : HarvestFault) → IsGame bytes game actions → IsWorked bytes kinds old →

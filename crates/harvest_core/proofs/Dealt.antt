@@ -16,6 +16,18 @@ use Rattle.harvest_core.specs.Inner.Reading.{IsDealt, AreDealt}
 abbrev IsOffered : WrittenGame → Hand → Worked → Hand → Worked → Type 0
 IsOffered job desk one after two = ((after ≡ putting desk (Job job)) × (two ≡ one)) ⊎ ((after ≡ desk) × IsCounted job.game one two)
 
+-- the game was added, or a game was refused
+added_or_refused : (number : ℕ) (one two : Worked) → IsCounted number one two →
+    ((two.share.games ≡ one.share.games ++ number ∷ []) × (one.refused ≡ None) × (two.refused ≡ None)) ⊎ ((found : HarvestFault) × (two.refused ≡ Some found))
+added_or_refused number one two counted = ⊎_elim
+    (λ (added : (two.share.games ≡ one.share.games ++ number ∷ []) × (one.refused ≡ None) × (two.refused ≡ None)). inl added)
+    (λ (not : (((found : HarvestFault) × (one.refused ≡ Some found)) × (two ≡ one))
+    ⊎ ((two.share.games ≡ one.share.games) × (one.refused ≡ None) × ((found : HarvestFault) × (two.refused ≡ Some found)))). ⊎_elim
+    (λ (before : ((found : HarvestFault) × (one.refused ≡ Some found)) × (two ≡ one)). inr (before.0.0, ap (λ (w : Worked). w.refused) before.1 ∙ before.0.1))
+    (λ (now : (two.share.games ≡ one.share.games) × (one.refused ≡ None) × ((found : HarvestFault) × (two.refused ≡ Some found))). inr now.2)
+    not)
+    counted
+
 -- what was dealt out stays so where one game more was counted here
 counted_still : (number : ℕ) (desk : Hand) (one two : Worked) (game : ℕ) → IsCounted number one two → IsDealt desk one game → IsDealt desk two game
 counted_still number desk one two game counted dealt = ⊎_elim
@@ -25,8 +37,8 @@ counted_still number desk one two game counted dealt = ⊎_elim
     (λ (mine : Contains one.share.games game). inl (subst (λ (games : List ℕ). Contains games game) (sym added.0) (Contains-append_left one.share.games (number ∷ []) game mine)))
     (λ (was : (found : HarvestFault) × (one.refused ≡ Some found)). absurd (let clash : Some was.0 ≡ None = sym was.1 ∙ added.1 in cc))
     other)
-    (λ (not : (two.share.games ≡ one.share.games) × ((found : HarvestFault) × (two.refused ≡ Some found))). inr not.1)
-    counted))
+    (λ (not : (found : HarvestFault) × (two.refused ≡ Some found)). inr not)
+    (added_or_refused number one two counted)))
     dealt
 
 -- what was dealt out stays so
@@ -48,8 +60,8 @@ offered_is job desk one after two offered = ⊎_elim
     (λ (here : (after ≡ desk) × IsCounted job.game one two). ⊎_elim
     (λ (added : (two.share.games ≡ one.share.games ++ job.game ∷ []) × (one.refused ≡ None) × (two.refused ≡ None)).
     inr (inl (subst (λ (games : List ℕ). Contains games job.game) (sym added.0) (Contains-push one.share.games job.game))))
-    (λ (not : (two.share.games ≡ one.share.games) × ((found : HarvestFault) × (two.refused ≡ Some found))). inr (inr not.1))
-    here.1)
+    (λ (not : (found : HarvestFault) × (two.refused ≡ Some found)). inr (inr not))
+    (added_or_refused job.game one two here.1))
     offered
 
 -- one game more was offered

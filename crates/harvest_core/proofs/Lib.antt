@@ -1,6 +1,8 @@
+mod Called
 mod Additions
 mod Drawn
 mod Harvested
 mod Concluded
 mod Parted
 mod Dealt
+mod Workers

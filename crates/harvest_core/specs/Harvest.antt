@@ -5,6 +5,7 @@ use Rattle.probe_core.specs.declared.orders.OddStep.{OddStep}
 use Rattle.slot_table.specs.declared.entries.Happened.{Happened}
 use Rattle.slot_table.specs.History.{content_of}
 use Rattle.slot_table.specs.Passes.{Known}
+use Rattle.slot_table.specs.Stakes.{halved}
 use Rattle.shape_core.specs.declared.words.Kinds.{Kinds}
 use Rattle.shape_dict.specs.declared.entries.Entry.{Entry}
 use Rattle.tally_core.specs.Counted.{IsCounted, IsCountFault}
@@ -16,6 +17,7 @@ use Rattle.share_core.specs.declared.faults.HarvestFault.{HarvestFault}
 use Rattle.share_core.specs.declared.faults.HarvestFault.TheVariants as fault
 use Rattle.share_core.specs.Shares.{Held}
 use Rattle.share_core.specs.Checking.{all_rows}
+use Rattle.share_core.specs.Entering.{AsksOnly}
 use Rattle.share_core.specs.Confirming.{IsConfirmation}
 use Rattle.share_core.specs.GatherFaults.{IsGatherFault}
 use Rattle.harvest_core.specs.Working.{IsWorked, IsRefusal, IsPatternIn, IsPatternOfGame}
@@ -79,3 +81,8 @@ IsHarvestFault n bytes kinds after found = IsTrouble n bytes kinds after found
 -- memory was refused, or some pass of a table of n numbers has seen why an input was not counted
 abbrev pub IsHarvestRefused : ℕ → List ℕ → Kinds → HarvestFault → Type 0
 IsHarvestRefused n bytes kinds found = (found ≡ fault.Memory) ⊎ ((after : Known OddStep) × IsHarvestFault n bytes kinds after found)
+
+-- what the pass had seen begins what it has seen; its own calls since enter and mark nothing; and its stake is the same, or
+-- what a split left of it, whose other part went to the workers
+abbrev pub HasAsked : {O : Type 0} → ℕ → Known O → Known O → Type 0
+HasAsked n old new = AsksOnly n old new ⊎ AsksOnly n (record old { stake = halved old.stake }) new

@@ -1,5 +1,5 @@
 -- What a worker has counted of an input, and why it was refused.
-use Rattle.std.specs.Prelude.{◌≡◌, ◌≢◌, ℕ, ◌≤◌, ◌^◌, ◌*◌, ◌⊎◌, List, [], ◌∷◌, ◌++◌, length, All, Contains, Option, Some, None}
+use Rattle.std.specs.Prelude.{◌≡◌, ◌≢◌, ℕ, ◌+◌, ◌≤◌, ◌^◌, ◌*◌, ◌⊎◌, List, [], ◌∷◌, ◌++◌, length, All, Contains, Option, Some, None}
 use Rattle.go_record.specs.Actions.{Actions}
 use Rattle.shape_core.specs.declared.words.Kinds.{Kinds}
 use Rattle.job_core.specs.Games.{IsGameOf}
@@ -9,7 +9,11 @@ use Rattle.share_core.specs.declared.rows.Row.{Row}
 use Rattle.share_core.specs.declared.faults.HarvestFault.{HarvestFault}
 use Rattle.share_core.specs.declared.faults.HarvestFault.TheVariants as fault
 use Rattle.share_core.specs.Shares.{Held, Added, IsShareOf, IsPatternOf}
-use Rattle.share_core.specs.Adding.{IsTooLarge}
+use Rattle.share_core.specs.Adding.{IsTooLarge, IsKept, IsAddFault}
+use Rattle.share_core.specs.Confirming.{HasShape}
+use Rattle.share_core.specs.Entering.{CallsOnly}
+use Rattle.slot_table.specs.declared.entries.Happened.{Happened}
+use Rattle.slot_table.specs.Passes.{Known}
 use Rattle.harvest_core.specs.declared.working.Worked.{Worked}
 
 -- these bytes have a game of this number with this record
@@ -27,6 +31,10 @@ pub record IsPatternOfGame (bytes : List ℕ) (kinds : Kinds) (game shape : ℕ)
 -- a pattern of some game of the input
 abbrev pub IsPatternIn : List ℕ → Kinds → ℕ → Type 0
 IsPatternIn bytes kinds shape = (game : ℕ) × IsPatternOfGame bytes kinds game shape
+
+-- a pattern of one of these games of the input
+abbrev pub IsPatternAmong : List ℕ → Kinds → List ℕ → ℕ → Type 0
+IsPatternAmong bytes kinds games shape = (game : ℕ) × Contains games game × IsPatternOfGame bytes kinds game shape
 
 -- a share is of games of the input, and its rows are of patterns of such games
 pub record IsWorked (bytes : List ℕ) (kinds : Kinds) (share : Held) : Type 0 where
@@ -50,17 +58,37 @@ abbrev pub IsRefused : List ℕ → Kinds → Option HarvestFault → Type 0
 IsRefused bytes kinds None = Unit {0}
 IsRefused bytes kinds (Some found) = IsRefusal bytes kinds found
 
--- the game is the share's last, and nothing was refused; or the share's games are as they were, and something was refused
+-- the game is the share's last, and nothing was refused; or a game was refused before, and nothing changed; or the share's
+-- games are as they were, and this one was refused
 abbrev pub IsCounted : ℕ → Worked → Worked → Type 0
 IsCounted game old new = ((new.share.games ≡ old.share.games ++ game ∷ []) × (old.refused ≡ None) × (new.refused ≡ None))
-    ⊎ ((new.share.games ≡ old.share.games) × ((found : HarvestFault) × (new.refused ≡ Some found)))
+    ⊎ ((((found : HarvestFault) × (old.refused ≡ Some found)) × (new ≡ old))
+    ⊎ ((new.share.games ≡ old.share.games) × (old.refused ≡ None) × ((found : HarvestFault) × (new.refused ≡ Some found))))
 
--- a worker drew these games in one call, and its share has the first of them: all where nothing was refused
-pub record HasDrawn (old : Hand) (worked : Worked) (new : Hand) : Type 0 where
+-- each row of the new share is of a pattern of the game of this number, or of a pattern of a row of the old share
+abbrev pub AreOfGame : List ℕ → Kinds → ℕ → Held → Held → Type 0
+AreOfGame bytes kinds game old new = (row : Row) → Contains new.rows row → HasShape old.rows row.shape ⊎ IsPatternOfGame bytes kinds game row.shape
+
+-- the fault is one that `Share::add` gives for the game of this number: what the pass had seen then, and the share before and
+-- after
+pub record IsRefusedGame (n : ℕ) (seen : List Happened) (bytes : List ℕ) (game : ℕ) (old new : Held) (found : HarvestFault) : Type 0 where
+  pub actions : Actions
+  pub is_game : IsGame bytes game actions
+  pub kept : IsKept n seen actions old new
+  pub why : IsAddFault n seen game actions old new found
+
+-- a worker drew these games and one end in one call, and its share has the first of them: all where nothing was refused. Its
+-- pass entered patterns of these games alone and marked these games alone; each row of its share is of a pattern of one of
+-- them; and where a game was refused, it is the first that the share has not
+pub record HasDrawn {O : Type 0} (n : ℕ) (kinds : Kinds) (before after : Known O) (old : Hand) (worked : Worked) (new : Hand) : Type 0 where
   pub drawn : List ℕ
   pub all : new.drawn ≡ old.drawn ++ drawn
-  pub bytes : new.bytes ≡ old.bytes
+  pub same : new ≡ record old { drawn = new.drawn; ends_drawn = old.ends_drawn + 1 }
   pub rest : List ℕ
   pub first : drawn ≡ worked.share.games ++ rest
   pub whole : worked.refused ≡ None → rest ≡ []
   pub rises : Rising 0 drawn (past drawn)
+  pub later : CallsOnly n (IsPatternAmong old.bytes kinds drawn) (Contains drawn) before after
+  pub rows : (row : Row) → Contains worked.share.rows row → IsPatternAmong old.bytes kinds drawn row.shape
+  pub refusal : (found : HarvestFault) → worked.refused ≡ Some found → (game : ℕ) × (dropped : List ℕ) × (rest ≡ game ∷ dropped)
+      × ((share : Held) × IsRefusedGame n after.seen old.bytes game share worked.share found)

@@ -1,12 +1,13 @@
 //! What several workers count over one table: the dictionary of an input.
-ghost use Rattle.std.specs.Prelude.{◌≡◌, ◌*◌, ◌^◌, ◌<◌, ◌≤◌, [], ℕ, List, All, length, max, min};
+ghost use Rattle.std.specs.Prelude.{◌≡◌, ◌*◌, ◌^◌, ◌<◌, ◌≤◌, [], ℕ, List, length, max, min};
 ghost use Rattle.sgf_core.specs.declared.faults.SgfFault.TheVariants as sgf;
-ghost use Rattle.std.specs.Prelude.{MatchResult, IfOk, IfErr, IfSome, IsErrAnd, ◌⊎◌};
+ghost use Rattle.std.specs.Prelude.{All, Contains, MatchResult, IfOk, IfErr, IfSome, IsErrAnd, ◌⊎◌};
 ghost use Rattle.shape_core.specs.declared.words.Kinds.{Kinds};
 ghost use Rattle.slot_table.specs.declared.entries.Happened.{Happened};
 ghost use Rattle.slot_table.specs.Passes.{IsPassOf};
 ghost use Rattle.slot_table.specs.Stakes.{halved};
 ghost use Rattle.share_core.specs.declared.faults.HarvestFault.TheVariants as fault;
+ghost use Rattle.share_core.specs.Entering.{AsksOnly};
 ghost use Rattle.share_core.specs.GatherFaults.{IsGatherFault};
 ghost use Rattle.crossbeam_queue.specs.Passes.{view};
 ghost use Rattle.crossbeam_queue.specs.Passes.{IsPassOf as IsSeatOf};
@@ -18,10 +19,11 @@ ghost use Rattle.harvest_core.specs.Inner.Parted.{refusals_of};
 ghost use Rattle.harvest_core.specs.Harvest.{IsRead};
 ghost use Rattle.harvest_core.specs.Inner.Harvest.{IsExplained, IsToldOf};
 ghost use Rattle.harvest_core.specs.Harvest.{IsHarvest, IsHarvestFault, IsHarvestRefused};
+ghost use Rattle.harvest_core.specs.Harvest.{HasAsked};
 ghost use Rattle.sgf_core.specs.Limit.{most_bytes};
 
 use crate::gates::Gate;
-use crate::parting::{Parted, part, worst};
+use crate::parting::{Parted, part, want_memory, worst};
 use crate::threads::{Bench, Crew, Crop};
 use job_core::{Desk, Games, Jobs, Seat, new_queue};
 use probe_core::{Capacity, OddStep, ProbeOrder};
@@ -42,6 +44,7 @@ fn explain<O: ProbeOrder>(
 ) -> HarvestFault
     requires pass { IsPassOf (2 ^ O.exponent table.now.order) table.now pass.old }
     ensures pass { IsPassOf (2 ^ O.exponent table.now.order) table.now pass.new }
+    ensures later { AsksOnly (2 ^ O.exponent table.now.order) pass.old pass.new }
     ensures explained { IsExplained (2 ^ O.exponent table.now.order) pass.new.seen shares.now
         refused result }
     ensures why { (bytes : List ℕ) (kinds : Kinds) → IsRead bytes
@@ -69,6 +72,7 @@ fn count_of<R: Threads + Sync, O: ProbeOrder>(
     requires read { HasReadAll bytes.now report }
     requires worked { All (IsWorked bytes.now kinds) shares.now }
     ensures pass { IsPassOf (2 ^ O.exponent table.now.order) table.now pass.new }
+    ensures later { AsksOnly (2 ^ O.exponent table.now.order) pass.old pass.new }
     ensures gathered { IfErr result (IsGatherFault (2 ^ O.exponent table.now.order) report.games
         shares.now pass.old pass.new) }
     ensures harvest { IfOk result (IsHarvest (2 ^ O.exponent table.now.order) pass.new.seen kinds
@@ -81,8 +85,8 @@ fn count_of<R: Threads + Sync, O: ProbeOrder>(
     Ok(Counted { dictionary, report })
 }
 
-/// The dictionary of all shares, or the fault that is told: of those of the input, of the games that were refused, and of
-/// the shares together, in this order.
+/// The dictionary of all shares, or the fault that is told, in this order: want of memory, that of the input, the one that
+/// goes first of the games that were refused, and that of the shares together.
 fn conclude<R: Threads + Sync, O: ProbeOrder>(
     rt: &R,
     alloc: Global,
@@ -95,7 +99,11 @@ fn conclude<R: Threads + Sync, O: ProbeOrder>(
     requires pass { IsPassOf (2 ^ O.exponent table.now.order) table.now pass.old }
     requires crop { IsCrop bytes.now kinds crop }
     ensures pass { IsPassOf (2 ^ O.exponent table.now.order) table.now pass.new }
-    ensures input { IfSome crop.fault (λ fault. result ≡ Err fault) }
+    ensures later { AsksOnly (2 ^ O.exponent table.now.order) pass.old pass.new }
+    ensures memory { Contains (refusals_of crop.worked.items) fault.Memory
+        → result ≡ Err fault.Memory }
+    ensures input { IfSome crop.fault (λ found. (result ≡ Err found)
+        ⊎ (result ≡ Err fault.Memory)) }
     ensures refused { crop.fault ≡ None → MatchResult result
         (λ _. refusals_of crop.worked.items ≡ [])
         (IsToldOf (2 ^ O.exponent table.now.order) crop pass.old pass.new) }
@@ -109,10 +117,13 @@ fn conclude<R: Threads + Sync, O: ProbeOrder>(
         report,
         fault,
     } = crop;
+    let Parted { shares, refusals } = part(alloc, worked)?;
+    if want_memory(&refusals) {
+        return Err(HarvestFault::Memory);
+    }
     if let Some(fault) = fault {
         return Err(fault);
     }
-    let Parted { shares, refusals } = part(alloc, worked)?;
     match worst(&refusals) {
         Some(refused) => Err(explain(table, pass, &shares, refused)),
         None => count_of(rt, alloc, kinds, table, pass, bytes, report, &shares),
@@ -171,8 +182,9 @@ where
 ///
 /// This thread reads, and counts what the queue has no room for; as many workers as the settings say count what they draw
 /// from it. The slots of the settings are not looked at: those of the table count. The pass must be of the table, which
-/// may have numbers already. It takes memory for a queue of at most 128 games, for each thread for the largest tree and its record,
-/// the board and the patterns of its games, and for the dictionary.
+/// may have numbers already. The pass itself enters and marks nothing, and a part of its stake goes to the workers. It takes
+/// memory for a queue of at most 128 games, for each thread for the largest tree and its record, the board and the patterns
+/// of its games, and for the dictionary.
 ///
 /// # Errors
 ///
@@ -181,8 +193,8 @@ where
 /// patterns for which no number was free, where that is confirmed: the input has as many other patterns as the table has
 /// numbers; `Missing`, `Twice`, `Stranger`, `Overflow` and `Marks` where the workers' shares do not go together. In a table
 /// that has numbers of other inputs `Stranger` may say so in place of `Full`, and `Marks` that it had a mark before. The
-/// first that applies is told, in this order: want of memory and faults of the input, `Full` of the least game, `Stranger`,
-/// `Overflow`, and then those of `gather`. After each the table keeps the numbers and marks that it got.
+/// first that applies is told, in this order: want of memory of this thread or of any worker, `Sgf`, `Full` of the least
+/// game, `Stranger`, `Overflow`, and then those of `gather`. After each the table keeps the numbers and marks that it got.
 pub fn harvest_on<R: Threads + Wait + Sync, O: ProbeOrder, G: Gate>(
     rt: &R,
     alloc: Global,
@@ -196,6 +208,7 @@ where
     O: Send + Sync,
     requires pass { IsPassOf (2 ^ O.exponent table.now.order) table.now pass.old }
     ensures pass { IsPassOf (2 ^ O.exponent table.now.order) table.now pass.new }
+    ensures later { HasAsked (2 ^ O.exponent table.now.order) pass.old pass.new }
     ensures large { most_bytes < length bytes.now
         → (result ≡ Err (fault.Sgf sgf.TooLarge)) × (pass.new ≡ pass.old) }
     ensures harvest { IfOk result (IsHarvest (2 ^ O.exponent table.now.order) pass.new.seen

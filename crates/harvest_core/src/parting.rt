@@ -1,5 +1,6 @@
 //! What all threads came to, parted into shares and what was refused.
-ghost use Rattle.std.specs.Prelude.{◌≡◌, ◌⊎◌, ◌↔◌, [], IsTrue, MatchOption, IfOk};
+ghost use Rattle.std.specs.Prelude.{◌≡◌, ◌⊎◌, ◌↔◌, [], Contains, IsTrue, MatchOption, IfOk};
+ghost use Rattle.share_core.specs.declared.faults.HarvestFault.TheVariants as fault;
 ghost use Rattle.harvest_core.specs.Inner.Parted.{shares_of, refusals_of};
 ghost use Rattle.harvest_core.specs.Inner.Parted.{rank, game_of as game_named, GoesFirst, IsWorst};
 
@@ -47,6 +48,13 @@ pub(crate) fn part(alloc: Global, worked: Vec<Worked>) -> Result<Parted, AllocEr
         parted.take(one)?;
     }
     Ok(parted)
+}
+
+/// Whether memory was refused to some worker.
+pub(crate) fn want_memory(refusals: &[HarvestFault]) -> bool
+    ensures { IsTrue result ↔ Contains refusals.now fault.Memory }
+{
+    refusals.contains(&HarvestFault::Memory)
 }
 
 /// The place of a fault in the order in which faults of games are told: want of memory, want of a number, strangers, and

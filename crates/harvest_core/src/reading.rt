@@ -42,6 +42,7 @@ fn offer<'a, R: Wait, O: ProbeOrder, G: Gate>(
         × (worked.new ≡ worked.old))
         ⊎ ((desk.new ≡ desk.old) × IsCounted job.entry.game worked.old worked.new) }
     ensures alone { IsTrue alone → desk.new ≡ desk.old }
+    ensures worker { worked.new.share.worker ≡ worked.old.share.worker }
     ensures worked { (kinds : Kinds) → IsWorked job.entry.bytes kinds worked.old.share
         → IsWorked job.entry.bytes kinds worked.new.share }
     ensures refused { (kinds : Kinds) → IsWorked job.entry.bytes kinds worked.old.share
@@ -81,6 +82,7 @@ fn read_all<'a, R: Wait, O: ProbeOrder, G: Gate>(
     requires pass { IsPassOf (2 ^ O.exponent table.now.order) table.now pass.old }
     requires step { IsInStep games.old desk.old }
     ensures pass { IsPassOf (2 ^ O.exponent table.now.order) table.now pass.new }
+    ensures worker { worked.new.share.worker ≡ worked.old.share.worker }
     ensures worked { (kinds : Kinds) → IsWorked games.old.bytes kinds worked.old.share
         → IsRefused games.old.bytes kinds worked.old.refused
         → IsWorked games.old.bytes kinds worked.new.share
@@ -146,6 +148,7 @@ pub(crate) fn read_games<'a, R: Wait, O: ProbeOrder, G: Gate>(
     requires pass { IsPassOf (2 ^ O.exponent table.now.order) table.now pass.old }
     requires step { IsInStep games desk.old }
     ensures pass { IsPassOf (2 ^ O.exponent table.now.order) table.now pass.new }
+    ensures worker { result.worked.share.worker ≡ 0 }
     ensures worked { IsWorked games.entry.bytes kinds result.worked.share }
     ensures refused { IsRefused games.entry.bytes kinds result.worked.refused }
     ensures all { IfNone result.fault (HasReadAll games.entry.bytes result.report) }

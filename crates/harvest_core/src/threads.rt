@@ -1,10 +1,11 @@
 //! The thread that reads and the workers beside it.
-ghost use Rattle.std.specs.Prelude.{◌≡◌, ◌+◌, ◌^◌, All, Contains, length, IfOk};
+ghost use Rattle.std.specs.Prelude.{◌≡◌, ◌+◌, ◌++◌, ◌∷◌, ◌^◌, [], All, Contains, length, IfOk};
 ghost use Rattle.job_core.specs.Games.{HasReadAll};
 ghost use Rattle.job_core.specs.Inner.Rule.{IsInStep};
 ghost use Rattle.slot_table.specs.Passes.{IsPassOf};
 ghost use Rattle.harvest_core.specs.Inner.Working.{IsWorkOf};
 ghost use Rattle.harvest_core.specs.Inner.Crew.{IsHandleOf, IsReadingOf, IsCrop};
+ghost use Rattle.harvest_core.specs.Inner.Crew.{workers_of, promised_of};
 ghost use Rattle.share_core.specs.declared.faults.HarvestFault.TheVariants as fault;
 
 use crate::gates::Gate;
@@ -42,7 +43,8 @@ impl<'q, 'a, 't, O: ProbeOrder, G: Gate> Bench<'q, 'a, 't, O, G> {
     /// Draws and counts to the first end.
     fn work<R: Wait>(self, rt: &R, alloc: Global) -> Worked
         requires { IsPassOf (2 ^ O.exponent self.table.now.order) self.table.now self.pass }
-        ensures { IsWorkOf self.entry.desk.bytes self.entry.kinds result }
+        ensures work { IsWorkOf self.entry.desk.bytes self.entry.kinds result }
+        ensures worker { result.share.worker ≡ self.entry.worker }
     {
         let Bench {
             desk,
@@ -82,6 +84,7 @@ impl<'q, 'a, 't, O: ProbeOrder, G: Gate> Crew<'q, 'a, 't, O, G> {
         ensures same { IsCrew O.exponent self.new × (self.new.games.bytes ≡ self.old.games.bytes)
             × (self.new.bench.kinds ≡ self.old.bench.kinds) }
         ensures theirs { IsBenchOf O.exponent self.old.games.bytes self.old.bench.kinds result }
+        ensures number { result.worker ≡ worker }
     {
         Bench {
             desk: self.bench.desk.another(),
@@ -98,6 +101,7 @@ impl<'q, 'a, 't, O: ProbeOrder, G: Gate> Crew<'q, 'a, 't, O, G> {
     fn read<R: Wait>(self, rt: &R, alloc: Global, workers: usize) -> Reading
         requires { IsCrew O.exponent self }
         ensures worked { IsWorkOf self.entry.games.bytes self.entry.bench.kinds result.worked }
+        ensures worker { result.worked.share.worker ≡ 0 }
         ensures all { IfNone result.fault (HasReadAll self.entry.games.bytes result.report) }
         ensures fault { IfSome result.fault (IsReadFault self.entry.games.bytes) }
     {
@@ -119,17 +123,19 @@ impl<'q, 'a, 't, O: ProbeOrder, G: Gate> Crew<'q, 'a, 't, O, G> {
     }
 }
 
-/// Of which input and kinds a worker's result is.
+/// Of which input, kinds and worker a worker's result is.
 #[derive(Clone, Copy)]
 struct WorkOf<'a> {
     bytes: &'a [u8],
     kinds: Kinds,
+    worker: usize,
 }
 
 impl<'a> Promise<Worked> for WorkOf<'a> {
+    ghost use Rattle.std.specs.Prelude.{◌≡◌};
     ghost use Rattle.harvest_core.specs.Inner.Working.{IsWorkOf};
 
-    ghost kept_by = { λ p r. IsWorkOf p.bytes.now p.kinds r };
+    ghost kept_by = { λ p r. IsWorkOf p.bytes.now p.kinds r × (r.share.worker ≡ p.worker) };
 }
 
 /// What all threads came to.
@@ -140,7 +146,7 @@ pub(crate) struct Crop {
     pub fault: Option<HarvestFault>,
 }
 
-/// Waits for all workers, and takes what they hand back.
+/// Waits for all workers, and takes what they hand back, in their order.
 fn theirs<'a, R: Threads>(
     rt: &R,
     of: WorkOf<'a>,
@@ -149,6 +155,7 @@ fn theirs<'a, R: Threads>(
     requires { All (IsHandleOf of.bytes.now of.kinds) handles.items }
     ensures work { IfOk result (λ all. All (IsWorkOf of.entry.bytes.now of.entry.kinds) all.items) }
     ensures each { IfOk result (λ all. length all.items ≡ length handles.entry.items) }
+    ensures workers { IfOk result (λ all. workers_of all.items ≡ promised_of handles.entry.items) }
 {
     Ok(thread::join_promised(rt, handles)?)
 }
@@ -167,6 +174,8 @@ fn joined<'a, R: Threads>(
     ensures mine { IfOk result (λ crop. Contains crop.worked.items own.worked) }
     ensures each { IfOk result (λ crop. length crop.worked.items
         ≡ length handles.entry.items + 1) }
+    ensures workers { IfOk result (λ crop. workers_of crop.worked.items
+        ≡ promised_of handles.entry.items ++ own.worked.share.worker ∷ []) }
 {
     let mut worked = theirs(rt, of, handles)?;
     let Reading {
@@ -194,6 +203,7 @@ impl<'q, 'a, 't, O: ProbeOrder, G: Gate> Crew<'q, 'a, 't, O, G> {
     fn finish<R: Wait>(self, rt: &R, alloc: Global, started: usize, asked: usize) -> Reading
         requires { IsCrew O.exponent self }
         ensures reading { IsReadingOf self.entry.games.bytes self.entry.bench.kinds result }
+        ensures worker { result.worked.share.worker ≡ 0 }
         ensures asked { started ≢ asked → result.fault ≡ Some fault.Memory }
     {
         if started == asked {
@@ -209,8 +219,8 @@ impl<'q, 'a, 't, O: ProbeOrder, G: Gate> Crew<'q, 'a, 't, O, G> {
         }
     }
 
-    /// Starts workers, reads all games, and waits for the workers. All that were asked for have counted, or the fault is
-    /// want of memory.
+    /// Starts workers, reads all games, and waits for the workers. All that were asked for have counted, in the order of
+    /// their numbers, or the fault is want of memory.
     pub(crate) fn run<R: Threads + Wait + Sync>(
         self,
         rt: &R,
@@ -229,6 +239,7 @@ impl<'q, 'a, 't, O: ProbeOrder, G: Gate> Crew<'q, 'a, 't, O, G> {
         let of = WorkOf {
             bytes,
             kinds: crew.bench.kinds,
+            worker: 0,
         };
         thread::scope(
             thread::scope_env(),
@@ -246,16 +257,22 @@ impl<'q, 'a, 't, O: ProbeOrder, G: Gate> Crew<'q, 'a, 't, O, G> {
                     if handles.reserve(1).is_err() {
                         break;
                     }
-                    let bench = crew.another(started + 1);
+                    let number = started + 1;
+                    let promise = WorkOf {
+                        worker: number,
+                        ..of
+                    };
+                    let bench = crew.another(number);
                     let worker = move || -> Worked
                         requires { IsPassOf (2 ^ O.exponent bench.table.now.order) bench.table.now
                             bench.pass }
-                        ensures { IsWorkOf bench.entry.desk.bytes bench.entry.kinds result }
+                        ensures { IsWorkOf bench.entry.desk.bytes bench.entry.kinds result
+                            × (result.share.worker ≡ bench.entry.worker) }
                     { bench.work(rt, alloc) };
-                    match scope.spawn_with(of, worker) {
+                    match scope.spawn_with(promise, worker) {
                         Ok(handle) => {
                             handles.push_reserved(handle);
-                            started += 1;
+                            started = number;
                         }
                         Err(_refused) => break,
                     }

@@ -1,9 +1,12 @@
 //! A worker: it draws jobs and counts their games until it draws an end.
-ghost use Rattle.std.specs.Prelude.{◌≡◌, ◌+◌, ◌^◌, [], ℕ, List, None};
+ghost use Rattle.std.specs.Prelude.{◌≡◌, ◌^◌, [], ℕ, List, Some, None};
 ghost use Rattle.shape_core.specs.declared.words.Kinds.{Kinds};
 ghost use Rattle.slot_table.specs.Passes.{IsPassOf};
 ghost use Rattle.job_core.specs.Rising.{Rising, past};
-ghost use Rattle.harvest_core.specs.Working.{IsWorked, IsRefused, IsCounted, HasDrawn};
+ghost use Rattle.share_core.specs.declared.faults.HarvestFault.{HarvestFault};
+ghost use Rattle.share_core.specs.Entering.{CallsOnly};
+ghost use Rattle.harvest_core.specs.Working.{IsWorked, IsRefused, IsCounted, IsPatternOfGame};
+ghost use Rattle.harvest_core.specs.Working.{AreOfGame, IsRefusedGame, HasDrawn};
 
 use crate::gates::Gate;
 use job_core::{Desk, Item, Job};
@@ -28,6 +31,7 @@ impl Worked {
         ensures worker { result.share.worker ≡ worker }
         ensures kinds { result.share.kinds ≡ kinds }
         ensures games { result.share.games ≡ [] }
+        ensures rows { result.share.rows ≡ [] }
         ensures worked { (bytes : List ℕ) → IsWorked bytes kinds result.share }
         ensures refused { result.refused ≡ None }
     {
@@ -39,6 +43,7 @@ impl Worked {
         ensures worker { result.share.worker ≡ worker }
         ensures kinds { result.share.kinds ≡ kinds }
         ensures games { result.share.games ≡ [] }
+        ensures rows { result.share.rows ≡ [] }
         ensures worked { (bytes : List ℕ) → IsWorked bytes kinds result.share }
         ensures refused { result.refused ≡ None }
     {
@@ -48,7 +53,8 @@ impl Worked {
         }
     }
 
-    /// Counts the game of a job. Once a game was refused, jobs are dropped.
+    /// Counts the game of a job. The pass enters patterns of this game alone, and marks this game alone. Once a game was
+    /// refused nothing changes: jobs are dropped, and the first refusal stays.
     pub fn count<O: ProbeOrder, G: Gate>(
         &mut self,
         table: &SlotTable<O>,
@@ -65,6 +71,18 @@ impl Worked {
             → IsRefused job.now.bytes kinds self.old.refused
             → IsRefused job.now.bytes kinds self.new.refused }
         ensures games { IsCounted job.now.game self.old self.new }
+        ensures first { (found : HarvestFault) → self.old.refused ≡ Some found
+            → (self.new ≡ self.old) × (pass.new ≡ pass.old) }
+        ensures later { (kinds : Kinds) → self.old.share.kinds ≡ kinds
+            → CallsOnly (2 ^ O.exponent table.now.order)
+            (IsPatternOfGame job.now.bytes kinds job.now.game)
+            (λ marked. marked ≡ job.now.game) pass.old pass.new }
+        ensures rows { (kinds : Kinds) → self.old.share.kinds ≡ kinds
+            → AreOfGame job.now.bytes kinds job.now.game self.old.share self.new.share }
+        ensures refusal { (found : HarvestFault) → self.old.refused ≡ None
+            → self.new.refused ≡ Some found
+            → IsRefusedGame (2 ^ O.exponent table.now.order) pass.new.seen job.now.bytes
+            job.now.game self.old.share self.new.share found }
     {
         if self.refused.is_some() {
             return;
@@ -76,9 +94,9 @@ impl Worked {
     }
 }
 
-/// A worker's loop: it draws jobs from the queue and counts their games, and ends at its first end. While the queue is
-/// empty it lets other threads run. Once a game was refused it goes on drawing and drops what it draws. It waits for the
-/// reader.
+/// A worker's loop: it draws jobs from the queue and counts their games, and ends at its first end. It puts nothing, and its
+/// pass enters and marks nothing but for the games that it drew. While the queue is empty it lets other threads run. Once a
+/// game was refused it goes on drawing and drops what it draws. It waits for the reader.
 pub fn work<R: Wait, O: ProbeOrder, G: Gate>(
     rt: &R,
     alloc: Global,
@@ -94,8 +112,8 @@ pub fn work<R: Wait, O: ProbeOrder, G: Gate>(
     ensures worker { result.share.worker ≡ worker }
     ensures worked { IsWorked desk.old.bytes kinds result.share }
     ensures refused { IsRefused desk.old.bytes kinds result.refused }
-    ensures drawn { HasDrawn desk.old result desk.new }
-    ensures ended { desk.new.ends_drawn ≡ desk.old.ends_drawn + 1 }
+    ensures drawn { HasDrawn (2 ^ O.exponent table.now.order) kinds pass.old pass.new desk.old
+        result desk.new }
 {
     work_among(rt, alloc, desk, worker, worker, kinds, table, pass, gate)
 }
@@ -117,8 +135,8 @@ pub(crate) fn work_among<R: Wait, O: ProbeOrder, G: Gate>(
     ensures worker { result.share.worker ≡ worker }
     ensures worked { IsWorked desk.old.bytes kinds result.share }
     ensures refused { IsRefused desk.old.bytes kinds result.refused }
-    ensures drawn { HasDrawn desk.old result desk.new }
-    ensures ended { desk.new.ends_drawn ≡ desk.old.ends_drawn + 1 }
+    ensures drawn { HasDrawn (2 ^ O.exponent table.now.order) kinds pass.old pass.new desk.old
+        result desk.new }
 {
     let mut worked = Worked::begin_among(alloc, worker, workers, kinds);
     for _ in rt.forever() {

@@ -1,7 +1,8 @@
 -- What threads work with.
-use Rattle.std.specs.Prelude.{◌≡◌, ◌⊎◌, ℕ, ◌+◌, ◌^◌, List, length, All, Some, IfNone, IfSome}
+use Rattle.std.specs.Prelude.{◌≡◌, ◌⊎◌, ℕ, ◌+◌, ◌^◌, List, [], ◌∷◌, ◌++◌, length, map, All, Some, IfNone, IfSome}
 use Rattle.std.specs.declared.thread.PromisedHandle.{PromisedHandle}
 use Rattle.shape_core.specs.declared.words.Kinds.{Kinds}
+use Rattle.shape_core.specs.Word.{count_from}
 use Rattle.slot_table.specs.Passes.{IsPassOf}
 use Rattle.job_core.specs.Inner.Rule.{IsInStep}
 use Rattle.share_core.specs.declared.faults.HarvestFault.TheVariants as fault
@@ -42,6 +43,16 @@ pub record IsCrop (bytes : List ℕ) (kinds : Kinds) (crop : Crop) : Type 0 wher
   pub all : IfNone crop.fault (HasReadAll bytes crop.report)
   pub fault_is : IfSome crop.fault (IsReadFault bytes)
 
--- as many workers as were asked for have counted, and the thread that reads; or memory was refused
+-- the numbers of the workers whose shares these are, in order
+abbrev pub workers_of : List Worked → List ℕ
+workers_of worked = map (λ (one : Worked). one.share.worker) worked
+
+-- the numbers of the workers that have promised work, in order
+abbrev pub promised_of : List (PromisedHandle Worked WorkOf) → List ℕ
+promised_of handles = map (λ (handle : PromisedHandle Worked WorkOf). handle.promise.worker) handles
+
+-- as many workers as were asked for have counted, and the thread that reads: the shares are those of the workers 1, 2 and so
+-- on, and the last is that of the thread that reads, 0; or memory was refused
 abbrev pub AreAsked : ℕ → Crop → Type 0
-AreAsked workers crop = (crop.fault ≡ Some fault.Memory) ⊎ (length crop.worked.items ≡ workers + 1)
+AreAsked workers crop = (crop.fault ≡ Some fault.Memory)
+    ⊎ ((length crop.worked.items ≡ workers + 1) × (workers_of crop.worked.items ≡ count_from 1 workers ++ 0 ∷ []))

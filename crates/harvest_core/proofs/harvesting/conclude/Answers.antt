@@ -16,10 +16,10 @@ returns-in-Some-worst-clause-fault g c =
     let worked = c.args.crop.worked.items in
     let all = c.requires.crop.worked_is in
     let shares = subst (λ ss. All (IsWorked bytes kinds) ss) (sym (c.deref-in-Some-worst.ensures.value ∙ c.in_ok-shares.ensures.shares)) (shares_worked bytes kinds worked all) in
-    let refusals = subst (λ rs. All (IsRefusal bytes kinds) rs) (sym (c.deref.ensures.value ∙ c.in_ok-shares.ensures.refusals)) (refusals_worked bytes kinds worked all) in
+    let refusals = subst (λ rs. All (IsRefusal bytes kinds) rs) (sym (c.deref-2.ensures.value ∙ c.in_ok-shares.ensures.refusals)) (refusals_worked bytes kinds worked all) in
     let read = subst (λ o. IfNone o (HasReadAll bytes c.args.crop.report)) c.in_default.is c.requires.crop.all in
     c.explain.ensures.why bytes kinds (c.args.crop.report, read) shares
-    (All-contains (IsRefusal bytes kinds) c.deref.result.now c.in-Some-worst.refused refusals c.in-Some-worst.ensures.among)
+    (All-contains (IsRefusal bytes kinds) c.deref-2.result.now c.in-Some-worst.refused refusals c.in-Some-worst.ensures.among)
 
 pub count_of-requires-clause-worked : goal.count_of-requires-clause-worked
 count_of-requires-clause-worked g c =
@@ -34,13 +34,13 @@ returns-in-Some-worst-clause-refused g c none =
     let refused = c.in-Some-worst.refused in
     inr (inl (record {
       first = refused;
-      worst = subst (λ rs. IsWorst rs refused) (c.deref.ensures.value ∙ c.in_ok-shares.ensures.refusals) c.in-Some-worst.ensures;
+      worst = subst (λ rs. IsWorst rs refused) (c.deref-2.ensures.value ∙ c.in_ok-shares.ensures.refusals) c.in-Some-worst.ensures;
       explained = subst (λ ss. IsExplained n c.explain.new.pass.seen ss refused c.explain.result) (c.deref-in-Some-worst.ensures.value ∙ c.in_ok-shares.ensures.shares) c.explain.ensures.explained;
     }))
 
 pub returns-clause-refused : goal.returns-clause-refused
 returns-clause-refused g c none =
     let n = 2 ^ g.O.ProbeOrder.exponent c.args.table.now.order in
-    told_none n c.args.crop c.args.pass.now c.count_of.new.pass c.count_of.result (sym (c.deref.ensures.value ∙ c.in_ok-shares.ensures.refusals) ∙ c.in-None.ensures)
+    told_none n c.args.crop c.args.pass.now c.count_of.new.pass c.count_of.result (sym (c.deref-2.ensures.value ∙ c.in_ok-shares.ensures.refusals) ∙ c.in-None.ensures)
     (subst (λ ss. IfErr c.count_of.result (IsGatherFault n c.args.crop.report.games ss c.args.pass.now c.count_of.new.pass))
     (c.deref-in-None.ensures.value ∙ c.in_ok-shares.ensures.shares) c.count_of.ensures.gathered)

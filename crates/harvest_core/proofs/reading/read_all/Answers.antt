@@ -28,6 +28,7 @@ loop-job-preserved g c =
           c.offer.ensures.offered;
       dealt = dealt_more job c.loop-job.desk c.loop-job.worked c.offer.new.desk c.offer.new.worked
           c.args.games.now.report.games before.report.games after.report.games next.game next.counted c.offer.ensures.offered h.dealt;
+      worker = c.offer.ensures.worker ∙ h.worker;
       ends = ends_offered job c.loop-job.desk c.loop-job.worked c.offer.new.desk c.offer.new.worked c.offer.ensures.offered ∙ h.ends;
       worked = λ kinds w r.
           let old = h.worked kinds w r in

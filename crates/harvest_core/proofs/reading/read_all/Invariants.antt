@@ -14,6 +14,7 @@ invariant-loop-job g l =
       bytes : l.games.bytes ≡ l.fn.games.bytes;
       step : IsInStep l.games l.desk;
       dealt : AreDealt l.fn.games.report.games l.games.report.games l.desk l.worked;
+      worker : l.worked.share.worker ≡ l.fn.worked.share.worker;
       ends : l.desk.ends_put ≡ l.fn.desk.ends_put;
       worked : (kinds : Kinds) → IsWorked l.fn.games.bytes kinds l.fn.worked.share → IsRefused l.fn.games.bytes kinds l.fn.worked.refused
           → IsWorked l.fn.games.bytes kinds l.worked.share × IsRefused l.fn.games.bytes kinds l.worked.refused;

@@ -1,6 +1,7 @@
 use Rattle.std.proofs.Common.{◌≡◌, ◌^◌}
 use Rattle.slot_table.specs.Passes.{IsPassOf}
-use Rattle.harvest_core.specs.Working.{IsWorked, IsRefused, HasDrawn}
+use Rattle.harvest_core.specs.Working.{IsWorked, IsRefused}
+use Rattle.harvest_core.proofs.Drawn.{HasSoFar}
 use Rattle.harvest_core.proofs.working.work_among.Given as goal
 
 -- the games so far
@@ -11,6 +12,5 @@ invariant-loop g l =
       worker : l.worked.share.worker ≡ l.fn.worker;
       worked : IsWorked l.fn.desk.bytes l.fn.kinds l.worked.share;
       refused : IsRefused l.fn.desk.bytes l.fn.kinds l.worked.refused;
-      drawn : HasDrawn l.fn.desk l.worked l.desk;
-      ended : l.desk.ends_drawn ≡ l.fn.desk.ends_drawn;
+      drawn : HasSoFar (2 ^ g.O.ProbeOrder.exponent l.table.order) l.fn.kinds l.fn.pass l.pass l.fn.desk l.worked l.desk;
     }

@@ -7,7 +7,8 @@ use Rattle.shape_core.specs.declared.words.Kinds.{Kinds}
 use Rattle.harvest_core.specs.declared.threads.WorkOf.{WorkOf}
 use Rattle.harvest_core.specs.declared.working.Worked.{Worked}
 use Rattle.harvest_core.specs.declared.reading.Reading.{Reading}
-use Rattle.harvest_core.specs.Inner.Crew.{IsHandleOf, IsReadingOf}
+use Rattle.harvest_core.specs.Inner.Crew.{IsHandleOf, IsReadingOf, promised_of}
+use Rattle.harvest_core.proofs.Workers.{promised_more}
 use Rattle.harvest_core.proofs.threads.fn.Crew.run.scope.Goals as goal
 use Rattle.harvest_core.proofs.threads.fn.Crew.run.scope.Goals.{else-loop-test, then-loop-test+then-is_err, then-loop-test+else-is_err+in-Err}
 
@@ -22,6 +23,8 @@ loop-preserved g c =
       few = (let few = c.loop.invariant.few in omega arith);
       each = ap (λ (hs : List (PromisedHandle Worked WorkOf)). length hs) c.push_reserved.ensures.items ∙ length_push c.reserve.new.self.items handle
           ∙ ap (λ n. n + 1) (ap (λ (hs : List (PromisedHandle Worked WorkOf)). length hs) c.reserve.ensures.items ∙ c.loop.invariant.each);
+      numbers = ap promised_of c.push_reserved.ensures.items
+          ∙ promised_more c.reserve.new.self.items handle c.loop.started (ap promised_of c.reserve.ensures.items ∙ c.loop.invariant.numbers) (ap (λ p. p.worker) c.in-Ok.ensures.ok);
       handles = subst (All P) (sym c.push_reserved.ensures.items)
           (All-push P c.reserve.new.self.items handle (subst (All P) (sym c.reserve.ensures.items) c.loop.invariant.handles) (ap (λ p. p.bytes.now) c.in-Ok.ensures.ok, ap (λ p. p.kinds) c.in-Ok.ensures.ok));
     }

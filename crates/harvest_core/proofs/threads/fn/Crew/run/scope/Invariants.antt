@@ -1,6 +1,7 @@
 use Rattle.std.proofs.Common.{◌≡◌, ◌≤◌, length}
 use Rattle.std.specs.Prelude.{All}
-use Rattle.harvest_core.specs.Inner.Crew.{IsCrew, IsHandleOf}
+use Rattle.harvest_core.specs.Inner.Crew.{IsCrew, IsHandleOf, promised_of}
+use Rattle.shape_core.specs.Word.{count_from}
 use Rattle.harvest_core.proofs.threads.fn.Crew.run.scope.Given as goal
 
 -- the workers that were started so far have promised their work
@@ -11,5 +12,6 @@ invariant-loop g l = record {
   kinds : l.crew.bench.kinds ≡ l.of.kinds;
   few : l.started ≤ l.counter;
   each : length l.handles.items ≡ l.started;
+  numbers : promised_of l.handles.items ≡ count_from 1 l.started;
   handles : All (IsHandleOf l.of.bytes.now l.of.kinds) l.handles.items;
 }
