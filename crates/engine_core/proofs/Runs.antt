@@ -34,7 +34,7 @@ sgf_cause input trees (sgf.Truncated at) few same h = (few, subst (λ (r : Readi
 sgf_cause input trees (sgf.BadByte at) few same h = (few, subst (λ (r : Reading). IsFaultOrMemory r.bytes r.from (sgf.BadByte at)) same h)
 sgf_cause input trees (sgf.NoValue at) few same h = (few, subst (λ (r : Reading). IsFaultOrMemory r.bytes r.from (sgf.NoValue at)) same h)
 sgf_cause input trees sgf.TooLarge few same h = absurd h
-sgf_cause input trees sgf.Memory few same h = (few, tt)
+sgf_cause input trees sgf.Memory few same h = (few, subst (λ (r : Reading). IsFaultOrMemory r.bytes r.from sgf.Memory) same h)
 
 -- a fault that an input of more than 2 ^ 28 bytes has is this one, or want of memory
 pub comes_first : (input : List ℕ) (found : HarvestFault) → (most_bytes < length input → (found ≡ harvest_fault.Memory) ⊎ (found ≡ harvest_fault.Sgf sgf.TooLarge)) → ComesFirst input found

@@ -7,7 +7,7 @@ ghost use Rattle.engine_core.specs.Runs.{HasRead, Wrote, IsRunFault};
 use crate::faults::RunFault;
 use crate::input::read_input;
 use crate::output::write_parts;
-use harvest_core::{FreeGate, harvest};
+use harvest_core::{Gate, harvest};
 use shape_dict::Text;
 use std::alloc::Global;
 use std::io::{Read, Write};
@@ -20,18 +20,19 @@ const MOST_THREADS: usize = 16;
 
 /// The text of the dictionary of the input's games, in parts, and how many trees it has of each sort.
 #[tactic(auto, using(crate::proofs::Runs::comes_first))]
-fn counted_text<T: Threads + Wait + Sync>(
+fn counted_text<T: Threads + Wait + Sync, G: Gate>(
     rt: &T,
     alloc: Global,
     settings: Settings,
     text: Text,
+    gate: &G,
     input: &[u8],
 ) -> Result<(Vec<Vec<u8>>, Report), RunFault>
     ensures written { IfOk result (λ p. IsCountText settings.kinds text p.1 input.now
         (joined p.0.items)) }
     ensures fault { IfErr result (IsCountRunFault (2 ^ settings.k) settings.kinds input.now) }
 {
-    let counted = harvest(rt, alloc, settings, input, &FreeGate)?;
+    let counted = harvest(rt, alloc, settings, input, gate)?;
     let threads = usize::from(settings.workers()).clamp(2, MOST_THREADS);
     let written = counted.dictionary.parts(rt, alloc, text, threads)?;
     Ok((written, counted.report))
@@ -44,18 +45,22 @@ fn counted_text<T: Threads + Wait + Sync>(
 /// workers, two at least and 16 at most, make it, in parts that are written one after another. It takes memory for the input,
 /// the table, and for each thread for the largest tree and its record, the board, and each pattern; and for the text.
 ///
+/// The gate is for a test or a display of progress: it is told which worker is about to count which game. It changes no
+/// answer.
+///
 /// # Errors
 ///
 /// `Harvest` with the collection's first fault of syntax (S1 to S3), with S4 where it has more than 2^28 bytes, with F1
 /// where it has more patterns than the table has slots, or with F6 where memory for counting was refused or a thread was
-/// not started; with F2 to F4, F8 or F9 where the workers' shares do not go together, which is looked at and never met.
+/// not started; with F2 to F4, F8 or F9 where the workers' shares do not go together, which no test has met.
 /// `Dict` with X6 where memory for the text was refused, `Memory` where that for the input was; `Read` where the reader
 /// failed. Nothing is written then. `Write` where the writer failed: exactly that number of bytes of the text is out.
-pub fn run_count<T: Threads + Wait + Sync, R: Read, W: Write>(
+pub fn run_count<T: Threads + Wait + Sync, G: Gate, R: Read, W: Write>(
     rt: &T,
     alloc: Global,
     settings: Settings,
     text: Text,
+    gate: &G,
     reader: &mut R,
     writer: &mut W,
 ) -> Result<Report, RunFault>
@@ -67,7 +72,7 @@ pub fn run_count<T: Threads + Wait + Sync, R: Read, W: Write>(
         (R.remaining reader.old) (W.contents writer.old) (W.contents writer.new)) }
 {
     let input = read_input(alloc, reader)?;
-    let (written, report) = counted_text(rt, alloc, settings, text, &input)?;
+    let (written, report) = counted_text(rt, alloc, settings, text, gate, &input)?;
     write_parts(writer, &written)?;
     Ok(report)
 }

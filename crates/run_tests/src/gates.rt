@@ -1,10 +1,17 @@
-//! Gates that hold workers back: games are in work at once, and the thread that reads helps.
+//! Gates that hold workers back: games are in work at once, and the thread that reads helps. And one that notes what it is
+//! told.
 use crate::harvests::{collection, text_of};
+use crate::sheets::{Bytes, Full};
+use engine_core::run_count;
 use harvest_core::{Gate, harvest};
 use shape_core::Kinds;
+use shape_dict::Text;
+use std::alloc::Global;
+use std::sync::Wait;
 use std::sync::atomic::{AtomicU64, Ordering};
 use std::test::Fail;
 use std::thread;
+use std::thread::Threads;
 use tally_core::{Settings, count_plain};
 
 /// How often a gate looks before it gives up. A program that works one game after another fails, and does not hang.
@@ -111,5 +118,59 @@ fn reader_helps(rt: HostRuntime) -> Result<(), Fail> {
             "shapes 3 games 300 moves 450 squares 3 diamonds -\n3fff3fcffffff 300 150 1\n3fffbfcffffff 150 150 1\n3fffffcffffff 150 150 0\n";
         assert_eq!(rt; text.as_slice(), wanted.as_bytes());
     }
+    Ok(())
+}
+
+/// Notes how often each of the games 0 to 9 is told of a worker from 0 to 3, in four bits a game, and how often anything else.
+#[derive(Drop)]
+struct Notes {
+    told: AtomicU64,
+    strange: AtomicU64,
+}
+
+impl Gate for Notes {
+    fn at(&self, worker: usize, game: u64) {
+        if worker <= 3 && game < 10 {
+            self.told.fetch_add(1 << (4 * game), Ordering::SeqCst);
+        } else {
+            self.strange.fetch_add(1, Ordering::SeqCst);
+        }
+    }
+}
+
+/// What a gate notes while three workers count this collection.
+fn noted<R: Threads + Wait + Sync>(
+    rt: &R,
+    alloc: Global,
+    bytes: &[u8],
+) -> Result<(u64, u64), Fail> {
+    let gate = Notes {
+        told: AtomicU64::new(0),
+        strange: AtomicU64::new(0),
+    };
+    let settings = Settings::new(3, 2)?;
+    let mut reader = Bytes { left: bytes };
+    let mut writer = Full {
+        got: Vec::new(alloc),
+        most: 1000,
+    };
+    run_count(
+        rt,
+        alloc,
+        settings,
+        Text::One,
+        &gate,
+        &mut reader,
+        &mut writer,
+    )?;
+    let told = gate.told.load(Ordering::SeqCst);
+    Ok((told, gate.strange.load(Ordering::SeqCst)))
+}
+
+#[test]
+fn a_gate_is_told_each_game(rt: HostRuntime) -> Result<(), Fail> {
+    let alloc = rt.alloc();
+    let bytes = collection(alloc, 5)?;
+    assert_eq!(rt; noted(&rt, alloc, &bytes)?, (0x11_1111_1111, 0));
     Ok(())
 }

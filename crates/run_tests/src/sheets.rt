@@ -131,8 +131,8 @@ fn a_page_is_drawn(rt: HostRuntime) -> Result<(), Fail> {
 
 /// A reader of these bytes.
 #[derive(Drop)]
-struct Bytes<'a> {
-    left: &'a [u8],
+pub(crate) struct Bytes<'a> {
+    pub(crate) left: &'a [u8],
 }
 
 impl<'a> Read for Bytes<'a> {

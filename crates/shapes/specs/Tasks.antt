@@ -2,7 +2,7 @@
 use Rattle.std.specs.Prelude.{◌≡◌, ℕ, ◌^◌, List, Option, None, IfSome, Result, Ok, Err}
 use Rattle.std.specs.Option.{IsSome}
 use Rattle.std.specs.Io.KnownBytes.{Appends, Keeps}
-use Rattle.engine_core.specs.Runs.{Wrote, IsRunFault, input_of}
+use Rattle.engine_core.specs.Runs.{HasRead, Wrote, IsRunFault, input_of}
 use Rattle.engine_core.specs.Boards.{IsBoardText, HasNoBoard, IsBoardFault}
 use Rattle.engine_core.specs.Counts.{IsCountText, HasCountText, IsCountRunFault}
 use Rattle.engine_core.specs.Finds.{IsFoundText, IsAbsentText, IsFindText, IsFindFault}
@@ -15,6 +15,11 @@ use Rattle.engine_core.specs.declared.faults.RunFault.{RunFault}
 use Rattle.shapes.specs.declared.tasks.Answer.{Answer}
 use Rattle.shapes.specs.declared.words.Task.{Task}
 use Rattle.shapes.specs.declared.words.Task.TheVariants as task
+
+-- what a task took of the reader's rest, however it ended: help nothing, and any other what a run reads
+abbrev pub Reads : Task → Result Answer RunFault → Option (List ℕ) → Option (List ℕ) → Type 0
+Reads (task.Help text) result rest left = left ≡ rest
+Reads found result rest left = HasRead result rest left
 
 -- what a task that ended well did with the reader's rest and the writer, and what it answered
 abbrev pub Does : Task → Option (List ℕ) → Option (List ℕ) → Option (List ℕ) → Answer → Type 0

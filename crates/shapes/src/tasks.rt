@@ -1,11 +1,12 @@
 //! From a task to the engine that does it, and the status that comes of it.
 ghost use Rattle.std.specs.Prelude.{◌≡◌, IfOk, IfErr};
-ghost use Rattle.shapes.specs.Tasks.{Does, IsTaskFault, status_after};
+ghost use Rattle.shapes.specs.Tasks.{Reads, Does, IsTaskFault, status_after};
 
 use crate::words::Task;
 use engine_core::{
     Outcome, RunFault, run_board, run_count, run_find, run_join, status_of, write_output,
 };
+use harvest_core::FreeGate;
 use std::alloc::Global;
 use std::io::{Read, Write};
 use std::sync::Wait;
@@ -33,8 +34,8 @@ impl Answer {
     }
 }
 
-/// Does a task: `board`, `count`, `find` and `join` by their engines, each with the reader and the writer; of help the text is
-/// written. The threads that count are started through `threads`.
+/// Does a task: `board`, `count`, `find` and `join` by their engines, each with the reader and the writer, and they read what
+/// their engines read; of help the text is written, and nothing is read. The threads that count are started through `threads`.
 ///
 /// # Errors
 ///
@@ -46,6 +47,7 @@ pub fn do_task<T: Threads + Wait + Sync, R: Read, W: Write>(
     reader: &mut R,
     writer: &mut W,
 ) -> Result<Answer, RunFault>
+    ensures read { Reads task result (R.remaining reader.old) (R.remaining reader.new) }
     ensures done { IfOk result (Does task (R.remaining reader.old) (W.contents writer.old)
         (W.contents writer.new)) }
     ensures fault { IfErr result (IsTaskFault task (R.remaining reader.old)
@@ -54,7 +56,7 @@ pub fn do_task<T: Threads + Wait + Sync, R: Read, W: Write>(
     match task {
         Task::Board => Ok(Answer::of(run_board(alloc, reader, writer)?)),
         Task::Count(settings, text) => {
-            let report = run_count(threads, alloc, settings, text, reader, writer)?;
+            let report = run_count(threads, alloc, settings, text, &FreeGate, reader, writer)?;
             Ok(Answer {
                 outcome: Outcome::Done,
                 report: Some(report),

@@ -1,7 +1,7 @@
 //! From a reader to a writer: a dictionary's sheet.
 ghost use Rattle.std.specs.Prelude.{OnOk, IfOk, IfErr};
 ghost use Rattle.engine_core.specs.Finds.{IsFindFault};
-ghost use Rattle.engine_core.specs.Runs.{Wrote, IsRunFault};
+ghost use Rattle.engine_core.specs.Runs.{HasRead, Wrote, IsRunFault};
 ghost use Rattle.sheet_core.specs.Runs.{IsSheetText};
 
 use crate::asked::Asked;
@@ -21,7 +21,8 @@ fn sheet_of(alloc: Global, asked: Asked, input: &[u8]) -> Result<Vec<u8>, RunFau
 }
 
 /// Reads one dictionary, in any of the three texts, and writes its sheet: the patterns that are asked for, as a page or as
-/// text for a terminal. It takes memory for the input, the dictionary, the patterns that qualify, and the sheet.
+/// text for a terminal. Of the reader it takes the bytes up to its end, or 2^28 + 1 of them, and no more, unless the reader
+/// fails or memory is refused. It takes memory for the input, the dictionary, the patterns that qualify, and the sheet.
 ///
 /// # Errors
 ///
@@ -34,6 +35,7 @@ pub fn run_sheet<R: Read, W: Write>(
     reader: &mut R,
     writer: &mut W,
 ) -> Result<(), RunFault>
+    ensures read { HasRead result (R.remaining reader.old) (R.remaining reader.new) }
     ensures done { OnOk result (Wrote (IsSheetText asked) (R.remaining reader.old)
         (W.contents writer.old) (W.contents writer.new)) }
     ensures fault { IfErr result (IsRunFault (IsSheetText asked) IsFindFault
