@@ -19,7 +19,7 @@ pub enum HarvestFault {
     /// The collection is not one that can be read.
     #[error("{0}")]
     Sgf(SgfFault),
-    /// A count is over 2^64 - 1, or a game has so many actions that one might be.
+    /// A count is over 2^64 - 1, or a game has at least 2^64 / 5410 actions.
     #[error("F8 count too large")]
     Overflow,
 }

@@ -60,7 +60,7 @@ impl Tally {
 /// # Errors
 ///
 /// `HarvestFault::Memory` where memory for the board or the counts was refused. `HarvestFault::Overflow` where the game has
-/// so many actions that a count might pass 2^64 - 1, which is more than any input has.
+/// at least 2^64 / 5410 actions, which no input has: with fewer, no count passes 2^64 - 1.
 pub fn tally_plain(alloc: Global, kinds: Kinds, game_record: &Record) -> Result<Tally, HarvestFault>
     ensures tally { IfOk result (IsTally kinds game_record.now) }
     ensures fault { IfErr result (IsTallyFault game_record.now) }
