@@ -17,7 +17,7 @@ use Rattle.share_core.specs.Entering.{CallsOnly}
 use Rattle.slot_table.specs.Passes.{Known}
 use Rattle.share_core.proofs.Raised.{same_shape, same_length}
 use Rattle.share_core.proofs.Added.{still_of, share_of_more}
-use Rattle.harvest_core.proofs.Called.{calls_weaker}
+use Rattle.share_core.proofs.Entered.{calls_weaker}
 use Rattle.harvest_core.specs.Working.{IsGame, IsPatternOfGame, IsPatternIn, IsWorked, IsRefusal, AreOfGame}
 
 -- a pattern of a game's record is one of the game

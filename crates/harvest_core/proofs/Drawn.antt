@@ -16,7 +16,7 @@ use Rattle.share_core.specs.Confirming.{HasShape}
 use Rattle.share_core.specs.Entering.{CallsOnly}
 use Rattle.harvest_core.specs.declared.working.Worked.{Worked}
 use Rattle.harvest_core.specs.Working.{IsPatternOfGame, IsPatternAmong, AreOfGame, IsRefusedGame, IsCounted, HasDrawn}
-use Rattle.harvest_core.proofs.Called.{calls_self, calls_through, calls_weaker}
+use Rattle.share_core.proofs.Entered.{calls_self, calls_through, calls_weaker}
 
 -- what counting a game of the input does, with a pass
 pub record IsCountedBy {O : Type 0} (n : ℕ) (bytes : List ℕ) (kinds : Kinds) (game : ℕ) (mid after : Known O) (one two : Worked) : Type 0 where

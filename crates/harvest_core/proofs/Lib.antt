@@ -1,4 +1,3 @@
-mod Called
 mod Additions
 mod Drawn
 mod Harvested

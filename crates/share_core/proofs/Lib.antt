@@ -2,7 +2,7 @@ mod Indexed
 mod Chained
 pub mod Raised
 mod Made
-mod Entered
+pub mod Entered
 mod Prepared
 pub mod Added
 mod Outcomes

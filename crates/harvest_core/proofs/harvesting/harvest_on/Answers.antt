@@ -1,7 +1,7 @@
 use Rattle.std.proofs.Common.{◌^◌, ℕ, inr, sym, subst}
 use Rattle.slot_table.specs.Stakes.{halved}
 use Rattle.share_core.specs.Entering.{AsksOnly}
-use Rattle.harvest_core.proofs.Called.{calls_self}
+use Rattle.share_core.proofs.Entered.{calls_self}
 use Rattle.harvest_core.proofs.harvesting.harvest_on.Goals as goal
 
 pub returns-in_err-crop-clause-later : goal.returns-in_err-crop-clause-later
