@@ -11,7 +11,7 @@ use Rattle.tally_core.specs.Limits.{AreLimits}
 use Rattle.clap.specs.Words.{IsAmong}
 use Rattle.clap.specs.declared.error.kind.ErrorKind.{ErrorKind}
 use Rattle.clap.specs.declared.error.kind.ErrorKind.TheVariants as refusal
-use Rattle.shapes.specs.Words.{HasNoNumber, HasNoText, HasNoSettings, number_of, IsWordsFault, IsTaskOf, IsAnswered, IsHelp, IsHelpKind, IsLineFault, IsRefusal, AsksForHelp, AreRefused, refusals_of}
+use Rattle.shapes.specs.Words.{HasNoNumber, HasNoText, HasNoSettings, number_of, IsWordsFault, IsTaskOf, IsAnswered, IsHelp, IsHelpKind, IsLineFault, IsRefusal, refusals_of}
 use Rattle.shapes.specs.declared.words.Task.{Task}
 use Rattle.shapes.specs.declared.words.Task.TheVariants as task
 use Rattle.engine_core.specs.declared.faults.RunFault.{RunFault}

@@ -1,5 +1,5 @@
 -- What a run of the program writes.
-use Rattle.std.specs.Prelude.{ℕ, ◌^◌, ◌≤◌, List, length}
+use Rattle.std.specs.Prelude.{ℕ, ◌≤◌, List, length}
 use Rattle.shape_dict.specs.Contents.{Contents}
 use Rattle.shape_dict.specs.Reading.{IsTextOf}
 use Rattle.sheet_core.specs.declared.asked.Asked.{Asked}

@@ -2,7 +2,6 @@
 use Rattle.std.specs.Prelude.{Bool, nat_lt, ◌==◌, ◌&&◌, ◌||◌}
 use Rattle.shape_dict.specs.declared.entries.Entry.{Entry}
 use Rattle.sheet_core.specs.declared.orders.Order.{Order}
-use Rattle.sheet_core.specs.declared.orders.Order.TheVariants as order
 use Rattle.sheet_core.specs.Orders.{share_of}
 
 -- the same, as a test

@@ -4,7 +4,7 @@ use Rattle.clap.specs.Words.{App, Row, IsAmong, fault_of, is_simple, is_simple_a
 use Rattle.clap.specs.Values.{kind_of}
 use Rattle.clap.specs.declared.error.kind.ErrorKind.TheVariants as refusal
 use Rattle.shapes.specs.Commands.{asked_by}
-use Rattle.shapes.specs.Words.{IsTaskOf, IsWordsFault, refusals_of}
+use Rattle.shapes.specs.Words.{IsTaskOf, IsWordsFault}
 use Rattle.shapes.proofs.Asked.{answered_from, line_fault_from, helped_from, refused_from}
 use Rattle.shapes.proofs.words.read_words.Goals as goal
 
