@@ -35,7 +35,8 @@ impl Capacity {
         }
     }
 
-    /// How many slots there are: 2 to the power of the exponent, from 1 to 2^22. It takes no memory.
+    /// How many slots there are: 2 to the power of the exponent, from 1 to 2^22. It takes no
+    /// memory.
     pub fn slots(self) -> usize
         ensures value { result ≡ 2 ^ self }
         ensures some { 1 ≤ result }

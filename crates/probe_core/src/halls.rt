@@ -18,7 +18,8 @@ pub(crate) struct UnderWay<O: ProbeOrder> {
     since: usize,
 }
 
-/// The words of a table, for each caller nothing or its call, the finished calls and the count of events.
+/// The words of a table, for each caller nothing or its call, the finished calls and the count of
+/// events.
 #[derive(Drop)]
 pub(crate) struct Hall<O: ProbeOrder> {
     pub(crate) order: O,

@@ -1,7 +1,8 @@
 //! Keys: the numbers that the table numbers.
 use std::marker::Model;
 
-/// A key: a whole number below 2^51. The key of a pattern is its canonical word. This is the project's own.
+/// A key: a whole number below 2^51. The key of a pattern is its canonical word. This is the
+/// project's own.
 #[derive(Clone, Copy, Debug, PartialEq, Eq, PartialOrd, Ord)]
 pub struct Key {
     bits: u64,

@@ -9,8 +9,8 @@ use crate::keys::Key;
 
 /// An order in which a table's places are probed, for each key one.
 ///
-/// For each key the places at the indices below the number of slots are all places, each once: that is a law, which
-/// each implementation proves.
+/// For each key the places at the indices below the number of slots are all places, each once: that
+/// is a law, which each implementation proves.
 pub trait ProbeOrder: Copy {
     /// The exponent of the number of slots.
     ghost exponent: { Self → ℕ };
@@ -51,10 +51,11 @@ fn start(mixed: u64, capacity: Capacity) -> usize
     (mixed >> 1 >> (63 - capacity.exponent())) as usize
 }
 
-/// The order that goes on to the next place, and from the last one to the first. This is the project's own.
+/// The order that goes on to the next place, and from the last one to the first. This is the
+/// project's own.
 ///
-/// Place i of a key is `(start + i) mod N` for N slots, where the start is the top bits of the key's product with a
-/// constant mod 2^64, as many as N has.
+/// Place i of a key is `(start + i) mod N` for N slots, where the start is the top bits of the
+/// key's product with a constant mod 2^64, as many as N has.
 #[derive(Clone, Copy, Debug, PartialEq, Eq)]
 pub struct Linear {
     /// How many slots the table has.
@@ -89,8 +90,8 @@ fn odd_step(mixed: u64, capacity: Capacity) -> usize
 
 /// The order that goes on by a step of the key's own, which is odd. This is the project's own.
 ///
-/// Place i of a key is `(start + i * s) mod N` for N slots. The start is that of `Linear`. The step s is what the
-/// start is taken from, over 2^20, mod N, with its lowest bit set.
+/// Place i of a key is `(start + i * s) mod N` for N slots. The start is that of `Linear`. The step
+/// s is what the start is taken from, over 2^20, mod N, with its lowest bit set.
 #[derive(Clone, Copy, Debug, PartialEq, Eq)]
 pub struct OddStep {
     /// How many slots the table has.

@@ -62,7 +62,8 @@ fn key_asked(call: Call) -> Key
 impl<O: ProbeOrder> Probe<O> {
     /// A call before its first step, a load of the first place of its key. It takes no memory.
     ///
-    /// It has at most 2N steps before it for an Enter, and N for a LookUp, with N slots, whatever others do.
+    /// It has at most 2N steps before it for an Enter, and N for a LookUp, with N slots, whatever
+    /// others do.
     pub fn begin(order: &O, call: Call) -> Probe<O>
         ensures order { result.order ≡ order.now }
         ensures machine { result.machine ≡ begun call }
@@ -77,8 +78,8 @@ impl<O: ProbeOrder> Probe<O> {
         }
     }
 
-    /// The next step: a load, or a compare-exchange from 0 to the key and 1 more. Its place is below the number of
-    /// slots. It takes no memory.
+    /// The next step: a load, or a compare-exchange from 0 to the key and 1 more. Its place is
+    /// below the number of slots. It takes no memory.
     pub fn wants(&self) -> Want
         ensures step { result ≡ next_step self.now.machine
             (place_in (O.place_of self.now.order) self.now.machine) }
@@ -102,11 +103,12 @@ impl<O: ProbeOrder> Probe<O> {
         self.call
     }
 
-    /// What follows the next step, where the word of its place held this value before it. It takes no memory.
+    /// What follows the next step, where the word of its place held this value before it. It takes
+    /// no memory.
     ///
-    /// A free word is swapped by an Enter, and Absent for a LookUp. The key's word, or a swap that won, is the
-    /// answer Number. After another word the next place is loaded, and after the last place the answer is Full. A
-    /// probe that goes on has fewer steps left.
+    /// A free word is swapped by an Enter, and Absent for a LookUp. The key's word, or a swap that
+    /// won, is the answer Number. After another word the next place is loaded, and after the last
+    /// place the answer is Full. A probe that goes on has fewer steps left.
     pub fn told(self, value: u64) -> Turn<O>
         ensures turn { result ≡ turn_of self.order (follows (2 ^ O.exponent self.order)
             self.machine (place_in (O.place_of self.order) self.machine) value) }

@@ -53,8 +53,8 @@ impl<O: ProbeOrder> SoloTable<O> {
         Ok(SoloTable { order, words })
     }
 
-    /// The key's number; where it has none, a free number, which is the key's from then on, or `Full` where no number
-    /// is free. It takes no memory.
+    /// The key's number; where it has none, a free number, which is the key's from then on, or
+    /// `Full` where no number is free. It takes no memory.
     pub fn enter(&mut self, key: Key) -> Answer
         ensures order { self.new.order ≡ self.old.order }
         ensures step { Step self.old.table (Call.Enter key) result self.new.table }
@@ -69,8 +69,8 @@ impl<O: ProbeOrder> SoloTable<O> {
         }
     }
 
-    /// The key's number; where it has none, `Absent` if some number is free, else `Full`. The table stays as it is, and
-    /// no memory is taken.
+    /// The key's number; where it has none, `Absent` if some number is free, else `Full`. The table
+    /// stays as it is, and no memory is taken.
     pub fn look_up(&self, key: Key) -> Answer
         ensures step { Step self.now.table (Call.LookUp key) result self.now.table }
         ensures whole { length self.now.table ≡ 2 ^ O.exponent self.now.order }

@@ -27,7 +27,8 @@ fn take_step(words: &mut [u64], want: Want) -> u64
     }
 }
 
-/// Takes the next step of a probe on the words, and tells it what its word held. Each slot has a word.
+/// Takes the next step of a probe on the words, and tells it what its word held. Each slot has a
+/// word.
 pub(crate) fn advance<O: ProbeOrder>(words: &mut [u64], probe: Probe<O>) -> Turn<O>
     requires { 2 ^ O.exponent probe.order ≤ length words.old }
     ensures words { words.new ≡ words_after words.old probe.machine
@@ -42,7 +43,8 @@ pub(crate) fn advance<O: ProbeOrder>(words: &mut [u64], probe: Probe<O>) -> Turn
     probe.told(held)
 }
 
-/// Tells a probe what the word of its next step's place holds, and leaves the words as they are. Each slot has a word.
+/// Tells a probe what the word of its next step's place holds, and leaves the words as they are.
+/// Each slot has a word.
 pub(crate) fn look<O: ProbeOrder>(words: &[u64], probe: Probe<O>) -> Turn<O>
     requires { 2 ^ O.exponent probe.order ≤ length words.now }
     ensures turn { let place = place_in (O.place_of probe.order) probe.machine

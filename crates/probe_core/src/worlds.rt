@@ -56,13 +56,15 @@ impl<O: ProbeOrder> World<O> {
 
     /// Runs these events, in their order.
     ///
-    /// A Begin of a busy caller, a Step of an idle one and an event of a caller that does not exist change the count of
-    /// events and nothing else. Memory is taken first, for each call that may end.
+    /// A Begin of a busy caller, a Step of an idle one and an event of a caller that does not exist
+    /// change the count of events and nothing else. Memory is taken first, for each call that may
+    /// end.
     ///
     /// # Errors
     ///
-    /// `TooLong` exactly where the events of all runs together would be more than 2^62, judged before memory is asked for;
-    /// `Memory` where memory was refused. After either the world is as it was.
+    /// `TooLong` exactly where the events of all runs together would be more than 2^62, judged
+    /// before memory is asked for; `Memory` where memory was refused. After either the world is as
+    /// it was.
     pub fn run(&mut self, events: &[Event]) -> Result<(), ProbeFault>
         ensures order { self.new.order ≡ self.old.order }
         ensures world { OnOk result

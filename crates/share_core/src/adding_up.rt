@@ -35,8 +35,8 @@ fn moves_of(shares: &[Share]) -> Result<u64, HarvestFault>
     Ok(moves)
 }
 
-/// The dictionary of the games of all shares, of the listed entries of their rows. The shares are of these kinds, and have the
-/// games below `games`, each once. It takes no memory.
+/// The dictionary of the games of all shares, of the listed entries of their rows. The shares are
+/// of these kinds, and have the games below `games`, each once. It takes no memory.
 ///
 /// # Errors
 ///

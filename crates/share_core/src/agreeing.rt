@@ -30,8 +30,8 @@ pub(crate) fn marks_fault(differs: Differs) -> HarvestFault
     }
 }
 
-/// Asks the least game of a number, and compares it with that of the shares' rows: where they differ, that is noted. Where
-/// the games of a lesser number differ, nothing is asked.
+/// Asks the least game of a number, and compares it with that of the shares' rows: where they
+/// differ, that is noted. Where the games of a lesser number differ, nothing is asked.
 #[tactic(auto, using(crate::proofs::Entered::calls_self))]
 pub(crate) fn compare<O: ProbeOrder>(
     table: &SlotTable<O>,

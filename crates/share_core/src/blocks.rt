@@ -13,8 +13,8 @@ use crate::kept_rows::KeptRow;
 use crate::shares::Share;
 use std::alloc::AllocError;
 
-/// Adds the rows at these places. Nothing is done with a row before the next one is read, so that the reads, which mostly go to
-/// lines of memory in no cache, wait together.
+/// Adds the rows at these places. Nothing is done with a row before the next one is read, so that
+/// the reads, which mostly go to lines of memory in no cache, wait together.
 fn add_rows(rows: &[KeptRow], places: &[u32], all: &mut Vec<KeptRow>) -> Result<(), AllocError>
     requires { All (λ place. place < length rows.now) places.now }
     ensures { OnOk result (all.new.items ≡ all.old.items ++ map (row_at rows.now) places.now) }
@@ -25,7 +25,8 @@ fn add_rows(rows: &[KeptRow], places: &[u32], all: &mut Vec<KeptRow>) -> Result<
     Ok(())
 }
 
-/// The rows of a block's numbers, those of all shares in their order. It takes memory where there is no room for them.
+/// The rows of a block's numbers, those of all shares in their order. It takes memory where there
+/// is no room for them.
 pub(crate) fn collect(
     shares: &[Share],
     dealt: &[Result<Dealt, AllocError>],
@@ -45,8 +46,8 @@ pub(crate) fn collect(
     Ok(())
 }
 
-/// A total, if there is one, with what a row of its pattern counts besides; None where the row is of another pattern or a sum
-/// passes 2^64 - 1.
+/// A total, if there is one, with what a row of its pattern counts besides; None where the row is
+/// of another pattern or a sum passes 2^64 - 1.
 fn with_like(total: Option<KeptRow>, row: KeptRow) -> Option<KeptRow>
     ensures { IfSome result (λ both. (both ≡ with_row total row) × IsLike total row) }
 {
@@ -59,8 +60,9 @@ fn with_like(total: Option<KeptRow>, row: KeptRow) -> Option<KeptRow>
     total.with(row)
 }
 
-/// Adds a row to the total of its number, where the first total is that of a number and the others those of the numbers after
-/// it. A row of another number is passed over. The answer is whether that goes.
+/// Adds a row to the total of its number, where the first total is that of a number and the others
+/// those of the numbers after it. A row of another number is passed over. The answer is whether
+/// that goes.
 fn add_one(totals: &mut [Option<KeptRow>], from: usize, row: KeptRow) -> bool
     ensures long { length totals.new ≡ length totals.old }
     ensures added { IsTrue result → (rows : List Row) → AreEven rows from totals.old
@@ -87,8 +89,8 @@ fn clear(totals: &mut [Option<KeptRow>])
     }
 }
 
-/// Makes the totals of a number and those after it, as far as rows have them. The answer is whether the rows of each are of one
-/// pattern and no sum passes 2^64 - 1; else the totals have no meaning.
+/// Makes the totals of a number and those after it, as far as rows have them. The answer is whether
+/// the rows of each are of one pattern and no sum passes 2^64 - 1; else the totals have no meaning.
 pub(crate) fn add_up_rows(rows: &[KeptRow], from: usize, totals: &mut [Option<KeptRow>]) -> bool
     ensures long { length totals.new ≡ length totals.old }
     ensures even { IsTrue result → AreEven rows.now from totals.new }

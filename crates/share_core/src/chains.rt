@@ -18,8 +18,8 @@ fn noted(places: &[SmallOption], at: usize) -> Option<usize>
     }
 }
 
-/// Rows in the order in which they were made, and their chains. The numbers are parted into buckets of 2^shift. The rows of
-/// a bucket are a chain, from the last one that was made back to the first.
+/// Rows in the order in which they were made, and their chains. The numbers are parted into buckets
+/// of 2^shift. The rows of a bucket are a chain, from the last one that was made back to the first.
 #[derive(Drop)]
 pub(crate) struct Chains<'a> {
     /// Each bucket has 2^shift numbers.
@@ -55,8 +55,8 @@ impl<'a> Chains<'a> {
         self.index.len() << self.shift
     }
 
-    /// The place of a number's row, if it has one. It walks the chain of the number's bucket. Where each bucket has one number
-    /// it reads no row.
+    /// The place of a number's row, if it has one. It walks the chain of the number's bucket. Where
+    /// each bucket has one number it reads no row.
     pub fn place(&self, number: usize) -> Option<usize>
         requires { IsIndexed self.now.shift self.now.index.now self.now.older.now
             self.now.rows.now }

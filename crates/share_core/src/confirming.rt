@@ -49,8 +49,9 @@ fn any_there(shares: &[Share], number: usize, bits: u64) -> bool
     false
 }
 
-/// Whether a number's key is the pattern of some row. The rows of the number are looked at first, since one of them is of
-/// the key where the shares are of this table; a look at all rows takes much longer.
+/// Whether a number's key is the pattern of some row. The rows of the number are looked at first,
+/// since one of them is of the key where the shares are of this table; a look at all rows takes
+/// much longer.
 fn is_known(shares: &[Share], number: usize, found: Option<u64>) -> bool
     ensures known { OnTrue result (IsOfRow (all_rows shares.now) found) }
     ensures unknown { OnFalse result (IsOfRow (all_rows shares.now) found → ⊥) }
@@ -66,7 +67,8 @@ fn is_known(shares: &[Share], number: usize, found: Option<u64>) -> bool
     }
 }
 
-/// Whether a number's key is the pattern of some row, and the least number of the refused pattern is another one.
+/// Whether a number's key is the pattern of some row, and the least number of the refused pattern
+/// is another one.
 fn agrees(shares: &[Share], number: usize, found: Option<u64>, least: Option<usize>) -> bool
     ensures yes { OnTrue result (IsOfRow (all_rows shares.now) found × (least ≡ Some number → ⊥)) }
     ensures no { OnFalse result
@@ -89,16 +91,19 @@ fn stranger_at(shares: &[Share], number: usize, of_table: Option<Word>) -> Harve
     }
 }
 
-/// Why the table had no number for a pattern of a game, as `Share::add` answered. The pattern is given by its word. It
-/// takes no memory.
+/// Why the table had no number for a pattern of a game, as `Share::add` answered. The pattern is
+/// given by its word. It takes no memory.
 ///
-/// The answer is `HarvestFault::Full` with the game and the word where each number of the table has a key, each of these
-/// keys is the pattern of some row of the shares, and the word is the pattern of no row: then the patterns are more than
-/// the numbers. Else it is `HarvestFault::Stranger` at the least number that is free, or whose key is the pattern of no
-/// row, or of which some row has the word as its pattern; a row of a larger table may have a number that this one has
-/// not. It has the pattern of the first row of that number, in the order of the shares, and the number's key in the table.
+/// The answer is `HarvestFault::Full` with the game and the word where each number of the table has
+/// a key, each of these keys is the pattern of some row of the shares, and the word is the pattern
+/// of no row: then the patterns are more than the numbers. Else it is `HarvestFault::Stranger` at
+/// the least number that is free, or whose key is the pattern of no row, or of which some row has
+/// the word as its pattern; a row of a larger table may have a number that this one has not. It has
+/// the pattern of the first row of that number, in the order of the shares, and the number's key in
+/// the table.
 ///
-/// Each number up to that one is looked at once, in rising order, and nothing is marked. The pass must be of the table.
+/// Each number up to that one is looked at once, in rising order, and nothing is marked. The pass
+/// must be of the table.
 pub fn confirm_full<O: ProbeOrder>(
     table: &SlotTable<O>,
     pass: &mut Pass<O>,

@@ -42,8 +42,8 @@ fn note(lists: &mut [Vec<u32>], block: usize, place: u32) -> Result<(), AllocErr
     Ok(())
 }
 
-/// Deals the places of a share's rows to the first blocks of numbers. Rows of later numbers are passed over. It takes four bytes
-/// a row.
+/// Deals the places of a share's rows to the first blocks of numbers. Rows of later numbers are
+/// passed over. It takes four bytes a row.
 fn deal(alloc: Global, share: &Share, count: usize) -> Result<Dealt, AllocError>
     ensures { IfOk result (IsDealt share.now.rows count) }
 {

@@ -34,7 +34,8 @@ fn is_late(first: Option<u64>, game: u64) -> bool
     }
 }
 
-/// The number of a pattern, which it is given where it has none and one is free; None where none is free.
+/// The number of a pattern, which it is given where it has none and one is free; None where none is
+/// free.
 fn enter_one<O: ProbeOrder>(
     table: &SlotTable<O>,
     pass: &mut Pass<O>,
@@ -61,8 +62,8 @@ fn enter_one<O: ProbeOrder>(
     }
 }
 
-/// Enters the patterns of a game in their order, block by block, each after a look ahead. Where no number is free for one, that
-/// is the answer, and those before it have their numbers.
+/// Enters the patterns of a game in their order, block by block, each after a look ahead. Where no
+/// number is free for one, that is the answer, and those before it have their numbers.
 pub(crate) fn enter_all<O: ProbeOrder>(
     table: &SlotTable<O>,
     pass: &mut Pass<O>,

@@ -24,9 +24,10 @@ pub enum HarvestFault {
     /// Shares have this game twice.
     #[error("F3 game {0} twice")]
     Twice(u64),
-    /// Rows and the table do not go together at this number: `of_share` is the pattern of a row of it, None where no share has
-    /// one, and `of_table` the table's pattern there, None where the number is free. From `confirm_full` both may be the same:
-    /// then a row has the refused pattern.
+    /// Rows and the table do not go together at this number: `of_share` is the pattern of a row of
+    /// it, None where no share has one, and `of_table` the table's pattern there, None where the
+    /// number is free. From `confirm_full` both may be the same: then a row has the refused
+    /// pattern.
     #[error("F4 stranger at number {number}")]
     Stranger {
         number: usize,
@@ -59,7 +60,8 @@ impl HarvestFault {
     ghost use Rattle.share_core.specs.declared.faults.HarvestFault.TheVariants as fault;
     ghost use Rattle.share_core.specs.Faults.{same_fault};
 
-    /// A share's row of a number has this word, and the number has another one in the table, or none.
+    /// A share's row of a number has this word, and the number has another one in the table, or
+    /// none.
     pub(crate) fn stranger(number: usize, held: Word, of_table: Option<Word>) -> HarvestFault
         ensures { result ≡ fault.Stranger number (Some held) of_table }
     {

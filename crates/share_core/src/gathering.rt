@@ -23,8 +23,8 @@ use slot_table::{Pass, SlotTable};
 use std::alloc::Global;
 use std::thread::Threads;
 
-/// What is wrong with the numbers where each row is of the table's pattern: a mark that differs comes before a sum too
-/// large.
+/// What is wrong with the numbers where each row is of the table's pattern: a mark that differs
+/// comes before a sum too large.
 fn check_numbers(differs: Option<Differs>, is_large: bool) -> Result<(), HarvestFault>
     ensures ok { OnOk result ((differs ≡ None) × (is_large ≡ false)) }
     ensures fault { IfErr result (IsNumbersFault differs is_large) }
@@ -38,22 +38,24 @@ fn check_numbers(differs: Option<Differs>, is_large: bool) -> Result<(), Harvest
     Ok(())
 }
 
-/// The dictionary of shares that have each number below `games` as a game once together: for each pattern the sums of
-/// all rows, and the least game. A pattern that was never there is left out.
+/// The dictionary of shares that have each number below `games` as a game once together: for each
+/// pattern the sums of all rows, and the least game. A pattern that was never there is left out.
 ///
-/// Each number is asked once, in rising order, until one differs; what is marked after that is not judged. Nothing is
-/// entered or marked here. Where there are many patterns, threads add rows up, one fewer than there are shares and two at least,
-/// while this one asks and one more lists the entries. Then threads sort the dictionary: as many as there are shares, rounded
-/// up to a power of two, 64 at most. The answer is the same.
+/// Each number is asked once, in rising order, until one differs; what is marked after that is not
+/// judged. Nothing is entered or marked here. Where there are many patterns, threads add rows up,
+/// one fewer than there are shares and two at least, while this one asks and one more lists the
+/// entries. Then threads sort the dictionary: as many as there are shares, rounded up to a power of
+/// two, 64 at most. The answer is the same.
 ///
 /// The pass must be of the table, each share of these kinds, and each of its games below `games`.
 ///
 /// # Errors
 ///
-/// In this order: `Twice` with the least game that is in the shares twice; `Missing` with the least that is in none;
-/// `Stranger` with the least number at which a share has a row and the table another pattern than the row's, or none;
-/// `Marks` with the least number whose least marked game is not the least of its rows; `Overflow` where a sum passes
-/// 2^64 - 1. `Memory` where memory was refused. After each the table's numbers and marks are as they were.
+/// In this order: `Twice` with the least game that is in the shares twice; `Missing` with the least
+/// that is in none; `Stranger` with the least number at which a share has a row and the table
+/// another pattern than the row's, or none; `Marks` with the least number whose least marked game
+/// is not the least of its rows; `Overflow` where a sum passes 2^64 - 1. `Memory` where memory was
+/// refused. After each the table's numbers and marks are as they were.
 #[tactic(auto, using(crate::proofs::Entered::calls_self))]
 pub fn gather<R: Threads + Sync, O: ProbeOrder>(
     rt: &R,

@@ -1,4 +1,5 @@
-//! Laws of shares, for proofs in the crates above. Each is a function that does nothing, and its contract is the law.
+//! Laws of shares, for proofs in the crates above. Each is a function that does nothing, and its
+//! contract is the law.
 ghost use Rattle.std.specs.Prelude.{◌≡◌, ◌≢◌, ℕ, List, AllPairs, All, Some, Contains, length, slice_get};
 ghost use Rattle.shape_core.specs.declared.words.Kinds.{Kinds};
 ghost use Rattle.shape_dict.specs.Contents.{Contents};
@@ -11,8 +12,8 @@ ghost use Rattle.share_core.specs.Confirming.{HasShape, IsConfirmation};
 ghost use Rattle.share_core.specs.Shares.{Held, Added, replayed_of};
 ghost use Rattle.share_core.specs.Gathering.{HaveGames, IsGathered, all_added, replayed_games};
 
-/// The dictionary of shares is that of their games, in the order of the games' numbers; and each game of a share is the
-/// one at the place of its number.
+/// The dictionary of shares is that of their games, in the order of the games' numbers; and each
+/// game of a share is the one at the place of its number.
 pub fn dictionary_of_shares()
     ensures dictionary { (kinds : Kinds) → (games : ℕ)
         → (addeds : List (List Added)) → (shares : List Held) → HaveGames kinds games addeds shares
@@ -24,8 +25,9 @@ pub fn dictionary_of_shares()
         → slice_get (replayed_games (all_added addeds) games) one.game ≡ Some (replayed_of one) }
 {}
 
-/// Where it is confirmed that a table of n numbers was full, the patterns are more than the numbers: the rows have n
-/// different ones, and the refused word is none of these. It takes no memory.
+/// Where it is confirmed that a table of n numbers was full, the patterns are more than the
+/// numbers: the rows have n different ones, and the refused word is none of these. It takes no
+/// memory.
 pub fn full_means_more_patterns_than_numbers()
     ensures { (n : ℕ) (seen : List Happened) (rows : List Row) (game word : ℕ) → IsLegal n seen →
         IsConfirmation n seen rows game word (fault.Full game word) →

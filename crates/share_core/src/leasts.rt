@@ -29,7 +29,8 @@ fn is_sought(sought: Sought, number: usize, bits: u64) -> bool
     }
 }
 
-/// The lesser of two rows by their numbers, the first where these are one. Rows that are not looked for do not count.
+/// The lesser of two rows by their numbers, the first where these are one. Rows that are not looked
+/// for do not count.
 fn lesser(least: Option<Row>, row: Row, sought: Sought) -> Option<Row>
     ensures { (rows : List Row) → IsLeastSought sought rows least
         → IsLeastSought sought (rows ++ row ∷ []) result }

@@ -13,8 +13,8 @@ use std::alloc::Global;
 use std::marker::Model;
 use tally_core::Meeting;
 
-/// Games in the order in which they were added, their moves, and rows. The weight is the sum of all counts of the rows, so
-/// that none of them is too large while it is not.
+/// Games in the order in which they were added, their moves, and rows. The weight is the sum of all
+/// counts of the rows, so that none of them is too large while it is not.
 #[derive(Drop)]
 pub(crate) struct Ledger {
     games: Vec<u64>,
@@ -38,7 +38,8 @@ impl Model for Ledger {
 impl Ledger {
     ghost use Rattle.std.specs.Prelude.{◌≡◌, ◌≤◌, []};
 
-    /// Nothing was counted yet. Each bucket of the rows' index has 2^shift numbers. It takes no memory.
+    /// Nothing was counted yet. Each bucket of the rows' index has 2^shift numbers. It takes no
+    /// memory.
     pub fn begin(alloc: Global, shift: u32) -> Ledger
         requires { shift ≤ 8 }
         ensures { result ≡ record { games = []; moves = 0; rows = [] } }
@@ -76,8 +77,9 @@ impl Ledger {
     ///
     /// # Errors
     ///
-    /// `Stranger` where a number's row is of another pattern; `Memory` where memory was refused. After either the games,
-    /// the moves and the old rows are as they were, and rows that count nothing may have come.
+    /// `Stranger` where a number's row is of another pattern; `Memory` where memory was refused.
+    /// After either the games, the moves and the old rows are as they were, and rows that count
+    /// nothing may have come.
     pub fn make_rows(
         &mut self,
         places: &mut Vec<usize>,
@@ -102,8 +104,8 @@ impl Ledger {
     ///
     /// # Errors
     ///
-    /// `Overflow` where the moves or all counts together would pass 2^64 - 1; `Memory` where memory was refused. After
-    /// either the ledger is as it was.
+    /// `Overflow` where the moves or all counts together would pass 2^64 - 1; `Memory` where memory
+    /// was refused. After either the ledger is as it was.
     pub fn count(
         &mut self,
         game: u64,

@@ -1,4 +1,5 @@
-//! Shares: what workers have counted over the shared table of numbers, and how shares become a dictionary.
+//! Shares: what workers have counted over the shared table of numbers, and how shares become a
+//! dictionary.
 #![tactic(auto)]
 
 // one share, and what adding a game to it takes

@@ -7,16 +7,17 @@ use crate::faults::HarvestFault;
 use crate::rows::Rows;
 use tally_core::Meeting;
 
-/// What a pattern has in the table: its number, and whether a game has to be marked there, since the least game that was
-/// marked is none or a later one.
+/// What a pattern has in the table: its number, and whether a game has to be marked there, since
+/// the least game that was marked is none or a later one.
 #[derive(Clone, Copy)]
 pub(crate) struct Entered {
     pub number: usize,
     pub late: bool,
 }
 
-/// How many of these numbers need a row, as far as the index alone tells. It has no branch that depends on the index, so no
-/// look waits for the one before it. Their lines of memory come together, and `make` finds them in a cache.
+/// How many of these numbers need a row, as far as the index alone tells. It has no branch that
+/// depends on the index, so no look waits for the one before it. Their lines of memory come
+/// together, and `make` finds them in a cache.
 fn count_new(rows: &Rows, entered: &[Entered]) -> usize {
     let mut count = 0;
     for one in entered {
@@ -25,8 +26,8 @@ fn count_new(rows: &Rows, entered: &[Entered]) -> usize {
     count
 }
 
-/// The places of the rows of the first meetings, as many as have numbers. A row is made where there is none, and then
-/// counts nothing.
+/// The places of the rows of the first meetings, as many as have numbers. A row is made where there
+/// is none, and then counts nothing.
 pub(crate) fn make_all(
     rows: &mut Rows,
     places: &mut Vec<usize>,

@@ -12,9 +12,9 @@ use crate::kept_rows::KeptRow;
 use crate::shares::Share;
 use shape_core::Word;
 
-/// What the rows of a number are together: a row with their sums, if it has any; the least of their games; the pattern
-/// of the first of them that is of another pattern than was asked for; and whether a sum passes 2^64 - 1. The row has no
-/// meaning where one does.
+/// What the rows of a number are together: a row with their sums, if it has any; the least of their
+/// games; the pattern of the first of them that is of another pattern than was asked for; and
+/// whether a sum passes 2^64 - 1. The row has no meaning where one does.
 #[derive(Clone, Copy)]
 pub(crate) struct NumberSums {
     pub total: Option<KeptRow>,
@@ -46,7 +46,8 @@ fn earlier(one: Option<u64>, other: Option<u64>) -> Option<u64>
     }
 }
 
-/// A row, if it is given, with what another row of its number counts besides; None where a sum passes 2^64 - 1.
+/// A row, if it is given, with what another row of its number counts besides; None where a sum
+/// passes 2^64 - 1.
 fn with_row(total: Option<KeptRow>, row: KeptRow) -> Option<KeptRow>
     ensures some { IfSome result (λ both. both ≡ with_row total row) }
     ensures none { IfNone result (IsTooMuch total row) }

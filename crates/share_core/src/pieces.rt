@@ -14,8 +14,9 @@ use crate::shares::Share;
 use std::alloc::{AllocError, Global};
 use std::thread::{Threads, map_indices};
 
-/// A range of numbers: for each that has rows their total, numbers rising. It is odd where some number of the range has
-/// rows of several patterns, or a sum passes 2^64 - 1; then the totals have no meaning.
+/// A range of numbers: for each that has rows their total, numbers rising. It is odd where some
+/// number of the range has rows of several patterns, or a sum passes 2^64 - 1; then the totals have
+/// no meaning.
 #[derive(Drop)]
 pub(crate) struct Piece {
     pub rows: Vec<KeptRow>,
@@ -38,7 +39,8 @@ fn add_totals(piece: &mut Piece, from: usize, totals: &[Option<KeptRow>]) -> Res
     Ok(())
 }
 
-/// Adds the totals of numbers of one block to the piece of the numbers before them: as many as there is room for.
+/// Adds the totals of numbers of one block to the piece of the numbers before them: as many as
+/// there is room for.
 fn add_block(
     piece: &mut Piece,
     shares: &[Share],
@@ -84,8 +86,8 @@ fn no_totals(alloc: Global, count: usize) -> Result<Vec<Option<KeptRow>>, AllocE
     Ok(totals)
 }
 
-/// The piece of the numbers from one up to another. It takes memory for a total of each number, of which the system gives
-/// what is used, and for the rows and totals of one block of numbers.
+/// The piece of the numbers from one up to another. It takes memory for a total of each number, of
+/// which the system gives what is used, and for the rows and totals of one block of numbers.
 fn piece_of(
     alloc: Global,
     shares: &[Share],
@@ -116,8 +118,8 @@ fn piece_of(
     Ok(piece)
 }
 
-/// The piece at a place of the numbers from one up to another, where each piece has this many, and the last one those that
-/// are left.
+/// The piece at a place of the numbers from one up to another, where each piece has this many, and
+/// the last one those that are left.
 fn piece_at(
     alloc: Global,
     shares: &[Share],
@@ -139,8 +141,8 @@ fn piece_at(
     piece_of(alloc, shares, dealt, low, high.min(low + span))
 }
 
-/// The numbers from one up to another in pieces of this many, in order. Threads make them, and each may be refused memory.
-/// One piece is made by this thread.
+/// The numbers from one up to another in pieces of this many, in order. Threads make them, and each
+/// may be refused memory. One piece is made by this thread.
 pub(crate) fn pieces<R: Threads + Sync>(
     rt: &R,
     alloc: Global,
@@ -166,8 +168,8 @@ pub(crate) fn pieces<R: Threads + Sync>(
     )
 }
 
-/// The total of a number, where the totals from a place on are those of this number and later ones; the place goes on past
-/// the number.
+/// The total of a number, where the totals from a place on are those of this number and later ones;
+/// the place goes on past the number.
 pub(crate) fn next_total(rows: &[KeptRow], next: &mut usize, number: usize) -> Option<KeptRow>
     ensures total { (all : List Row) → (high : ℕ) → number < high
         → AreTotals all number high (drop next.old rows.now) → result ≡ total_at all number }

@@ -12,8 +12,8 @@ use std::alloc::{AllocError, Global};
 use std::marker::Model;
 use tally_core::Meeting;
 
-/// What a share has counted at one number of the table: the number's pattern, how often it was there and was played, and
-/// the least game in which it was there, or None before any was counted.
+/// What a share has counted at one number of the table: the number's pattern, how often it was
+/// there and was played, and the least game in which it was there, or None before any was counted.
 #[derive(Clone, Copy, Debug, PartialEq, Eq)]
 pub struct Row {
     pub number: usize,
@@ -37,8 +37,8 @@ fn widen(index: &mut Vec<SmallOption>, buckets: usize) -> Result<(), AllocError>
     Ok(())
 }
 
-/// Notes the last row of a bucket as the one before the next. Where each bucket has one number it notes nothing: the next row
-/// is the first then.
+/// Notes the last row of a bucket as the one before the next. Where each bucket has one number it
+/// notes nothing: the next row is the first then.
 fn chain(older: &mut Vec<SmallOption>, shift: u32, last: SmallOption) -> Result<(), AllocError>
     ensures ok { OnOk result (older.new.items ≡ chained shift older.old.items last) }
     ensures same { OnErr result (older.new.items ≡ older.old.items) }
@@ -49,9 +49,9 @@ fn chain(older: &mut Vec<SmallOption>, shift: u32, last: SmallOption) -> Result<
     Ok(())
 }
 
-/// Makes room for a row. The first request is for as many rows as there are buckets, so that rows that grow need not move:
-/// the system gives memory for those that are there alone, and it can give it in large pages. Where that much is refused,
-/// the rows grow as they come.
+/// Makes room for a row. The first request is for as many rows as there are buckets, so that rows
+/// that grow need not move: the system gives memory for those that are there alone, and it can give
+/// it in large pages. Where that much is refused, the rows grow as they come.
 fn make_room(rows: &mut Vec<KeptRow>, buckets: usize) -> Result<(), AllocError>
     ensures same { rows.new.items ≡ rows.old.items }
     ensures room { OnOk result (vec_len rows.new < vec_capacity rows.new) }
@@ -62,16 +62,18 @@ fn make_room(rows: &mut Vec<KeptRow>, buckets: usize) -> Result<(), AllocError>
     rows.reserve(1)
 }
 
-/// Rows in the order in which they were made, with an index by which a number's row is found. The numbers are parted into
-/// buckets of 2^shift, and the rows of a bucket are a chain. The index takes four bytes for each bucket of the table. The
-/// chains take four bytes for each row, and nothing where a bucket has one number. Contracts see the rows.
+/// Rows in the order in which they were made, with an index by which a number's row is found. The
+/// numbers are parted into buckets of 2^shift, and the rows of a bucket are a chain. The index
+/// takes four bytes for each bucket of the table. The chains take four bytes for each row, and
+/// nothing where a bucket has one number. Contracts see the rows.
 #[derive(Drop)]
 pub(crate) struct Rows {
     /// Each bucket has 2^shift numbers.
     shift: u32,
     /// For each bucket the place of its last row.
     index: Vec<SmallOption>,
-    /// For each row the place of the one before it in its bucket; empty where a bucket has one number.
+    /// For each row the place of the one before it in its bucket; empty where a bucket has one
+    /// number.
     older: Vec<SmallOption>,
     rows: Vec<KeptRow>,
 }
@@ -146,7 +148,8 @@ impl Rows {
         self.chains().last_in(number >> self.shift).is_none()
     }
 
-    /// Makes room for this many rows more, if there are rows already. After a refusal the rows are as they were.
+    /// Makes room for this many rows more, if there are rows already. After a refusal the rows are
+    /// as they were.
     pub fn reserve(&mut self, count: usize) -> Result<(), AllocError>
         ensures { self.new ≡ self.old }
     {
@@ -156,7 +159,8 @@ impl Rows {
         self.rows.reserve(count)
     }
 
-    /// The row of the least number at or above this one that has a row. It looks up each number up to that one.
+    /// The row of the least number at or above this one that has a row. It looks up each number up
+    /// to that one.
     pub fn first_from(&self, from: usize) -> Option<Row>
         ensures first { IsLeastFrom from self.now result }
         ensures small { IfSome result (λ row. row.number < 2 ^ 22) }
@@ -169,13 +173,13 @@ impl Rows {
         None
     }
 
-    /// The place of a number's row, which is made where the number has none and then counts nothing. The index gets room
-    /// for the buckets of this many slots, where it has less.
+    /// The place of a number's row, which is made where the number has none and then counts
+    /// nothing. The index gets room for the buckets of this many slots, where it has less.
     ///
     /// # Errors
     ///
-    /// `Stranger` where the row is of another pattern; `Memory` where memory was refused. After either the rows are as
-    /// they were.
+    /// `Stranger` where the row is of another pattern; `Memory` where memory was refused. After
+    /// either the rows are as they were.
     pub fn make(&mut self, slots: usize, number: usize, shape: Shape) -> Result<usize, HarvestFault>
         requires number { number < slots }
         requires few { slots ≤ 2 ^ 22 }

@@ -6,8 +6,9 @@ use crate::rows::{Row, Rows};
 use std::iter::FusedIterator;
 use std::marker::Model;
 
-/// The rows of a share, each once, numbers rising. It walks the share's index as it goes, and takes no memory: all rows
-/// together take a step for each slot of the table, and a walk of the chain of the slot's bucket.
+/// The rows of a share, each once, numbers rising. It walks the share's index as it goes, and takes
+/// no memory: all rows together take a step for each slot of the table, and a walk of the chain of
+/// the slot's bucket.
 ///
 /// Contracts see the rows, and the number from which on they are still to come.
 #[derive(Drop)]
@@ -40,8 +41,8 @@ impl<'a> Iterator for ShareRows<'a> {
 
     ghost remaining = { rows_left };
 
-    /// The row of the least number from which on rows are still to come. Where no row is left it is None, now and from
-    /// then on.
+    /// The row of the least number from which on rows are still to come. Where no row is left it is
+    /// None, now and from then on.
     fn next(&mut self) -> Option<Row> {
         let row = self.rows.first_from(self.from)?;
         self.from = row.number + 1;

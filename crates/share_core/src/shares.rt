@@ -17,8 +17,9 @@ use slot_table::{Pass, SlotTable};
 use std::alloc::Global;
 use std::marker::Model;
 
-/// Of which power of two the buckets of a share are, where this many workers count: 0 for up to 7 workers, 1 for 8, 2 for up to
-/// 16, 3 for up to 32, 4 for up to 64, and so on, at most 8. The more workers there are, the fewer rows each share has.
+/// Of which power of two the buckets of a share are, where this many workers count: 0 for up to 7
+/// workers, 1 for 8, 2 for up to 16, 3 for up to 32, 4 for up to 64, and so on, at most 8. The more
+/// workers there are, the fewer rows each share has.
 fn shift_for(workers: usize) -> u32
     ensures { result ≤ 8 }
 {
@@ -28,10 +29,12 @@ fn shift_for(workers: usize) -> u32
     ((workers - 1) / 2).ilog2().min(8)
 }
 
-/// What one worker has counted: games, each with all its patterns, under the numbers that these have in a table.
+/// What one worker has counted: games, each with all its patterns, under the numbers that these
+/// have in a table.
 ///
-/// Contracts see the worker, the kinds of pattern, the games in the order in which they were added, their moves, and the
-/// rows in the order in which they were made. A share is of some games, by its type: its sums are theirs.
+/// Contracts see the worker, the kinds of pattern, the games in the order in which they were added,
+/// their moves, and the rows in the order in which they were made. A share is of some games, by its
+/// type: its sums are theirs.
 #[derive(Drop)]
 pub struct Share {
     worker: usize,
@@ -80,11 +83,11 @@ impl Share {
           rows = [];
         } }
     {
-        Share::begin_among(alloc, worker, worker, kinds)
+        Share::begin_among(alloc, worker, 1, kinds)
     }
 
-    /// The same, of one of this many workers. The more there are, the less memory the share takes later to find its rows by their
-    /// numbers; nothing else depends on it.
+    /// The same, of one of this many workers. The more there are, the less memory the share takes
+    /// later to find its rows by their numbers; nothing else depends on it.
     pub fn begin_among(alloc: Global, worker: usize, workers: usize, kinds: Kinds) -> Share
         ensures { result ≡ record {
           worker = worker;
@@ -181,19 +184,22 @@ impl Share {
         ShareRows::new(self.ledger.rows())
     }
 
-    /// Adds a game: each of its patterns is entered into the table, and what the game counts of it goes into the row of
-    /// its number; at last the game is marked at each number where no game was that is not later.
+    /// Adds a game: each of its patterns is entered into the table, and what the game counts of it
+    /// goes into the row of its number; at last the game is marked at each number where no game was
+    /// that is not later.
     ///
-    /// No other pattern is entered, and no other game is marked. The pass must be of the table, and the game below 2^28.
+    /// No other pattern is entered, and no other game is marked. The pass must be of the table, and
+    /// the game below 2^28.
     ///
     /// # Errors
     ///
-    /// `Full` where no number is free for a pattern of the game: the first such in the order of its walk, and each pattern before
-    /// it has a number and its row; `Stranger` where the share's row of a pattern's number is of another pattern, as one from
-    /// another table; `Overflow` where the share's moves or all its counts together would
-    /// pass 2^64 - 1, or the game has more actions than any input; `Memory` where memory was refused. After each the
-    /// share's games, moves and sums are as they were and the game is nowhere marked. Rows without counts may have come,
-    /// and numbers in the table, of patterns of the game.
+    /// `Full` where no number is free for a pattern of the game: the first such in the order of its
+    /// walk, and each pattern before it has a number and its row; `Stranger` where the share's row
+    /// of a pattern's number is of another pattern, as one from another table; `Overflow` where the
+    /// share's moves or all its counts together would pass 2^64 - 1, or the game has more actions
+    /// than any input; `Memory` where memory was refused. After each the share's games, moves and
+    /// sums are as they were and the game is nowhere marked. Rows without counts may have come, and
+    /// numbers in the table, of patterns of the game.
     pub fn add<O: ProbeOrder>(
         &mut self,
         table: &SlotTable<O>,

@@ -1,4 +1,5 @@
-//! Rows of another pattern than the table has at their number, and rows of numbers that it does not have.
+//! Rows of another pattern than the table has at their number, and rows of numbers that it does not
+//! have.
 ghost use Rattle.std.specs.Prelude.{◌≡◌, ◌^◌, ◌<◌, IfSome, OnOk, IfErr, IsTrue};
 ghost use Rattle.share_core.specs.Checking.{all_rows};
 ghost use Rattle.share_core.specs.Inner.Checking.{AreBelow, IsBeyondFault};
@@ -31,7 +32,8 @@ pub(crate) fn word_of(bits: Option<u64>) -> Option<Word>
     }
 }
 
-/// Whether no share's index goes beyond a table of this many slots: then no row does. It reads no row.
+/// Whether no share's index goes beyond a table of this many slots: then no row does. It reads no
+/// row.
 fn are_within(shares: &[Share], slots: usize) -> bool
     ensures { IsTrue result → AreBelow slots (all_rows shares.now) }
 {
@@ -43,8 +45,8 @@ fn are_within(shares: &[Share], slots: usize) -> bool
     true
 }
 
-/// Rows of a number that is none of the table's are of no pattern there. Rows are looked at only where an index goes beyond the
-/// table, as that of a share of a larger one.
+/// Rows of a number that is none of the table's are of no pattern there. Rows are looked at only
+/// where an index goes beyond the table, as that of a share of a larger one.
 pub(crate) fn check_beyond(shares: &[Share], slots: usize) -> Result<(), HarvestFault>
     ensures ok { OnOk result (AreBelow slots (all_rows shares.now)) }
     ensures fault { IfErr result (IsBeyondFault slots (all_rows shares.now)) }

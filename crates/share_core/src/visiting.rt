@@ -1,5 +1,5 @@
-//! Numbers of a table, each visited once, in rising order: whether the rows that shares have of it are of its pattern, and
-//! their least game is the one that is marked.
+//! Numbers of a table, each visited once, in rising order: whether the rows that shares have of it
+//! are of its pattern, and their least game is the one that is marked.
 ghost use Rattle.std.specs.Prelude.{◌≡◌, ◌+◌, ◌^◌, ◌<◌, ◌≤◌, ℕ, List, drop};
 ghost use Rattle.std.specs.Prelude.{IfErr, OnOk};
 ghost use Rattle.slot_table.specs.Passes.{IsPassOf};
@@ -19,8 +19,8 @@ use crate::standing::{bits_of, word_of};
 use probe_core::ProbeOrder;
 use slot_table::{Pass, SlotTable};
 
-/// Looks at a number, and compares the patterns and the least games of its rows with the table's. The rows are looked for in
-/// the shares.
+/// Looks at a number, and compares the patterns and the least games of its rows with the table's.
+/// The rows are looked for in the shares.
 fn visit_odd<O: ProbeOrder>(
     table: &SlotTable<O>,
     pass: &mut Pass<O>,
@@ -46,7 +46,8 @@ fn visit_odd<O: ProbeOrder>(
     Ok(())
 }
 
-/// The same where the totals from a place on are those of this number and later ones; the place goes on past the number.
+/// The same where the totals from a place on are those of this number and later ones; the place
+/// goes on past the number.
 fn visit_even<O: ProbeOrder>(
     table: &SlotTable<O>,
     pass: &mut Pass<O>,

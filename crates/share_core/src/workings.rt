@@ -48,14 +48,14 @@ impl Workings {
         }
     }
 
-    /// Walks a game, enters its patterns, and makes rows for their numbers; the answer is how many moves onto empty
-    /// points it has.
+    /// Walks a game, enters its patterns, and makes rows for their numbers; the answer is how many
+    /// moves onto empty points it has.
     ///
     /// # Errors
     ///
-    /// `Full` where no number is free for a pattern, `Stranger` where a number's row is of another one; `Overflow` where the
-    /// game has more actions than any input; `Memory` where memory was refused. After each the ledger's games, moves and
-    /// old rows are as they were.
+    /// `Full` where no number is free for a pattern, `Stranger` where a number's row is of another
+    /// one; `Overflow` where the game has more actions than any input; `Memory` where memory was
+    /// refused. After each the ledger's games, moves and old rows are as they were.
     pub fn prepare<O: ProbeOrder>(
         &mut self,
         ledger: &mut Ledger,

@@ -20,8 +20,8 @@ use Rattle.probe_core.proofs.Soundness.{shows_again, words_of_shown}
 use Rattle.slot_table.specs.declared.entries.Happened.{Happened}
 use Rattle.slot_table.specs.declared.entries.Happened.TheVariants as entry
 use Rattle.slot_table.specs.History.{content_of, IsLegal, Begins}
-use Rattle.slot_table.specs.Inner.Rule.{AreSlotWords, AreKeyWords, IsMarkWord, AreMarkWords}
-use Rattle.slot_table.specs.Inner.Telling.{entries_of, PassedOthers, MaySwap}
+use Rattle.slot_table.specs.Rule.{AreSlotWords, AreKeyWords, IsMarkWord, AreMarkWords}
+use Rattle.slot_table.specs.Telling.{entries_of, PassedOthers, MaySwap}
 use Rattle.slot_table.proofs.Histories.{length-content, content_snoc, legal_snoc, least_from-append, number_stays}
 
 -- what the rule says of the words of slots, those of marks and the longest history

@@ -10,10 +10,10 @@ use Rattle.slot_table.specs.declared.entries.Happened.{Happened}
 use Rattle.slot_table.specs.declared.views.View.{View}
 use Rattle.slot_table.specs.History.{Begins}
 use Rattle.slot_table.specs.Places.{times, IsRising}
-use Rattle.slot_table.specs.Inner.Places.{below, merged}
+use Rattle.slot_table.specs.Places.{below, merged}
 use Rattle.slot_table.specs.Stakes.{AreUpTo, weight, IsWhole}
-use Rattle.slot_table.specs.Inner.Rule.{Kept, IsSpent, IsView, longer, shorter, joined, spent, times_owned, pieces_of}
-use Rattle.slot_table.specs.Inner.Telling.{Loaded, Joined}
+use Rattle.slot_table.specs.Rule.{Kept, IsSpent, IsView, longer, shorter, joined, spent, times_owned, pieces_of}
+use Rattle.slot_table.specs.Telling.{Loaded, Joined}
 use Rattle.slot_table.proofs.Histories.{kept_since}
 use Rattle.slot_table.proofs.Seating.{at_below}
 use Rattle.slot_table.proofs.Owning.{times-merged, rising_higher, rising_once, rising-merged, owned_set, owned_apart, below_one}

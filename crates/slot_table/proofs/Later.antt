@@ -10,7 +10,7 @@ use Rattle.slot_table.specs.declared.entries.Happened.{Happened}
 use Rattle.slot_table.specs.declared.views.View.{View}
 use Rattle.slot_table.specs.Places.{IsRising}
 use Rattle.slot_table.specs.Passes.{Known, IsLater, calls_of}
-use Rattle.slot_table.specs.Inner.Telling.{Grown, places_from}
+use Rattle.slot_table.specs.Telling.{Grown, places_from}
 use Rattle.slot_table.proofs.Histories.{begins_itself, begins_through}
 use Rattle.slot_table.proofs.Owning.{rising_le}
 

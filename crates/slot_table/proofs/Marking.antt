@@ -9,8 +9,8 @@ use Rattle.slot_table.specs.declared.entries.Happened.{Happened}
 use Rattle.slot_table.specs.declared.entries.Happened.TheVariants as entry
 use Rattle.slot_table.specs.declared.views.View.{View}
 use Rattle.slot_table.specs.History.{lowered, least_at, IsLegal, IsAtMost}
-use Rattle.slot_table.specs.Inner.Rule.{slot_words, mark_words, Kept, AreSlotWords, IsMarkWord}
-use Rattle.slot_table.specs.Inner.Telling.{Called, mark_of, marked, first_told}
+use Rattle.slot_table.specs.Rule.{slot_words, mark_words, Kept, AreSlotWords, IsMarkWord}
+use Rattle.slot_table.specs.Telling.{Called, mark_of, marked, first_told}
 use Rattle.slot_table.proofs.Histories.{content_same, legal_more, least_from-append, last_first}
 use Rattle.slot_table.proofs.Deciding.{Sound}
 use Rattle.slot_table.proofs.Pairs.{mark_at}

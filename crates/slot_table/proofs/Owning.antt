@@ -7,9 +7,9 @@ use lib.ListN.{get_elem?}
 use Rattle.slot_table.specs.declared.entries.Happened.{Happened}
 use Rattle.slot_table.specs.declared.views.View.{View}
 use Rattle.slot_table.specs.Places.{times, IsRising}
-use Rattle.slot_table.specs.Inner.Places.{below, inserted, merged}
-use Rattle.slot_table.specs.Inner.Rule.{times_owned}
-use Rattle.slot_table.specs.Inner.Telling.{places_from}
+use Rattle.slot_table.specs.Places.{below, inserted, merged}
+use Rattle.slot_table.specs.Rule.{times_owned}
+use Rattle.slot_table.specs.Telling.{places_from}
 use Rattle.probe_core.proofs.Placings.{three_ways}
 
 -- how often a place is in a list

@@ -1,7 +1,7 @@
 -- Words of which each number has two: reading and writing one of them.
 use Rattle.std.proofs.Common.{◌≡◌, ℕ, zero, suc, ◌+◌, ◌*◌, ◌≤◌, List, [], ◌∷◌, length, replicate, slice_set, slice_index_or, refl, sym, ◌∙◌, ap, arith}
 use Rattle.std.specs.List.{repeat}
-use Rattle.slot_table.specs.Inner.Rule.{slot_words, mark_words}
+use Rattle.slot_table.specs.Rule.{slot_words, mark_words}
 
 two_on : (p : ℕ) → 2 * suc p ≡ suc (suc (2 * p))
 two_on p = omega arith

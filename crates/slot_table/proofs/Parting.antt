@@ -13,9 +13,9 @@ use Rattle.probe_core.specs.History.{word_of}
 use Rattle.slot_table.specs.declared.views.View.{View}
 use Rattle.slot_table.specs.History.{Begins}
 use Rattle.slot_table.specs.Places.{times, IsRising}
-use Rattle.slot_table.specs.Inner.Places.{below}
+use Rattle.slot_table.specs.Places.{below}
 use Rattle.slot_table.specs.Stakes.{AreUpTo, weight, IsWhole, halved, half_of}
-use Rattle.slot_table.specs.Inner.Rule.{slot_words, mark_words, Kept, IsSpent, IsView, newcomer, cut_off, parted, times_owned, pieces_of}
+use Rattle.slot_table.specs.Rule.{slot_words, mark_words, Kept, IsSpent, IsView, newcomer, cut_off, parted, times_owned, pieces_of}
 use Rattle.slot_table.proofs.Seating.{at_below}
 use Rattle.slot_table.proofs.Owning.{owned_set, owned_snoc}
 use Rattle.slot_table.proofs.Staking.{up_to_halved, halves_weigh, halved_is_some, half_is_some, whole_piece, has_stake, weigh_set, weigh_snoc, up_to_at, up_to_set, up_to_snoc}

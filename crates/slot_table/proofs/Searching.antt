@@ -14,7 +14,7 @@ use Rattle.slot_table.specs.declared.entries.Happened.{Happened}
 use Rattle.slot_table.specs.declared.entries.Happened.TheVariants as entry
 use Rattle.slot_table.specs.declared.views.View.{View}
 use Rattle.slot_table.specs.History.{content_of, IsLegal, Begins, Tells}
-use Rattle.slot_table.specs.Inner.Telling.{entries_of, places_from, PassedOthers, IsSearch, MaySwap, Grown, Called, Stepped}
+use Rattle.slot_table.specs.Telling.{entries_of, places_from, PassedOthers, IsSearch, MaySwap, Grown, Called, Stepped}
 use Rattle.slot_table.proofs.Histories.{begins_longer, begins_through, kept_since, last_answer_tells}
 use Rattle.slot_table.proofs.Deciding.{passed_stays, passes_one}
 

@@ -9,10 +9,10 @@ use Rattle.slot_table.specs.declared.entries.Happened.{Happened}
 use Rattle.slot_table.specs.declared.views.View.{View}
 use Rattle.slot_table.specs.History.{IsLegal, Begins}
 use Rattle.slot_table.specs.Places.{times, IsRising}
-use Rattle.slot_table.specs.Inner.Places.{below}
+use Rattle.slot_table.specs.Places.{below}
 use Rattle.slot_table.specs.Stakes.{AreUpTo, weight, IsWhole}
-use Rattle.slot_table.specs.Inner.Rule.{slot_words, mark_words, Kept, IsSpent, times_owned, pieces_of}
-use Rattle.slot_table.specs.Inner.Telling.{Grown, IsLone, places_from}
+use Rattle.slot_table.specs.Rule.{slot_words, mark_words, Kept, IsSpent, times_owned, pieces_of}
+use Rattle.slot_table.specs.Telling.{Grown, IsLone, places_from}
 use Rattle.slot_table.proofs.Histories.{begins_itself, begins_longer, kept_since}
 use Rattle.slot_table.proofs.Deciding.{Sound}
 use Rattle.slot_table.proofs.Pairs.{slots_are_n, marks_are_n, set_slot, set_mark, slots_stay, marks_stay}

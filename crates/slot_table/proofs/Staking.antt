@@ -7,7 +7,7 @@ use lib.ListN.{get_elem?}
 use Rattle.slot_table.specs.declared.views.View.{View}
 use Rattle.slot_table.specs.Places.{times}
 use Rattle.slot_table.specs.Stakes.{AreUpTo, weight, halved, half_of}
-use Rattle.slot_table.specs.Inner.Rule.{IsSpent, pieces_of, times_owned}
+use Rattle.slot_table.specs.Rule.{IsSpent, pieces_of, times_owned}
 
 -- stakes alone
 

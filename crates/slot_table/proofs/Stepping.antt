@@ -11,8 +11,8 @@ use Rattle.probe_core.specs.Machine.{Machine, code_of, follows, key_of, place_in
 use Rattle.slot_table.specs.declared.entries.Happened.{Happened}
 use Rattle.slot_table.specs.declared.views.View.{View}
 use Rattle.slot_table.specs.History.{content_of}
-use Rattle.slot_table.specs.Inner.Rule.{slot_words, mark_words, Kept}
-use Rattle.slot_table.specs.Inner.Telling.{entries_of, PassedOthers, IsSearch, Stepped, Loaded, told, looked}
+use Rattle.slot_table.specs.Rule.{slot_words, mark_words, Kept}
+use Rattle.slot_table.specs.Telling.{entries_of, PassedOthers, IsSearch, Stepped, Loaded, told, looked}
 use Rattle.slot_table.proofs.Deciding.{Sound, loaded, swapped, passed_stays}
 use Rattle.slot_table.proofs.Seating.{grown_view, sound_of, kept_by_load, kept_by_slot, grown_by_step}
 use Rattle.slot_table.proofs.Pairs.{slot_at}

@@ -2,4 +2,5 @@ pub mod History
 pub mod Places
 pub mod Stakes
 pub mod Passes
-pub mod Inner
+pub mod Rule
+pub mod Telling

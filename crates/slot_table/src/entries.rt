@@ -7,6 +7,7 @@ pub enum Happened {
     Asked(Call, Answer),
     /// At this number (a `usize`) this game (a `u64`) was marked.
     Marked(usize, u64),
-    /// Of this number (a `usize`) the least game that was marked (a `u64`) was asked, or None where none was.
+    /// Of this number (a `usize`) the least game that was marked (a `u64`) was asked, or None where
+    /// none was.
     First(usize, Option<u64>),
 }

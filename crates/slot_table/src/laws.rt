@@ -1,5 +1,5 @@
-//! Laws of tables and their histories, for proofs in the crates above. Each is a function that does nothing, and its
-//! contract is the law, for any number of numbers n and any history.
+//! Laws of tables and their histories, for proofs in the crates above. Each is a function that does
+//! nothing, and its contract is the law, for any number of numbers n and any history.
 ghost use Rattle.std.specs.Prelude.{◌≡◌, ◌≢◌, ℕ, ◌<◌, ◌↔◌, List, None, Some, AllPairs, Contains};
 ghost use Rattle.std.specs.Prelude.{[], ◌∷◌, ◌++◌, length, slice_index_or};
 ghost use Rattle.probe_core.specs.Sequential.{IsNumber, IsFree, IsFull};
@@ -12,7 +12,8 @@ pub fn contents_have_n_places()
     ensures { (n : ℕ) (history : List Happened) → length (content_of n history) ≡ n }
 {}
 
-/// A key's number is exactly where the content shows the key, and a free number where it shows none. It takes no memory.
+/// A key's number is exactly where the content shows the key, and a free number where it shows
+/// none. It takes no memory.
 pub fn numbers_are_where_the_content_shows_them()
     ensures number { (n : ℕ) (history : List Happened) (key p : ℕ) → p < n →
         IsNumber (content_of n history) key p ↔
@@ -38,8 +39,8 @@ pub fn a_number_has_one_key()
         key ≡ other }
 {}
 
-/// The keys that have a number are exactly the keys of the content. After a legal history they are all different, and
-/// where no number is free there are n of them. It takes no memory.
+/// The keys that have a number are exactly the keys of the content. After a legal history they are
+/// all different, and where no number is free there are n of them. It takes no memory.
 pub fn a_full_table_has_n_different_keys()
     ensures numbered { (n : ℕ) (history : List Happened) (key : ℕ) →
         Contains (keys_of (content_of n history)) key ↔
@@ -55,8 +56,8 @@ pub fn a_split_loses_no_stake()
     ensures { (stake : List ℕ) → IsAsMuch (halved stake ++ half_of stake) stake }
 {}
 
-/// Of stakes that are as much as one another: what is as much as one is as much as the other, and so are sums of them, in
-/// any order. It takes no memory.
+/// Of stakes that are as much as one another: what is as much as one is as much as the other, and
+/// so are sums of them, in any order. It takes no memory.
 pub fn stakes_add_up()
     ensures through { (stake middle other : List ℕ) → IsAsMuch stake middle →
         IsAsMuch middle other → IsAsMuch stake other }
@@ -65,7 +66,8 @@ pub fn stakes_add_up()
     ensures turned { (stake other : List ℕ) → IsAsMuch (stake ++ other) (other ++ stake) }
 {}
 
-/// The stake of a table's first pass is the whole, and so is whatever is as much as the whole. It takes no memory.
+/// The stake of a table's first pass is the whole, and so is whatever is as much as the whole. It
+/// takes no memory.
 pub fn as_much_as_the_whole_is_the_whole()
     ensures first { IsWhole (0 ∷ []) }
     ensures others { (stake whole : List ℕ) → IsAsMuch stake whole → IsWhole whole → IsWhole stake }

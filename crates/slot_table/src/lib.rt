@@ -1,9 +1,11 @@
-//! A table of numbers for keys that threads share: it only grows, takes no lock and never tries a step again.
+//! A table of numbers for keys that threads share: it only grows, takes no lock and never tries a
+//! step again.
 #![tactic(auto)]
 
 mod entries;
 mod faults;
 pub mod laws;
+mod looking;
 mod passes;
 mod steps;
 mod tables;

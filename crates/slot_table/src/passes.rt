@@ -4,10 +4,11 @@ use std::marker::Model;
 
 /// The right of one caller to call a table. It takes no memory.
 ///
-/// Contracts see of which table and order it is, a history of the table as far as it has `seen` it, the places in it of
-/// its own calls, `mine`, and its `stake`, how much of the right to call it has. Passes come from the table's `new`,
-/// `split` and `meet` alone. The stakes of all passes of a table, with those that were dropped, are the whole right: so
-/// all calls are those of whoever has the whole, and a pass that was split has it again only with what it gave away.
+/// Contracts see of which table and order it is, a history of the table as far as it has `seen` it,
+/// the places in it of its own calls, `mine`, and its `stake`, how much of the right to call it
+/// has. Passes come from the table's `new`, `split` and `meet` alone. The stakes of all passes of a
+/// table, with those that were dropped, are the whole right: so all calls are those of whoever has
+/// the whole, and a pass that was split has it again only with what it gave away.
 #[derive(Drop)]
 pub struct Pass<O> {
     pub(crate) seat: Place<O>,

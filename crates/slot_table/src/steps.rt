@@ -4,9 +4,9 @@ ghost use Rattle.probe_core.specs.Machine.{key_of, left_of};
 ghost use Rattle.probe_core.specs.Turn.{HasFewer};
 ghost use Rattle.slot_table.specs.declared.entries.Happened.TheVariants as entry;
 ghost use Rattle.slot_table.specs.History.{content_of, least_at, Tells, IsAtMost};
-ghost use Rattle.slot_table.specs.Inner.Rule.{parted};
+ghost use Rattle.slot_table.specs.Rule.{parted};
 ghost use Rattle.slot_table.specs.Stakes.{half_of};
-ghost use Rattle.slot_table.specs.Inner.Telling.{IsSeatAt, IsSearch, Turned, Grown, Called, Joined};
+ghost use Rattle.slot_table.specs.Telling.{IsSeatAt, IsSearch, Turned, Grown, Called, Joined};
 
 use crate::views::{Ask, Cut, First, Glue, Looked, Marked, Place, Shown, Told};
 use probe_core::{Answer, Call, Key, Probe, ProbeOrder, Turn, Want};

@@ -20,8 +20,9 @@ use std::marker::Model;
 
 /// A table of numbers for keys, shared by threads. This is the project's own.
 ///
-/// Each key gets a number when it is entered first, and keeps it for ever. The word of a number's key and that of its
-/// least game lie side by side, so mostly in one line of memory. Contracts see which table it is, and its order.
+/// Each key gets a number when it is entered first, and keeps it for ever. The word of a number's
+/// key and that of its least game lie side by side, so mostly in one line of memory. Contracts see
+/// which table it is, and its order.
 #[derive(Drop)]
 pub struct SlotTable<O: ProbeOrder> {
     words: Words<O>,
@@ -41,8 +42,8 @@ impl<O: ProbeOrder> Model for SlotTable<O> {
         × (2 ^ O.exponent t.order ≤ 2 ^ 22) };
 }
 
-/// The words of a table of which no number is taken and none is marked. The words of a number lie side by side: that of
-/// its slot, and then that of its mark.
+/// The words of a table of which no number is taken and none is marked. The words of a number lie
+/// side by side: that of its slot, and then that of its mark.
 fn free_words(alloc: Global, slots: usize) -> Result<Vec<u64>, AllocError>
     ensures length { IfOk result (λ v. length v.items ≡ 2 * slots) }
     ensures items { IfOk result (λ v. v.items ≡ repeat slots (0 ∷ 0xFFFF_FFFF_FFFF_FFFF ∷ [])) }
@@ -51,7 +52,8 @@ fn free_words(alloc: Global, slots: usize) -> Result<Vec<u64>, AllocError>
 }
 
 impl<O: ProbeOrder> SlotTable<O> {
-    /// A table in this order of which no number is taken, and its first pass, which has the whole stake.
+    /// A table in this order of which no number is taken, and its first pass, which has the whole
+    /// stake.
     ///
     /// It takes 16 bytes a number, and for a moment twice as much.
     ///
@@ -81,8 +83,8 @@ impl<O: ProbeOrder> SlotTable<O> {
 
     /// A pass that has seen what this one has, and has made no call. It takes no memory.
     ///
-    /// It has a half of the first piece of this one's stake, and this one keeps the rest. The half comes back by `meet`
-    /// alone, and with it the calls that it made.
+    /// It has a half of the first piece of this one's stake, and this one keeps the rest. The half
+    /// comes back by `meet` alone, and with it the calls that it made.
     ///
     /// The pass must be of this table.
     pub fn split(&self, pass: &mut Pass<O>) -> Pass<O>
@@ -115,8 +117,8 @@ impl<O: ProbeOrder> SlotTable<O> {
         steps::asked(&self.words.shared, &mut pass.seat, &self.order, call)
     }
 
-    /// Answers the key's number, and a free one that is the key's from then on where it has none; `Full` where none is
-    /// free. It takes no memory and waits for no other thread.
+    /// Answers the key's number, and a free one that is the key's from then on where it has none;
+    /// `Full` where none is free. It takes no memory and waits for no other thread.
     ///
     /// The pass must be of this table.
     pub fn enter(&self, pass: &mut Pass<O>, key: Key) -> Answer
@@ -132,8 +134,8 @@ impl<O: ProbeOrder> SlotTable<O> {
         self.ask(pass, Call::Enter(key))
     }
 
-    /// Answers the key's number; where it has none, `Absent` if some number is free, and else `Full`. It takes no memory
-    /// and waits for no other thread.
+    /// Answers the key's number; where it has none, `Absent` if some number is free, and else
+    /// `Full`. It takes no memory and waits for no other thread.
     ///
     /// The pass must be of this table.
     pub fn look_up(&self, pass: &mut Pass<O>, key: Key) -> Answer
@@ -150,20 +152,17 @@ impl<O: ProbeOrder> SlotTable<O> {
         self.ask(pass, Call::LookUp(key))
     }
 
-    /// Whether the slot at the place that a key has at an index holds another key, by one load of which no pass knows. It is a
-    /// hint: no clause says what it answers. A caller with many keys to enter asks of all of them first. The lines of memory of
-    /// their slots are then on their way together, while `enter` would wait for one after another. It takes no memory.
-    ///
-    /// The index must be below the number of slots.
-    pub fn is_passed(&self, key: Key, i: usize) -> bool
+    /// Whether the slot at the place that a key has at an index holds another key, by one load of
+    /// which no pass knows.
+    pub(crate) fn is_passed(&self, key: Key, i: usize) -> bool
         requires { i < 2 ^ O.exponent self.now.order }
     {
         let found = self.words.shared.peek(2 * self.order.place(key, i));
         found != 0 && found != key.bits() + 1
     }
 
-    /// The key that has this number, or None where the number is free, by one load. It takes no memory and waits for no
-    /// other thread.
+    /// The key that has this number, or None where the number is free, by one load. It takes no
+    /// memory and waits for no other thread.
     ///
     /// The pass must be of this table, and the number below the number of slots.
     pub fn word_at(&self, pass: &mut Pass<O>, number: usize) -> Option<Key>
@@ -180,8 +179,8 @@ impl<O: ProbeOrder> SlotTable<O> {
         steps::word_at(&self.words.shared, &mut pass.seat, number)
     }
 
-    /// One pass from two: it has seen what both have, its own calls are those of both, and so is its stake. It takes no
-    /// memory and waits for no other thread.
+    /// One pass from two: it has seen what both have, its own calls are those of both, and so is
+    /// its stake. It takes no memory and waits for no other thread.
     ///
     /// The passes must be of this table.
     pub fn meet(&self, one: Pass<O>, other: Pass<O>) -> Pass<O>
@@ -197,11 +196,11 @@ impl<O: ProbeOrder> SlotTable<O> {
         Pass { seat }
     }
 
-    /// Marks the game at the number, by one step: the number's least game is the lesser of that and this one. It takes no
-    /// memory and waits for no other thread.
+    /// Marks the game at the number, by one step: the number's least game is the lesser of that and
+    /// this one. It takes no memory and waits for no other thread.
     ///
-    /// The pass must be of this table, the number below the number of slots, and the game not 2^64 - 1. The number need
-    /// not be taken.
+    /// The pass must be of this table, the number below the number of slots, and the game not
+    /// 2^64 - 1. The number need not be taken.
     pub fn mark(&self, pass: &mut Pass<O>, number: usize, game: u64)
         requires pass { IsPassOf (2 ^ O.exponent self.now.order) self.now pass.old }
         requires number { number < 2 ^ O.exponent self.now.order }
@@ -217,10 +216,11 @@ impl<O: ProbeOrder> SlotTable<O> {
         steps::mark(&self.words.shared, &mut pass.seat, number, game);
     }
 
-    /// The least game that was marked at the number, or None where none was, by one load. It takes no memory and waits
-    /// for no other thread.
+    /// The least game that was marked at the number, or None where none was, by one load. It takes
+    /// no memory and waits for no other thread.
     ///
-    /// The pass must be of this table, and the number below the number of slots. The number need not be taken.
+    /// The pass must be of this table, and the number below the number of slots. The number need
+    /// not be taken.
     pub fn first(&self, pass: &mut Pass<O>, number: usize) -> Option<u64>
         requires pass { IsPassOf (2 ^ O.exponent self.now.order) self.now pass.old }
         requires number { number < 2 ^ O.exponent self.now.order }

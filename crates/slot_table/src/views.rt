@@ -1,4 +1,5 @@
-//! What a seat at the table knows, the rule that ties all of it to the words, and what each step tells.
+//! What a seat at the table knows, the rule that ties all of it to the words, and what each step
+//! tells.
 use crate::entries::Happened;
 use atomic_table::{Join, Play, Seat, Shared, Split, Table, TableRule};
 use probe_core::ProbeOrder;
@@ -25,7 +26,7 @@ pub(crate) struct OneHistory;
 
 impl<O: ProbeOrder> TableRule<(), View<O>, O> for OneHistory {
     ghost use Rattle.std.specs.Prelude.{◌^◌, []};
-    ghost use Rattle.slot_table.specs.Inner.Rule.{Kept, newcomer};
+    ghost use Rattle.slot_table.specs.Rule.{Kept, newcomer};
 
     ghost holds = { λ order s.
         Kept (2 ^ O.exponent order) (O.place_of order) order s.words s.views };
@@ -62,7 +63,7 @@ pub(crate) struct Told<A> {
 }
 
 impl<O: ProbeOrder, A: Ask> Play<(), View<O>> for Told<A> {
-    ghost use Rattle.slot_table.specs.Inner.Telling.{told};
+    ghost use Rattle.slot_table.specs.Telling.{told};
 
     ghost then = { told O.exponent A.machine };
 }
@@ -71,7 +72,7 @@ impl<O: ProbeOrder, A: Ask> Play<(), View<O>> for Told<A> {
 pub(crate) struct Looked;
 
 impl<O: ProbeOrder> Play<(), View<O>> for Looked {
-    ghost use Rattle.slot_table.specs.Inner.Telling.{looked};
+    ghost use Rattle.slot_table.specs.Telling.{looked};
 
     ghost then = { looked O.exponent };
 }
@@ -80,7 +81,7 @@ impl<O: ProbeOrder> Play<(), View<O>> for Looked {
 pub(crate) struct Marked;
 
 impl<O: ProbeOrder> Play<(), View<O>> for Marked {
-    ghost use Rattle.slot_table.specs.Inner.Telling.{marked};
+    ghost use Rattle.slot_table.specs.Telling.{marked};
 
     ghost then = { marked O.exponent };
 }
@@ -89,16 +90,17 @@ impl<O: ProbeOrder> Play<(), View<O>> for Marked {
 pub(crate) struct First;
 
 impl<O: ProbeOrder> Play<(), View<O>> for First {
-    ghost use Rattle.slot_table.specs.Inner.Telling.{first_told};
+    ghost use Rattle.slot_table.specs.Telling.{first_told};
 
     ghost then = { first_told O.exponent };
 }
 
-/// A view is kept but for a half of its stake's first piece, and a new seat sees as much and has that half.
+/// A view is kept but for a half of its stake's first piece, and a new seat sees as much and has
+/// that half.
 pub(crate) struct Cut;
 
 impl<O> Split<View<O>> for Cut {
-    ghost use Rattle.slot_table.specs.Inner.Rule.{cut_off, parted};
+    ghost use Rattle.slot_table.specs.Rule.{cut_off, parted};
 
     ghost left = { parted };
 
@@ -109,7 +111,7 @@ impl<O> Split<View<O>> for Cut {
 pub(crate) struct Glue;
 
 impl<O> Join<View<O>> for Glue {
-    ghost use Rattle.slot_table.specs.Inner.Rule.{joined, spent};
+    ghost use Rattle.slot_table.specs.Rule.{joined, spent};
 
     ghost both = { joined };
 

@@ -1,7 +1,7 @@
 use Rattle.std.proofs.Common.{◌^◌, ◌∙◌, ◌∷◌, [], sym, subst}
 use Rattle.probe_core.specs.Machine.{follows, place_in}
 use Rattle.slot_table.specs.declared.entries.Happened.TheVariants as entry
-use Rattle.slot_table.specs.Inner.Telling.{Called}
+use Rattle.slot_table.specs.Telling.{Called}
 use Rattle.slot_table.proofs.Searching.{turn_on, turn_done, went_on, went_through, search_goes_on, ended, grown_through, called_tells}
 use Rattle.slot_table.proofs.steps.asked.Goals as goal
 

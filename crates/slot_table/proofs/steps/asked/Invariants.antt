@@ -1,6 +1,6 @@
 use Rattle.std.proofs.Common.{◌≡◌, ◌^◌}
 use Rattle.probe_core.specs.Machine.{left_of}
-use Rattle.slot_table.specs.Inner.Telling.{IsSeatOf, IsSearch}
+use Rattle.slot_table.specs.Telling.{IsSeatOf, IsSearch}
 use Rattle.slot_table.proofs.Searching.{Went}
 use Rattle.slot_table.proofs.steps.asked.Given as goal
 

@@ -1,6 +1,6 @@
 use Rattle.std.proofs.Common.{◌≡◌, ◌+◌, ◌*◌, ◌/◌, ◌^◌, ◌∙◌, sym, subst, arith}
 use Rattle.slot_table.specs.declared.entries.Happened.TheVariants as entry
-use Rattle.slot_table.specs.Inner.Telling.{Called, mark_of}
+use Rattle.slot_table.specs.Telling.{Called, mark_of}
 use Rattle.slot_table.proofs.Marking.{first_allowed, first_is_least, mark_none, mark_some}
 use Rattle.slot_table.proofs.steps.first.Goals as goal
 

@@ -1,6 +1,6 @@
 use Rattle.std.proofs.Common.{◌≡◌, ◌+◌, ◌*◌, ◌/◌, ◌^◌, subst, arith}
 use Rattle.slot_table.specs.declared.entries.Happened.TheVariants as entry
-use Rattle.slot_table.specs.Inner.Telling.{Called}
+use Rattle.slot_table.specs.Telling.{Called}
 use Rattle.slot_table.proofs.Marking.{mark_allowed, marked_at_most}
 use Rattle.slot_table.proofs.steps.mark.Goals as goal
 

@@ -1,7 +1,7 @@
 use Rattle.std.proofs.Common.{◌^◌, ◌∙◌, ap, subst, arith}
 use Rattle.std.proofs.Math.Pow.{pow_pos}
-use Rattle.slot_table.specs.Inner.Rule.{joined}
-use Rattle.slot_table.specs.Inner.Telling.{Loaded}
+use Rattle.slot_table.specs.Rule.{joined}
+use Rattle.slot_table.specs.Telling.{Loaded}
 use Rattle.slot_table.proofs.Joining.{join_allowed, joined_shows}
 use Rattle.slot_table.proofs.Stepping.{look_allowed}
 use Rattle.slot_table.proofs.steps.meet.Goals as goal

@@ -1,6 +1,6 @@
 use Rattle.std.proofs.Common.{◌^◌, subst, arith}
 use Rattle.probe_core.specs.declared.calls.Want.TheVariants as want
-use Rattle.slot_table.specs.Inner.Telling.{IsSearch}
+use Rattle.slot_table.specs.Telling.{IsSearch}
 use Rattle.slot_table.proofs.Stepping.{wanted, wanted_load, wanted_swap}
 use Rattle.slot_table.proofs.steps.turn.Goals as goal
 

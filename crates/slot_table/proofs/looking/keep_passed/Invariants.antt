@@ -1,5 +1,5 @@
 use Rattle.std.proofs.Common.{◌≤◌}
-use Rattle.share_core.proofs.ahead.keep_passed.Given as goal
+use Rattle.slot_table.proofs.looking.keep_passed.Given as goal
 
 -- the keys that are kept are among those that were looked at
 abbrev pub invariant-loop-j : goal.invariant-loop-j

@@ -9,7 +9,7 @@ use Rattle.slot_table.specs.declared.entries.Happened.{Happened}
 use Rattle.slot_table.specs.declared.views.View.{View}
 use Rattle.slot_table.specs.History.{IsLegal, content_of, least_at, Begins}
 use Rattle.slot_table.specs.Places.{times, IsRising}
-use Rattle.slot_table.specs.Inner.Places.{below, merged}
+use Rattle.slot_table.specs.Places.{below, merged}
 use Rattle.slot_table.specs.Stakes.{IsWhole, halved, half_of}
 
 -- what the first seat knows: it has made no call, and has the whole stake

@@ -1,4 +1,0 @@
--- What serves the contracts of private functions, and invariants: nothing here has to be believed.
-pub mod Places
-pub mod Rule
-pub mod Telling
