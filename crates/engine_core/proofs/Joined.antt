@@ -6,10 +6,10 @@ use Rattle.shape_dict.specs.declared.entries.Text.TheVariants as kind
 use Rattle.shape_dict.specs.Contents.{Contents}
 use Rattle.shape_dict.specs.Text.{text_of}
 use Rattle.shape_dict.specs.Reading.{IsTextOf, IsFrontFault}
-use Rattle.shape_dict.specs.Join.{IsJoin, IsJoinFault}
+use Rattle.shape_dict.specs.Join.{IsJoin, IsJoinOf, IsJoinFault, IsOverflow}
 use Rattle.shape_dict.specs.declared.faults.DictFault.{DictFault}
 use Rattle.shape_dict.specs.declared.faults.DictFault.TheVariants as dict_fault
-use Rattle.engine_core.specs.Joins.{AreTextsOf, IsJoinOf, IsJoinedText, WereJoined, IsBadText, IsNotAdded, IsDictionaryFault}
+use Rattle.engine_core.specs.Joins.{AreTextsOf, IsJoinedText, WereJoined, IsBadText, IsNotAdded, IsDictionaryFault}
 use Rattle.engine_core.specs.Inner.Joins.{IsNextText, IsAddFault}
 
 some_text : (t : Text) (contents : Contents) → 0 < length (text_of t contents)
@@ -37,9 +37,10 @@ texts_more [] next read text h is = (text, [], is, ap (λ xs. xs ++ text) h ∙ 
 texts_more (one ∷ all) next read text h is =
     (h.0, h.1 ++ text, h.2, ap (λ xs. xs ++ text) h.3 ∙ append_assoc h.0 h.1 text, texts_more all next h.1 text h.4 is)
 
-joins_more : (first : Contents) (others : List Contents) (sum next both : Contents) → IsJoinOf first others sum → IsJoin sum next both → IsJoinOf first (others ++ next ∷ []) both
-joins_more first [] sum next both h join = (both, subst (λ (left : Contents). IsJoin left next both) h join, refl)
-joins_more first (one ∷ others) sum next both h join = (h.0, h.1, joins_more h.0 others sum next both h.2 join)
+joins_more : (first : Contents) (others : List Contents) (sum next both : Contents) → IsJoinOf first others sum → (IsOverflow sum next → ⊥) → IsJoin sum next both → IsJoinOf first (others ++ next ∷ []) both
+joins_more first [] sum next both h fits join =
+    (both, subst (λ (left : Contents). IsOverflow left next → ⊥) h fits, subst (λ (left : Contents). IsJoin left next both) h join, refl)
+joins_more first (one ∷ others) sum next both h fits join = (h.0, h.1, h.2, joins_more h.0 others sum next both h.3 fits join)
 
 -- the first dictionary is its own join
 pub first_joined : (input : List ℕ) (at : ℕ) (first : Contents) → IsTextOf first (take at input) → IsJoinedText (take at input) 1 first
@@ -53,14 +54,14 @@ first_joined input at first is = record {
 
 -- one dictionary more
 pub more_joined : (input : List ℕ) (at count number : ℕ) (sum next both : Contents) →
-    IsJoinedText (take at input) number sum → IsNextText (drop at input) count next → IsJoin sum next both → IsJoinedText (take (at + count) input) (number + 1) both
-more_joined input at count number sum next both h text join = record {
+    IsJoinedText (take at input) number sum → IsNextText (drop at input) count next → (IsOverflow sum next → ⊥) → IsJoin sum next both → IsJoinedText (take (at + count) input) (number + 1) both
+more_joined input at count number sum next both h text fits join = record {
   first = h.first;
   others = h.others ++ next ∷ [];
   texts = subst (AreTextsOf (h.first ∷ (h.others ++ next ∷ []))) (sym (take-add at count input))
       (texts_more (h.first ∷ h.others) next (take at input) (take count (drop at input)) h.texts text.is_text);
   counted = omega (arith, length-append h.others (next ∷ []), h.counted);
-  joined = joins_more h.first h.others sum next both h.joined join;
+  joined = joins_more h.first h.others sum next both h.joined fits join;
 }
 
 -- what was joined before a next text

@@ -14,6 +14,7 @@ use Rattle.go_record.specs.Replay.{empty_position, Replays}
 use Rattle.go_board.specs.Position.{AreSame}
 use Rattle.go_record.specs.declared.records.Kind.{Kind}
 use Rattle.go_record.specs.declared.records.Kind.TheVariants as kind
+use Rattle.go_record.specs.Adding.{KeepsAnAction}
 use Rattle.go_record.specs.declared.faults.RecordFault.{RecordFault}
 use Rattle.go_record.specs.declared.faults.RecordFault.TheVariants as record_fault
 use Rattle.sgf_core.specs.Reading.{IsFaultOrMemory}
@@ -64,17 +65,29 @@ pub record FirstIs (input : List ℕ) (recorded : Result Kind RecordFault) : Typ
   pub first : IsNextTree input 0 at end tree
   pub recorded_so : record_of (main_line_of tree) ≡ recorded
 
+-- reading the record of the first tree keeps an action, for which memory is asked
+pub record FirstKeepsAnAction (input : List ℕ) : Type 0 where
+  pub at : ℕ
+  pub end : ℕ
+  pub tree : GameTree
+  pub first : IsNextTree input 0 at end tree
+  pub keeps : KeepsAnAction (main_line_of tree)
+
+-- the first tree is a game, for whose board memory is asked
+abbrev pub FirstIsGame : List ℕ → Type 0
+FirstIsGame input = (game : Actions) × FirstIs input (Ok (kind.Go game))
+
 -- the input has at most 2 ^ 28 bytes, and there is no tree in it, or the first is of another game
 abbrev pub HasNoBoard : List ℕ → Type 0
 HasNoBoard input = (length input ≤ most_bytes) × (HasNoTree input 0 ⊎ FirstIs input (Ok kind.Other))
 
--- the input is too large, which comes first, or has the fault's cause, or memory was wanting
+-- the input is too large, which comes first, or has the fault's cause, or memory was wanting where it is asked for
 abbrev pub IsBoardFault : List ℕ → RunFault → Type 0
 IsBoardFault input (fault.Sgf sgf.TooLarge) = most_bytes < length input
 IsBoardFault input (fault.Sgf found) = (length input ≤ most_bytes) × IsFaultOrMemory input 0 found
-IsBoardFault input (fault.Record record_fault.Memory) = length input ≤ most_bytes
+IsBoardFault input (fault.Record record_fault.Memory) = (length input ≤ most_bytes) × FirstKeepsAnAction input
 IsBoardFault input (fault.Record found) = (length input ≤ most_bytes) × FirstIs input (Err found)
-IsBoardFault input (fault.Board found) = length input ≤ most_bytes
+IsBoardFault input (fault.Board found) = (length input ≤ most_bytes) × FirstIsGame input
 IsBoardFault input fault.Memory = Unit {0}
 IsBoardFault input (fault.Glyph found) = ⊥
 IsBoardFault input (fault.Harvest found) = ⊥

@@ -15,15 +15,17 @@ use Rattle.harvest_core.specs.Harvest.{IsHarvestRefused}
 use Rattle.engine_core.specs.declared.faults.RunFault.{RunFault}
 use Rattle.engine_core.specs.declared.faults.RunFault.TheVariants as fault
 
--- the input was counted, with this report, and what was printed is this text of its dictionary
-pub record IsCountText (kinds : Kinds) (kind : Text) (report : Report) (input text : List ℕ) : Type 0 where
+-- the input was counted over a table of this many slots, with this report, and what was printed is this text of its
+-- dictionary, which has no more patterns than the table has slots
+pub record IsCountText (slots : ℕ) (kinds : Kinds) (kind : Text) (report : Report) (input text : List ℕ) : Type 0 where
   pub counted : Counted
   pub of_input : IsCounted kinds input counted
+  pub few : length counted.dictionary.entries ≤ slots
   pub reported : report ≡ counted.report
   pub printed : text ≡ text_of kind counted.dictionary
 
-abbrev pub HasCountText : Kinds → Text → List ℕ → List ℕ → Type 0
-HasCountText kinds kind input text = (report : Report) × IsCountText kinds kind report input text
+abbrev pub HasCountText : ℕ → Kinds → Text → List ℕ → List ℕ → Type 0
+HasCountText slots kinds kind input text = (report : Report) × IsCountText slots kinds kind report input text
 
 -- the input has at most 2 ^ 28 bytes, or the fault is that it is larger, or memory was wanting
 abbrev pub ComesFirst : List ℕ → HarvestFault → Type 0

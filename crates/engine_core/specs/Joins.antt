@@ -4,7 +4,7 @@ use Rattle.shape_dict.specs.declared.entries.Text.{Text}
 use Rattle.shape_dict.specs.Contents.{Contents}
 use Rattle.shape_dict.specs.Text.{text_of}
 use Rattle.shape_dict.specs.Reading.{IsTextOf, IsFrontFault}
-use Rattle.shape_dict.specs.Join.{IsJoin, IsJoinFault}
+use Rattle.shape_dict.specs.Join.{IsJoinOf, IsJoinFault}
 use Rattle.shape_dict.specs.declared.faults.DictFault.{DictFault}
 use Rattle.shape_dict.specs.declared.faults.DictFault.TheVariants as dict_fault
 use Rattle.engine_core.specs.declared.faults.RunFault.{RunFault}
@@ -16,11 +16,6 @@ abbrev pub AreTextsOf : List Contents → List ℕ → Type 0
 AreTextsOf [] bytes = bytes ≡ []
 AreTextsOf (contents ∷ others) bytes =
     (text : List ℕ) × (left : List ℕ) × IsTextOf contents text × (bytes ≡ text ++ left) × AreTextsOf others left
-
--- `sum` is `first` joined with each of the others in turn, the earlier ones on the left
-abbrev pub IsJoinOf : Contents → List Contents → Contents → Type 0
-IsJoinOf first [] sum = sum ≡ first
-IsJoinOf first (next ∷ others) sum = (both : Contents) × IsJoin first next both × IsJoinOf both others sum
 
 -- the bytes are texts of this number of dictionaries, at least one, and this is their join
 pub record IsJoinedText (bytes : List ℕ) (number : ℕ) (sum : Contents) : Type 0 where

@@ -7,7 +7,8 @@ use std::io::ErrorKind;
 ///
 /// # Errors
 ///
-/// `Usage` where a word is not UTF-8, which is none that a program knows; `Memory` where memory was refused.
+/// `Usage` where a word is not UTF-8, which is none that a program knows; `Memory` where memory was
+/// refused.
 pub fn own_words(rt: &HostRuntime) -> Result<Vec<String>, RunFault> {
     let all = env::args(rt).map_err(|error| match error.kind() {
         ErrorKind::InvalidData => RunFault::Usage,

@@ -38,7 +38,8 @@ fn final_text(alloc: Global, game_record: &Record) -> Result<Vec<u8>, RunFault>
     Ok(board_text(alloc, &board)?)
 }
 
-/// The text of the first tree's final position, or None where there is no tree or it is of another game.
+/// The text of the first tree's final position, or None where there is no tree or it is of another
+/// game.
 #[tactic(auto, using(crate::proofs::Runs::sgf_cause))]
 fn first_text(alloc: Global, input: &[u8]) -> Result<Option<Vec<u8>>, RunFault>
     ensures text { IfOk result (λ found. IfSome found (λ text. IsBoardText input.now text.items)) }
@@ -55,15 +56,16 @@ fn first_text(alloc: Global, input: &[u8]) -> Result<Option<Vec<u8>>, RunFault>
     }
 }
 
-/// Reads a collection and writes the final position of its first game: its rows from the top, `.` for an empty point,
-/// `X` for Black, `O` for White, each row ended by a line feed. Bytes after the first tree are not judged. Where there is
-/// no tree, or the first is of another game, it writes nothing and answers `NotFound`.
+/// Reads a collection and writes the final position of its first game: its rows from the top, `.`
+/// for an empty point, `X` for Black, `O` for White, each row ended by a line feed. Bytes after the
+/// first tree are not judged. Where there is no tree, or the first is of another game, it writes
+/// nothing and answers `NotFound`.
 ///
 /// # Errors
 ///
-/// The fault of the collection (S1 to S5), of the record (G1 to G4) or of the board (B1), `Read` where the reader failed,
-/// `Memory` where memory for the input or the text was refused: nothing is written then. `Write` where the writer failed:
-/// exactly that number of bytes of the text is out.
+/// The fault of the collection (S1 to S5), of the record (G1 to G4) or of the board (B1), `Read`
+/// where the reader failed, `Memory` where memory for the input or the text was refused: nothing is
+/// written then. `Write` where the writer failed: exactly that number of bytes of the text is out.
 pub fn run_board<R: Read, W: Write>(
     alloc: Global,
     reader: &mut R,

@@ -18,7 +18,8 @@ use tally_core::{Report, Settings};
 /// How many threads make a text at most. With more, each part would be too small for large pages.
 const MOST_THREADS: usize = 16;
 
-/// The text of the dictionary of the input's games, in parts, and how many trees it has of each sort.
+/// The text of the dictionary of the input's games, in parts, and how many trees it has of each
+/// sort.
 #[tactic(auto, using(crate::proofs::Runs::comes_first))]
 fn counted_text<T: Threads + Wait + Sync, G: Gate>(
     rt: &T,
@@ -28,8 +29,8 @@ fn counted_text<T: Threads + Wait + Sync, G: Gate>(
     gate: &G,
     input: &[u8],
 ) -> Result<(Vec<Vec<u8>>, Report), RunFault>
-    ensures written { IfOk result (λ p. IsCountText settings.kinds text p.1 input.now
-        (joined p.0.items)) }
+    ensures written { IfOk result (λ p. IsCountText (2 ^ settings.k) settings.kinds text p.1
+        input.now (joined p.0.items)) }
     ensures fault { IfErr result (IsCountRunFault (2 ^ settings.k) settings.kinds input.now) }
 {
     let counted = harvest(rt, alloc, settings, input, gate)?;
@@ -38,23 +39,26 @@ fn counted_text<T: Threads + Wait + Sync, G: Gate>(
     Ok((written, counted.report))
 }
 
-/// Reads a collection and writes a text of the dictionary of its games; the answer is how many trees it has of each sort.
-/// The kinds of pattern that are counted are those of the settings: where diamonds are not counted, texts 2 and 3 say so,
-/// and text 1 is that of the squares. This thread reads, and as many workers as the settings say count. They number the
-/// patterns in one table of 2^k slots; the text is the same whatever the settings' workers. As many threads as there are
-/// workers, two at least and 16 at most, make it, in parts that are written one after another. It takes memory for the input,
-/// the table, and for each thread for the largest tree and its record, the board, and each pattern; and for the text.
+/// Reads a collection and writes a text of the dictionary of its games; the answer is how many
+/// trees it has of each sort. The kinds of pattern that are counted are those of the settings:
+/// where diamonds are not counted, texts 2 and 3 say so, and text 1 is that of the squares. This
+/// thread reads, and as many workers as the settings say count. They number the patterns in one
+/// table of 2^k slots; the text is the same whatever the settings' workers. As many threads as
+/// there are workers, two at least and 16 at most, make it, in parts that are written one after
+/// another. It takes memory for the input, the table, and for each thread for the largest tree and
+/// its record, the board, and each pattern; and for the text.
 ///
-/// The gate is for a test or a display of progress: it is told which worker is about to count which game. It changes no
-/// answer.
+/// The gate is for a test or a display of progress: it is told which worker is about to count which
+/// game. It changes no answer.
 ///
 /// # Errors
 ///
-/// `Harvest` with the collection's first fault of syntax (S1 to S3), with S4 where it has more than 2^28 bytes, with F1
-/// where it has more patterns than the table has slots, or with F6 where memory for counting was refused or a thread was
-/// not started; with F2 to F4, F8 or F9 where the workers' shares do not go together, which no test has met.
-/// `Dict` with X6 where memory for the text was refused, `Memory` where that for the input was; `Read` where the reader
-/// failed. Nothing is written then. `Write` where the writer failed: exactly that number of bytes of the text is out.
+/// `Harvest` with the collection's first fault of syntax (S1 to S3), with S4 where it has more than
+/// 2^28 bytes, with F1 where it has more patterns than the table has slots, or with F6 where memory
+/// for counting was refused or a thread was not started; with F2 to F4, F8 or F9 where the workers'
+/// shares do not go together, which no test has met. `Dict` with X6 where memory for the text was
+/// refused, `Memory` where that for the input was; `Read` where the reader failed. Nothing is
+/// written then. `Write` where the writer failed: exactly that number of bytes of the text is out.
 pub fn run_count<T: Threads + Wait + Sync, G: Gate, R: Read, W: Write>(
     rt: &T,
     alloc: Global,
@@ -65,9 +69,10 @@ pub fn run_count<T: Threads + Wait + Sync, G: Gate, R: Read, W: Write>(
     writer: &mut W,
 ) -> Result<Report, RunFault>
     ensures read { HasRead result (R.remaining reader.old) (R.remaining reader.new) }
-    ensures done { IfOk result (λ report. Wrote (IsCountText settings.kinds text report)
+    ensures done { IfOk result (λ report.
+        Wrote (IsCountText (2 ^ settings.k) settings.kinds text report)
         (R.remaining reader.old) (W.contents writer.old) (W.contents writer.new)) }
-    ensures fault { IfErr result (IsRunFault (HasCountText settings.kinds text)
+    ensures fault { IfErr result (IsRunFault (HasCountText (2 ^ settings.k) settings.kinds text)
         (IsCountRunFault (2 ^ settings.k) settings.kinds)
         (R.remaining reader.old) (W.contents writer.old) (W.contents writer.new)) }
 {

@@ -32,7 +32,8 @@ pub enum RunFault {
     /// The collection was not counted.
     #[error("{0}")]
     Harvest(HarvestFault),
-    /// The input's dictionary of this number, from 1, is none that can be read, or it cannot be added to those before it.
+    /// The input's dictionary of this number, from 1, is none that can be read, or it cannot be
+    /// added to those before it.
     #[error("{}", DictLine {n: *.n, fault: *.fault})]
     Dict { n: usize, fault: DictFault },
     /// The words of the command line are none that the program knows.
@@ -106,8 +107,8 @@ impl<T: Drop> From<AllocFailed<T>> for RunFault {
     }
 }
 
-/// The line of a dictionary's fault. Too large an input and want of memory are of no one dictionary, so they are said
-/// without a number.
+/// The line of a dictionary's fault. Too large an input and want of memory are of no one
+/// dictionary, so they are said without a number.
 #[derive(Clone, Copy)]
 struct DictLine {
     n: usize,
@@ -123,7 +124,8 @@ impl fmt::Display for DictLine {
     }
 }
 
-/// The exit status of a fault: 2 usage, 3 input refused, 4 table full, 5 no memory, 6 read or write failed.
+/// The exit status of a fault: 2 usage, 3 input refused, 4 table full, 5 no memory, 6 read or write
+/// failed.
 pub fn status_of(fault: &RunFault) -> u8
     ensures { result ≡ status_of fault.now }
 {

@@ -25,7 +25,8 @@ fn entry_in(alloc: Global, input: &[u8], shape: Shape) -> Result<Option<Entry>, 
     Ok(dictionary.find(shape))
 }
 
-/// A pattern's line: its word in 13 hexadecimal digits, how often it was there, and how often it was played.
+/// A pattern's line: its word in 13 hexadecimal digits, how often it was there, and how often it
+/// was played.
 fn found_line(alloc: Global, entry: &Entry) -> Result<Vec<u8>, AllocError>
     ensures { IfOk result (λ line. line.items ≡ line_text kind.One entry.now) }
 {
@@ -56,15 +57,16 @@ fn answer(alloc: Global, input: &[u8], shape: Shape) -> Result<(Vec<u8>, Outcome
     }
 }
 
-/// Reads one dictionary, in any of the three texts, and writes the pattern's line: its word in 13 hexadecimal digits, how
-/// often it was there, and how often it was played. Where the dictionary has no such pattern the line says 0 twice, and
-/// the answer is `NotFound`. It takes memory for the input, the dictionary and the line.
+/// Reads one dictionary, in any of the three texts, and writes the pattern's line: its word in 13
+/// hexadecimal digits, how often it was there, and how often it was played. Where the dictionary
+/// has no such pattern the line says 0 twice, and the answer is `NotFound`. It takes memory for the
+/// input, the dictionary and the line.
 ///
 /// # Errors
 ///
-/// `Dict` with 1 and the first fault of the text (X1 to X6, X8), `Read` where the reader failed, `Memory` where memory for
-/// the input or the line was refused: nothing is written then. `Write` where the writer failed: exactly that number of bytes of
-/// the line is out.
+/// `Dict` with 1 and the first fault of the text (X1 to X6, X8), `Read` where the reader failed,
+/// `Memory` where memory for the input or the line was refused: nothing is written then. `Write`
+/// where the writer failed: exactly that number of bytes of the line is out.
 pub fn run_find<R: Read, W: Write>(
     alloc: Global,
     shape: Shape,

@@ -1,4 +1,5 @@
-//! Dictionaries one after another, joined by halves of their bytes: none is in more joins than they can be halved.
+//! Dictionaries one after another, joined by halves of their bytes: none is in more joins than they
+//! can be halved.
 ghost use Rattle.std.specs.Prelude.{◌≡◌, ℕ, ◌+◌, ◌^◌, ◌<◌, ◌≤◌, List, length, IfSome};
 ghost use Rattle.engine_core.specs.Inner.Batches.{IsBatch, AreBatches};
 
@@ -31,7 +32,8 @@ fn read_one(alloc: Global, bytes: &[u8]) -> Option<Batch>
     }
 }
 
-/// Two batches, of which the second follows the first, as one; or None where they cannot be joined, or memory was refused.
+/// Two batches, of which the second follows the first, as one; or None where they cannot be joined,
+/// or memory was refused.
 pub(crate) fn join_two(alloc: Global, first: &Batch, next: &Batch) -> Option<Batch>
     requires number { first.now.number + next.now.number < 2 ^ 64 }
     requires length { first.now.length + next.now.length < 2 ^ 64 }
@@ -49,9 +51,10 @@ pub(crate) fn join_two(alloc: Global, first: &Batch, next: &Batch) -> Option<Bat
     }
 }
 
-/// The dictionaries at the front of the bytes whose texts have `least` bytes or more, and no more of them than that takes:
-/// those of the first half of these bytes, those of what is left of them, and both joined. So each is in no more joins than
-/// `least` can be halved. None where one of them cannot be read or joined, or memory was refused.
+/// The dictionaries at the front of the bytes whose texts have `least` bytes or more, and no more
+/// of them than that takes: those of the first half of these bytes, those of what is left of them,
+/// and both joined. So each is in no more joins than `least` can be halved. None where one of them
+/// cannot be read or joined, or memory was refused.
 pub(crate) fn join_front(alloc: Global, bytes: &[u8], least: usize) -> Option<Batch>
     requires { least ≤ length bytes.now }
     ensures batch { IfSome result (IsBatch bytes.now) }

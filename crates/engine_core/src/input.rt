@@ -52,12 +52,13 @@ fn read_by_block<R: Read>(
     Ok(())
 }
 
-/// The reader's bytes up to its end, or the first 2^28 + 1 of them. A read of no bytes is the end. It takes memory for
-/// the bytes and a block more.
+/// The reader's bytes up to its end, or the first 2^28 + 1 of them. A read of no bytes is the end.
+/// It takes memory for the bytes and a block more.
 ///
 /// # Errors
 ///
-/// `Read` where the reader failed, `Memory` where memory was refused: the bytes that were read by then are lost.
+/// `Read` where the reader failed, `Memory` where memory was refused: the bytes that were read by
+/// then are lost.
 pub fn read_input<R: Read>(alloc: Global, reader: &mut R) -> Result<Vec<u8>, RunFault>
     ensures input { IfOk result (λ input. IfSome (R.remaining reader.old)
         (λ all. input.items ≡ take (most_bytes + 1) all)) }

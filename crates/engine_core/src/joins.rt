@@ -18,7 +18,8 @@ use shape_dict::{DictFault, Dictionary, Text};
 use std::alloc::Global;
 use std::io::{Read, Write};
 
-/// The join of `sum` and the dictionary of the text that the bytes begin with, and how many bytes that text has.
+/// The join of `sum` and the dictionary of the text that the bytes begin with, and how many bytes
+/// that text has.
 fn add_next(alloc: Global, sum: &Dictionary, bytes: &[u8]) -> Result<(Dictionary, usize), DictFault>
     ensures added { IfOk result (λ p. IsAdded sum.now bytes.now p.1 p.0) }
     ensures fault { IfErr result (IsAddFault sum.now bytes.now) }
@@ -30,7 +31,8 @@ fn add_next(alloc: Global, sum: &Dictionary, bytes: &[u8]) -> Result<(Dictionary
 
 /// The batch at the front of the input, and the dictionary that follows it.
 ///
-/// `RunFault::Dict` has the number of that dictionary, from 1, and why it cannot be read or added, or want of memory.
+/// `RunFault::Dict` has the number of that dictionary, from 1, and why it cannot be read or added,
+/// or want of memory.
 fn add_one(alloc: Global, input: &[u8], before: &Batch) -> Result<Batch, RunFault>
     requires few { length input.now ≤ most_bytes }
     requires before { IsBatch input.now before.now }
@@ -50,8 +52,9 @@ fn add_one(alloc: Global, input: &[u8], before: &Batch) -> Result<Batch, RunFaul
     }
 }
 
-/// The batch at the front of the input, and the dictionaries that follow it up to the byte of this number at least, which
-/// are joined before they are added. None where one of them cannot be read or joined, or memory was refused.
+/// The batch at the front of the input, and the dictionaries that follow it up to the byte of this
+/// number at least, which are joined before they are added. None where one of them cannot be read
+/// or joined, or memory was refused.
 fn add_joined(alloc: Global, input: &[u8], before: &Batch, end: usize) -> Option<Batch>
     requires before { IsBatch input.now before.now }
     requires more { before.now.length ≤ end }
@@ -63,9 +66,10 @@ fn add_joined(alloc: Global, input: &[u8], before: &Batch, end: usize) -> Option
     join_two(alloc, before, &next)
 }
 
-/// The batch at the front of the input, and the dictionaries that follow it up to the byte of this number at least. Where
-/// they cannot be joined before they are added, those of the first half of the bytes are added, and then the others: so the
-/// first fault is met, and each time only half of the bytes are read again.
+/// The batch at the front of the input, and the dictionaries that follow it up to the byte of this
+/// number at least. Where they cannot be joined before they are added, those of the first half of
+/// the bytes are added, and then the others: so the first fault is met, and each time only half of
+/// the bytes are read again.
 fn add_up_to(alloc: Global, input: &[u8], before: Batch, end: usize) -> Result<Batch, RunFault>
     requires few { length input.now ≤ most_bytes }
     requires before { IsBatch input.now before }
@@ -125,17 +129,19 @@ fn joined_text(alloc: Global, text: Text, input: &[u8]) -> Result<Vec<u8>, RunFa
     Ok(written)
 }
 
-/// Reads one dictionary or more, one after another, each in any of the three texts, and writes a text of their join:
-/// the earlier ones are the left of each join. It takes memory for the input, the joins of parts that follow one another, of
-/// which there are no more than the input's bytes can be halved, the join that is made of two of them, and the text.
+/// Reads one dictionary or more, one after another, each in any of the three texts, and writes a
+/// text of their join: the earlier ones are the left of each join. It takes memory for the input,
+/// the joins of parts that follow one another, of which there are no more than the input's bytes
+/// can be halved, the join that is made of two of them, and the text.
 ///
 /// # Errors
 ///
-/// `Dict` with the number of the first dictionary, from 1, that cannot be read (X1 to X5) or added to those before it (X7,
-/// X9), and its fault; an input without a byte is X1 of dictionary 1. `Dict` with X8 where the whole input has more than
-/// 2^28 bytes, and with X6 where memory for a dictionary, a join or the text was refused. `Read` where the reader failed,
-/// `Memory` where memory for the input was refused. Nothing is written then. `Write` where the writer failed: exactly that
-/// number of bytes of the text is out.
+/// `Dict` with the number of the first dictionary, from 1, that cannot be read (X1 to X5) or added
+/// to those before it (X7, X9), and its fault; an input without a byte is X1 of dictionary 1.
+/// `Dict` with X8 where the whole input has more than 2^28 bytes, and with X6 where memory for a
+/// dictionary, a join or the text was refused. `Read` where the reader failed, `Memory` where
+/// memory for the input was refused. Nothing is written then. `Write` where the writer failed:
+/// exactly that number of bytes of the text is out.
 pub fn run_join<R: Read, W: Write>(
     alloc: Global,
     text: Text,

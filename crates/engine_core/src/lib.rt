@@ -1,4 +1,5 @@
-//! The four engines of `shapes`: each reads its input whole, makes one text of it, and writes that text.
+//! The four engines of `shapes`: each reads its input whole, makes one text of it, and writes that
+//! text.
 #![tactic(auto)]
 
 // the engines, and the pattern that `find` is asked for

@@ -28,7 +28,8 @@ fn write_bytes<W: Write>(writer: &mut W, bytes: &[u8]) -> Result<(), usize>
 ///
 /// # Errors
 ///
-/// `Write` where the writer failed, or wrote no bytes: exactly that number of bytes of the text is out.
+/// `Write` where the writer failed, or wrote no bytes: exactly that number of bytes of the text is
+/// out.
 pub fn write_output<W: Write>(writer: &mut W, text: &[u8]) -> Result<(), RunFault>
     ensures whole { OnOk result (Appends (W.contents writer.old) (W.contents writer.new) text.now) }
     ensures front { IfErr result (WroteFront (W.contents writer.old) (W.contents writer.new)
@@ -44,8 +45,9 @@ pub fn write_output<W: Write>(writer: &mut W, text: &[u8]) -> Result<(), RunFaul
 ///
 /// # Errors
 ///
-/// `Write` where the writer failed, or wrote no bytes: exactly that number of bytes of the text is out. So also before a
-/// part that would take the text past 2^64 - 1 bytes, which is more than memory holds.
+/// `Write` where the writer failed, or wrote no bytes: exactly that number of bytes of the text is
+/// out. So also before a part that would take the text past 2^64 - 1 bytes, which is more than
+/// memory holds.
 pub fn write_parts<W: Write>(writer: &mut W, parts: &[Vec<u8>]) -> Result<(), RunFault>
     ensures whole { OnOk result (Appends (W.contents writer.old) (W.contents writer.new)
         (joined parts.now)) }

@@ -41,7 +41,8 @@ fn word_of(kind: Kind, glyphs: &str) -> Result<Word, GlyphFault>
 ///
 /// # Errors
 ///
-/// `Usage` exactly where the mover is neither, and else `Glyph` where the glyphs are not 25 (H2) or one is none (H1).
+/// `Usage` exactly where the mover is neither, and else `Glyph` where the glyphs are not 25 (H2) or
+/// one is none (H1).
 pub fn pattern_of(kind: Kind, glyphs: &str, mover: &str) -> Result<Shape, RunFault>
     ensures shape { IfOk result (IsPatternOf kind glyphs.now mover.now) }
     ensures fault { IfErr result (IsPatternFault glyphs.now mover.now) }

@@ -17,8 +17,8 @@ pub struct Played {
 
 /// A position on a board, and the points that the last move emptied.
 ///
-/// All memory is taken by `new`, `copied` and `clone`, for each point of the board.
-#[derive(Clone, Debug, Drop)]
+/// All memory is taken by `new` and `copied`, for each point of the board.
+#[derive(Debug, Drop)]
 pub struct Board {
     size: Size,
     stones: Vec<Stone>,
@@ -50,7 +50,8 @@ impl Board {
     ghost use Rattle.go_board.specs.Play.{SetsOn, PlaysOn};
     ghost use Rattle.go_board.specs.Board.{position_of, IsBoard};
 
-    /// An empty board of this size, from which nothing was removed. It takes memory for each point of the board.
+    /// An empty board of this size, from which nothing was removed. It takes memory for each point
+    /// of the board.
     ///
     /// # Errors
     ///
@@ -73,7 +74,8 @@ impl Board {
         })
     }
 
-    /// Another board with the same stones, from which nothing was removed. It takes memory for each point of the board.
+    /// Another board with the same stones, from which nothing was removed. It takes memory for each
+    /// point of the board.
     ///
     /// # Errors
     ///
@@ -106,7 +108,8 @@ impl Board {
         self.stones[self.size.index(point)]
     }
 
-    /// Puts a stone on a point, or empties it, whatever stood there; nothing is captured. The point is on the board.
+    /// Puts a stone on a point, or empties it, whatever stood there; nothing is captured. The point
+    /// is on the board.
     pub fn set(&mut self, point: Point, stone: Stone)
         requires { IsOn self.old.size point }
         ensures sets { SetsOn self.old point stone self.new }
@@ -116,9 +119,9 @@ impl Board {
         self.stones[index] = stone;
     }
 
-    /// Plays a move, by the rule of capture: the stone is placed, whatever stood there; then the stones of the other
-    /// colour that are next to it, or joined to such, and have no liberty are removed; then its own group if that has
-    /// none. The point is on the board.
+    /// Plays a move, by the rule of capture: the stone is placed, whatever stood there; then the
+    /// stones of the other colour that are next to it, or joined to such, and have no liberty are
+    /// removed; then its own group if that has none. The point is on the board.
     ///
     /// It takes no memory, and its time is that of the groups that it looks at.
     pub fn play(&mut self, colour: Colour, point: Point) -> Played
@@ -156,8 +159,9 @@ impl Board {
         }
     }
 
-    /// Whether the stone on a point, or one joined to it, has an empty neighbour. The point is on the board, and a
-    /// stone stands there. The position stays, and the points that the last move emptied stay listed.
+    /// Whether the stone on a point, or one joined to it, has an empty neighbour. The point is on
+    /// the board, and a stone stands there. The position stays, and the points that the last move
+    /// emptied stay listed.
     pub fn has_liberty(&mut self, point: Point) -> bool
         requires on_board { IsOn self.old.size point }
         requires stone { position_of self.old point ≢ kind.Empty }
@@ -167,7 +171,8 @@ impl Board {
         is_alive(self.size, &self.stones, &mut self.group, point)
     }
 
-    /// The points that the last `play` emptied, each once; none before the first. `set` and `has_liberty` leave them.
+    /// The points that the last `play` emptied, each once; none before the first. `set` and
+    /// `has_liberty` leave them.
     pub fn removed(&self) -> &[Point]
         ensures value { result.now ≡ self.now.removed }
         ensures board { IsBoard self.now }

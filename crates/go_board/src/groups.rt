@@ -12,7 +12,8 @@ use crate::around::neighbours;
 use crate::point_sets::PointSet;
 use crate::points::{Colour, Point, Size, Stone};
 
-/// Whether the point has an empty neighbour; where it has none, its neighbours with this stone are put into the group.
+/// Whether the point has an empty neighbour; where it has none, its neighbours with this stone are
+/// put into the group.
 fn visit(size: Size, stones: &[Stone], group: &mut PointSet, stone: Stone, point: Point) -> bool
     requires on_board { IsOn size point }
     requires board { length stones.now ≡ size.columns * size.rows }
@@ -110,7 +111,8 @@ pub(crate) fn remove_if_dead(
     }
 }
 
-/// Removes the stones that a move of this colour at a point captures; the stone of the move stands already.
+/// Removes the stones that a move of this colour at a point captures; the stone of the move stands
+/// already.
 pub(crate) fn capture(
     size: Size,
     stones: &mut [Stone],

@@ -6,7 +6,8 @@ ghost use Rattle.go_board.specs.Point.{IsOn};
 ghost use Rattle.go_board.specs.Position.{Position, AreSame};
 ghost use Rattle.go_board.specs.Play.{Plays};
 
-/// A move makes one position of a position: what it makes of two that are the same on the board is the same there.
+/// A move makes one position of a position: what it makes of two that are the same on the board is
+/// the same there.
 pub fn moves_have_one_result()
     ensures { (size : Extent) (before again : Position) (mover : Colour) (at : Point)
         (first second : Position) →

@@ -4,7 +4,7 @@ use std::alloc::{AllocError, Global};
 use std::marker::Model;
 
 /// A set of points, in the order in which they came, with a mark at each of them.
-#[derive(Clone, Debug, Drop)]
+#[derive(Debug, Drop)]
 pub(crate) struct PointSet {
     size: Size,
     marks: Vec<bool>,

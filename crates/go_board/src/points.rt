@@ -48,7 +48,8 @@ pub enum Stone {
     White,
 }
 
-/// The size of a board: its columns and rows, each from 1 to 52 (GM[1] of SGF FF[4] has letters for as many).
+/// The size of a board: its columns and rows, each from 1 to 52 (GM[1] of SGF FF[4] has letters for
+/// as many).
 #[derive(Clone, Copy, Debug, PartialEq, Eq)]
 pub struct Size {
     columns: u8,
@@ -100,7 +101,8 @@ impl Size {
         self.rows
     }
 
-    /// The number of points of a board of this size: the length of a list with an item for each point.
+    /// The number of points of a board of this size: the length of a list with an item for each
+    /// point.
     pub fn area(self) -> usize
         ensures value { result ≡ self.columns * self.rows }
         ensures size { IsExtent self }
@@ -108,8 +110,8 @@ impl Size {
         usize::from(self.columns) * usize::from(self.rows)
     }
 
-    /// The place of a point in a list with an item for each point, row by row from the top and each row from the left.
-    /// The point is on a board of this size.
+    /// The place of a point in a list with an item for each point, row by row from the top and each
+    /// row from the left. The point is on a board of this size.
     pub fn index(self, point: Point) -> usize
         requires { IsOn self point }
         ensures value { result ≡ index_of self point }

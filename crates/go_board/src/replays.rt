@@ -1,6 +1,8 @@
 //! What a game is replayed on.
-ghost use Rattle.go_board.specs.Board.{Stones};
-ghost use Rattle.go_board.specs.Play.{SetsOn, PlaysOn};
+ghost use Rattle.std.specs.Prelude.{◌≡◌, List, [], ◌∷◌};
+ghost use Rattle.go_board.specs.Board.{Stones, position_of};
+ghost use Rattle.go_board.specs.declared.points.Point.{Point as At};
+ghost use Rattle.go_board.specs.Play.{SetsOn, PlaysOn, stone_of};
 ghost use Rattle.go_board.specs.Point.{IsOn};
 
 use crate::boards::{Board, Played};
@@ -11,7 +13,8 @@ pub trait Replayable {
     /// The board as it is now.
     ghost board_of: { Self → Stones };
 
-    /// How what it keeps beside the board may change from the first to the second. For a board alone this says nothing.
+    /// How what it keeps beside the board may change from the first to the second. For a board
+    /// alone this says nothing.
     ghost Stays: { Self → Self → Type 0 };
 
     /// `Stays` is reflexive.
@@ -21,18 +24,28 @@ pub trait Replayable {
     ghost stays_on: { (before between after : Self) → Stays before between
         → Stays between after → Stays before after };
 
-    /// Puts a stone on a point, or empties it, whatever stood there; nothing is captured. The point is on the board. It
-    /// takes no memory.
+    /// What of the rest may change from the first to the second where only the stones of these
+    /// points do. For a board alone this says nothing.
+    ghost Touches: { List At → Self → Self → Type 0 };
+
+    /// Puts a stone on a point, or empties it, whatever stood there; nothing is captured. Where the
+    /// stone was there, no point's stone changes. The point is on the board. It takes no memory.
     fn put(&mut self, point: Point, stone: Stone)
         requires { IsOn (board_of self.old).size point }
         ensures sets { SetsOn (board_of self.old) point stone (board_of self.new) }
-        ensures stays { Stays self.old self.new };
+        ensures stays { Stays self.old self.new }
+        ensures touches { Touches (point ∷ []) self.old self.new }
+        ensures still { position_of (board_of self.old) point ≡ stone
+            → Touches [] self.old self.new };
 
     /// Plays a move by the rule of capture. The point is on the board. It takes no memory.
     fn play_move(&mut self, colour: Colour, point: Point) -> Played
         requires { IsOn (board_of self.old).size point }
         ensures plays { PlaysOn (board_of self.old) colour point (board_of self.new) result }
-        ensures stays { Stays self.old self.new };
+        ensures stays { Stays self.old self.new }
+        ensures touches { Touches (point ∷ (board_of self.new).removed) self.old self.new }
+        ensures still { position_of (board_of self.old) point ≡ stone_of colour
+            → Touches (board_of self.new).removed self.old self.new };
 }
 
 impl Replayable for Board {
@@ -43,6 +56,8 @@ impl Replayable for Board {
     ghost stays = { λ board. tt };
 
     ghost stays_on = { λ before between after h k. tt };
+
+    ghost Touches = { λ points before after. Unit {0} };
 
     fn put(&mut self, point: Point, stone: Stone) {
         self.set(point, stone);

@@ -1,10 +1,11 @@
 -- Results that are added one after another.
-use Rattle.std.proofs.Common.{◌≡◌, ◌≢◌, ℕ, ◌+◌, ◌<◌, ◌≤◌, List, [], ◌∷◌, ◌++◌, length, get_or, drop, map, Option, Some, None, Result, Ok, Err, refl, ap, sym, subst, ◌∙◌, append_assoc, length-append, arith}
+use Rattle.std.proofs.Common.{◌≡◌, ℕ, suc, ◌+◌, ◌<◌, ◌≤◌, List, [], ◌∷◌, ◌++◌, length, get_or, drop, map, Option, Some, None, Result, Ok, Err, refl, ap, sym, subst, ◌∙◌, append_assoc, length-append, arith}
 use Rattle.std.proofs.lemmas.List.{drop_more}
 use Rattle.go_record.specs.declared.actions.Action.{Action}
 use Rattle.go_record.specs.declared.faults.RecordFault.{RecordFault}
 use Rattle.go_record.specs.declared.faults.RecordFault.TheVariants as fault
 use Rattle.go_record.specs.Record.{collected, onto}
+use Rattle.go_record.specs.Adding.{actions_before_fault}
 use Rattle.go_record.specs.Inner.Adding.{behind, Adds}
 
 -- first these, then those
@@ -60,57 +61,72 @@ grows before after (Ok more) h =
     omega (arith, length-append before more, ap (λ (actions : List Action). length actions) same)
 grows before after (Err found) h = absurd cc
 
--- where the first or the second of two has something to add, both together have
-some_first : (first rest : Result (List Action) RecordFault) → first ≢ Ok [] → followed first rest ≢ Ok []
-unfolding followed
-some_first (Ok []) rest some = absurd (some refl)
-some_first (Ok (action ∷ more)) (Ok others) some = λ none. cc
-some_first (Ok (action ∷ more)) (Err found) some = λ none. cc
-some_first (Err found) rest some = λ none. cc
+-- how many actions come before the first fault of two parts
+count-append : (xs ys : List (Result (Option Action) RecordFault)) → actions_before_fault xs ≤ actions_before_fault (xs ++ ys)
+count-append [] ys = omega arith
+count-append (Err found ∷ xs) ys = omega arith
+count-append (Ok None ∷ xs) ys = count-append xs ys
+count-append (Ok (Some action) ∷ xs) ys = let later = count-append xs ys in omega arith
 
-some_second : (first rest : Result (List Action) RecordFault) → rest ≢ Ok [] → followed first rest ≢ Ok []
-unfolding followed
-some_second (Ok []) rest some = λ none. some (behind-empty rest ∙ none)
-some_second (Ok (action ∷ more)) (Ok others) some = λ none. cc
-some_second (Ok (action ∷ more)) (Err found) some = λ none. cc
-some_second (Err found) rest some = λ none. cc
+onto-ok : (action : Action) (others : Result (List Action) RecordFault) (all : List Action) → onto (Some action) others ≡ Ok all →
+    (more : List Action) × (others ≡ Ok more) × (length all ≡ length more + 1)
+onto-ok action (Ok more) all h =
+    let same : action ∷ more ≡ all = cc in
+    (more, refl, omega (arith, ap (λ (actions : List Action). length actions) same))
+onto-ok action (Err found) all h = absurd cc
 
--- where something is left to add, there was something to add
-pub some_left : (first now : List Action) (all left : Result (List Action) RecordFault) → behind now left ≡ behind first all → length first ≤ length now → left ≢ Ok [] → all ≢ Ok []
-some_left first now all (Ok []) same grown some = absurd (some refl)
-some_left first now all (Ok (action ∷ more)) same grown some = λ none.
-    let is : Ok (now ++ action ∷ more) ≡ behind first (Ok []) = same ∙ ap (behind first) none in
-    let lists : now ++ action ∷ more ≡ first ++ [] = cc in
-    omega (arith, length-append now (action ∷ more), length-append {A = Action} first [], ap (λ (actions : List Action). length actions) lists)
-some_left first now all (Err found) same grown some = λ none.
-    let is : Err found ≡ behind first (Ok []) = same ∙ ap (behind first) none in
-    cc
+collected-count : (xs ys : List (Result (Option Action) RecordFault)) (all : List Action) → collected xs ≡ Ok all →
+    actions_before_fault (xs ++ ys) ≡ length all + actions_before_fault ys
+collected-count [] ys all h =
+    let none : [] ≡ all = cc in
+    omega (arith, ap (λ (actions : List Action). length actions) none)
+collected-count (Err found ∷ xs) ys all h = absurd cc
+collected-count (Ok None ∷ xs) ys all h = collected-count xs ys all h
+collected-count (Ok (Some action) ∷ xs) ys all h =
+    let rest = onto-ok action (collected xs) all h in
+    omega (arith, collected-count xs ys rest.0 rest.1, rest.2)
 
-onto-some : (action : Action) (others : Result (List Action) RecordFault) → onto (Some action) others ≢ Ok []
-onto-some action (Ok actions) = λ none. cc
-onto-some action (Err found) = λ none. cc
+behind-ok : (before after : List Action) (more : Result (List Action) RecordFault) → behind before more ≡ Ok after →
+    (actions : List Action) × (more ≡ Ok actions) × (length after ≡ length before + length actions)
+behind-ok before after (Ok more) h =
+    let same : before ++ more ≡ after = cc in
+    (more, refl, omega (arith, length-append before more, ap (λ (actions : List Action). length actions) same))
+behind-ok before after (Err found) h = absurd cc
 
--- where the value at a place does something, there is something to add from there on
+-- the first deeds were added: their actions are no longer left
+pub added_count : (before after : List Action) (xs ys : List (Result (Option Action) RecordFault)) → behind before (collected xs) ≡ Ok after →
+    length before + actions_before_fault (xs ++ ys) ≡ length after + actions_before_fault ys
+added_count before after xs ys h =
+    let parts = behind-ok before after (collected xs) h in
+    omega (arith, collected-count xs ys parts.0 parts.1, parts.2)
+
+-- where the value at a place does something, an action is left from there on
 pub some_at : {X : Type 0} → (deed : X → Result (Option Action) RecordFault) (values : List X) (i : ℕ) (value : X) (action : Action) →
-    i < length values → Ok (Some action) ≡ deed (get_or values i value) → collected (map deed (drop i values)) ≢ Ok []
-some_at deed values i value action within is = λ none.
-    onto-some action (collected (map deed (drop (i + 1) values)))
-    (ap (λ first. collected (first ∷ map deed (drop (i + 1) values))) is ∙ (sym (ap (λ xs. collected (map deed xs)) (drop_more values i value within)) ∙ none))
+    i < length values → Ok (Some action) ≡ deed (get_or values i value) → 0 < actions_before_fault (map deed (drop i values))
+some_at deed values i value action within is =
+    let here : actions_before_fault (map deed (drop i values)) ≡ suc (actions_before_fault (map deed (drop (i + 1) values))) =
+    ap (λ xs. actions_before_fault (map deed xs)) (drop_more values i value within)
+    ∙ ap (λ first. actions_before_fault (first ∷ map deed (drop (i + 1) values))) (sym is) in
+    omega (arith, here)
 
 -- one part of what is left was added
 pub adds_step : (first now after : List Action) (all xs ys : List (Result (Option Action) RecordFault)) →
     behind now (collected (xs ++ ys)) ≡ behind first (collected all) → Adds xs now after (Ok tt) → behind after (collected ys) ≡ behind first (collected all)
 adds_step first now after all xs ys left h = sym (added now after xs ys h) ∙ left
 
+pub count_step : (first now after : List Action) (all xs ys : List (Result (Option Action) RecordFault)) →
+    length now + actions_before_fault (xs ++ ys) ≡ length first + actions_before_fault all → Adds xs now after (Ok tt) →
+    length after + actions_before_fault ys ≡ length first + actions_before_fault all
+count_step first now after all xs ys left h = omega (arith, added_count now after xs ys h, left)
+
 -- a fault of one part is that of all
 pub adds_fault : (first now after : List Action) (all xs ys : List (Result (Option Action) RecordFault)) (found : RecordFault) →
-    behind now (collected (xs ++ ys)) ≡ behind first (collected all) → length first ≤ length now → Adds xs now after (Err found) → Adds all first after (Err found)
-adds_fault first now after all xs ys (fault.BadSize at) left grown h = sym left ∙ stopped now (fault.BadSize at) xs ys h
-adds_fault first now after all xs ys (fault.BadPoint at) left grown h = sym left ∙ stopped now (fault.BadPoint at) xs ys h
-adds_fault first now after all xs ys (fault.OffBoard at) left grown h = sym left ∙ stopped now (fault.OffBoard at) xs ys h
-adds_fault first now after all xs ys fault.Memory left grown h =
-    some_left first now (collected all) (collected (xs ++ ys)) left grown
-    (λ none. some_first (collected xs) (collected ys) h (sym (collected-append xs ys) ∙ none))
+    behind now (collected (xs ++ ys)) ≡ behind first (collected all) → length now + actions_before_fault (xs ++ ys) ≡ length first + actions_before_fault all →
+    length first ≤ length now → Adds xs now after (Err found) → Adds all first after (Err found)
+adds_fault first now after all xs ys (fault.BadSize at) left counted grown h = sym left ∙ stopped now (fault.BadSize at) xs ys h
+adds_fault first now after all xs ys (fault.BadPoint at) left counted grown h = sym left ∙ stopped now (fault.BadPoint at) xs ys h
+adds_fault first now after all xs ys (fault.OffBoard at) left counted grown h = sym left ∙ stopped now (fault.OffBoard at) xs ys h
+adds_fault first now after all xs ys fault.Memory left counted grown h = omega (arith, counted, grown, h, count-append xs ys)
 
 -- two parts, one after the other
 pub adds_both : (first now after : List Action) (xs ys : List (Result (Option Action) RecordFault)) (result : Result (Unit {0}) RecordFault) →
@@ -119,7 +135,9 @@ adds_both first now after xs ys (Ok done) h k = added first now xs ys h ∙ k
 adds_both first now after xs ys (Err (fault.BadSize at)) h k = added first now xs ys h ∙ k
 adds_both first now after xs ys (Err (fault.BadPoint at)) h k = added first now xs ys h ∙ k
 adds_both first now after xs ys (Err (fault.OffBoard at)) h k = added first now xs ys h ∙ k
-adds_both first now after xs ys (Err fault.Memory) h k = λ none. some_second (collected xs) (collected ys) k (sym (collected-append xs ys) ∙ none)
+adds_both first now after xs ys (Err fault.Memory) h k =
+    let parts = behind-ok first now (collected xs) h in
+    omega (arith, collected-count xs ys parts.0 parts.1, k)
 
 -- what each value does, seen as the grammar's value or as the program's
 pub adds-views : {X Y : Type 0} (deed : Y → Result (Option Action) RecordFault) (view : X → Y) (values : List X) (viewed : List Y) (before after : List Action) (result : Result (Unit {0}) RecordFault) →

@@ -5,4 +5,4 @@ mod Worked
 pub mod Rectangles
 pub mod Few
 mod OneResult
-pub mod Sized
+pub mod RecordFaults

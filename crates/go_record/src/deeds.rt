@@ -1,8 +1,9 @@
 //! What one value of a move or a setup property does.
-ghost use Rattle.std.specs.Prelude.{◌≡◌, ◌<◌, ℕ, IfOk, IfSome};
+ghost use Rattle.std.specs.Prelude.{◌≡◌, ◌≢◌, ◌<◌, ℕ, IfOk, IfErr, IfSome};
 ghost use Rattle.sgf_core.specs.Values.{value_of};
 ghost use Rattle.go_record.specs.Actions.{IsActionOn};
 ghost use Rattle.go_record.specs.Setup.{is_pass, move_of, spanned, setup_of};
+ghost use Rattle.go_record.specs.declared.faults.RecordFault.TheVariants as fault;
 
 use crate::actions::Action;
 use crate::faults::RecordFault;
@@ -26,6 +27,7 @@ fn is_pass(size: Size, text: &[u8]) -> bool
 fn move_of(size: Size, colour: Colour, value: Value<'_>) -> Result<Action, RecordFault>
     ensures value { result ≡ move_of size colour (value_of value.entry) }
     ensures on_board { IfOk result (IsActionOn size) }
+    ensures takes_none { IfErr result (λ found. found ≢ fault.Memory) }
 {
     let text = trimmed(value.bytes);
     if is_pass(size, text) {
@@ -53,6 +55,7 @@ fn spanned(
 ) -> Result<Action, RecordFault>
     ensures value { result ≡ spanned size stone at p q }
     ensures on_board { IfOk result (IsActionOn size) }
+    ensures takes_none { IfErr result (λ found. found ≢ fault.Memory) }
 {
     match (p, q) {
         (Some(p), Some(q)) => {
@@ -77,6 +80,7 @@ fn spanned(
 fn setup_of(size: Size, stone: Stone, value: Value<'_>) -> Result<Option<Action>, RecordFault>
     ensures value { result ≡ setup_of size stone (value_of value.entry) }
     ensures on_board { IfOk result (λ deed. IfSome deed (IsActionOn size)) }
+    ensures takes_none { IfErr result (λ found. found ≢ fault.Memory) }
 {
     let text = trimmed(value.bytes);
     if text.is_empty() {
@@ -101,11 +105,13 @@ pub(crate) enum Deed {
 
 impl Deed {
     ghost use Rattle.go_record.specs.Inner.Adding.{action_of};
+    ghost use Rattle.go_record.specs.declared.faults.RecordFault.TheVariants as fault;
 
     /// What it does with a value, or None where that is nothing.
     pub(crate) fn action(self, size: Size, value: Value<'_>) -> Result<Option<Action>, RecordFault>
         ensures value { result ≡ action_of size self (value_of value.entry) }
         ensures on_board { IfOk result (λ action. IfSome action (IsActionOn size)) }
+        ensures takes_none { IfErr result (λ found. found ≢ fault.Memory) }
     {
         match self {
             Deed::Setup(stone) => setup_of(size, stone, value),

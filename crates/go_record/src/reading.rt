@@ -4,10 +4,10 @@ ghost use Rattle.sgf_core.specs.Tree.{GameTree, main_line_of};
 ghost use Rattle.sgf_core.specs.Marks.{marks_of};
 ghost use Rattle.sgf_core.specs.Written.{IsSomeTree};
 ghost use Rattle.sgf_core.specs.Values.{value_of};
-ghost use Rattle.go_record.specs.Record.{record_of, is_go, board_of, root_of, first_value};
+ghost use Rattle.go_record.specs.Record.{is_go, board_of, root_of, first_value};
 ghost use Rattle.go_record.specs.Record.{collected, node_deeds};
 ghost use Rattle.go_record.specs.Actions.{IsActionOn};
-ghost use Rattle.go_record.specs.Adding.{IsUnlessMemory};
+ghost use Rattle.go_record.specs.Adding.{IsRecordOrMemory};
 ghost use Rattle.go_record.specs.Inner.Adding.{IsFaultOrMemory};
 ghost use Rattle.std.specs.Option.{option_map};
 ghost use Rattle.std.specs.List.{flat_map};
@@ -55,8 +55,7 @@ fn board_of(value: Option<Value<'_>>) -> Result<Size, RecordFault>
 fn actions_of(alloc: Global, size: Size, line: MainLine<'_, '_>) -> Result<Vec<Action>, RecordFault>
     ensures actions { IfOk result (λ actions. collected (flat_map (node_deeds size) line.entry)
         ≡ Ok actions.items) }
-    ensures fault { IfErr result (IsFaultOrMemory (collected
-        (flat_map (node_deeds size) line.entry))) }
+    ensures fault { IfErr result (IsFaultOrMemory (flat_map (node_deeds size) line.entry)) }
     ensures on_board { IfOk result (λ actions. All (IsActionOn size) actions.items) }
 {
     let mut actions = Vec::new(alloc);
@@ -66,20 +65,24 @@ fn actions_of(alloc: Global, size: Size, line: MainLine<'_, '_>) -> Result<Vec<A
 
 /// The record of a tree's main line, or that the tree is of another game.
 ///
-/// GM and SZ count in the first node only, the first of each, and of its values the first; no GM, an empty value and
-/// the number 1 are Go, no SZ and an empty value are 19 by 19. In each node all setup properties come first, in their
-/// order, and then all moves, in theirs; each value is an action of its own (this project's reading of SGF FF[4]).
+/// GM and SZ count in the first node only, the first of each, and of its values the first; no GM,
+/// an empty value and the number 1 are Go, no SZ and an empty value are 19 by 19. In each node all
+/// setup properties come first, in their order, and then all moves, in theirs; each value is an
+/// action of its own, but for an empty setup value, which does nothing (this project's reading of
+/// SGF FF[4]).
 ///
 /// # Errors
 ///
-/// None where the tree is of another game, whatever its SZ is. `BadSize` where the value of SZ is no size from 1 to 52
-/// by 1 to 52. Otherwise the first of these, in the order of the actions: `BadPoint` where a value spells no point,
-/// rectangle or pass, and `OffBoard` where a point of it is off the board. Each has the place of its value. `Memory`
-/// where memory for the actions was refused: never for a tree of another game, with a bad size, or without actions. The
-/// tree is only read, so the call may be tried again.
+/// None where the tree is of another game, whatever its SZ is. `BadSize` where the value of SZ is
+/// no size from 1 to 52 by 1 to 52. Otherwise the first of these, in the order of the actions:
+/// `BadPoint` where a value spells no point, rectangle or pass, and `OffBoard` where a point of it
+/// is off the board. Each has the place of its value. `Memory` where memory for the actions was
+/// refused, which is asked for only where an action comes before the first fault: never for a tree
+/// of another game, with a bad size, or without an action before its first fault. The tree is only
+/// read, so the call may be tried again.
 pub fn read_record(alloc: Global, tree: &Tree<'_>) -> Result<Kind, RecordFault>
     ensures reads { (game : GameTree) → tree.now.marks ≡ marks_of game
-        → IsUnlessMemory result (record_of (main_line_of game)) }
+        → IsRecordOrMemory (main_line_of game) result }
     ensures tree { IsSomeTree tree.now }
 {
     if !is_go(root_value(tree.main_line(), b"GM")) {

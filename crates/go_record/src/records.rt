@@ -4,7 +4,7 @@ use go_board::Size;
 use std::marker::Model;
 
 /// What a tree's main line gives.
-#[derive(Clone, Debug, Drop)]
+#[derive(Debug, Drop)]
 pub enum Kind {
     /// A game of Go.
     Go(Record),
@@ -13,7 +13,7 @@ pub enum Kind {
 }
 
 /// A game of Go: the size of its board, and what was done on it. Every point of it is on the board.
-#[derive(Clone, Debug, Drop)]
+#[derive(Debug, Drop)]
 pub struct Record {
     size: Size,
     actions: Vec<Action>,

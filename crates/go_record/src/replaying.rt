@@ -41,8 +41,9 @@ fn fill<B: Replayable>(board: &mut B, low: Point, high: Point, stone: Stone)
     }
 }
 
-/// Does one action: a rectangle is set and nothing captured, a move is played by the rule of capture, a pass changes
-/// nothing. The action's points are on the board. It takes no memory.
+/// Does one action: a rectangle is set and nothing captured, a move is played by the rule of
+/// capture, a pass changes nothing. The action's points are on the board, and the corners of a
+/// rectangle are in order: `low` has the lesser column and row. It takes no memory.
 pub fn apply<B: Replayable>(board: &mut B, action: Action)
     requires { IsActionOn (B.board_of board.old).size action }
     ensures size { (B.board_of board.new).size ≡ (B.board_of board.old).size }
@@ -59,7 +60,8 @@ pub fn apply<B: Replayable>(board: &mut B, action: Action)
     }
 }
 
-/// Does the actions in order. Their points are on the board. It takes no memory.
+/// Does the actions in order. Their points are on the board, and the corners of each rectangle are
+/// in order: `low` has the lesser column and row. It takes no memory.
 pub fn replay<B: Replayable>(board: &mut B, actions: &[Action])
     requires { All (IsActionOn (B.board_of board.old).size) actions.now }
     ensures size { (B.board_of board.new).size ≡ (B.board_of board.old).size }

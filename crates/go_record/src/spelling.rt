@@ -12,7 +12,8 @@ ghost use Rattle.go_record.specs.declared.spelling.TheConstants.{CAP};
 use go_board::{Point, Size};
 use sgf_core::is_white;
 
-/// A number above this one is read as this one. No rule tells the two apart: each asks for 1, or for a side up to 52.
+/// A number above this one is read as this one. No rule tells the two apart: each asks for 1, or
+/// for a side up to 52.
 const CAP: u32 = 100;
 
 fn without_white_front(bytes: &[u8]) -> &[u8]

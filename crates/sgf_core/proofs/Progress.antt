@@ -1,6 +1,6 @@
 -- A tree that is read mark by mark: each step, the end, and each fault.
-use Rattle.std.proofs.Common.{◌≡◌, ◌≢◌, ◌⊎◌, ℕ, zero, suc, ◌+◌, ◌<◌, ◌≤◌, Bool, true, false, IsTrue, List, [], ◌∷◌, ◌++◌, length, drop, refl, sym, ap, ◌∙◌, subst, inl, inr, append_assoc, arith}
-use Rattle.std.specs.Prelude.{slice_range, slice_index, ◌==◌, ◌||◌}
+use Rattle.std.proofs.Common.{◌≡◌, ◌≢◌, ◌⊎◌, ℕ, zero, suc, ◌+◌, ◌<◌, ◌≤◌, Bool, true, false, IsTrue, List, [], ◌∷◌, ◌++◌, length, drop, refl, sym, ap, ◌∙◌, subst, inl, inr, append_assoc, arith, rules}
+use Rattle.std.specs.Prelude.{slice_range, slice_index, ◌==◌, ◌||◌, Option, Some, None, IsSomeAnd}
 use Rattle.std.specs.List.{list_all}
 use Rattle.std.proofs.lemmas.List.{drop_more, get_or-drop, length-drop}
 use Rattle.std.proofs.lemmas.Bool.{cases_lt}
@@ -10,8 +10,10 @@ use Rattle.sgf_core.specs.Tree.{GameTree, Property}
 use Rattle.sgf_core.specs.Grammar.{names, has_value, WritesParts, WritesTree, IsGoodFront}
 use Rattle.sgf_core.specs.Next.{BeginsTree, IsFirstBegin, EndsWithIdentifier}
 use Rattle.sgf_core.specs.Marks.{marks_of}
+use Rattle.sgf_core.specs.Inner.Turns.{IsTurn}
+use Rattle.sgf_core.specs.declared.parse.Turn.TheVariants as turn
 use Rattle.sgf_core.specs.Reading.{IsFaultAt, IsFaultOrMemory}
-use Rattle.sgf_core.specs.Inner.Pieces.{Wrote, mark_parts, parts_of, IsAllowed, is_fitting, IsWhole, ReadsMark, EndsInMark, IsMisfit, IsNameAlone, MarkFault}
+use Rattle.sgf_core.specs.Inner.Pieces.{Wrote, mark_parts, parts_of, IsAllowed, is_fitting, IsWhole, ReadsMark, EndsInMark, IsMisfit, IsNameAlone, MarkFault, IsKept}
 use Rattle.sgf_core.specs.declared.marks.Mark.{Mark}
 use Rattle.sgf_core.specs.declared.marks.Mark.TheVariants as mark
 use Rattle.sgf_core.specs.declared.marks.Expects.{Expects}
@@ -251,12 +253,12 @@ module _ (bytes : List ℕ) (from at place : ℕ) (marks : List Mark) (e : Expec
       (at, (turns, record { before = before; letter = last.1; white = k.behind; ends = ends; is_letter = last.3; is_white = k.behind_white }))
 
   -- what comes in place of a mark
-  pub is_fault : (f : SgfFault) → MarkFault bytes at e place f → IsFaultOrMemory bytes from f
+  pub is_fault : (f : SgfFault) → MarkFault bytes at e place f → IsFaultAt bytes from f
   is_fault (fault.Truncated found) k = subst (λ i. IsFaultAt bytes from (fault.Truncated i)) (sym k.0) (is_truncated k.1)
   is_fault (fault.BadByte bad) k = is_bad bad k
   is_fault (fault.NoValue bad) k = is_no_value bad k.0 k.1
   is_fault fault.TooLarge k = k
-  is_fault fault.Memory k = (at, first)
+  is_fault fault.Memory k = k
 
 -- where a tree begins
 pub begins_at : (bytes : List ℕ) (at : ℕ) → BeginsTree (drop at bytes) → (at < length bytes) × (slice_index bytes at ≡ open_parenthesis)
@@ -295,3 +297,37 @@ module _ (bytes : List ℕ) (at place end : ℕ) (marks pushed : List Mark) (e :
   goes_to_end opens_at is none =
       let found = front_ends bytes at place end marks e opens_at (subst (λ d. IsFrontAt bytes at place marks e d) none h) (subst (λ x. ReadsMark bytes e place end x) is read) in
       (found.0, found.1, push ∙ (ap (λ (x : Mark). marks ++ x ∷ []) is ∙ found.2))
+
+-- how far the tree has been read, and which marks were kept
+pub record IsFrontKept (bytes : List ℕ) (at place : ℕ) (items : List Mark) (kept : Bool) (expected : Expects) (depth : ℕ) : Type 0 where
+  pub all : List Mark
+  pub front : IsFrontAt bytes at place all expected depth
+  pub same : kept ≡ true → items ≡ all
+
+pub kept_pushed : (kept : Option Mark) (m : Mark) (new old all : List Mark) → IsKept kept m → IsSomeAnd kept (λ one. new ≡ old ++ one ∷ []) → old ≡ all → new ≡ all ++ m ∷ []
+kept_pushed None m new old all is pushed same = absurd pushed
+kept_pushed (Some one) m new old all is pushed same =
+    pushed ∙ (ap (λ (ms : List Mark). ms ++ one ∷ []) same ∙ ap (λ (x : Mark). all ++ x ∷ []) is)
+
+-- what a mark is by what it does
+pub mark_stays : (m : Mark) → IsTurn m turn.Stays → (m ≡ mark.Node) ⊎ ((property : Property) × (m ≡ mark.Prop property))
+mark_stays mark.Begin is = absurd cc
+mark_stays mark.Node is = inl refl
+mark_stays (mark.Prop property) is = inr (property, refl)
+mark_stays mark.End is = absurd cc
+
+pub mark_opens : (m : Mark) → IsTurn m turn.Opens → m ≡ mark.Begin
+mark_opens mark.Begin is = refl
+mark_opens mark.Node is = absurd cc
+mark_opens (mark.Prop property) is = absurd cc
+mark_opens mark.End is = absurd cc
+
+pub mark_closes : (m : Mark) → IsTurn m turn.Closes → m ≡ mark.End
+mark_closes mark.Begin is = absurd cc
+mark_closes mark.Node is = absurd cc
+mark_closes (mark.Prop property) is = absurd cc
+mark_closes mark.End is = refl
+
+-- behind the first parenthesis
+pub front_begun : (bytes : List ℕ) (at : ℕ) → at < length bytes → IsFrontAt bytes at (at + 1) (mark.Begin ∷ []) expects.Node 0
+front_begun bytes at within = search (rules, within)

@@ -1,5 +1,5 @@
 -- An identifier, its values so far, and what comes of them.
-use Rattle.std.proofs.Common.{◌≡◌, ◌≢◌, ℕ, ◌+◌, ◌<◌, ◌≤◌, true, false, IsTrue, List, [], ◌∷◌, ◌++◌, length, drop, map, refl, sym, ap, ◌∙◌, subst, arith, append_assoc}
+use Rattle.std.proofs.Common.{◌≡◌, ◌≢◌, ℕ, ◌+◌, ◌<◌, ◌≤◌, Bool, true, false, IsTrue, List, [], ◌∷◌, ◌++◌, length, drop, map, refl, sym, ap, ◌∙◌, subst, arith, append_assoc}
 use Rattle.std.specs.Prelude.{slice_range, slice_index, ◌==◌}
 use Rattle.std.specs.List.{list_all}
 use Rattle.std.proofs.lemmas.List.{append-nil, map_push, drop_more, drop_all, nil_from_length}
@@ -190,14 +190,6 @@ is_alone bytes from end place name h within not_white no_value ended =
           ap (λ (i : ℕ). is_letter (slice_index bytes i)) (sym e) ∙ ended (omega arith);
     }
 
--- whether there are values
-pub none_of : (items : List Value) → (length items == 0) ≡ true → map value_of items ≡ []
-none_of items h = ap (λ xs. map value_of xs) (nil_from_length items ((Decides-eqb (length items) 0).0 h))
-
-pub some_of : (items : List Value) → (length items == 0) ≡ false → map value_of items ≢ []
-some_of [] h none = let f : (0 == 0) ≡ false = h in cc
-some_of (x ∷ items) h none = cc
-
 -- from a letter on, up to what is none
 pub identifier_of : (bytes : List ℕ) (from end : ℕ) → from < length bytes → IsTrue (is_letter (slice_index bytes from)) → (from ≤ end) × (end ≤ length bytes) → IsTrue (list_all is_letter (slice_range bytes from end))
     → (end < length bytes → is_letter (slice_index bytes end) ≡ false) → IsIdentifier bytes from end
@@ -208,3 +200,16 @@ identifier_of bytes from end within letter bounds letters ended = record { forwa
 
     forward : from < end
     forward = omega (arith, not_at_once)
+
+-- the values that were read up to a place, and those that were kept
+pub record ReadsValues (bytes : List ℕ) (end place : ℕ) (kept some : Bool) (items : List Value) : Type 0 where
+  pub values : List PropertyValue
+  pub read : HasRead bytes end place values
+  pub stopped : place < length bytes → is_white (slice_index bytes place) ≡ false
+  pub same : kept ≡ true → map value_of items ≡ values
+  pub is_some : some ≡ true → values ≢ []
+  pub is_none : some ≡ false → values ≡ []
+
+pub pushed_some : (values : List PropertyValue) (value : PropertyValue) → values ++ value ∷ [] ≢ []
+pushed_some [] value none = cc
+pushed_some (one ∷ values) value none = cc

@@ -1,4 +1,5 @@
 -- What serves the contracts of private functions, and invariants: nothing here has to be believed.
 pub mod Lines
 pub mod Pieces
+pub mod Turns
 pub mod Reading

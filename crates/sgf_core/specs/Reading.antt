@@ -1,6 +1,7 @@
 -- What a reader of trees is: the input, the place where it goes on, and the fault that it has met.
 use Rattle.std.specs.Prelude.{◌≡◌, ℕ, List, Option, Some}
-use Rattle.sgf_core.specs.Next.{IsFirstBegin, IsTruncated, IsBadByte, IsNoValue}
+use Rattle.sgf_core.specs.Tree.{GameTree}
+use Rattle.sgf_core.specs.Next.{IsNextTree, IsTruncated, IsBadByte, IsNoValue}
 use Rattle.sgf_core.specs.declared.faults.SgfFault.{SgfFault}
 use Rattle.sgf_core.specs.declared.faults.SgfFault.TheVariants as fault
 
@@ -22,7 +23,7 @@ abbrev pub IsAfterFault : Reading → Reading → SgfFault → Type 0
 IsAfterFault before after fault.Memory = after ≡ before
 IsAfterFault before after found = after ≡ record before { fault = Some found }
 
--- the fault is that of the next tree, or memory was wanting, which can be only where a tree begins
+-- the fault is that of the next tree, or memory was wanting, which is answered only where a tree is next
 abbrev pub IsFaultOrMemory : List ℕ → ℕ → SgfFault → Type 0
-IsFaultOrMemory bytes from fault.Memory = (at : ℕ) × IsFirstBegin bytes from at
+IsFaultOrMemory bytes from fault.Memory = (at : ℕ) × (end : ℕ) × (tree : GameTree) × IsNextTree bytes from at end tree
 IsFaultOrMemory bytes from found = IsFaultAt bytes from found

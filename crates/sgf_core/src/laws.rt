@@ -1,4 +1,5 @@
-//! Laws on what a collection is: its bytes have one reading, and its trees no more values than bytes.
+//! Laws on what a collection is: its bytes have one reading, and its trees no more values than
+//! bytes.
 ghost use Rattle.std.specs.Prelude.{◌≡◌, ◌+◌, ◌<◌, ℕ, List};
 ghost use Rattle.sgf_core.specs.Tree.{GameTree, main_line_of};
 ghost use Rattle.sgf_core.specs.Counts.{value_count};
@@ -6,8 +7,8 @@ ghost use Rattle.sgf_core.specs.Next.{IsNextTree, HasNoTree};
 ghost use Rattle.sgf_core.specs.Reading.{IsFaultAt};
 ghost use Rattle.sgf_core.specs.declared.faults.SgfFault.{SgfFault};
 
-/// From a place on at most one tree is next, with one place where it begins and one where it ends. So the tree that is
-/// read is the one that is next.
+/// From a place on at most one tree is next, with one place where it begins and one where it ends.
+/// So the tree that is read is the one that is next.
 pub fn one_next_tree()
     ensures { (bytes : List ℕ) (from at end : ℕ) (tree : GameTree) (other_at other_end : ℕ)
         (other : GameTree)
@@ -15,7 +16,8 @@ pub fn one_next_tree()
         → (at ≡ other_at) × (end ≡ other_end) × (tree ≡ other) }
 {}
 
-/// From a place on the next tree has at most one fault. So the fault that is answered is the one that it has.
+/// From a place on the next tree has at most one fault. So the fault that is answered is the one
+/// that it has.
 pub fn one_fault()
     ensures { (bytes : List ℕ) (from : ℕ) (fault other : SgfFault)
         → IsFaultAt bytes from fault → IsFaultAt bytes from other → fault ≡ other }
@@ -31,8 +33,8 @@ pub fn one_answer()
         → IsFaultAt bytes from fault → HasNoTree bytes from → ⊥ }
 {}
 
-/// A tree's main line has fewer values than the tree has bytes. So what is counted over the trees of a collection stays
-/// below the limit of its input.
+/// A tree's main line has fewer values than the tree has bytes. So what is counted over the trees
+/// of a collection stays below the limit of its input.
 pub fn few_values()
     ensures { (bytes : List ℕ) (from at end : ℕ) (tree : GameTree)
         → IsNextTree bytes from at end tree → at + value_count (main_line_of tree) < end }

@@ -8,7 +8,7 @@ use std::iter::FusedIterator;
 use std::marker::Model;
 
 /// The nodes of a main line, in order. It reads the tree's marks as it goes, and takes no memory.
-#[derive(Clone, Debug, Drop)]
+#[derive(Debug, Drop)]
 pub struct MainLine<'t, 'a> {
     marks: &'t [Mark<'a>],
 }
@@ -68,7 +68,7 @@ impl<'t, 'a> Iterator for MainLine<'t, 'a> {
 impl<'t, 'a> FusedIterator for MainLine<'t, 'a> {}
 
 /// A node, as SGF FF[4] has it: its properties, in order.
-#[derive(Clone, Debug, Drop)]
+#[derive(Debug, Drop)]
 pub struct Node<'t, 'a> {
     marks: &'t [Mark<'a>],
 }
@@ -92,7 +92,7 @@ impl<'t, 'a> Node<'t, 'a> {
 }
 
 /// The properties of a node, in order. It reads the tree's marks as it goes, and takes no memory.
-#[derive(Clone, Debug, Drop)]
+#[derive(Debug, Drop)]
 pub struct Props<'t, 'a> {
     marks: &'t [Mark<'a>],
 }

@@ -7,17 +7,19 @@ use crate::bytes::is_name_of;
 use smallvec::SmallVec;
 use std::marker::Model;
 
-/// A value of a property, as SGF FF[4] has it: the bytes between its brackets as they are written, with their escapes.
+/// A value of a property, as SGF FF[4] has it: the bytes between its brackets as they are written,
+/// with their escapes.
 #[derive(Clone, Copy, Debug, Default, PartialEq, Eq)]
 pub struct Value<'a> {
-    /// The place of its first byte, which comes after the bracket: a byte offset in the whole input, from 0.
+    /// The place of its first byte, which comes after the bracket: a byte offset in the whole
+    /// input, from 0.
     pub at: usize,
     /// Its bytes: a slice of the input.
     pub bytes: &'a [u8],
 }
 
 /// A property, as SGF FF[4] has it: an identifier and its values, one or more.
-#[derive(Clone, Debug, Drop)]
+#[derive(Debug, Drop)]
 pub struct Prop<'a> {
     pub(crate) identifier: &'a [u8],
     pub(crate) values: SmallVec<Value<'a>, 1>,
@@ -38,8 +40,8 @@ impl<'a> Model for Prop<'a> {
 }
 
 impl<'a> Prop<'a> {
-    /// Whether this is the property's name: the upper-case letters of its identifier, in order. So `Black` is `B` and
-    /// `SiZe` is `SZ`, as in older formats (this project's own reading).
+    /// Whether this is the property's name: the upper-case letters of its identifier, in order. So
+    /// `Black` is `B` and `SiZe` is `SZ`, as in older formats (this project's own reading).
     pub fn is(&self, name: &[u8]) -> bool
         ensures { IsTrue result ↔ (name_of self.now.identifier ≡ name.now) }
     {
@@ -55,7 +57,7 @@ impl<'a> Prop<'a> {
 }
 
 /// One part of a tree, as the tree is written.
-#[derive(Clone, Debug, Drop)]
+#[derive(Debug, Drop)]
 pub enum Mark<'a> {
     /// A parenthesis that begins a tree.
     Begin,

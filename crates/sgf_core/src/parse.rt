@@ -1,12 +1,15 @@
 //! Reads the tree that begins at a place, mark by mark, in one pass and with no recursion.
-ghost use Rattle.std.specs.Prelude.{◌≡◌, ℕ, ◌<◌, ◌≤◌, IfOk, IfErr, length, drop, slice_range};
+ghost use Rattle.std.specs.Prelude.{◌≡◌, ℕ, ◌<◌, ◌≤◌, ◌++◌, ◌∷◌, [], true, IfOk, IfErr, IsSomeAnd};
+ghost use Rattle.std.specs.Prelude.{length, drop, slice_range};
 ghost use Rattle.sgf_core.specs.Limit.{most_bytes};
 ghost use Rattle.sgf_core.specs.Tree.{GameTree};
 ghost use Rattle.sgf_core.specs.Grammar.{WritesTree};
 ghost use Rattle.sgf_core.specs.Next.{BeginsTree, IsFirstBegin};
 ghost use Rattle.sgf_core.specs.Marks.{marks_of};
 ghost use Rattle.sgf_core.specs.Reading.{IsFaultOrMemory};
-ghost use Rattle.sgf_core.specs.Inner.Pieces.{ReadsMark, MarkFault};
+ghost use Rattle.sgf_core.specs.Inner.Pieces.{ReadsMark, MarkFault, IsKept};
+ghost use Rattle.sgf_core.specs.Inner.Turns.{IsTurn};
+ghost use Rattle.sgf_core.specs.declared.marks.Mark.{Mark as Part};
 
 use crate::bytes::is_letter;
 use crate::faults::SgfFault;
@@ -16,16 +19,18 @@ use crate::scan::white_end;
 use crate::written::Tree;
 use std::alloc::Global;
 
-/// The next mark from `from` on of the tree that begins at `at`, and the place after it.
+/// The next mark from `from` on of the tree that begins at `at`, and the place after it. None
+/// stands for a property for whose values memory was refused.
 fn read_mark<'a>(
     alloc: Global,
     bytes: &'a [u8],
     at: usize,
     from: usize,
     expects: Expects,
-) -> Result<(Mark<'a>, usize), SgfFault>
+) -> Result<(Option<Mark<'a>>, usize), SgfFault>
     requires { from ≤ length bytes.now }
-    ensures read { IfOk result (λ found. ReadsMark bytes.now expects from found.1 found.0) }
+    ensures read { IfOk result (λ found. (read : Part)
+        × ReadsMark bytes.now expects from found.1 read × IsKept found.0 read) }
     ensures fault { IfErr result (MarkFault bytes.now at expects from) }
 {
     let place = white_end(bytes, from);
@@ -33,21 +38,68 @@ fn read_mark<'a>(
         return Err(SgfFault::Truncated(at));
     }
     match (expects, bytes[place]) {
-        (Expects::Node, b';') => Ok((Mark::Node, place + 1)),
-        (Expects::Any, b';') => Ok((Mark::Node, place + 1)),
-        (Expects::Any, b'(') => Ok((Mark::Begin, place + 1)),
-        (Expects::Any, b')') => Ok((Mark::End, place + 1)),
-        (Expects::Tree, b'(') => Ok((Mark::Begin, place + 1)),
-        (Expects::Tree, b')') => Ok((Mark::End, place + 1)),
+        (Expects::Node, b';') => Ok((Some(Mark::Node), place + 1)),
+        (Expects::Any, b';') => Ok((Some(Mark::Node), place + 1)),
+        (Expects::Any, b'(') => Ok((Some(Mark::Begin), place + 1)),
+        (Expects::Any, b')') => Ok((Some(Mark::End), place + 1)),
+        (Expects::Tree, b'(') => Ok((Some(Mark::Begin), place + 1)),
+        (Expects::Tree, b')') => Ok((Some(Mark::End), place + 1)),
         (Expects::Any, byte) if is_letter(byte) => {
             let (property, end) = read_property(alloc, bytes, at, place)?;
-            Ok((Mark::Prop(property), end))
+            match property {
+                Some(property) => Ok((Some(Mark::Prop(property)), end)),
+                None => Ok((None, end)),
+            }
         }
         _ => Err(SgfFault::BadByte(place)),
     }
 }
 
-/// Reads the tree whose first parenthesis is at `at`.
+/// What a mark does to the number of trees that are open.
+#[derive(Clone, Copy)]
+enum Turn {
+    /// Nothing: it is a node or a property.
+    Stays,
+    /// It begins a tree.
+    Opens,
+    /// It ends one.
+    Closes,
+}
+
+/// What the mark does that was read; None stands for a property.
+fn turn_of(mark: &Option<Mark<'_>>) -> Turn
+    ensures { (read : Part) → IsKept mark.now read → IsTurn read result }
+{
+    match mark {
+        None => Turn::Stays,
+        Some(mark) => match mark {
+            Mark::Begin => Turn::Opens,
+            Mark::Node => Turn::Stays,
+            Mark::Prop(_) => Turn::Stays,
+            Mark::End => Turn::Closes,
+        },
+    }
+}
+
+/// Keeps a mark, if all before it were kept; the answer is whether all are.
+fn keep_mark<'a>(marks: &mut Vec<Mark<'a>>, mark: Option<Mark<'a>>, kept: bool) -> bool
+    ensures { result ≡ true → (kept ≡ true)
+        × IsSomeAnd mark.entry (λ one. marks.new.items ≡ marks.old.items ++ one ∷ []) }
+{
+    if !kept {
+        return false;
+    }
+    match mark {
+        Some(mark) => match marks.push(mark) {
+            Ok(()) => true,
+            Err(_) => false,
+        },
+        None => false,
+    }
+}
+
+/// Reads the tree whose first parenthesis is at `at`. Where memory was refused the rest is read all
+/// the same, and no longer kept: so want of memory is answered only where a tree is there.
 pub(crate) fn read_tree<'a>(alloc: Global, bytes: &'a [u8], at: usize) -> Result<Tree<'a>, SgfFault>
     requires small { length bytes.now ≤ most_bytes }
     requires begins { BeginsTree (drop at bytes.now) }
@@ -59,7 +111,7 @@ pub(crate) fn read_tree<'a>(alloc: Global, bytes: &'a [u8], at: usize) -> Result
         → IsFirstBegin bytes.now from at → IsFaultOrMemory bytes.now from fault) }
 {
     let mut marks = Vec::new(alloc);
-    marks.push(Mark::Begin)?;
+    let mut kept = keep_mark(&mut marks, Some(Mark::Begin), true);
     let mut expects = Expects::Node;
     // The number of trees that are open round the innermost.
     let mut depth: usize = 0;
@@ -67,21 +119,23 @@ pub(crate) fn read_tree<'a>(alloc: Global, bytes: &'a [u8], at: usize) -> Result
     loop {
         let (mark, end) = read_mark(alloc, bytes, at, place, expects)?;
         place = end;
-        match mark {
-            Mark::Node | Mark::Prop(_) => expects = Expects::Any,
-            Mark::Begin => {
+        match turn_of(&mark) {
+            Turn::Stays => expects = Expects::Any,
+            Turn::Opens => {
                 expects = Expects::Node;
                 depth += 1;
             }
-            Mark::End => {
+            Turn::Closes => {
                 if depth == 0 {
-                    marks.push(mark)?;
-                    return Ok(Tree { at, end, marks });
+                    if keep_mark(&mut marks, mark, kept) {
+                        return Ok(Tree { at, end, marks });
+                    }
+                    return Err(SgfFault::Memory);
                 }
                 expects = Expects::Tree;
                 depth -= 1;
             }
         }
-        marks.push(mark)?;
+        kept = keep_mark(&mut marks, mark, kept);
     }
 }

@@ -1,7 +1,10 @@
 //! Reads a property: an identifier and its values.
-ghost use Rattle.std.specs.Prelude.{◌<◌, IfOk, IfErr, IsTrue, length, slice_index};
+ghost use Rattle.std.specs.Prelude.{◌≡◌, ◌<◌, ◌++◌, ◌∷◌, [], IfOk, IfErr, IfSome, IsTrue, map, true};
+ghost use Rattle.std.specs.Prelude.{length, slice_index};
 ghost use Rattle.sgf_core.specs.Bytes.{is_letter};
 ghost use Rattle.sgf_core.specs.Inner.Pieces.{ReadsMark, MarkFault};
+ghost use Rattle.sgf_core.specs.Tree.{Property};
+ghost use Rattle.sgf_core.specs.Values.{value_of};
 
 use crate::faults::SgfFault;
 use crate::marks::{Expects, Mark, Prop, Value};
@@ -9,42 +12,64 @@ use crate::scan::{letters_end, value_end, white_end};
 use smallvec::SmallVec;
 use std::alloc::Global;
 
-/// The property whose identifier begins at `from`, in the tree that begins at `at`, and the place after its values
-/// and the white bytes after them.
+/// Keeps a value, if all before it were kept; the answer is whether all are.
+fn keep_value<'a>(values: &mut SmallVec<Value<'a>, 1>, value: Value<'a>, kept: bool) -> bool
+    ensures { result ≡ true → (kept ≡ true) × (map value_of values.new.items
+        ≡ map value_of values.old.items ++ value_of value.entry ∷ []) }
+{
+    if !kept {
+        return false;
+    }
+    match values.push(value) {
+        Ok(()) => true,
+        Err(_) => false,
+    }
+}
+
+/// The property whose identifier begins at `from`, in the tree that begins at `at`, and the place
+/// after its values and the white bytes after them. Where memory was refused for a value, None
+/// stands for the property: the other values are read all the same, since want of memory goes
+/// behind each fault.
 pub(crate) fn read_property<'a>(
     alloc: Global,
     bytes: &'a [u8],
     at: usize,
     from: usize,
-) -> Result<(Prop<'a>, usize), SgfFault>
+) -> Result<(Option<Prop<'a>>, usize), SgfFault>
     requires within { from < length bytes.now }
     requires letter { IsTrue (is_letter (slice_index bytes.now from)) }
-    ensures read { IfOk result (λ found. ReadsMark bytes.now Expects.Any from found.1
-        (Mark.Prop found.0)) }
+    ensures read { IfOk result (λ found. (property : Property)
+        × ReadsMark bytes.now Expects.Any from found.1 (Mark.Prop property)
+        × IfSome found.0 (λ kept. kept ≡ property)) }
     ensures fault { IfErr result (MarkFault bytes.now at Expects.Any from) }
 {
     let identifier_end = letters_end(bytes, from);
     let mut values = SmallVec::new(alloc);
+    let mut kept = true;
+    let mut some = false;
     let mut place = white_end(bytes, identifier_end);
     while place < bytes.len() && bytes[place] == b'[' {
         let first = place + 1;
         let Some(end) = value_end(bytes, first) else {
             return Err(SgfFault::Truncated(at));
         };
-        values.push(Value {
+        let value = Value {
             at: first,
             bytes: &bytes[first..end],
-        })?;
+        };
+        kept = keep_value(&mut values, value, kept);
+        some = true;
         place = white_end(bytes, end + 1);
     }
-    if !values.is_empty() {
-        return Ok((
-            Prop {
-                identifier: &bytes[from..identifier_end],
-                values,
-            },
-            place,
-        ));
+    if some {
+        if !kept {
+            return Ok((None, place));
+        }
+        let property = Prop {
+            identifier: &bytes[from..identifier_end],
+            values,
+        };
+        return Ok((Some(property), place));
     }
     if place == bytes.len() {
         return Err(SgfFault::Truncated(at));

@@ -20,9 +20,10 @@ use std::marker::Model;
 /// The most bytes that an input may have, a limit of this project's own.
 pub const MOST_BYTES: usize = 1 << 28;
 
-/// Reads the trees of a collection in their order, as SGF FF[4] has them. Bytes outside trees are skipped: a tree
-/// begins where a parenthesis, any white bytes and a semicolon follow one another (this project's own reading).
-#[derive(Clone, Debug, Drop)]
+/// Reads the trees of a collection in their order, as SGF FF[4] has them. Bytes outside trees are
+/// skipped: a tree begins where a parenthesis, any white bytes and a semicolon follow one another
+/// (this project's own reading).
+#[derive(Debug, Drop)]
 pub struct Trees<'a> {
     bytes: &'a [u8],
     from: usize,
@@ -100,12 +101,13 @@ impl<'a> Trees<'a> {
     ///
     /// # Errors
     ///
-    /// `Truncated` where the input ends within the next tree, `NoValue` where something else comes in place of an
-    /// identifier's first value, and `BadByte` at any other byte that can't come where it is. The reader keeps such a
-    /// fault, and each later call answers the same.
+    /// `Truncated` where the input ends within the next tree, `NoValue` where something else comes
+    /// in place of an identifier's first value, and `BadByte` at any other byte that can't come
+    /// where it is. The reader keeps such a fault, and each later call answers the same.
     ///
-    /// `Memory` where memory was refused for the tree's marks or for the values of a property beside the first: only
-    /// where a tree begins. The reader is then as it was before the call, so the call may be tried again.
+    /// `Memory` where memory was refused for the tree's marks or for the values of a property
+    /// beside the first: only where a tree is next, and never in place of a fault. The reader is
+    /// then as it was before the call, so the call may be tried again.
     pub fn next_tree(&mut self, alloc: Global) -> Result<Option<Tree<'a>>, SgfFault>
         ensures tree { IfOk result (λ found. IfSome found (λ read. (tree : GameTree)
             × IsNextTree self.old.bytes self.old.from read.at read.end tree

@@ -8,9 +8,10 @@ use crate::lines::MainLine;
 use crate::marks::Mark;
 use std::marker::Model;
 
-/// A game tree, as SGF FF[4] has it: its bounds in the whole input, and its marks. It is read whole: a sequence of one
-/// or more nodes, then inner trees. The marks of every `Tree` are those of some tree.
-#[derive(Clone, Debug, Drop)]
+/// A game tree, as SGF FF[4] has it: its bounds in the whole input, and its marks. It is read
+/// whole: a sequence of one or more nodes, then inner trees. Every `Tree` is some tree of the
+/// grammar, and its end comes after its beginning.
+#[derive(Debug, Drop)]
 pub struct Tree<'a> {
     pub(crate) at: usize,
     pub(crate) end: usize,
@@ -46,7 +47,8 @@ impl<'a> Tree<'a> {
         self.end
     }
 
-    /// The tree's parts, one after the other as the tree is written: its own `Begin` first, its own `End` last.
+    /// The tree's parts, one after the other as the tree is written: its own `Begin` first, its own
+    /// `End` last.
     pub fn marks(&self) -> &[Mark<'a>]
         ensures marks { result.now ≡ self.now.marks }
         ensures tree { IsSomeTree self.now }
@@ -54,8 +56,8 @@ impl<'a> Tree<'a> {
         self.marks.as_slice()
     }
 
-    /// The nodes of the main line: the tree's own, then those of its first inner tree, and so on. Nothing is copied,
-    /// and no memory is taken.
+    /// The nodes of the main line: the tree's own, then those of its first inner tree, and so on.
+    /// Nothing is copied, and no memory is taken.
     pub fn main_line(&self) -> MainLine<'_, 'a>
         ensures line { (tree : GameTree) → self.now.marks ≡ marks_of tree
             → result ≡ main_line_of tree }

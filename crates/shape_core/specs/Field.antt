@@ -67,21 +67,6 @@ IsNear reach points q = (p : Point) × Contains points p × AreWithin reach p q
 abbrev pub MarksNear : ℕ → List Point → List ℕ → List ℕ → Type 0
 MarksNear reach points before after = (q : Point) → IsMarked after q → IsMarked before q ⊎ IsNear reach points q
 
--- p comes before q: its row is further up, or it is further left in the same
-abbrev pub ComesBefore : Point → Point → Type 0
-ComesBefore p q = (p.row < q.row) ⊎ ((p.row ≡ q.row) × (p.column < q.column))
-
--- the first marked point, row by row from the top, each row from the left
-pub record IsFirstMarked (size : Extent) (changed : List ℕ) (p : Point) : Type 0 where
-  pub on_board : IsOn size p
-  pub marked : IsMarked changed p
-  pub first : (q : Point) → IsMarked changed q → ComesBefore q p → ⊥
-
--- the marks without that of a point
-pub record Unmarks (before : List ℕ) (p : Point) (after : List ℕ) : Type 0 where
-  pub gone : IsMarked after p → ⊥
-  pub others : (q : Point) → (q ≡ p → ⊥) → bit_at (slice_index after q.row) q.column ≡ bit_at (slice_index before q.row) q.column
-
 -- a set of points as bits of rows, once these marks have joined it
 pub record AreJoined (marks before after : List ℕ) : Type 0 where
   pub rows : length after ≡ length before

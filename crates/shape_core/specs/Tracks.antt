@@ -1,18 +1,23 @@
--- A field that changes: it keeps its size and its kinds, and marks where a word becomes another.
-use Rattle.std.specs.Prelude.{◌≡◌, refl}
+-- A field that changes: it keeps its size and its kinds, and marks where a word becomes another, and no point far away.
+use Rattle.std.specs.Prelude.{◌≡◌, refl, List}
 use Rattle.std.proofs.Common.{◌∙◌, sym, subst, inl, inr, ⊎_elim}
 use Rattle.go_board.specs.Extent.{Extent}
 use Rattle.go_board.specs.Point.{IsOn}
 use Rattle.go_board.specs.Board.{position_of}
 use Rattle.shape_core.specs.declared.words.Kinds.{Kinds}
 use Rattle.shape_core.specs.Around.{word_around}
-use Rattle.shape_core.specs.Field.{Kept, Includes, IsMarked, MarksChanges}
+use Rattle.go_board.specs.declared.points.Point.{Point}
+use Rattle.shape_core.specs.Field.{Kept, Includes, IsMarked, MarksChanges, MarksNear, reach_of}
 
 -- the second is the first after changes
 pub record Tracks (before after : Kept) : Type 0 where
   pub size : after.board.size ≡ before.board.size
   pub kinds : after.kinds ≡ before.kinds
   pub marks : MarksChanges before after
+
+-- no point becomes marked that is not near one of these
+abbrev pub MarksOnlyNear : List Point → Kept → Kept → Type 0
+MarksOnlyNear points before after = MarksNear (reach_of before.kinds) points before.changed after.changed
 
 pub tracks_itself : (field : Kept) → Tracks field field
 tracks_itself field = record {

@@ -68,7 +68,8 @@ pub const DIAMOND_CELLS: [Away; 25] = [
     (3, 6),
 ];
 
-/// How many cells a row of a pattern has to each side of the middle, and how many rows down it lies, three more.
+/// How many cells a row of a pattern has to each side of the middle, and how many rows down it
+/// lies, three more.
 pub type AwayRow = (u8, u8);
 
 /// The rows of a square, from the top.
@@ -92,7 +93,8 @@ pub fn reached(size: Size, point: Point, away: Away) -> Option<Point>
     size.has(reached).then_some(reached)
 }
 
-/// The row of the points that have this one in a row so far down, or None where that is off the board.
+/// The row of the points that have this one in a row so far down, or None where that is off the
+/// board.
 pub fn row_seeing(size: Size, point: Point, down: u8) -> Option<u8>
     requires on_board { IsOn size point }
     requires extent { IsExtent size }

@@ -1,7 +1,7 @@
 //! Fields: boards that keep the words of all their points.
 use crate::empty_points::EmptyPoints;
 use crate::kept::KeptWords;
-use crate::marks::{is_marked, move_marks, take_first};
+use crate::marks::move_marks;
 use crate::shapes::{Shape, least_seen};
 use crate::words::{Kinds, Word};
 use go_board::{Board, BoardFault, Colour, Played, Point, Replayable, Size, Stone};
@@ -34,7 +34,7 @@ impl Model for Field {
 }
 
 impl Field {
-    ghost use Rattle.std.specs.Prelude.{◌≡◌, ◌<◌, ◌↔◌, [], ◌∷◌, length, IsTrue, IfOk, MatchOption};
+    ghost use Rattle.std.specs.Prelude.{◌≡◌, ◌<◌, [], ◌∷◌, length, IfOk};
     ghost use Rattle.go_board.specs.declared.points.Point.{Point};
     ghost use Rattle.go_board.specs.declared.points.Stone.TheVariants as stone;
     ghost use Rattle.go_board.specs.Point.{IsOn};
@@ -43,7 +43,7 @@ impl Field {
     ghost use Rattle.shape_core.specs.declared.words.Kind.TheVariants as kind;
     ghost use Rattle.shape_core.specs.Around.{word_around};
     ghost use Rattle.shape_core.specs.Symmetry.{canonical_of};
-    ghost use Rattle.shape_core.specs.Field.{IsMarked, MarksChanges, IsFirstMarked, Unmarks};
+    ghost use Rattle.shape_core.specs.Field.{IsMarked, MarksChanges};
     ghost use Rattle.shape_core.specs.Field.{AreJoined, MarksNear, reach_of, AreEmptyColumns};
     ghost use Rattle.shape_core.specs.KeptLists.{AreMarks};
 
@@ -92,8 +92,8 @@ impl Field {
         })
     }
 
-    /// Another field with the same stones, words and marks, from which nothing was removed. It takes memory for each
-    /// point of the board.
+    /// Another field with the same stones, words and marks, from which nothing was removed. It
+    /// takes memory for each point of the board.
     ///
     /// # Errors
     ///
@@ -139,7 +139,8 @@ impl Field {
         self.board.cell(point)
     }
 
-    /// The empty points of a row: a number with a bit for each column. The row is one of the board's.
+    /// The empty points of a row: a number with a bit for each column. The row is one of the
+    /// board's.
     pub fn empty_columns(&self, row: u8) -> u64
         requires { row < self.now.board.size.rows }
         ensures columns { AreEmptyColumns self.now.board.size (position_of self.now.board) row
@@ -149,7 +150,8 @@ impl Field {
         self.empties.rows[usize::from(row)]
     }
 
-    /// The points that the last `play` emptied, each once; none before the first. `set` leaves them.
+    /// The points that the last `play` emptied, each once; none before the first. `set` leaves
+    /// them.
     pub fn removed(&self) -> &[Point]
         ensures value { result.now ≡ self.now.board.removed }
         ensures board { IsBoard self.now.board }
@@ -176,8 +178,9 @@ impl Field {
         self.kept.diamonds[self.kept.size.index(point)].word()
     }
 
-    /// The canonical pattern of a point's square with this colour to move: the least of the eight images that are kept,
-    /// for White with the colours exchanged. The point is on the board. Takes no memory.
+    /// The canonical pattern of a point's square with this colour to move: the least of the eight
+    /// images that are kept, for White with the colours exchanged. The point is on the board. Takes
+    /// no memory.
     #[inline(always)]
     pub fn canonical(&self, point: Point, mover: Colour) -> Shape
         requires { IsOn self.now.board.size point }
@@ -199,32 +202,8 @@ impl Field {
         least_seen(self.kept.diamonds[self.kept.size.index(point)], mover)
     }
 
-    /// Whether a point is marked: some kept word of it may be another than when it was last unmarked. The point is on
-    /// the board.
-    pub fn is_changed(&self, point: Point) -> bool
-        requires { IsOn self.now.board.size point }
-        ensures { IsTrue result ↔ IsMarked self.now.changed point }
-    {
-        is_marked(&self.kept.changed, point)
-    }
-
-    /// Unmarks the first marked point, row by row from the top and each row from the left, and says which it was; None
-    /// where no point is marked.
-    pub fn take_changed(&mut self) -> Option<Point>
-        ensures board { self.new.board ≡ self.old.board }
-        ensures kinds { self.new.kinds ≡ self.old.kinds }
-        ensures first { MatchOption result
-            ((q : Point) → ¬ IsMarked self.old.changed q)
-            (IsFirstMarked self.old.board.size self.old.changed) }
-        ensures taken { MatchOption result
-            (self.new.changed ≡ self.old.changed)
-            (λ p. Unmarks self.old.changed p self.new.changed) }
-    {
-        take_first(&mut self.kept.changed)
-    }
-
-    /// Unmarks all points, and joins those that were marked to two sets, each of which has a number with a bit for each
-    /// column for each row, as the marks have.
+    /// Unmarks all points, and joins those that were marked to two sets, each of which has a number
+    /// with a bit for each column for each row, as the marks have.
     pub fn move_changed(&mut self, first: &mut [u64], second: &mut [u64])
         requires first { length first.old ≡ self.old.board.size.rows }
         requires second { length second.old ≡ self.old.board.size.rows }
@@ -238,9 +217,10 @@ impl Field {
         move_marks(&mut self.kept.changed, first, second);
     }
 
-    /// Puts a stone on a point, or empties it, whatever stood there; nothing is captured. The point is on the board.
-    /// Each point of which a kept word changes is marked, and none that is more than two columns or rows away, three
-    /// where diamonds are kept; none at all where the stone was there. Takes no memory.
+    /// Puts a stone on a point, or empties it, whatever stood there; nothing is captured. The point
+    /// is on the board. Each point of which a kept word changes is marked, and none that is more
+    /// than two columns or rows away, three where diamonds are kept; none at all where the stone
+    /// was there. Takes no memory.
     pub fn set(&mut self, point: Point, stone: Stone)
         requires { IsOn self.old.board.size point }
         ensures sets { SetsOn self.old.board point stone self.new.board }
@@ -257,10 +237,11 @@ impl Field {
         self.empties.put(point, stone);
     }
 
-    /// Plays a move, as the board does: the stone is placed, whatever stood there; then the stones of the other colour
-    /// next to it without a liberty are removed; then its own group if that has none. The point is on the board. Each
-    /// point of which a kept word changes is marked, and none that is more than two columns or rows away, three where
-    /// diamonds are kept, from the move's point and all that it emptied. Takes no memory.
+    /// Plays a move, as the board does: the stone is placed, whatever stood there; then the stones
+    /// of the other colour next to it without a liberty are removed; then its own group if that has
+    /// none. The point is on the board. Each point of which a kept word changes is marked, and none
+    /// that is more than two columns or rows away, three where diamonds are kept, from the move's
+    /// point and all that it emptied. Takes no memory.
     pub fn play(&mut self, colour: Colour, point: Point) -> Played
         requires { IsOn self.old.board.size point }
         ensures plays { PlaysOn self.old.board colour point self.new.board result }
@@ -283,7 +264,7 @@ impl Field {
 }
 
 impl Replayable for Field {
-    ghost use Rattle.shape_core.specs.Tracks.{Tracks, tracks_itself, tracks_on};
+    ghost use Rattle.shape_core.specs.Tracks.{Tracks, tracks_itself, tracks_on, MarksOnlyNear};
 
     ghost board_of = { λ field. field.board };
 
@@ -292,6 +273,8 @@ impl Replayable for Field {
     ghost stays = { tracks_itself };
 
     ghost stays_on = { tracks_on };
+
+    ghost Touches = { MarksOnlyNear };
 
     fn put(&mut self, point: Point, stone: Stone) {
         self.set(point, stone);

@@ -78,7 +78,8 @@ impl ImagedWord {
         Word::of_bits(word)
     }
 
-    /// The word with the code of one cell changed in the bits that this change has, with its images.
+    /// The word with the code of one cell changed in the bits that this change has, with its
+    /// images.
     #[inline(always)]
     pub fn with_change(self, cell: usize, change: u8) -> ImagedWord
         requires cell { cell < 25 }

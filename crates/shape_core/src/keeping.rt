@@ -1,4 +1,5 @@
-//! Words kept as a stone changes: one code changed in each word that has the point among its cells, and marks.
+//! Words kept as a stone changes: one code changed in each word that has the point among its cells,
+//! and marks.
 ghost use Rattle.std.specs.Prelude.{◌≡◌, ◌<◌, ◌≤◌, ◌+◌, ◌*◌, ◌^◌, ◌⊎◌, ℕ, length, map, slice_index};
 ghost use Rattle.std.specs.Prelude.{◌-◌, bit_xor, All, [], ◌∷◌, true};
 ghost use Rattle.std.specs.List.{list_all};
@@ -22,8 +23,9 @@ use crate::imaged::ImagedWord;
 use crate::marks::mark_run;
 use go_board::{Point, Size};
 
-/// Makes a change of code in the words of a row from one column on, before another. In each column it is made one cell
-/// earlier than in the column to its left: in column 0 that would be the cell `last`.
+/// Makes a change of code in the words of a row from one column on, before another. In each column
+/// it is made one cell earlier than in the column to its left: in column 0 that would be the cell
+/// `last`.
 fn recode_run(
     size: Size,
     words: &mut [ImagedWord],
@@ -56,8 +58,9 @@ fn recode_run(
     }
 }
 
-/// Makes a change of code in the words of the points that have this one in that row of their cells, of which `first` is
-/// the first, and marks them. The further right such a point lies, the earlier the cell in which it has this one.
+/// Makes a change of code in the words of the points that have this one in that row of their cells,
+/// of which `first` is the first, and marks them. The further right such a point lies, the earlier
+/// the cell in which it has this one.
 fn recode_row(
     size: Size,
     words: &mut [ImagedWord],
@@ -102,8 +105,8 @@ fn recode_row(
     }
 }
 
-/// Makes the words follow a stone placed at a point, where this is the change of its code: each point that has it in a
-/// cell of these rows has that cell's code changed, and is marked.
+/// Makes the words follow a stone placed at a point, where this is the change of its code: each
+/// point that has it in a cell of these rows has that cell's code changed, and is marked.
 pub fn recode(
     size: Size,
     words: &mut [ImagedWord],

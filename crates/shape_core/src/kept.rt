@@ -1,4 +1,5 @@
-//! The words of all points of a board, kept as stones change, and the marks of the points whose words have changed.
+//! The words of all points of a board, kept as stones change, and the marks of the points whose
+//! words have changed.
 ghost use Rattle.std.specs.Prelude.{◌≡◌, ◌<◌, ◌*◌, ◌%◌, ◌/◌, ℕ, length, slice_index, IfOk, All};
 ghost use Rattle.std.specs.Prelude.{[], ◌∷◌};
 ghost use Rattle.go_board.specs.declared.points.Point.{Point};
@@ -79,8 +80,8 @@ impl KeptWords {
         })
     }
 
-    /// Makes the words follow a stone set on a point, or the point emptied, and marks each point of which a kept word
-    /// changes.
+    /// Makes the words follow a stone set on a point, or the point emptied, and marks each point of
+    /// which a kept word changes.
     pub fn change(&mut self, point: Point, stone: Stone)
         requires on_board { IsOn self.old.size point }
         requires room { HasRoom self.old }
@@ -116,7 +117,8 @@ impl KeptWords {
         }
     }
 
-    /// Makes the words follow these points emptied, and marks each point of which a kept word changes.
+    /// Makes the words follow these points emptied, and marks each point of which a kept word
+    /// changes.
     pub fn empty(&mut self, points: &[Point])
         requires on_board { All (IsOn self.old.size) points.now }
         requires room { HasRoom self.old }
@@ -142,7 +144,8 @@ fn list_of<T: Copy>(alloc: Global, items: &[T]) -> Result<Vec<T>, AllocError>
     Ok(list)
 }
 
-/// The words of this kind of all points of a board, row by row from the top, each row from the left.
+/// The words of this kind of all points of a board, row by row from the top, each row from the
+/// left.
 fn words_of(alloc: Global, board: &Board, kind: Kind) -> Result<Vec<ImagedWord>, AllocError>
     ensures { IfOk result (λ words. AreWords kind board.now.size (position_of board.now)
         words.items) }

@@ -1,4 +1,5 @@
-//! Laws of canonical words and of kinds, for proofs that stand on them: a call of one does nothing when it runs.
+//! Laws of canonical words and of kinds, for proofs that stand on them: a call of one does nothing
+//! when it runs.
 ghost use Rattle.std.specs.Prelude.{◌≡◌, ◌↔◌, ◌<◌, ◌^◌, ℕ};
 ghost use Rattle.go_board.specs.declared.points.Colour.{Colour};
 ghost use Rattle.go_board.specs.declared.points.Point.{Point};
@@ -9,14 +10,15 @@ ghost use Rattle.shape_core.specs.Symmetry.{canonical_of, IsImageOf};
 ghost use Rattle.shape_core.specs.Word.{kind_of};
 ghost use Rattle.shape_core.specs.declared.words.Kind.{Kind};
 
-/// Two words with their movers have one canonical word exactly where one is among the sixteen images of the other,
-/// each with its mover.
+/// Two words with their movers have one canonical word exactly where one is among the sixteen
+/// images of the other, each with its mover.
 pub fn same_canonical()
     ensures { (a : ℕ) (mover : Colour) (b : ℕ) (other_mover : Colour) → a < 2 ^ 51 → b < 2 ^ 51
         → (canonical_of a mover ≡ canonical_of b other_mover) ↔ IsImageOf a mover b other_mover }
 {}
 
-/// A canonical word is of its word's kind, and the word of a point is of the kind that was looked at.
+/// A canonical word is of its word's kind, and the word of a point is of the kind that was looked
+/// at.
 pub fn kinds_stay()
     ensures canonical { (word : ℕ) (mover : Colour)
         → kind_of (canonical_of word mover) ≡ kind_of word }

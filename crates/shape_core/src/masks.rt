@@ -8,7 +8,8 @@ use crate::lanes;
 use crate::words::{DIAMOND, Kind};
 use std::simd::prelude::*;
 
-/// The bits of the mask and those `places` places above them, each in the other's place; no other bit.
+/// The bits of the mask and those `places` places above them, each in the other's place; no other
+/// bit.
 fn swapped(word: u64, mask: u64, places: u32) -> u64
     requires { places < 64 }
     ensures { result

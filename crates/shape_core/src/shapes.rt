@@ -36,7 +36,8 @@ impl Shape {
         self.word
     }
 
-    /// The shape that is this word, or None where the word is not the least of its eight images. Takes no memory.
+    /// The shape that is this word, or None where the word is not the least of its eight images.
+    /// Takes no memory.
     pub fn of_word(word: Word) -> Option<Shape>
         ensures { SomeIff result (least_image word ≡ word) word }
     {
@@ -48,8 +49,8 @@ impl Shape {
     }
 }
 
-/// The shape of a word with this colour to move: the least of the eight images, for White of the word with the
-/// colours exchanged. Takes no memory.
+/// The shape of a word with this colour to move: the least of the eight images, for White of the
+/// word with the colours exchanged. Takes no memory.
 pub fn canonical(word: Word, mover: Colour) -> Shape
     ensures { result ≡ canonical_of word mover }
 {

@@ -79,7 +79,8 @@ fn sum_of_glyphs(bytes: &[u8]) -> Result<u64, GlyphFault>
 ///
 /// # Errors
 ///
-/// `BadLength` exactly where there are not 25 bytes, and else `BadGlyph` at the first byte that is no glyph.
+/// `BadLength` exactly where there are not 25 bytes, and else `BadGlyph` at the first byte that is
+/// no glyph.
 pub fn from_glyphs(bytes: &[u8]) -> Result<Word, GlyphFault>
     ensures ok { IfOk result (λ word. (word < 2 ^ 50) × (glyphs_of word ≡ bytes.now)) }
     ensures found { (word : ℕ) → word < 2 ^ 50 → glyphs_of word ≡ bytes.now → result ≡ Ok word }
@@ -95,7 +96,8 @@ pub fn from_glyphs(bytes: &[u8]) -> Result<Word, GlyphFault>
 ///
 /// # Errors
 ///
-/// `BadLength` exactly where there are not 25 bytes, and else `BadGlyph` at the first byte that is no glyph.
+/// `BadLength` exactly where there are not 25 bytes, and else `BadGlyph` at the first byte that is
+/// no glyph.
 pub fn from_diamond_glyphs(bytes: &[u8]) -> Result<Word, GlyphFault>
     ensures ok { IfOk result (λ word. (2 ^ 50 ≤ word) × (word < 2 ^ 51)
         × (glyphs_of word ≡ bytes.now)) }

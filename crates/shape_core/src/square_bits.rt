@@ -1,7 +1,8 @@
 //! The bits of the cells of a square.
 
-/// For each cell of a square its two bits in eight words: in the word itself and in its image with rows for columns, in
-/// these two with left and right exchanged, with top and bottom exchanged, and with both.
+/// For each cell of a square its two bits in eight words: in the word itself and in its image with
+/// rows for columns, in these two with left and right exchanged, with top and bottom exchanged, and
+/// with both.
 pub const SQUARE_BITS: [[u64; 8]; 25] = [
     [
         0x3,

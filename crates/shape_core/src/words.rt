@@ -1,7 +1,8 @@
 //! Pattern words: 25 cells of two bits each, and a bit for the kind.
 use std::marker::Model;
 
-/// The two kinds of pattern: the five-by-five square, and the diamond of the 25 points at most three steps away.
+/// The two kinds of pattern: the five-by-five square, and the diamond of the 25 points at most
+/// three steps away.
 #[derive(Clone, Copy, Debug, PartialEq, Eq)]
 pub enum Kind {
     /// Five columns and five rows, two to each side of the middle.
@@ -21,8 +22,9 @@ pub enum Kinds {
 
 /// The word of a pattern: below 2^50 that of a square, from there to 2^51 that of a diamond.
 ///
-/// It is the sum over its 25 cells of the cell's code times 4 to the power of the cell's number, and 2^50 more for a
-/// diamond. Codes are 0 for empty, 1 for black, 2 for white and 3 for off the board. This is the project's own.
+/// It is the sum over its 25 cells of the cell's code times 4 to the power of the cell's number,
+/// and 2^50 more for a diamond. Codes are 0 for empty, 1 for black, 2 for white and 3 for off the
+/// board. This is the project's own.
 #[derive(Clone, Copy, Debug, PartialEq, Eq, PartialOrd, Ord)]
 pub struct Word {
     bits: u64,
@@ -74,7 +76,7 @@ impl Word {
         self.bits
     }
 
-    /// The code of a cell: 0 empty, 1 black, 2 white, 3 off the board.
+    /// The code of a cell: 0 empty, 1 black, 2 white, 3 off the board. The cell is below 25.
     pub fn code(self, cell: usize) -> u8
         requires { cell < 25 }
         ensures value { result ≡ code_at self cell }

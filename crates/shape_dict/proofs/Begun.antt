@@ -1,5 +1,5 @@
 -- Bytes that begin with a header and lines: one line more, and each fault at its line.
-use Rattle.std.proofs.Common.{◌≡◌, ◌≢◌, ℕ, zero, suc, ◌+◌, ◌-◌, ◌<◌, ◌≤◌, inl, inr, All, List, [], ◌∷◌, ◌++◌, length, get_or, take, sym, refl, ap, ◌∙◌, subst, arith, append_assoc}
+use Rattle.std.proofs.Common.{◌≡◌, ◌≢◌, ℕ, zero, suc, ◌+◌, ◌-◌, ◌<◌, ◌≤◌, inl, inr, All, Option, None, Some, List, [], ◌∷◌, ◌++◌, length, get_or, take, sym, refl, ap, ◌∙◌, subst, arith, append_assoc}
 use Rattle.std.specs.List.{flat_map}
 use Rattle.std.specs.List.Sorted.{IsStrictlyIncreasing}
 use Rattle.std.proofs.lemmas.Bool.{cases_lt}
@@ -10,7 +10,9 @@ use Rattle.shape_core.specs.Symmetry.{least_image}
 use Rattle.shape_dict.specs.declared.entries.Entry.{Entry}
 use Rattle.shape_dict.specs.declared.headers.Header.{Header}
 use Rattle.shape_dict.specs.Text.{header_text, line_text}
-use Rattle.shape_dict.specs.Reading.{IsLine, AreLines, AreShapes, BeginsWith, HasFirstLine, NextLine, IsNotRising, IsNotCanonical, lines_after}
+use Rattle.shape_dict.specs.declared.faults.DictFault.{DictFault}
+use Rattle.shape_dict.specs.declared.faults.DictFault.TheVariants as fault
+use Rattle.shape_dict.specs.Reading.{IsLine, AreLines, AreShapes, BeginsWith, HasFirstLine, IsAbove, IsLineFault, IsFirstFault, NextLine, IsNotRising, IsNotCanonical, last_shape, shape_after, lines_after}
 use Rattle.shape_dict.proofs.Climbing.{shapes_of}
 
 rises_push : (ws : List ℕ) (w : ℕ) → IsStrictlyIncreasing ws → (0 < length ws → get_or ws (length ws - 1) 0 < w) → IsStrictlyIncreasing (ws ++ w ∷ [])
@@ -99,3 +101,53 @@ first_line whole header (e ∷ es) left h some = record {
     same = h.same ∙ first_joined (header_text header) (line_text header.text e) (flat_map (line_text header.text) es) left;
   };
 }
+
+-- the last shape is that at the last place
+after_at : (last : Option ℕ) (e : Entry) (es : List Entry) → shape_after last (e ∷ es) ≡ Some (get_or (shapes_of (e ∷ es)) (length es) 0)
+after_at last e [] = refl
+after_at last e (f ∷ es) = after_at (Some e.shape) f es
+
+pub last_at : (es : List Entry) → 0 < length es → last_shape es ≡ Some (get_or (shapes_of es) (length es - 1) 0)
+last_at [] some = absurd (omega arith)
+last_at (e ∷ es) some =
+    let place : length es ≡ length (e ∷ es) - 1 = omega arith in
+    after_at None e es ∙ ap (λ (i : ℕ). Some (get_or (shapes_of (e ∷ es)) i 0)) place
+
+after_push : (last : Option ℕ) (es : List Entry) (e : Entry) → shape_after last (es ++ e ∷ []) ≡ Some e.shape
+after_push last [] e = refl
+after_push last (d ∷ es) e = after_push (Some d.shape) es e
+
+pub last_push : (es : List Entry) (e : Entry) → last_shape (es ++ e ∷ []) ≡ Some e.shape
+last_push es e = after_push None es e
+
+above_last : (es : List Entry) (last : Option ℕ) (shape : ℕ) → last_shape es ≡ last → IsAbove last shape → 0 < length es → get_or (shapes_of es) (length es - 1) 0 < shape
+above_last es None shape is above some = let at = last_at es some in absurd cc
+above_last es (Some low) shape is above some = let at = last_at es some in let same : get_or (shapes_of es) (length es - 1) 0 ≡ low = cc in omega arith
+
+falls_last : (es : List Entry) (last : Option ℕ) (shape : ℕ) → last_shape es ≡ last → (IsAbove last shape → ⊥) → (0 < length es) × (shape ≤ get_or (shapes_of es) (length es - 1) 0)
+falls_last es None shape is falls = absurd (falls tt)
+falls_last [] (Some low) shape is falls = absurd cc
+falls_last (e ∷ es) (Some low) shape is falls =
+    let at = last_at (e ∷ es) (omega arith) in
+    let same : get_or (shapes_of (e ∷ es)) (length (e ∷ es) - 1) 0 ≡ low = cc in
+    elim (cases_lt low shape) [ inl above ↦ absurd (falls above) | inr below ↦ (omega arith, omega arith) ]
+
+-- one line more
+pub entry_more : (whole : List ℕ) (header : Header) (es : List Entry) (e : Entry) (last : Option ℕ) (left rest : List ℕ) → BeginsWith whole header es left → length es < lines_after header → last_shape es ≡ last → IsLine header (length es) e → IsAbove last e.shape → least_image e.shape ≡ e.shape → left ≡ line_text header.text e ++ rest → BeginsWith whole header (es ++ e ∷ []) rest
+entry_more whole header es e last left rest h more is line above canonical same =
+    begins_more whole header es e left rest h more line same (shapes_more es e h.shapes (above_last es last e.shape is above) canonical)
+
+-- a fault of a line is the first one of the whole
+pub entry_fault : (whole : List ℕ) (header : Header) (es : List Entry) (last : Option ℕ) (left : List ℕ) (found : DictFault) → BeginsWith whole header es left → length es < lines_after header → last_shape es ≡ last → IsLineFault header (length es) last left found → IsFirstFault whole found
+entry_fault whole header es last left (fault.BadLine line) h more is bad = record { header = header; entries = es; left = left; begins = h; more = more; none = bad.0; at = bad.1 }
+entry_fault whole header es last left (fault.NotRising line) h more is bad =
+    let falls = falls_last es last bad.0.entry.shape is bad.0.falls in
+    rw bad.1 (not_rising whole header es bad.0.entry left bad.0.has.rest h more bad.0.has.line bad.0.has.same falls.0 falls.1)
+entry_fault whole header es last left (fault.NotCanonical line) h more is bad =
+    rw bad.1 (not_canonical whole header es bad.0.entry left bad.0.has.rest h more bad.0.has.line bad.0.has.same (above_last es last bad.0.entry.shape is bad.0.above) bad.0.other)
+entry_fault whole header es last left fault.BadHeader h more is bad = absurd bad
+entry_fault whole header es last left fault.WrongTotals h more is bad = absurd bad
+entry_fault whole header es last left fault.Memory h more is bad = absurd bad
+entry_fault whole header es last left fault.Overflow h more is bad = absurd bad
+entry_fault whole header es last left fault.TooLarge h more is bad = absurd bad
+entry_fault whole header es last left fault.MixedKinds h more is bad = absurd bad

@@ -8,6 +8,7 @@ pub mod Joined
 pub mod Known
 pub mod Merging
 pub mod Read
+pub mod Regrouped
 pub mod Stopped
 pub mod Unique
 pub mod Worked

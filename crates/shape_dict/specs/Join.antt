@@ -1,5 +1,5 @@
 -- What two dictionaries are together (this project's own): the sums. The games of the right one follow those of the left.
-use Rattle.std.specs.Prelude.{◌≡◌, ◌≢◌, ℕ, ◌+◌, ◌^◌, ◌<◌, ◌≤◌, ◌⊎◌, Option, Some, None, List}
+use Rattle.std.specs.Prelude.{◌≡◌, ◌≢◌, ℕ, ◌+◌, ◌^◌, ◌<◌, ◌≤◌, ◌⊎◌, Option, Some, None, List, [], ◌∷◌, length}
 use Rattle.shape_dict.specs.declared.entries.Entry.{Entry}
 use Rattle.shape_dict.specs.Contents.{Contents, IsDictionary, entry_of}
 use Rattle.shape_dict.specs.declared.faults.DictFault.{DictFault}
@@ -37,11 +37,18 @@ abbrev pub IsOverflow : Contents → Contents → Type 0
 IsOverflow left right =
     (2 ^ 64 ≤ left.games + right.games) ⊎ (2 ^ 64 ≤ left.moves + right.moves) ⊎ HasLargeEntry left.entries right.entries
 
--- why there is no join: kinds that differ come first. Memory is asked for once the games and the moves are added up, so
--- want of it may be answered in place of a pattern's sum that is too large, and of no other
+-- why there is no join: kinds that differ come first. Memory is asked for once the games and the moves are added up, and
+-- only for patterns; so want of it may be answered in place of a pattern's sum that is too large, and of no other
 abbrev pub IsJoinFault : Contents → Contents → DictFault → Type 0
 IsJoinFault left right fault.MixedKinds = left.counts_diamonds ≢ right.counts_diamonds
 IsJoinFault left right fault.Overflow = (left.counts_diamonds ≡ right.counts_diamonds) × IsOverflow left right
 IsJoinFault left right fault.Memory =
     (left.counts_diamonds ≡ right.counts_diamonds) × (left.games + right.games < 2 ^ 64) × (left.moves + right.moves < 2 ^ 64)
+    × (0 < length left.entries + length right.entries)
 IsJoinFault left right found = ⊥
+
+-- `sum` is `first` joined with each of the others in turn, the earlier ones on the left, where no sum on the way is too large
+abbrev pub IsJoinOf : Contents → List Contents → Contents → Type 0
+IsJoinOf first [] sum = sum ≡ first
+IsJoinOf first (next ∷ others) sum =
+    (both : Contents) × (IsOverflow first next → ⊥) × IsJoin first next both × IsJoinOf both others sum

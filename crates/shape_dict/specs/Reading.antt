@@ -1,5 +1,5 @@
 -- Which dictionary a text is, and which fault comes first in one that is none. Lines count from 1 at the header.
-use Rattle.std.specs.Prelude.{◌≡◌, ◌≢◌, ℕ, ◌+◌, ◌^◌, ◌<◌, ◌≤◌, ◌⊎◌, Bool, is_some, nat_lt, List, [], ◌∷◌, ◌++◌, length, map, All, Option, None, IfSome, unwrap_or, if◌then◌else◌}
+use Rattle.std.specs.Prelude.{◌≡◌, ◌≢◌, ℕ, ◌+◌, ◌^◌, ◌<◌, ◌≤◌, ◌⊎◌, Bool, is_some, nat_lt, List, [], ◌∷◌, ◌++◌, length, map, All, Option, None, Some, IfSome, unwrap_or, if◌then◌else◌}
 use Rattle.std.specs.List.{flat_map}
 use Rattle.std.specs.List.Sorted.{IsStrictlyIncreasing}
 use Rattle.shape_core.specs.Symmetry.{least_image}
@@ -94,6 +94,45 @@ HasNoHeader bytes = HasHeader bytes → ⊥
 -- what follows does not begin with a line that this place may have
 abbrev pub HasNoLine : Header → ℕ → List ℕ → Type 0
 HasNoLine header place left = (entry : Entry) → (rest : List ℕ) → IsLine header place entry → left ≡ line_text header.text entry ++ rest → ⊥
+
+-- the shape of the last entry, where there is one
+abbrev pub shape_after : Option ℕ → List Entry → Option ℕ
+shape_after last [] = last
+shape_after last (entry ∷ entries) = shape_after (Some entry.shape) entries
+
+abbrev pub last_shape : List Entry → Option ℕ
+last_shape entries = shape_after None entries
+
+-- a shape is above the last one, where there is one
+abbrev pub IsAbove : Option ℕ → ℕ → Type 0
+IsAbove None shape = Unit {0}
+IsAbove (Some last) shape = last < shape
+
+-- bytes begin with this line, which its place may have
+pub record HasLine (header : Header) (place : ℕ) (left : List ℕ) (entry : Entry) : Type 0 where
+  pub rest : List ℕ
+  pub line : IsLine header place entry
+  pub same : left ≡ line_text header.text entry ++ rest
+
+-- the line that bytes begin with has a word that is not above the last one
+pub record IsFallingLine (header : Header) (place : ℕ) (last : Option ℕ) (left : List ℕ) : Type 0 where
+  pub entry : Entry
+  pub has : HasLine header place left entry
+  pub falls : IsAbove last entry.shape → ⊥
+
+-- it has a word that is above the last one and not the least of its images
+pub record IsOtherLine (header : Header) (place : ℕ) (last : Option ℕ) (left : List ℕ) : Type 0 where
+  pub entry : Entry
+  pub has : HasLine header place left entry
+  pub above : IsAbove last entry.shape
+  pub other : least_image entry.shape ≢ entry.shape
+
+-- why bytes give no entry at a place, after the shapes up to the last one
+abbrev pub IsLineFault : Header → ℕ → Option ℕ → List ℕ → DictFault → Type 0
+IsLineFault header place last left (fault.BadLine line) = HasNoLine header place left × (line ≡ place + 2)
+IsLineFault header place last left (fault.NotRising line) = IsFallingLine header place last left × (line ≡ place + 2)
+IsLineFault header place last left (fault.NotCanonical line) = IsOtherLine header place last left × (line ≡ place + 2)
+IsLineFault header place last left found = ⊥
 
 -- the next line is one that its place may have, by itself
 pub record NextLine (bytes : List ℕ) (header : Header) (entries : List Entry) (entry : Entry) : Type 0 where

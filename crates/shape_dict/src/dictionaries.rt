@@ -53,10 +53,11 @@ impl Dictionary {
     ghost use Rattle.shape_dict.specs.Contents.{IsDictionary, entry_of};
     ghost use Rattle.shape_dict.specs.Join.{IsJoin, IsOverflow, IsJoinFault};
 
-    /// The dictionary that holds what it is given. The words rise, each pattern was there once or more and was played at
-    /// most as often, and its first game, where that is known, is below `games`. The plays of the squares add up to the
-    /// moves, and those of the diamonds where they are counted; where they are not, there is no diamond. With no games
-    /// there are no moves. It takes no memory.
+    /// The dictionary that holds what it is given. The words rise, each pattern was there once or
+    /// more and was played at most as often, and its first game, where that is known, is below
+    /// `games`. The plays of the squares add up to the moves, and those of the diamonds where they
+    /// are counted; where they are not, there is no diamond. With no games there are no moves. It
+    /// takes no memory.
     pub fn new(games: u64, moves: u64, entries: Vec<Entry>, counts_diamonds: bool) -> Dictionary
         requires { IsDictionary (record {
           games = games;
@@ -115,14 +116,15 @@ impl Dictionary {
         find_entry(self.entries.as_slice(), shape)
     }
 
-    /// What two dictionaries are together: the games of the right one follow those of the left, and all counts are sums.
-    /// A pattern keeps what the left says of its first game; one of the right alone has its own, after the left's games.
+    /// What two dictionaries are together: the games of the right one follow those of the left, and
+    /// all counts are sums. A pattern keeps what the left says of its first game; one of the right
+    /// alone has its own, after the left's games.
     ///
     /// # Errors
     ///
-    /// `MixedKinds` exactly where one counts diamonds and the other does not; else `Overflow` where a sum is over
-    /// 2^64 - 1, and `Memory` where memory was refused, which is asked for only where the games and the moves add up to
-    /// 2^64 - 1 at most. Both dictionaries stay as they are.
+    /// `MixedKinds` exactly where one counts diamonds and the other does not; else `Overflow` where
+    /// a sum is over 2^64 - 1, and `Memory` where memory was refused, which is asked for only where
+    /// the games and the moves add up to 2^64 - 1 at most. Both dictionaries stay as they are.
     pub fn join(
         alloc: Global,
         left: &Dictionary,
@@ -142,8 +144,8 @@ impl Dictionary {
         Ok(Dictionary::new(games, moves, entries, left.counts_diamonds()))
     }
 
-    /// Appends a text of the dictionary. Text 1 is that of the squares, text 2 has the diamonds too, text 3 first games
-    /// besides.
+    /// Appends a text of the dictionary. Text 1 is that of the squares, text 2 has the diamonds
+    /// too, text 3 first games besides.
     ///
     /// # Errors
     ///
@@ -161,10 +163,11 @@ impl Dictionary {
         Ok(())
     }
 
-    /// A text of the dictionary in parts, to be read one after another: the same bytes as `write` appends. The first part
-    /// is the header; the others have the lines of the entries in their order, and are at most as many as `threads`, or
-    /// one for 0. They are made at the same time, each by a thread where one can be started and else by this one; a text of
-    /// 65,536 entries or fewer is made by this one. It takes memory for the text, and for each thread.
+    /// A text of the dictionary in parts, to be read one after another: the same bytes as `write`
+    /// appends. The first part is the header; the others have the lines of the entries in their
+    /// order, and are at most as many as `threads`, or one for 0. They are made at the same time,
+    /// each by a thread where one can be started and else by this one; a text of 65,536 entries or
+    /// fewer is made by this one. It takes memory for the text, and for each thread.
     ///
     /// # Errors
     ///
@@ -191,8 +194,9 @@ impl Dictionary {
     }
 }
 
-/// How many squares a dictionary has, and how many diamonds where they are counted. One that does not count them has
-/// squares alone, so its entries need no look; else one look at each is enough, as the diamonds are the rest.
+/// How many squares a dictionary has, and how many diamonds where they are counted. One that does
+/// not count them has squares alone, so its entries need no look; else one look at each is enough,
+/// as the diamonds are the rest.
 fn counts_of(dictionary: &Dictionary) -> (u64, Option<u64>)
     ensures squares { result.0 ≡ length (squares_of dictionary.now.entries) }
     ensures diamonds { result.1

@@ -1,7 +1,8 @@
 //! Entries of a dictionary, and its three texts.
 use shape_core::Shape;
 
-/// One pattern: how often it was there, how often it was played, and the first game that had it, where that is known.
+/// One pattern: how often it was there, how often it was played, and the first game that had it,
+/// where that is known.
 #[derive(Clone, Copy, Debug, PartialEq, Eq)]
 pub struct Entry {
     pub shape: Shape,

@@ -1,25 +1,25 @@
 //! Headers of dictionaries.
 ghost use Rattle.std.specs.Prelude.{◌≡◌, ◌++◌, ◌<◌, ◌^◌, ℕ, List, IfSome, IfNone, IsSomeAnd};
-ghost use Rattle.std.specs.Prelude.{Option, None, codes};
+ghost use Rattle.std.specs.Prelude.{Option, None, codes, min, ◌-◌};
 ghost use Rattle.std.specs.Fmt.{decimal};
 ghost use Rattle.shape_dict.specs.Text.{front_text, counts_text, header_text};
 ghost use Rattle.shape_dict.specs.Inner.Parsing.{IsEnded};
-ghost use Rattle.shape_dict.specs.Reading.{IsHeader, HasNoHeader};
+ghost use Rattle.shape_dict.specs.Reading.{IsHeader, HasNoHeader, lines_after};
 ghost use Rattle.shape_dict.specs.declared.entries.Text.{Text as Kind};
 ghost use Rattle.shape_dict.specs.declared.entries.Text.TheVariants as kind;
 
 use crate::entries::Text;
 use crate::numbers::{after, number, number_after, optional_after};
 
-/// What a header says: which text it is, the games and moves, how many squares follow, and how many diamonds where they
-/// are counted.
-#[derive(Clone, Copy)]
-pub(crate) struct Header {
-    pub(crate) text: Text,
-    pub(crate) games: u64,
-    pub(crate) moves: u64,
-    pub(crate) squares: u64,
-    pub(crate) diamonds: Option<u64>,
+/// What a header says: which text it is, the games and moves, how many squares follow, and how many
+/// diamonds where they are counted.
+#[derive(Clone, Copy, Debug, PartialEq, Eq)]
+pub struct Header {
+    pub text: Text,
+    pub games: u64,
+    pub moves: u64,
+    pub squares: u64,
+    pub diamonds: Option<u64>,
 }
 
 /// Which text it is, and what follows.
@@ -75,8 +75,9 @@ fn counts(bytes: &[u8], text: Text) -> Option<(u64, Option<u64>, &[u8])>
     }
 }
 
-/// The header, and what follows it.
-pub(crate) fn read_header(bytes: &[u8]) -> Option<(Header, &[u8])>
+/// The header at the front of the bytes, and what follows it, or None where they do not begin with
+/// one. It takes no memory.
+pub fn read_header(bytes: &[u8]) -> Option<(Header, &[u8])>
     ensures found { IfSome result (λ p. IsHeader p.0 × (bytes.now ≡ header_text p.0 ++ p.1.now)) }
     ensures none { IfNone result (HasNoHeader bytes.now) }
 {
@@ -94,4 +95,11 @@ pub(crate) fn read_header(bytes: &[u8]) -> Option<(Header, &[u8])>
         },
         rest,
     ))
+}
+
+/// How many lines follow a header, or 2^64 - 1 where they are more.
+pub fn count_lines(header: &Header) -> u64
+    ensures { result ≡ min (lines_after header.now) (2 ^ 64 - 1) }
+{
+    header.squares.saturating_add(header.diamonds.unwrap_or(0))
 }

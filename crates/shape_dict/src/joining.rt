@@ -1,6 +1,6 @@
 //! The join of two lists of entries whose words rise.
 ghost use Rattle.std.specs.Prelude.{◌≡◌, ◌++◌, ◌∷◌, [], ◌+◌, ◌^◌, ◌<◌, ◌≤◌, ◌⊎◌, All, map, OnOk};
-ghost use Rattle.std.specs.Prelude.{IfOk, IfErr, IfSome};
+ghost use Rattle.std.specs.Prelude.{IfOk, IfErr, IfSome, OnErr, length};
 ghost use Rattle.std.specs.List.Sorted.{IsStrictlyIncreasing};
 ghost use Rattle.shape_dict.specs.Merging.{moved_entry, summed_entry};
 ghost use Rattle.shape_dict.specs.Inner.Merging.{merged};
@@ -60,6 +60,7 @@ pub(crate) fn push(entries: &mut Vec<Entry>, entry: Entry) -> Result<(), AllocEr
 fn push_kept(entries: &mut Vec<Entry>, left: &[Entry]) -> Result<(), AllocError>
     requires { All (λ entry. entry.there < 2 ^ 64) entries.old.items }
     ensures ok { OnOk result (entries.new.items ≡ entries.old.items ++ left.now) }
+    ensures err { OnErr result (0 < length left.now) }
     ensures small { OnOk result (All (λ entry. entry.there < 2 ^ 64) entries.new.items) }
 {
     for entry in left {
@@ -74,6 +75,7 @@ fn push_moved(entries: &mut Vec<Entry>, right: &[Entry], games: u64) -> Result<(
     requires first { All (λ entry. IfSome entry.first (λ game. game + games < 2 ^ 64)) right.now }
     ensures ok { OnOk result (entries.new.items
         ≡ entries.old.items ++ map (moved_entry games) right.now) }
+    ensures err { OnErr result (0 < length right.now) }
     ensures small { OnOk result (All (λ entry. entry.there < 2 ^ 64) entries.new.items) }
 {
     for entry in right {
@@ -99,7 +101,8 @@ pub(crate) fn merge(
         right.now }
     ensures ok { IfOk result (λ both. both.items ≡ merged games left.now right.now) }
     ensures small { IfOk result (λ both. All (λ entry. entry.there < 2 ^ 64) both.items) }
-    ensures err { IfErr result (λ found. (found ≡ fault.Memory)
+    ensures err { IfErr result (λ found.
+        (found ≡ fault.Memory) × (0 < length left.now + length right.now)
         ⊎ (found ≡ fault.Overflow) × HasLargeEntry left.now right.now) }
 {
     let mut both = Vec::new(alloc);

@@ -3,6 +3,7 @@
 
 mod dictionaries;
 mod entries;
+mod entry_lines;
 mod faults;
 mod finding;
 mod headers;
@@ -20,6 +21,9 @@ mod writing;
 
 pub use dictionaries::Dictionary;
 pub use entries::{Entry, Text};
+pub use entry_lines::read_entry;
 pub use faults::DictFault;
+pub use headers::{Header, count_lines, read_header};
 pub use laws::{texts_are_distinct, texts_have_one_fault};
+pub use texts::push_header;
 pub use writing::{push_line, push_number, push_word};

@@ -35,7 +35,7 @@ fn value_of(digits: &[u8]) -> Option<u64>
     let mut value: u64 = 0;
     for byte in digits {
         let digit = u64::from(*byte - b'0');
-        if value > (u64::MAX - digit) / 10 {
+        if value >= u64::MAX / 10 && value > (u64::MAX - digit) / 10 {
             return None;
         }
         value = 10 * value + digit;
@@ -43,7 +43,8 @@ fn value_of(digits: &[u8]) -> Option<u64>
     Some(value)
 }
 
-/// A decimal number without leading zeros, at most 2^64 - 1, and what follows it, which does not begin with a digit.
+/// A decimal number without leading zeros, at most 2^64 - 1, and what follows it, which does not
+/// begin with a digit.
 pub(crate) fn number(bytes: &[u8]) -> Option<(u64, &[u8])>
     ensures found { IfSome result (λ p. (bytes.now ≡ decimal p.0 ++ p.1.now) × (p.0 < 2 ^ 64)
         × IsEnded p.1.now) }

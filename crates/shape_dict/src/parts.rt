@@ -23,8 +23,9 @@ fn part_length(entries: usize, threads: usize) -> usize
     entries.div_ceil(threads.max(1)).max(LEAST)
 }
 
-/// No bytes, with room for the lines of this many entries where they are many: bytes that grow are moved again and again,
-/// and many of them are slow to move. Where so much room is refused there is none, and the bytes grow.
+/// No bytes, with room for the lines of this many entries where they are many: bytes that grow are
+/// moved again and again, and many of them are slow to move. Where so much room is refused there is
+/// none, and the bytes grow.
 fn room_for(alloc: Global, entries: usize) -> Vec<u8>
     ensures { result.items ≡ [] }
 {
@@ -46,8 +47,8 @@ fn lines_part(alloc: Global, text: Text, entries: &[Entry]) -> Result<Vec<u8>, A
     Ok(part)
 }
 
-/// The lines that a text has of entries, in parts, in order. At most this many threads make them, and each part may be
-/// refused memory.
+/// The lines that a text has of entries, in parts, in order. At most this many threads make them,
+/// and each part may be refused memory.
 pub(crate) fn made_parts<R: Threads + Sync>(
     rt: &R,
     alloc: Global,

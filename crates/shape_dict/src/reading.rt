@@ -1,35 +1,32 @@
 //! Dictionaries read off the front of bytes.
-ghost use Rattle.std.specs.Prelude.{◌≡◌, ◌++◌, ◌∷◌, [], ◌<◌, ◌≤◌, ◌-◌, ◌+◌, ◌^◌, ℕ, List, length};
-ghost use Rattle.std.specs.Prelude.{map, slice_index, IfOk, IfErr, MatchBool, min, take};
+ghost use Rattle.std.specs.Prelude.{◌≡◌, ◌++◌, ◌∷◌, [], ◌<◌, ◌≤◌, ℕ, List, length};
+ghost use Rattle.std.specs.Prelude.{IfOk, IfErr, take};
 ghost use Rattle.shape_dict.specs.Text.{header_text};
 ghost use Rattle.shape_dict.specs.Reading.{IsHeader, BeginsWith, HasAllLines, IsFirstFault};
 ghost use Rattle.shape_dict.specs.Reading.{IsFrontFault, IsTextFault, IsTextOf, lines_after};
+ghost use Rattle.shape_dict.specs.Reading.{last_shape};
 ghost use Rattle.shape_dict.specs.declared.faults.DictFault.TheVariants as fault;
 ghost use Rattle.sgf_core.specs.Limit.{most_bytes};
 
 use crate::dictionaries::Dictionary;
 use crate::entries::Entry;
+use crate::entry_lines::read_entry;
 use crate::faults::DictFault;
-use crate::headers::{Header, read_header};
+use crate::headers::{Header, count_lines, read_header};
 use crate::joining::push;
-use crate::lines::read_line;
 use crate::totals::have_totals;
 use sgf_core::MOST_BYTES;
-use shape_core::{Shape, Word};
+use shape_core::Shape;
 use std::alloc::Global;
 
-/// Whether a word is above that of the last entry.
-fn is_above(entries: &[Entry], word: Word) -> bool
-    ensures { MatchBool result (0 < length entries.now
-        → slice_index (map (λ entry. entry.shape) entries.now) (length entries.now - 1) < word)
-        ((0 < length entries.now)
-        × (word ≤ slice_index (map (λ entry. entry.shape) entries.now) (length entries.now - 1))) }
+/// The shape of the last entry, where there is one.
+fn last_shape(entries: &[Entry]) -> Option<Shape>
+    ensures { result ≡ last_shape entries.now }
 {
     if entries.is_empty() {
-        return true;
+        return None;
     }
-    let last = entries[entries.len() - 1];
-    last.shape.word().bits() < word.bits()
+    Some(entries[entries.len() - 1].shape)
 }
 
 /// The entry of the next line, and what follows it.
@@ -42,36 +39,12 @@ fn next_entry<'a>(
         → BeginsWith whole header.now entries.now bytes.now
         → length entries.now < lines_after header.now
         → BeginsWith whole header.now (entries.now ++ p.0 ∷ []) p.1.now) }
-    ensures shorter { IfOk result (λ p. length p.1.now < length bytes.now) }
     ensures fault { IfErr result (λ found. (whole : List ℕ)
         → BeginsWith whole header.now entries.now bytes.now
         → length entries.now < lines_after header.now
         → IsFirstFault whole found) }
 {
-    let place = entries.len() as u64;
-    let Some((line, rest)) = read_line(header, place, bytes) else {
-        return Err(DictFault::BadLine(place + 2));
-    };
-    if !is_above(entries, line.word) {
-        return Err(DictFault::NotRising(place + 2));
-    }
-    let Some(shape) = Shape::of_word(line.word) else {
-        return Err(DictFault::NotCanonical(place + 2));
-    };
-    let entry = Entry {
-        shape,
-        there: line.there,
-        played: line.played,
-        first: line.first,
-    };
-    Ok((entry, rest))
-}
-
-/// How many lines follow a header, or 2^64 - 1 where they are more.
-fn count_lines(header: &Header) -> u64
-    ensures { result ≡ min (lines_after header.now) (2 ^ 64 - 1) }
-{
-    header.squares.saturating_add(header.diamonds.unwrap_or(0))
+    read_entry(header, entries.len() as u64, last_shape(entries), bytes)
 }
 
 /// The entries of all lines after a header, and what follows them.
@@ -147,11 +120,12 @@ impl Dictionary {
     ///
     /// # Errors
     ///
-    /// In this order: `TooLarge` where the input has more than 2^28 bytes, `BadHeader` where it does not begin with a
-    /// header, and for each line in turn `BadLine` where it is missing or is none, `NotRising` where its word is not above
-    /// the one before, `NotCanonical` where its word is not the least of its images; then `WrongTotals` where the plays do
-    /// not add up to the moves, and `BadLine` where bytes follow the text. `Memory` where memory was refused, which is asked
-    /// for only after a header and a first line without a fault.
+    /// In this order: `TooLarge` where the input has more than 2^28 bytes, `BadHeader` where it
+    /// does not begin with a header, and for each line in turn `BadLine` where it is missing or is
+    /// none, `NotRising` where its word is not above the one before, `NotCanonical` where its word
+    /// is not the least of its images; then `WrongTotals` where the plays do not add up to the
+    /// moves, and `BadLine` where bytes follow the text. `Memory` where memory was refused, which
+    /// is asked for only after a header and a first line without a fault.
     pub fn read(alloc: Global, bytes: &[u8]) -> Result<Dictionary, DictFault>
         ensures found { IfOk result (λ d. IsTextOf d bytes.now × (length bytes.now ≤ most_bytes)) }
         ensures only { (contents : Contents) → IsTextOf contents bytes.now
@@ -164,7 +138,8 @@ impl Dictionary {
         read_whole(alloc, bytes)
     }
 
-    /// The dictionary of the text that these bytes begin with, and how many bytes that text has. It takes memory.
+    /// The dictionary of the text that these bytes begin with, and how many bytes that text has. It
+    /// takes memory.
     ///
     /// # Errors
     ///

@@ -61,8 +61,13 @@ fn push_games(out: &mut Vec<u8>, text: Text, games: u64, moves: u64) -> Result<(
     push_number(out, moves)
 }
 
-/// Appends a header.
-pub(crate) fn push_header(
+/// Appends the header of a text: which it is, the games and moves, how many squares follow, and how
+/// many diamonds where they are counted.
+///
+/// # Errors
+///
+/// `AllocError` where memory was refused: what the bytes held stays their beginning.
+pub fn push_header(
     out: &mut Vec<u8>,
     text: Text,
     games: u64,

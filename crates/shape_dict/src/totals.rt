@@ -19,8 +19,8 @@ fn agree(kind: Kind, entries: &[Entry], moves: u64) -> bool
     }
 }
 
-/// Whether the plays add up to the moves: those of the squares, and those of the diamonds where they are counted. With
-/// no games there are no moves.
+/// Whether the plays add up to the moves: those of the squares, and those of the diamonds where
+/// they are counted. With no games there are no moves.
 pub(crate) fn have_totals(header: &Header, entries: &[Entry]) -> bool
     ensures { MatchBool result (HasTotals header.now.games header.now.moves entries.now
         (counts_of header.now)) (HasTotals header.now.games header.now.moves entries.now

@@ -45,7 +45,8 @@ pub fn push_number(out: &mut Vec<u8>, number: u64) -> Result<(), AllocError>
     push_bytes(out, digits.as_bytes())
 }
 
-/// A hexadecimal digit in lower case. There is no branch on it, since no processor can foresee which digit comes.
+/// A hexadecimal digit in lower case. There is no branch on it, since no processor can foresee
+/// which digit comes.
 fn hexadecimal_digit(digit: u8) -> u8
     requires { digit < 16 }
     ensures { result ≡ hexadecimal_digit digit }
@@ -103,8 +104,8 @@ fn push_first(out: &mut Vec<u8>, text: Text, first: Option<u64>) -> Result<(), A
     }
 }
 
-/// Appends how often a pattern was there, and how often it was played. Most numbers have one digit: they are appended at
-/// once.
+/// Appends how often a pattern was there, and how often it was played. Most numbers have one digit:
+/// they are appended at once.
 #[tactic(auto, using(std::proofs::lemmas::Fmt::decimal_digit))]
 fn push_uses(out: &mut Vec<u8>, entry: &Entry) -> Result<(), AllocError>
     ensures ok { OnOk result (out.new.items ≡ out.old.items ++ uses_text entry.now) }

@@ -13,7 +13,7 @@ use Rattle.go_record.specs.declared.records.Kind.{Kind}
 use Rattle.go_record.specs.declared.records.Kind.TheVariants as kind
 use Rattle.go_record.specs.declared.faults.RecordFault.{RecordFault}
 use Rattle.go_record.specs.declared.faults.RecordFault.TheVariants as record_fault
-use Rattle.go_record.specs.Adding.{IsUnlessMemory}
+use Rattle.go_record.specs.Adding.{IsRecordOrMemory}
 use Rattle.shape_core.specs.declared.words.Kinds.{Kinds}
 use Rattle.tally_core.specs.declared.counting.Counter.{Counter}
 use Rattle.tally_core.specs.declared.reports.Report.{Report}
@@ -152,15 +152,15 @@ counts_refused kinds trees tree found before after is counted now =
     (ap (λ c. c.report.games) now) (ap (λ c. c.report.others) now ∙ sym (add-zero before.report.others)) (ap (λ c. c.report.refused) now)
 
 -- what a record is, where memory was not wanting
-pub not_memory : (found : RecordFault) (wanted : Result Kind RecordFault) → (found ≡ record_fault.Memory → ⊥) → IsUnlessMemory (Err found) wanted → wanted ≡ Err found
-not_memory record_fault.Memory wanted not h = absurd (not refl)
-not_memory (record_fault.BadSize at) wanted not h = sym h
-not_memory (record_fault.BadPoint at) wanted not h = sym h
-not_memory (record_fault.OffBoard at) wanted not h = sym h
+pub not_memory : (line : List Node) (found : RecordFault) → (found ≡ record_fault.Memory → ⊥) → IsRecordOrMemory line (Err found) → record_of line ≡ Err found
+not_memory line record_fault.Memory not h = absurd (not refl)
+not_memory line (record_fault.BadSize at) not h = sym h
+not_memory line (record_fault.BadPoint at) not h = sym h
+not_memory line (record_fault.OffBoard at) not h = sym h
 
 -- where the law on few actions holds of a main line, the record that was read of it has as few
 pub few_recorded : (line : List Node) (recorded : Result Kind RecordFault) → ((game : Actions) → record_of line ≡ Ok (kind.Go game) → length game.actions ≤ value_count line) →
-    IsUnlessMemory recorded (record_of line) → actions_in recorded ≤ value_count line
+    IsRecordOrMemory line recorded → actions_in recorded ≤ value_count line
 few_recorded line (Ok (kind.Go game)) few is = few game (sym is)
 few_recorded line (Ok kind.Other) few is = omega arith
 few_recorded line (Err found) few is = omega arith

@@ -10,7 +10,8 @@ use shape_core::{Field, Kinds};
 use std::alloc::Global;
 use std::marker::Model;
 
-/// An empty field of the size that was asked for last: to copy it is quicker than to find the words of each point again.
+/// An empty field of the size that was asked for last: to copy it is quicker than to find the words
+/// of each point again.
 #[derive(Drop)]
 pub(crate) struct Blank {
     alloc: Global,
@@ -49,7 +50,8 @@ impl Blank {
         self.kinds
     }
 
-    /// An empty field of this size. It takes memory for each point of the board, twice where the size is another than before.
+    /// An empty field of this size. It takes memory for each point of the board, twice where the
+    /// size is another than before.
     pub fn field(&mut self, size: Size) -> Result<Field, HarvestFault>
         ensures kinds { self.new ≡ self.old }
         ensures blank { IfOk result (IsBlank self.old) }

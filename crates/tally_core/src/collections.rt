@@ -24,15 +24,16 @@ pub struct Counted {
     pub report: Report,
 }
 
-/// Counts a whole collection on one thread, in an ordered map: the dictionary of its games, which are numbered from 0 in
-/// their order, and how many of its trees are games, are of other games, and are refused. `kinds` says which kinds of
-/// pattern are counted. It takes memory for the largest tree and its record, for the board, and for each pattern.
+/// Counts a whole collection on one thread, in an ordered map: the dictionary of its games, which
+/// are numbered from 0 in their order, and how many of its trees are games, are of other games, and
+/// are refused. `kinds` says which kinds of pattern are counted. It takes memory for the largest
+/// tree and its record, for the board, and for each pattern.
 ///
 /// # Errors
 ///
-/// `HarvestFault::Sgf` with S4 where there are more than 2^28 bytes, else with the first fault of syntax in the input;
-/// `HarvestFault::Memory` where memory was refused. `HarvestFault::Overflow` does not come: no count of an input that is
-/// not too large passes 2^64 - 1.
+/// `HarvestFault::Sgf` with S4 where there are more than 2^28 bytes, else with the first fault of
+/// syntax in the input; `HarvestFault::Memory` where memory was refused. `HarvestFault::Overflow`
+/// does not come: no count of an input that is not too large passes 2^64 - 1.
 pub fn count_plain(alloc: Global, kinds: Kinds, bytes: &[u8]) -> Result<Counted, HarvestFault>
     ensures counted { IfOk result (IsCounted kinds bytes.now) }
     ensures fault { IfErr result (IsCountFault bytes.now) }

@@ -18,7 +18,8 @@ pub struct Count {
 impl Count {
     ghost use Rattle.std.specs.Prelude.{◌≡◌, ◌+◌, ◌^◌, ◌≤◌, IfSome, IfNone};
 
-    /// The count once the pattern was there and was played this often again; None where that passes 2^64 - 1.
+    /// The count once the pattern was there and was played this often again; None where that passes
+    /// 2^64 - 1.
     fn raised(self, there: u64, played: u64) -> Option<Count>
         ensures some { IfSome result (λ count. count
             ≡ record self { there = self.there + there; played = self.played + played }) }

@@ -1,12 +1,12 @@
 //! The trees of a collection, counted one after another.
 ghost use Rattle.std.specs.Prelude.{◌≡◌, ◌≢◌, ℕ, ◌+◌, ◌^◌, ◌<◌, ◌≤◌, ◌∷◌, [], ◌++◌, List, length};
 ghost use Rattle.std.specs.Prelude.{Ok, None, IfErr, IfOk, IfSome, IfNone, OnOk};
-ghost use Rattle.sgf_core.specs.Tree.{GameTree};
+ghost use Rattle.sgf_core.specs.Tree.{GameTree, main_line_of};
 ghost use Rattle.sgf_core.specs.Marks.{marks_of};
 ghost use Rattle.sgf_core.specs.Next.{IsNextTree, HasNoTree};
 ghost use Rattle.go_record.specs.declared.records.Kind.TheVariants as kind;
 ghost use Rattle.go_record.specs.declared.faults.RecordFault.TheVariants as record_fault;
-ghost use Rattle.go_record.specs.Adding.{IsUnlessMemory};
+ghost use Rattle.go_record.specs.Adding.{IsRecordOrMemory};
 ghost use Rattle.tally_core.specs.Collection.{record_of_tree};
 ghost use Rattle.tally_core.specs.Inner.Counting.{CountsTrees, IsWithin, IsSmallTree, CountsAll};
 ghost use Rattle.tally_core.specs.Inner.Counting.{IsNextFault, IsKept, actions_in, TakesMemory};
@@ -101,7 +101,7 @@ fn count_recorded(
     requires { (place : ℕ) × IsWithin place counter.old
         × (place + actions_in recorded < most_bytes) }
     ensures counted { (before : List GameTree) (game : GameTree)
-        → IsUnlessMemory recorded (record_of_tree game)
+        → IsRecordOrMemory (main_line_of game) recorded
         → CountsTrees walk.old.kinds before counter.old
         → OnOk result (CountsTrees walk.old.kinds (before ++ game ∷ []) counter.new) }
     ensures within { (place : ℕ) → IsWithin place counter.old
@@ -142,7 +142,8 @@ fn count_tree(
     count_recorded(walk, counter, read_record(alloc, tree))
 }
 
-/// The next tree, or None where none is left. A fault of syntax is the one that the reader keeps from then on.
+/// The next tree, or None where none is left. A fault of syntax is the one that the reader keeps
+/// from then on.
 fn next<'a>(alloc: Global, trees: &mut Trees<'a>) -> Result<Option<Tree<'a>>, HarvestFault>
     ensures tree { IfOk result (λ found. IfSome found (λ read. (tree : GameTree)
         × IsNextTree trees.old.bytes trees.old.from read.at read.end tree
@@ -163,7 +164,8 @@ fn next<'a>(alloc: Global, trees: &mut Trees<'a>) -> Result<Option<Tree<'a>>, Ha
     }
 }
 
-/// Counts all trees of an input. Want of memory is answered only where the reader met no fault of syntax.
+/// Counts all trees of an input. Want of memory is answered only where the reader met no fault of
+/// syntax.
 pub(crate) fn count_trees(
     alloc: Global,
     walk: &mut Walk,

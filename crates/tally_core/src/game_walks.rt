@@ -17,7 +17,8 @@ use go_record::{Action, apply};
 use shape_core::Field;
 use std::alloc::Global;
 
-/// A game that is being walked: the board as it is, what was met so far, and what stays for each colour.
+/// A game that is being walked: the board as it is, what was met so far, and what stays for each
+/// colour.
 ///
 /// Contracts speak of what would be counted if all that stays were settled now.
 #[derive(Drop)]
@@ -51,7 +52,8 @@ impl GameWalk {
         })
     }
 
-    /// Counts what an action is the occasion of, and says how many occasions it is: a move onto an empty point is one.
+    /// Counts what an action is the occasion of, and says how many occasions it is: a move onto an
+    /// empty point is one.
     ///
     /// # Errors
     ///

@@ -23,8 +23,8 @@ pub fn has_diamonds(kinds: Kinds) -> bool
     }
 }
 
-/// The dictionary of the games whose counts a map has: `games` of them, with `moves` moves. It takes memory for an entry
-/// of each pattern; `HarvestFault::Memory` comes where that was refused.
+/// The dictionary of the games whose counts a map has: `games` of them, with `moves` moves. It
+/// takes memory for an entry of each pattern; `HarvestFault::Memory` comes where that was refused.
 pub(crate) fn dictionary_of(
     alloc: Global,
     kinds: Kinds,

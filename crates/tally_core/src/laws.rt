@@ -8,7 +8,8 @@ ghost use Rattle.tally_core.specs.Games.{IsDictionaryOf};
 
 use shape_core::kinds_stay;
 
-/// The dictionary of two lists of games put together is the join of their dictionaries, and the join is that.
+/// The dictionary of two lists of games put together is the join of their dictionaries, and the
+/// join is that.
 pub fn dictionaries_join()
     ensures join { (kinds : Kinds) → (left : List Replayed) → (right : List Replayed)
         → (of_left : Contents) → (of_right : Contents) → (both : Contents)

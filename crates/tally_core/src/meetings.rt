@@ -12,7 +12,8 @@ use shape_core::Shape;
 use std::alloc::{AllocError, Global};
 use std::marker::Model;
 
-/// A pattern as a walk of a game met it: how often it was there and was played since. A pattern may have several.
+/// A pattern as a walk of a game met it: how often it was there and was played since. A pattern may
+/// have several.
 #[derive(Clone, Copy, Debug, PartialEq, Eq)]
 pub struct Meeting {
     /// The pattern.
@@ -27,9 +28,9 @@ pub struct Meeting {
 #[derive(Drop)]
 pub struct Meetings {
     list: Vec<Meeting>,
-    /// For a place made of a shape, and those after it, one more than the index of a meeting; 0 where it is free. Of a
-    /// place nothing is believed that the meeting itself does not say, so the index needs no invariant: were it wrong,
-    /// a shape would have two meetings.
+    /// For a place made of a shape, and those after it, one more than the index of a meeting; 0
+    /// where it is free. Of a place nothing is believed that the meeting itself does not say, so
+    /// the index needs no invariant: were it wrong, a shape would have two meetings.
     index: Vec<u32>,
 }
 
@@ -71,8 +72,8 @@ impl Meetings {
         }
     }
 
-    /// Forgets all meetings. The index is half as long where few of its places were taken, so that one long game does not
-    /// burden all that follow. It takes memory for the first index.
+    /// Forgets all meetings. The index is half as long where few of its places were taken, so that
+    /// one long game does not burden all that follow. It takes memory for the first index.
     pub fn clear(&mut self) -> Result<(), HarvestFault>
         ensures empty { self.new ≡ [] }
         ensures fault { IfErr result (λ found. found ≡ fault.Memory) }
@@ -96,7 +97,8 @@ impl Meetings {
         self.list.as_slice()
     }
 
-    /// What is at a place of the index: the meeting there, if it is of this shape; None where it is of another.
+    /// What is at a place of the index: the meeting there, if it is of this shape; None where it is
+    /// of another.
     #[inline(always)]
     fn look(&self, place: usize, shape: Shape) -> Option<Place>
         ensures { IfSome result (IsPlaceOf (shapes_of self.now) shape) }
@@ -109,8 +111,8 @@ impl Meetings {
         }
     }
 
-    /// The first place after this one that is free or has a meeting of this shape; where there is none, this one. Most
-    /// shapes are found at their own place, so this is a call.
+    /// The first place after this one that is free or has a meeting of this shape; where there is
+    /// none, this one. Most shapes are found at their own place, so this is a call.
     #[inline(never)]
     fn place_after(&self, own: usize, shape: Shape) -> usize {
         let last = self.index.len().wrapping_sub(1);
@@ -124,7 +126,8 @@ impl Meetings {
         own
     }
 
-    /// Looks a shape up: from its own place on, up to its meeting or to the first free place. None where no place is free.
+    /// Looks a shape up: from its own place on, up to its meeting or to the first free place. None
+    /// where no place is free.
     #[inline(always)]
     fn find(&self, shape: Shape) -> Option<Place>
         ensures { IfSome result (IsPlaceOf (shapes_of self.now) shape) }
@@ -171,8 +174,8 @@ impl Meetings {
         }
     }
 
-    /// The index of a meeting of this shape: one that is there, or a new one. It is called for each point that changes, so
-    /// it is no call in the program.
+    /// The index of a meeting of this shape: one that is there, or a new one. It is called for each
+    /// point that changes, so it is no call in the program.
     #[inline(always)]
     pub fn meet(&mut self, shape: Shape) -> Result<usize, AllocError>
         ensures met { IfOk result (IsMet (shapes_of self.new) shape) }

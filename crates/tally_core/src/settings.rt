@@ -1,9 +1,11 @@
-//! How a collection is counted: by how many workers, in how large a table, and which kinds of pattern.
+//! How a collection is counted: by how many workers, in how large a table, and which kinds of
+//! pattern.
 use crate::faults::HarvestFault;
 use shape_core::Kinds;
 use std::marker::Model;
 
-/// Workers from 1 to 64, a table of 2^k slots with k from 0 to 22, and the kinds of pattern that are counted.
+/// Workers from 1 to 64, a table of 2^k slots with k from 0 to 22, and the kinds of pattern that
+/// are counted.
 #[derive(Clone, Copy, Debug, PartialEq, Eq)]
 pub struct Settings {
     workers: u8,

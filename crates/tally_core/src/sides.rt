@@ -16,17 +16,19 @@ use std::alloc::Global;
 pub struct Side {
     /// How many occasions of this colour there were.
     pub occasions: u64,
-    /// The points whose words may have changed since the last of them: for each row a bit for each column.
+    /// The points whose words may have changed since the last of them: for each row a bit for each
+    /// column.
     pub changed: Vec<u64>,
-    /// The points at which something may stay: for each row a bit for each column. After an occasion they are those that were
-    /// empty then.
+    /// The points at which something may stay: for each row a bit for each column. After an
+    /// occasion they are those that were empty then.
     pub standing: Vec<u64>,
     /// What stays at each point, row by row from the top, each row from the left.
     pub points: Vec<Stays>,
 }
 
 impl Side {
-    /// A side before the first action: nothing stays, and every point is in the set. It takes memory for each point.
+    /// A side before the first action: nothing stays, and every point is in the set. It takes
+    /// memory for each point.
     pub fn begin(alloc: Global, size: Size) -> Result<Side, HarvestFault>
         ensures side { IfOk result (IsNewSide size) }
         ensures fault { IfErr result (λ found. found ≡ fault.Memory) }

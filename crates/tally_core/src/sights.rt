@@ -1,4 +1,5 @@
-//! What one colour sees at an occasion: the patterns of the points that have changed since its last one.
+//! What one colour sees at an occasion: the patterns of the points that have changed since its last
+//! one.
 ghost use Rattle.std.specs.Prelude.{◌≡◌, ◌+◌, ◌<◌, ◌^◌, ℕ, [], length, slice_index, IfErr, OnOk};
 ghost use Rattle.go_board.specs.Point.{IsOn};
 ghost use Rattle.go_board.specs.Board.{position_of};
@@ -19,7 +20,8 @@ use crate::stays::{Stays, begin, play, settle_point};
 use go_board::{Colour, Point};
 use shape_core::{Field, Kinds};
 
-/// Looks at an empty point again: what stayed there is settled, and its patterns begin to stay, the square first.
+/// Looks at an empty point again: what stayed there is settled, and its patterns begin to stay, the
+/// square first.
 fn see_point(
     meetings: &mut Meetings,
     stays: &mut Stays,
@@ -53,7 +55,8 @@ fn see_point(
 }
 
 impl Side {
-    /// Settles what stays at the points of these bits of a row. They have stones, so nothing stays there from now on.
+    /// Settles what stays at the points of these bits of a row. They have stones, so nothing stays
+    /// there from now on.
     fn leave_points(&mut self, meetings: &mut Meetings, field: &Field, row: u8, columns: u64)
         requires row { row < field.now.board.size.rows }
         requires columns { columns < 2 ^ field.now.board.size.columns }
@@ -86,9 +89,10 @@ impl Side {
         }
     }
 
-    /// Looks again at the points of a row that have changed, and takes them out of the set: first at those where something
-    /// stays and a stone is now, then at those that are empty, from the left. Where there was a stone and is one still,
-    /// nothing stays and nothing comes, so such points are not looked at.
+    /// Looks again at the points of a row that have changed, and takes them out of the set: first
+    /// at those where something stays and a stone is now, then at those that are empty, from the
+    /// left. Where there was a stone and is one still, nothing stays and nothing comes, so such
+    /// points are not looked at.
     fn see_row(
         &mut self,
         meetings: &mut Meetings,
@@ -133,8 +137,9 @@ impl Side {
         Ok(())
     }
 
-    /// Counts an occasion of this colour, a move onto an empty point: looks once more at the points that have changed since
-    /// the last one, row by row from the top, and counts the point's patterns as played.
+    /// Counts an occasion of this colour, a move onto an empty point: looks once more at the points
+    /// that have changed since the last one, row by row from the top, and counts the point's
+    /// patterns as played.
     pub(crate) fn count(
         &mut self,
         meetings: &mut Meetings,

@@ -1,4 +1,5 @@
-//! What stays at the points of a board while a game is walked: most patterns do, and only what changes is looked up.
+//! What stays at the points of a board while a game is walked: most patterns do, and only what
+//! changes is looked up.
 ghost use Rattle.std.specs.Prelude.{◌≡◌, ◌+◌, ◌<◌, ◌^◌, ◌∷◌, ℕ, [], length, IfOk, IfErr, OnOk};
 ghost use Rattle.tally_core.specs.Inner.Counter.{times_in};
 ghost use Rattle.tally_core.specs.Walk.{shapes_of, there_among, played_among};
@@ -11,15 +12,16 @@ use crate::faults::HarvestFault;
 use crate::meetings::Meetings;
 use shape_core::Shape;
 
-/// A pattern that stays at a point: the index of its meeting, and how many occasions of its mover there had been when it
-/// was first there.
+/// A pattern that stays at a point: the index of its meeting, and how many occasions of its mover
+/// there had been when it was first there.
 #[derive(Clone, Copy)]
 pub struct Stay {
     pub meeting: usize,
     pub since: u64,
 }
 
-/// What stays at a point: nothing where it is not empty, and no diamond where squares alone are counted.
+/// What stays at a point: nothing where it is not empty, and no diamond where squares alone are
+/// counted.
 #[derive(Clone, Copy)]
 pub struct Stays {
     pub square: Option<Stay>,
@@ -71,7 +73,8 @@ pub(crate) fn play(meetings: &mut Meetings, stay: Option<Stay>)
     }
 }
 
-/// A stay of a pattern that begins now. It is called for each point that changes, so it is no call in the program.
+/// A stay of a pattern that begins now. It is called for each point that changes, so it is no call
+/// in the program.
 #[inline(always)]
 pub(crate) fn begin(
     meetings: &mut Meetings,

@@ -13,8 +13,8 @@ use std::alloc::Global;
 use std::collections::BTreeMap;
 use std::marker::Model;
 
-/// How often each pattern of one game was there and was played. Each value is the tally of some game: `tally_plain` alone
-/// makes one.
+/// How often each pattern of one game was there and was played. Each value is the tally of some
+/// game: `tally_plain` alone makes one.
 #[derive(Drop)]
 pub struct Tally {
     moves: u64,
@@ -36,7 +36,8 @@ impl Tally {
     ghost use Rattle.std.specs.Prelude.{◌≡◌};
     ghost use Rattle.tally_core.specs.Tally.{IsSomeTally};
 
-    /// How many occasions the game has: its moves onto empty points. The value is the tally of some game.
+    /// How many occasions the game has: its moves onto empty points. The value is the tally of some
+    /// game.
     pub fn moves(&self) -> u64
         ensures moves { result ≡ self.now.moves }
         ensures tally { IsSomeTally self.now }
@@ -53,14 +54,15 @@ impl Tally {
     }
 }
 
-/// The tally of a game: in the position before each move onto an empty point, the canonical pattern of each empty point,
-/// with the mover to move, was there, and that of the move's point was played besides (this project's own). `kinds` says
-/// which kinds of pattern are counted.
+/// The tally of a game: in the position before each move onto an empty point, the canonical pattern
+/// of each empty point, with the mover to move, was there, and that of the move's point was played
+/// besides (this project's own). `kinds` says which kinds of pattern are counted.
 ///
 /// # Errors
 ///
-/// `HarvestFault::Memory` where memory for the board or the counts was refused. `HarvestFault::Overflow` where the game has
-/// at least 2^64 / 5410 actions, which no input has: with fewer, no count passes 2^64 - 1.
+/// `HarvestFault::Memory` where memory for the board or the counts was refused.
+/// `HarvestFault::Overflow` where the game has at least 2^64 / 5410 actions, which no input has:
+/// with fewer, no count passes 2^64 - 1.
 pub fn tally_plain(alloc: Global, kinds: Kinds, game_record: &Record) -> Result<Tally, HarvestFault>
     ensures tally { IfOk result (IsTally kinds game_record.now) }
     ensures fault { IfErr result (IsTallyFault game_record.now) }

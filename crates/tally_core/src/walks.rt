@@ -13,7 +13,8 @@ use std::alloc::Global;
 use std::marker::Model;
 use std::mem;
 
-/// From this number of actions on, counts of a game may pass 2^64 - 1. An occasion is counted at most 5410 times.
+/// From this number of actions on, counts of a game may pass 2^64 - 1. An occasion is counted at
+/// most 5410 times.
 const MOST_ACTIONS: usize = 3_409_749_366_674_594;
 
 /// One walk of a game after another: what it needs, and the patterns that the last game had.
@@ -46,14 +47,15 @@ impl Walk {
         }
     }
 
-    /// Replays a game and lists its patterns in the order in which they are first met; the answer is how many occasions
-    /// it has. What was met in the game before is forgotten, and its memory used again. It takes memory for the board and
-    /// for the patterns.
+    /// Replays a game and lists its patterns in the order in which they are first met; the answer
+    /// is how many occasions it has. What was met in the game before is forgotten, and its memory
+    /// used again. It takes memory for the board and for the patterns.
     ///
     /// # Errors
     ///
-    /// `HarvestFault::Memory` where memory was refused, and `HarvestFault::Overflow` only where the game has more actions
-    /// than any input. After a fault nothing is known of the meetings, and the walk can be used as before.
+    /// `HarvestFault::Memory` where memory was refused, and `HarvestFault::Overflow` only where the
+    /// game has more actions than any input. After a fault nothing is known of the meetings, and
+    /// the walk can be used as before.
     pub fn walk(&mut self, game_record: &Record) -> Result<u64, HarvestFault>
         ensures walked { IfOk result (IsWalk self.old.kinds game_record.now self.new.meetings) }
         ensures among { OnOk result (IsAmong self.new.meetings) }

@@ -1,5 +1,5 @@
 -- What the definitions of `Adding` serve inside the crate.
-use Rattle.std.specs.Prelude.{◌≡◌, ◌≢◌, List, [], ◌++◌, map, Option, Some, None, Result, Ok, Err}
+use Rattle.std.specs.Prelude.{◌≡◌, ◌<◌, List, [], ◌++◌, map, Option, Some, None, Result, Ok, Err}
 use Rattle.sgf_core.specs.Tree.{PropertyValue, Property}
 use Rattle.go_board.specs.Extent.{Extent}
 use Rattle.go_record.specs.declared.actions.Action.{Action}
@@ -9,6 +9,7 @@ use Rattle.go_record.specs.declared.deeds.Deed.{Deed}
 use Rattle.go_record.specs.declared.deeds.Deed.TheVariants as deed
 use Rattle.go_record.specs.declared.names.Round.{Round}
 use Rattle.go_record.specs.declared.names.Round.TheVariants as round
+use Rattle.go_record.specs.Adding.{actions_before_fault}
 use Rattle.go_record.specs.Setup.{move_of, setup_of, always}
 use Rattle.go_record.specs.Record.{collected, setup_stone, move_colour, setups_of, moves_of}
 
@@ -33,13 +34,13 @@ round_deeds size round.Setups property = setups_of size (setup_stone property) p
 round_deeds size round.Moves property = moves_of size (move_colour property) property
 
 -- the results were added to the actions, or their first fault was answered, or memory was wanting, which can be only
--- where there is something to add
+-- where an action comes before the first fault
 abbrev pub Adds : List (Result (Option Action) RecordFault) → List Action → List Action → Result (Unit {0}) RecordFault → Type 0
 Adds deeds before after (Ok done) = behind before (collected deeds) ≡ Ok after
-Adds deeds before after (Err fault.Memory) = collected deeds ≢ Ok []
+Adds deeds before after (Err fault.Memory) = 0 < actions_before_fault deeds
 Adds deeds before after (Err found) = behind before (collected deeds) ≡ Err found
 
--- the fault is that of these actions, or memory was wanting for some of them
-abbrev pub IsFaultOrMemory : Result (List Action) RecordFault → RecordFault → Type 0
-IsFaultOrMemory actions fault.Memory = actions ≢ Ok []
-IsFaultOrMemory actions found = actions ≡ Err found
+-- the fault is that of these actions, or memory was wanting for some that come before it
+abbrev pub IsFaultOrMemory : List (Result (Option Action) RecordFault) → RecordFault → Type 0
+IsFaultOrMemory deeds fault.Memory = 0 < actions_before_fault deeds
+IsFaultOrMemory deeds found = collected deeds ≡ Err found

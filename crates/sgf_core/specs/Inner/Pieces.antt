@@ -2,6 +2,8 @@
 -- offsets in the whole input, from 0.
 use Rattle.std.specs.Prelude.{◌≡◌, ◌≢◌, ℕ, ◌<◌, ◌≤◌, Bool, false, IsTrue, ◌==◌, ◌||◌, List, [], ◌∷◌, ◌++◌, length, drop, slice_range, slice_index}
 use Rattle.std.specs.List.{flat_map, list_all}
+use Rattle.std.specs.Prelude.{Option, Some, None}
+use Rattle.sgf_core.specs.Tree.{Property}
 use Rattle.sgf_core.specs.Bytes.{is_white, is_letter, open_parenthesis, close_parenthesis, semicolon, open_bracket}
 use Rattle.sgf_core.specs.Grammar.{Part, opens, begins_node, closes, property_parts, WritesParts}
 use Rattle.sgf_core.specs.declared.marks.Mark.{Mark}
@@ -73,6 +75,11 @@ pub record ReadsMark (bytes : List ℕ) (expected : Expects) (from end : ℕ) (r
   pub wrote : IsMarkText from read (slice_range bytes from end)
   pub whole : IsWhole bytes end read
 
+-- what was kept of a mark: the mark, or nothing of a property for whose values memory was refused
+abbrev pub IsKept : Option Mark → Mark → Type 0
+IsKept None read = (property : Property) × (read ≡ mark.Prop property)
+IsKept (Some kept) read = kept ≡ read
+
 -- from a place on the input is less than a mark that may come
 pub record EndsInMark (bytes : List ℕ) (expected : Expects) (from : ℕ) : Type 0 where
   pub more : List ℕ
@@ -111,4 +118,4 @@ MarkFault bytes at expected from (fault.Truncated place) = (place ≡ at) × End
 MarkFault bytes at expected from (fault.BadByte bad) = IsMisfit bytes expected from bad
 MarkFault bytes at expected from (fault.NoValue bad) = (expected ≡ expects.Any) × IsNameAlone bytes from bad
 MarkFault bytes at expected from fault.TooLarge = ⊥
-MarkFault bytes at expected from fault.Memory = Unit {0}
+MarkFault bytes at expected from fault.Memory = ⊥

@@ -12,7 +12,7 @@ returns-in-Ok-clause-batch c =
     let input = c.args.input.now in
     let before = c.args.before.now in
     let added = subst (λ bytes. IsAdded before.sum bytes c.in-Ok.length c.in-Ok.sum) (rest_is input before.length) c.in-Ok.ensures.added in
-    more_batch input before c.in-Ok.length added.0 c.in-Ok.sum c.requires.before added.1 added.2
+    more_batch input before c.in-Ok.length added.0 c.in-Ok.sum c.requires.before added.1 added.2 added.3
 
 pub returns-in-Err-clause-fault : goal.returns-in-Err-clause-fault
 returns-in-Err-clause-fault c =

@@ -5,7 +5,7 @@ use Rattle.sgf_core.specs.Values.{value_of}
 use Rattle.sgf_core.specs.declared.marks.Value.{Value}
 use Rattle.go_record.specs.Inner.Adding.{action_of}
 use Rattle.go_record.specs.Record.{collected}
-use Rattle.go_record.proofs.Collected.{some_left, some_at}
+use Rattle.go_record.proofs.Collected.{some_at}
 use Rattle.go_record.proofs.adding.add_values.Goals as goal
 
 pub returns-in_err-push-clause-adds : goal.returns-in_err-push-clause-adds
@@ -14,12 +14,13 @@ returns-in_err-push-clause-adds c =
     let deed = λ (v : Value). action_of c.args.size c.args.deed (value_of v) in
     let values = c.args.values.now in
     let i = c.loop-value.value-index in
-    rw (p.1, p.2) (some_left c.args.actions.now.items c.loop-value.actions.items (collected (map deed values)) (collected (map deed (drop i values))) c.loop-value.invariant.left c.loop-value.invariant.grown
-    (some_at deed values i _ c.in-Some.action c.loop-value-test.true (sym (ap Ok c.in-Some.is) ∙ c.in_ok-action.ensures.value)))
+    let some = some_at deed values i _ c.in-Some.action c.loop-value-test.true (sym (ap Ok c.in-Some.is) ∙ c.in_ok-action.ensures.value) in
+    rw (p.1, p.2) (omega (arith, c.loop-value.invariant.counted, c.loop-value.invariant.grown, some))
 
 pub loop-value-preserved : goal.loop-value-preserved
 loop-value-preserved c = record {
   on_board = grind (arith, common_steps);
   grown = grind (arith, common_steps);
+  counted = grind (arith, common_steps);
   left = grind (arith, common_steps);
 }

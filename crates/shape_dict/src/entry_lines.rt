@@ -1,0 +1,60 @@
+//! The entry of the next line: judged by its place, and by the shape before it.
+ghost use Rattle.std.specs.Prelude.{◌≡◌, ◌++◌, ◌<◌, ◌^◌, IfOk, IfErr, MatchBool};
+ghost use Rattle.shape_core.specs.Symmetry.{least_image};
+ghost use Rattle.shape_dict.specs.Text.{line_text};
+ghost use Rattle.shape_dict.specs.Reading.{IsLine, IsAbove, IsLineFault};
+
+use crate::entries::Entry;
+use crate::faults::DictFault;
+use crate::headers::Header;
+use crate::lines::read_line;
+use shape_core::{Shape, Word};
+
+/// Whether a word is above the last shape, where there is one.
+fn is_above(last: Option<Shape>, word: Word) -> bool
+    ensures { MatchBool result (IsAbove last word) (IsAbove last word → ⊥) }
+{
+    match last {
+        None => true,
+        Some(shape) => shape.word().bits() < word.bits(),
+    }
+}
+
+/// The entry of the line at the front of the bytes, and what follows it. `place` is how many
+/// entries came before it, and `last` the shape of the last of them. It takes no memory.
+///
+/// # Errors
+///
+/// `BadLine` where the bytes don't begin with a line that this place may have, else `NotRising`
+/// where its word is not above `last`, else `NotCanonical` where its word is not the least of its
+/// images.
+pub fn read_entry<'a>(
+    header: &Header,
+    place: u64,
+    last: Option<Shape>,
+    bytes: &'a [u8],
+) -> Result<(Entry, &'a [u8]), DictFault>
+    requires { place < 2 ^ 63 }
+    ensures line { IfOk result (λ p. IsLine header.now place p.0) }
+    ensures shape { IfOk result (λ p. IsAbove last p.0.shape
+        × (least_image p.0.shape ≡ p.0.shape)) }
+    ensures same { IfOk result (λ p. bytes.now ≡ line_text header.now.text p.0 ++ p.1.now) }
+    ensures fault { IfErr result (IsLineFault header.now place last bytes.now) }
+{
+    let Some((line, rest)) = read_line(header, place, bytes) else {
+        return Err(DictFault::BadLine(place + 2));
+    };
+    if !is_above(last, line.word) {
+        return Err(DictFault::NotRising(place + 2));
+    }
+    let Some(shape) = Shape::of_word(line.word) else {
+        return Err(DictFault::NotCanonical(place + 2));
+    };
+    let entry = Entry {
+        shape,
+        there: line.there,
+        played: line.played,
+        first: line.first,
+    };
+    Ok((entry, rest))
+}
