@@ -35,7 +35,8 @@ use std::sync::Wait;
 use std::thread::Threads;
 use tally_core::{Counted, Report, Settings};
 
-/// Why a game was not added to a share: where no number was free for a pattern of it, all shares tell whether that is so.
+/// Why a game was not added to a share: where no number was free for a pattern of it, all shares
+/// tell whether that is so.
 fn explain<O: ProbeOrder>(
     table: &SlotTable<O>,
     pass: &mut Pass<O>,
@@ -85,8 +86,9 @@ fn count_of<R: Threads + Sync, O: ProbeOrder>(
     Ok(Counted { dictionary, report })
 }
 
-/// The dictionary of all shares, or the fault that is told, in this order: want of memory, that of the input, the one that
-/// goes first of the games that were refused, and that of the shares together.
+/// The dictionary of all shares, or the fault that is told, in this order: want of memory, that of
+/// the input, the one that goes first of the games that were refused, and that of the shares
+/// together.
 fn conclude<R: Threads + Sync, O: ProbeOrder>(
     rt: &R,
     alloc: Global,
@@ -130,7 +132,8 @@ fn conclude<R: Threads + Sync, O: ProbeOrder>(
     }
 }
 
-/// How many places the queue of this number of workers has: 16 for each, but at least 16 and at most 128.
+/// How many places the queue of this number of workers has: 16 for each, but at least 16 and at
+/// most 128.
 fn places_for(workers: u8) -> usize
     ensures places { result ≡ min 128 (16 * max 1 workers) }
     ensures least { 16 ≤ result }
@@ -176,25 +179,28 @@ where
     Ok(crew.run(rt, alloc, bytes, usize::from(settings.workers()))?)
 }
 
-/// Counts a whole collection by several workers over a table: the dictionary of its games, which are numbered from 0 in
-/// their order, and what its trees are. It is what `count_plain` answers, whatever the table, the gate, the number of
-/// workers and their turns. This project's own.
+/// Counts a whole collection by several workers over a table: the dictionary of its games, which
+/// are numbered from 0 in their order, and what its trees are. It is what `count_plain` answers,
+/// whatever the table, the gate, the number of workers and their turns. This project's own.
 ///
-/// This thread reads, and counts what the queue has no room for; as many workers as the settings say count what they draw
-/// from it. The slots of the settings are not looked at: those of the table count. The pass must be of the table, which
-/// may have numbers already. The pass itself enters and marks nothing, and a part of its stake goes to the workers. It takes
-/// memory for a queue of at most 128 games, for each thread for the largest tree and its record, the board and the patterns
-/// of its games, and for the dictionary.
+/// This thread reads, and counts what the queue has no room for; as many workers as the settings
+/// say count what they draw from it. The slots of the settings are not looked at: those of the
+/// table count. The pass must be of the table, which may have numbers already. The pass itself
+/// enters and marks nothing, and a part of its stake goes to the workers. It takes memory for a
+/// queue of at most 128 games, for each thread for the largest tree and its record, the board and
+/// the patterns of its games, and for the dictionary.
 ///
 /// # Errors
 ///
-/// `Sgf` with S4 where the input has more than 2^28 bytes, and then nothing was done to the table; else `Sgf` with the
-/// first fault of syntax; `Memory` where memory was refused or a worker was not started; `Full` with a game and one of its
-/// patterns for which no number was free, where that is confirmed: the input has as many other patterns as the table has
-/// numbers; `Missing`, `Twice`, `Stranger`, `Overflow` and `Marks` where the workers' shares do not go together. In a table
-/// that has numbers of other inputs `Stranger` may say so in place of `Full`, and `Marks` that it had a mark before. The
-/// first that applies is told, in this order: want of memory of this thread or of any worker, `Sgf`, `Full` of the least
-/// game, `Stranger`, `Overflow`, and then those of `gather`. After each the table keeps the numbers and marks that it got.
+/// `Sgf` with S4 where the input has more than 2^28 bytes, and then nothing was done to the table;
+/// else `Sgf` with the first fault of syntax; `Memory` where memory was refused or a worker was not
+/// started; `Full` with a game and one of its patterns for which no number was free, where that is
+/// confirmed: the input has as many other patterns as the table has numbers; `Missing`, `Twice`,
+/// `Stranger`, `Overflow` and `Marks` where the workers' shares do not go together. In a table that
+/// has numbers of other inputs `Stranger` may say so in place of `Full`, and `Marks` that it had a
+/// mark before. The first that applies is told, in this order: want of memory of this thread or of
+/// any worker, `Sgf`, `Full` of the least game, `Stranger`, `Overflow`, and then those of `gather`.
+/// After each the table keeps the numbers and marks that it got.
 pub fn harvest_on<R: Threads + Wait + Sync, O: ProbeOrder, G: Gate>(
     rt: &R,
     alloc: Global,
@@ -224,15 +230,16 @@ where
     conclude(rt, alloc, settings.kinds(), table, pass, bytes, crop)
 }
 
-/// Counts a whole collection by several workers over a new table of 2^k slots, where the settings have the number of
-/// workers, the exponent k and the kinds of pattern. It is what `count_plain` answers, whatever the gate, the number of
-/// workers and their turns. This project's own.
+/// Counts a whole collection by several workers over a new table of 2^k slots, where the settings
+/// have the number of workers, the exponent k and the kinds of pattern. It is what `count_plain`
+/// answers, whatever the gate, the number of workers and their turns. This project's own.
 ///
 /// It takes memory for the table, and what `harvest_on` takes.
 ///
 /// # Errors
 ///
-/// Those of `harvest_on`; the new table is dropped. `Memory` also where memory was refused for the table.
+/// Those of `harvest_on`; the new table is dropped. `Memory` also where memory was refused for the
+/// table.
 pub fn harvest<R: Threads + Wait + Sync, G: Gate>(
     rt: &R,
     alloc: Global,

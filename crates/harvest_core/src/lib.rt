@@ -1,7 +1,8 @@
 //! A collection counted by several workers over one table of numbers.
 //!
-//! Faults are told in this order: want of memory of the thread that reads or of any worker; faults of the input; of the games
-//! that were refused `Full` of the least game, `Stranger`, `Overflow`; and then those of all shares together.
+//! Faults are told in this order: want of memory of the thread that reads or of any worker; faults
+//! of the input; of the games that were refused `Full` of the least game, `Stranger`, `Overflow`;
+//! and then those of all shares together.
 #![tactic(auto)]
 
 mod gates;

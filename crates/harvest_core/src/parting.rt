@@ -57,8 +57,8 @@ pub(crate) fn want_memory(refusals: &[HarvestFault]) -> bool
     refusals.contains(&HarvestFault::Memory)
 }
 
-/// The place of a fault in the order in which faults of games are told: want of memory, want of a number, strangers, and
-/// then a count that is too large.
+/// The place of a fault in the order in which faults of games are told: want of memory, want of a
+/// number, strangers, and then a count that is too large.
 fn place(fault: &HarvestFault) -> u32
     ensures { result ≡ rank fault.now }
 {
@@ -81,7 +81,8 @@ fn game_of(fault: &HarvestFault) -> u64
     }
 }
 
-/// Whether a fault is told rather than another one: it has the lesser place, or the same one and the lesser game.
+/// Whether a fault is told rather than another one: it has the lesser place, or the same one and
+/// the lesser game.
 fn goes_first(one: &HarvestFault, other: &HarvestFault) -> bool
     ensures { IsTrue result ↔ GoesFirst one.now other.now }
 {

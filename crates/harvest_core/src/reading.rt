@@ -1,5 +1,5 @@
-//! The thread that reads: it makes a job of each game and puts it into the queue, and counts those that the queue hands
-//! back.
+//! The thread that reads: it makes a job of each game and puts it into the queue, and counts those
+//! that the queue hands back.
 ghost use Rattle.std.specs.Prelude.{◌≡◌, ◌+◌, ◌^◌, ◌⊎◌, ◌↔◌, ℕ, List, IsTrue};
 ghost use Rattle.std.specs.Prelude.{IfSome, IfNone, IfErr, OnOk};
 ghost use Rattle.job_core.specs.declared.jobs.Item.TheVariants as item;
@@ -24,7 +24,8 @@ use std::sync::Wait;
 use std::thread;
 use tally_core::Report;
 
-/// Puts a job into the queue. It is counted here where the queue is full, or no worker draws from it.
+/// Puts a job into the queue. It is counted here where the queue is full, or no worker draws from
+/// it.
 fn offer<'a, R: Wait, O: ProbeOrder, G: Gate>(
     rt: &R,
     desk: &mut Desk<'_, 'a>,

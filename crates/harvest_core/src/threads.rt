@@ -160,7 +160,8 @@ fn theirs<'a, R: Threads>(
     Ok(thread::join_promised(rt, handles)?)
 }
 
-/// Waits for all workers, and puts what the thread that reads has come to beside what they hand back.
+/// Waits for all workers, and puts what the thread that reads has come to beside what they hand
+/// back.
 fn joined<'a, R: Threads>(
     rt: &R,
     of: WorkOf<'a>,
@@ -198,8 +199,8 @@ impl<'q, 'a, 't, O: ProbeOrder, G: Gate> Crew<'q, 'a, 't, O, G> {
     ghost use Rattle.harvest_core.specs.Inner.Working.{IsWorkOf};
     ghost use Rattle.harvest_core.specs.Inner.Crew.{IsCrew, IsReadingOf, IsCrop, AreAsked};
 
-    /// Reads all games beside the workers that were started. Where these are fewer than were asked for, that is want of
-    /// memory, and nothing is read: the workers are told to end.
+    /// Reads all games beside the workers that were started. Where these are fewer than were asked
+    /// for, that is want of memory, and nothing is read: the workers are told to end.
     fn finish<R: Wait>(self, rt: &R, alloc: Global, started: usize, asked: usize) -> Reading
         requires { IsCrew O.exponent self }
         ensures reading { IsReadingOf self.entry.games.bytes self.entry.bench.kinds result }
@@ -219,8 +220,8 @@ impl<'q, 'a, 't, O: ProbeOrder, G: Gate> Crew<'q, 'a, 't, O, G> {
         }
     }
 
-    /// Starts workers, reads all games, and waits for the workers. All that were asked for have counted, in the order of
-    /// their numbers, or the fault is want of memory.
+    /// Starts workers, reads all games, and waits for the workers. All that were asked for have
+    /// counted, in the order of their numbers, or the fault is want of memory.
     pub(crate) fn run<R: Threads + Wait + Sync>(
         self,
         rt: &R,

@@ -35,7 +35,7 @@ impl Worked {
         ensures worked { (bytes : List ℕ) → IsWorked bytes kinds result.share }
         ensures refused { result.refused ≡ None }
     {
-        Worked::begin_among(alloc, worker, worker, kinds)
+        Worked::begin_among(alloc, worker, 1, kinds)
     }
 
     /// The same, of one of this many workers.
@@ -53,8 +53,9 @@ impl Worked {
         }
     }
 
-    /// Counts the game of a job. The pass enters patterns of this game alone, and marks this game alone. Once a game was
-    /// refused nothing changes: jobs are dropped, and the first refusal stays.
+    /// Counts the game of a job. The pass enters patterns of this game alone, and marks this game
+    /// alone. Once a game was refused nothing changes: jobs are dropped, and the first refusal
+    /// stays.
     pub fn count<O: ProbeOrder, G: Gate>(
         &mut self,
         table: &SlotTable<O>,
@@ -94,9 +95,10 @@ impl Worked {
     }
 }
 
-/// A worker's loop: it draws jobs from the queue and counts their games, and ends at its first end. It puts nothing, and its
-/// pass enters and marks nothing but for the games that it drew. While the queue is empty it lets other threads run. Once a
-/// game was refused it goes on drawing and drops what it draws. It waits for the reader.
+/// A worker's loop: it draws jobs from the queue and counts their games, and ends at its first end.
+/// It puts nothing, and its pass enters and marks nothing but for the games that it drew. While the
+/// queue is empty it lets other threads run. Once a game was refused it goes on drawing and drops
+/// what it draws. It waits for the reader.
 pub fn work<R: Wait, O: ProbeOrder, G: Gate>(
     rt: &R,
     alloc: Global,
@@ -115,7 +117,7 @@ pub fn work<R: Wait, O: ProbeOrder, G: Gate>(
     ensures drawn { HasDrawn (2 ^ O.exponent table.now.order) kinds pass.old pass.new desk.old
         result desk.new }
 {
-    work_among(rt, alloc, desk, worker, worker, kinds, table, pass, gate)
+    work_among(rt, alloc, desk, worker, 1, kinds, table, pass, gate)
 }
 
 /// The same, of one of this many workers.

@@ -4,7 +4,7 @@ use Rattle.job_core.specs.declared.jobs.Item.{Item}
 use Rattle.job_core.specs.declared.jobs.Item.TheVariants.{Job, End}
 use Rattle.job_core.specs.Games.{WrittenGame}
 use Rattle.job_core.specs.Rising.{Rising, past}
-use Rattle.job_core.specs.Inner.Rule.{Queued}
+use Rattle.job_core.specs.Queue.{Queued}
 
 pub rising_up : (low : ℕ) (games : List ℕ) (high higher : ℕ) → high ≤ higher → Rising low games high → Rising low games higher
 rising_up low [] high higher up r = omega arith

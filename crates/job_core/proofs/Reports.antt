@@ -1,13 +1,14 @@
 -- A tree more that was read and counted.
 use Rattle.std.proofs.Common.{◌≡◌, ℕ, ◌+◌, ◌≤◌, List, [], ◌∷◌, ◌++◌, length, map, Option, Some, None, Result, Ok, Err, refl, ap, sym, subst, ◌∙◌, inl, inr, arith, length-append}
 use Rattle.std.proofs.lemmas.List.{map-append}
-use Rattle.sgf_core.specs.Tree.{GameTree}
+use Rattle.sgf_core.specs.Tree.{GameTree, Node}
+use Rattle.go_record.specs.Record.{record_of}
 use Rattle.go_record.specs.Actions.{Actions}
 use Rattle.go_record.specs.declared.records.Kind.{Kind}
 use Rattle.go_record.specs.declared.records.Kind.TheVariants as kind
 use Rattle.go_record.specs.declared.faults.RecordFault.{RecordFault}
 use Rattle.go_record.specs.declared.faults.RecordFault.TheVariants as record_fault
-use Rattle.go_record.specs.Adding.{IsUnlessMemory}
+use Rattle.go_record.specs.Adding.{IsRecordOrMemory}
 use Rattle.tally_core.specs.Collection.{record_of_tree, games_among, others_among, refused_among}
 use Rattle.sgf_core.specs.declared.faults.SgfFault.TheVariants as sgf
 use Rattle.tally_core.specs.Counted.{IsReport, IsCountFault}
@@ -86,9 +87,9 @@ reads_on bytes from before after read found h next counts =
     }
 
 -- what was read of a record is the record, where memory was not wanting
-pub known : (recorded wanted : Result Kind RecordFault) → (recorded ≡ Err record_fault.Memory → ⊥) → IsUnlessMemory recorded wanted → recorded ≡ wanted
-known (Ok kind) wanted not is = is
-known (Err found) wanted not is = sym (not_memory found wanted (λ same. not (ap Err same)) is)
+pub known : (line : List Node) (recorded : Result Kind RecordFault) → (recorded ≡ Err record_fault.Memory → ⊥) → IsRecordOrMemory line recorded → recorded ≡ record_of line
+known line (Ok kind) not is = is
+known line (Err found) not is = sym (not_memory line found (λ same. not (ap Err same)) is)
 
 -- a fact on an input and a place, of the same input and place
 pub moved : (P : List ℕ → ℕ → Type 0) (bytes other : List ℕ) (from place : ℕ) → other ≡ bytes → place ≡ from → P other place → P bytes from

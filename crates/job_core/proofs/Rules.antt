@@ -10,7 +10,7 @@ use Rattle.job_core.specs.declared.jobs.Item.TheVariants.{Job, End}
 use Rattle.job_core.specs.declared.hands.Hand.{Hand}
 use Rattle.job_core.specs.Rising.{past}
 use Rattle.job_core.specs.Rule.{blank, reader, worker, putting, drawing, Draws, MayPut}
-use Rattle.job_core.specs.Inner.Rule.{Queued, Fits, Keeps, Holds}
+use Rattle.job_core.specs.Queue.{Queued, Fits, Keeps, Holds}
 use Rattle.job_core.proofs.Orders.{rising_up, rising_on, past_on, queued_job, queued_end}
 
 abbrev All : (ℕ → Hand → Type 0) → List Hand → Type 0

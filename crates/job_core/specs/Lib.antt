@@ -2,4 +2,5 @@ pub mod Games
 pub mod Reading
 pub mod Rising
 pub mod Rule
+pub mod Queue
 pub mod Inner

@@ -52,10 +52,11 @@ struct Recorded {
     recorded: Result<Kind, RecordFault>,
 }
 
-/// Reads the games of an input, which are numbered from 0 in their order, and counts what its trees are.
+/// Reads the games of an input, which are numbered from 0 in their order, and counts what its trees
+/// are.
 ///
-/// Contracts see the input, the place `from` up to which its trees were read, the report on these, the `fault` that was met,
-/// if any, and whether the reader has `ended`: no tree was left.
+/// Contracts see the input, the place `from` up to which its trees were read, the report on these,
+/// the `fault` that was met, if any, and whether the reader has `ended`: no tree was left.
 #[derive(Drop)]
 pub struct Games<'a> {
     bytes: &'a [u8],
@@ -86,7 +87,8 @@ impl<'a> Model for Games<'a> {
         × (games.trees.bytes ≡ games.bytes.now) };
 }
 
-/// The next tree, or None where none is left. A fault of syntax is the one that the reader keeps from then on.
+/// The next tree, or None where none is left. A fault of syntax is the one that the reader keeps
+/// from then on.
 fn next_tree<'a>(alloc: Global, trees: &mut Trees<'a>) -> Result<Option<Tree<'a>>, HarvestFault>
     ensures tree { IfOk result (λ found. IfSome found (λ read. (tree : GameTree)
         × IsNextTree trees.old.bytes trees.old.from read.at read.end tree
@@ -234,15 +236,17 @@ impl<'a> Games<'a> {
         }
     }
 
-    /// The job of the next game, or None where no game is left. Trees of other games, and those whose records have a
-    /// fault, are counted and passed over.
+    /// The job of the next game, or None where no game is left. Trees of other games, and those
+    /// whose records have a fault, are counted and passed over.
     ///
-    /// It takes memory for a tree and its record. After None each later call answers None and changes nothing.
+    /// It takes memory for a tree and its record. After None each later call answers None and
+    /// changes nothing.
     ///
     /// # Errors
     ///
-    /// `Sgf` where the next tree has a fault of syntax; `Memory` where memory was refused. After a fault, want of memory too,
-    /// each later call answers it again and changes nothing, so the report stays that of the trees that were read.
+    /// `Sgf` where the next tree has a fault of syntax; `Memory` where memory was refused. After a
+    /// fault, want of memory too, each later call answers it again and changes nothing, so the
+    /// report stays that of the trees that were read.
     pub fn next_job(&mut self, alloc: Global) -> Result<Option<Job<'a>>, HarvestFault>
         ensures bytes { self.new.bytes ≡ self.old.bytes }
         ensures job { IfOk result (λ found. IfSome found (IsNextGame self.old self.new)) }

@@ -7,8 +7,8 @@ use crossbeam_queue::{Pass, RuledArrayQueue};
 use std::collections::LinkedList;
 use std::marker::{Brand, PhantomData};
 
-/// What a pass knows: the input, once it is named, the games that it put, if it may put any, and those that it drew, and
-/// how many ends it put and drew. No value of it is made.
+/// What a pass knows: the input, once it is named, the games that it put, if it may put any, and
+/// those that it drew, and how many ends it put and drew. No value of it is made.
 pub struct Hand {
     pub named: bool,
     pub writes: bool,
@@ -19,13 +19,13 @@ pub struct Hand {
     pub ends_drawn: u64,
 }
 
-/// The rule of the queue: all passes name the same input, each queued job holds it, the queued games rise, each is above
-/// every game that was drawn, and none is above the last that was put.
+/// The rule of the queue: all passes name the same input, each queued job holds it, the queued
+/// games rise, each is above every game that was drawn, and none is above the last that was put.
 pub struct InTurn;
 
 impl<'a> Protocol<Item<'a>, Hand> for InTurn {
     ghost use Rattle.job_core.specs.Rule.{blank};
-    ghost use Rattle.job_core.specs.Inner.Rule.{Holds};
+    ghost use Rattle.job_core.specs.Queue.{Holds};
 
     ghost holds = { Holds };
 

@@ -6,10 +6,11 @@ ghost use Rattle.sgf_core.specs.Limit.{most_bytes};
 use go_record::Record;
 use std::marker::Model;
 
-/// A game of an input that is to be counted: its number, its place and its record. It borrows the input.
+/// A game of an input that is to be counted: its number, its place and its record. It borrows the
+/// input.
 ///
-/// Contracts see the input's bytes and these, and that the record is that of the game of this number among the trees of
-/// the input. Jobs come from `Games::next_job` alone.
+/// Contracts see the input's bytes and these, and that the record is that of the game of this
+/// number among the trees of the input. Jobs come from `Games::next_job` alone.
 #[derive(Drop)]
 pub struct Job<'a> {
     bytes: &'a [u8],

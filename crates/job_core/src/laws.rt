@@ -1,4 +1,5 @@
-//! Laws of jobs, for proofs in the crates above. Each is a function that does nothing, and its contract is the law.
+//! Laws of jobs, for proofs in the crates above. Each is a function that does nothing, and its
+//! contract is the law.
 ghost use Rattle.std.specs.Prelude.{◌≡◌, ℕ, ◌<◌, ◌++◌, List, Some, length, map, slice_get};
 ghost use Rattle.sgf_core.specs.Tree.{GameTree};
 ghost use Rattle.sgf_core.specs.Next.{HasNoTree};
@@ -7,8 +8,8 @@ ghost use Rattle.tally_core.specs.Collection.{AreTrees, record_of_tree, games_am
 ghost use Rattle.job_core.specs.Games.{IsGameOf};
 ghost use Rattle.job_core.specs.Rising.{Rising, past};
 
-/// An input has one list of trees, so the record of a job is that of the game of its number: among all trees, and among
-/// the first of them where they have a game of that number.
+/// An input has one list of trees, so the record of a job is that of the game of its number: among
+/// all trees, and among the first of them where they have a game of that number.
 pub fn a_number_is_of_one_game()
     ensures all { (bytes : List ℕ) (trees : List GameTree) (end game at stop : ℕ)
         → (actions : Actions)
@@ -21,8 +22,8 @@ pub fn a_number_is_of_one_game()
         → slice_get (games_among (map record_of_tree trees)) game ≡ Some actions }
 {}
 
-/// The end of a list of rising numbers rises, from the end of its front on. So the games that a worker draws in one call
-/// rise, whatever its pass drew before.
+/// The end of a list of rising numbers rises, from the end of its front on. So the games that a
+/// worker draws in one call rise, whatever its pass drew before.
 pub fn the_end_of_rising_numbers_rises()
     ensures { (low high : ℕ) (before : List ℕ) (after : List ℕ)
         → Rising low (before ++ after) high → Rising (past before) after high }

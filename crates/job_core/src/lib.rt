@@ -1,4 +1,5 @@
-//! The games of a collection as jobs, and the queue that hands them to workers. No thread is started here.
+//! The games of a collection as jobs, and the queue that hands them to workers. No thread is
+//! started here.
 #![tactic(auto)]
 
 mod games;

@@ -1,6 +1,6 @@
 //! The queue of jobs, as a reader and its workers call it.
 ghost use Rattle.std.specs.Prelude.{◌≡◌, ◌<◌, [], IfOk, IfErr, MatchOption, MatchResult};
-ghost use Rattle.crossbeam_queue.specs.Passes.{view, IsPassOf, IsSamePass};
+ghost use Rattle.crossbeam_queue.specs.Passes.{view, IsPassOf, IsSamePass, ruled_capacity};
 ghost use Rattle.tally_core.specs.declared.faults.HarvestFault.TheVariants as fault;
 ghost use Rattle.job_core.specs.Rule.{blank, reader, worker, putting, drawing, Draws, MayPut};
 
@@ -11,7 +11,8 @@ use std::marker::{Brand, Model};
 use std::sync::Wait;
 use tally_core::HarvestFault;
 
-/// A new queue of that number of places, above 0, and its first pass. It takes memory for the places.
+/// A new queue of that number of places, above 0, and its first pass. It takes memory for the
+/// places.
 ///
 /// # Errors
 ///
@@ -19,6 +20,7 @@ use tally_core::HarvestFault;
 pub fn new_queue<'a>(alloc: Global, places: usize) -> Result<(Jobs<'a>, Seat<'a>), HarvestFault>
     requires places { 0 < places }
     ensures pass { IfOk result (λ new. IsPassOf new.0 new.1 × (view new.1 ≡ blank)) }
+    ensures places { IfOk result (λ new. ruled_capacity new.0 ≡ places) }
     ensures fault { IfErr result (λ found. found ≡ fault.Memory) }
 {
     Ok(Jobs::ruled(alloc, places)?)
@@ -45,8 +47,8 @@ fn open<'a>(queue: &Jobs<'a>, pass: &mut Seat<'a>, bytes: &[u8])
 
 /// A pass of a queue of jobs, beside its queue: the right of one thread to put or to draw.
 ///
-/// Contracts see what the pass knows: the `bytes` of the input, the games that it `put`, those that it has `drawn`, and
-/// how many ends it put and drew, `ends_put` and `ends_drawn`.
+/// Contracts see what the pass knows: the `bytes` of the input, the games that it `put`, those that
+/// it has `drawn`, and how many ends it put and drew, `ends_put` and `ends_drawn`.
 #[derive(Drop)]
 pub struct Desk<'q, 'a> {
     queue: &'q Jobs<'a>,
@@ -94,7 +96,8 @@ impl<'q, 'a> Desk<'q, 'a> {
 
     /// Puts an item. It takes no memory, and may wait for a thread that is in the middle of a call.
     ///
-    /// A job is put by the reader alone, is of the input of the queue, and its game is above all that were put.
+    /// A job is put by the reader alone, is of the input of the queue, and its game is above all
+    /// that were put.
     ///
     /// # Errors
     ///
@@ -107,9 +110,10 @@ impl<'q, 'a> Desk<'q, 'a> {
         self.queue.push_as::<Puts, R>(rt, &mut self.pass, item)
     }
 
-    /// Draws an item, or answers None where it finds the queue empty. A job that is drawn is of the input of the queue, and
-    /// its game is above all that this desk drew before. The items come in the queue's own order, that of first in, first
-    /// out, of which no clause speaks. It takes no memory, and may wait for a thread that is in the middle of a call.
+    /// Draws an item, or answers None where it finds the queue empty. A job that is drawn is of the
+    /// input of the queue, and its game is above all that this desk drew before. The items come in
+    /// the queue's own order, that of first in, first out, of which no clause speaks. It takes no
+    /// memory, and may wait for a thread that is in the middle of a call.
     pub fn draw<R: Wait>(&mut self, rt: &R) -> Option<Item<'a>>
         ensures { MatchOption result (self.new ≡ self.old)
             (λ x. (self.new ≡ drawing self.old x) × Draws self.old x) }
