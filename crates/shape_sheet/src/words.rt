@@ -1,9 +1,11 @@
 //! The words of the command line, and what they ask for.
-ghost use Rattle.std.specs.Prelude.{◌≡◌, ◌≢◌, ◌⊎◌, codes, map, string_bytes, IfOk, IfErr};
+ghost use Rattle.std.specs.Prelude.{◌≡◌, ◌≢◌, ◌⊎◌, ◌^◌, codes, map, string_bytes, IfOk, IfErr};
 ghost use Rattle.std.specs.Prelude.{IfSome, IfNone};
 ghost use Rattle.clap.specs.Words.{found_of, rows_of};
-ghost use Rattle.shape_sheet.specs.Words.{IsNumberOf, IsOrderOf, IsKindOf, IsFormOf, IsTaskOf};
-ghost use Rattle.shape_sheet.specs.Words.{IsAsked, IsHelp, name_of, rows_for};
+ghost use Rattle.clap.specs.Values.{kind_of as kind_of_error};
+ghost use Rattle.shape_sheet.specs.Words.{IsNumberOf, IsOrderOf, IsKindOf, IsFormOf, IsAsked};
+ghost use Rattle.shape_sheet.specs.Words.{HasNoNumber, HasNoOrder, HasNoSheet, IsSheetOf, name_of};
+ghost use Rattle.shape_sheet.specs.Words.{IsHelp, IsHelpKind, IsRefusal, IsAnswered, IsLineFault};
 ghost use Rattle.sheet_core.specs.declared.orders.Order.{Order};
 ghost use Rattle.engine_core.specs.declared.faults.RunFault.TheVariants as fault;
 
@@ -26,18 +28,26 @@ pub enum Task {
 
 /// How often a pattern is to have been there, where the words say a number.
 fn least_of(matches: &ArgMatches<'_>) -> Option<u64>
-    ensures { IfSome result (IsNumberOf (codes "least") (rows_of (found_of matches.now))) }
+    ensures number { IfSome result (IsNumberOf (codes "least") (rows_of (found_of matches.now))) }
+    ensures none { IfNone result (HasNoNumber (2 ^ 64) (codes "least")
+        (rows_of (found_of matches.now))) }
 {
-    let number = matches.get_one::<u64>("least")?;
-    Some(number)
+    match matches.get_one::<u64>("least") {
+        Some(number) => Some(number),
+        None => None,
+    }
 }
 
 /// How many patterns are to be shown at most, where the words say a number.
 fn most_of(matches: &ArgMatches<'_>) -> Option<u16>
-    ensures { IfSome result (IsNumberOf (codes "most") (rows_of (found_of matches.now))) }
+    ensures number { IfSome result (IsNumberOf (codes "most") (rows_of (found_of matches.now))) }
+    ensures none { IfNone result (HasNoNumber (2 ^ 16) (codes "most")
+        (rows_of (found_of matches.now))) }
 {
-    let number = matches.get_one::<u16>("most")?;
-    Some(number)
+    match matches.get_one::<u16>("most") {
+        Some(number) => Some(number),
+        None => None,
+    }
 }
 
 /// The order of this name, where there is one.
@@ -55,9 +65,13 @@ fn order_named(name: &str) -> Option<Order>
 
 /// The order, where the words name one.
 fn order_of(matches: &ArgMatches<'_>) -> Option<Order>
-    ensures { IfSome result (IsOrderOf (rows_of (found_of matches.now))) }
+    ensures found { IfSome result (IsOrderOf (rows_of (found_of matches.now))) }
+    ensures none { IfNone result (HasNoOrder (rows_of (found_of matches.now))) }
 {
-    order_named(matches.get_str("by")?)
+    match matches.get_str("by") {
+        Some(name) => order_named(name),
+        None => None,
+    }
 }
 
 /// The kind of the patterns.
@@ -83,8 +97,10 @@ fn form_of(matches: &ArgMatches<'_>) -> Form
 }
 
 /// The sheet that was asked for, where the words name an order.
+#[tactic(auto, using(crate::proofs::Asked::no_sheet_order, crate::proofs::Asked::no_sheet_least, crate::proofs::Asked::no_sheet_most))]
 fn sheet_of(matches: &ArgMatches<'_>) -> Option<Asked>
-    ensures { IfSome result (IsAsked (rows_of (found_of matches.now))) }
+    ensures asked { IfSome result (IsAsked (rows_of (found_of matches.now))) }
+    ensures none { IfNone result (HasNoSheet (rows_of (found_of matches.now))) }
 {
     let order = order_of(matches)?;
     let least = least_of(matches)?;
@@ -98,10 +114,23 @@ fn sheet_of(matches: &ArgMatches<'_>) -> Option<Asked>
     })
 }
 
+/// What values that `clap` takes ask for.
+fn accepted(matches: &ArgMatches<'_>) -> Result<Task, RunFault>
+    ensures sheet { IfOk result (IsSheetOf (rows_of (found_of matches.now))) }
+    ensures fault { IfErr result (λ found. (found ≡ fault.Usage)
+        × HasNoSheet (rows_of (found_of matches.now))) }
+{
+    match sheet_of(matches) {
+        Some(asked) => Ok(Task::Sheet(asked)),
+        None => Err(RunFault::Usage),
+    }
+}
+
 /// What a refused line asks for: a text of help or version, or nothing that the program knows.
 fn refused(alloc: Global, error: &Error) -> Result<Task, RunFault>
-    ensures task { IfOk result IsHelp }
-    ensures fault { IfErr result (λ found. (found ≡ fault.Usage) ⊎ (found ≡ fault.Memory)) }
+    ensures help { IfOk result (λ found. IsHelp found × IsHelpKind (kind_of_error error.now)) }
+    ensures fault { IfErr result (λ found. (found ≡ fault.Memory)
+        ⊎ ((found ≡ fault.Usage) × IsRefusal (kind_of_error error.now))) }
 {
     match error.kind() {
         ErrorKind::DisplayHelp | ErrorKind::DisplayVersion => {
@@ -112,23 +141,20 @@ fn refused(alloc: Global, error: &Error) -> Result<Task, RunFault>
     }
 }
 
-/// What the words after the program's name ask for; no word at all asks for a page of the 50 squares that were played
-/// most. It takes memory.
+/// What the words after the program's name ask for; no word at all asks for a page of the 50
+/// squares that were played most. It takes memory.
 ///
 /// # Errors
 ///
-/// `Usage` where the words are none that the program knows, the name of no order among them; `Memory` where memory was
-/// refused.
+/// `Usage` where the words are none that the program knows, the name of no order among them;
+/// `Memory` where memory was refused.
 pub fn read_words(alloc: Global, words: &[String]) -> Result<Task, RunFault>
-    ensures task { IfOk result (IsTaskOf (rows_for (map string_bytes words.now))) }
-    ensures fault { IfErr result (λ found. (found ≡ fault.Usage) ⊎ (found ≡ fault.Memory)) }
+    ensures task { IfOk result (IsAnswered (map string_bytes words.now)) }
+    ensures fault { IfErr result (IsLineFault (map string_bytes words.now)) }
 {
     let command = program(alloc)?;
     match command.try_get_matches_from(words) {
-        Ok(matches) => match sheet_of(&matches) {
-            Some(asked) => Ok(Task::Sheet(asked)),
-            None => Err(RunFault::Usage),
-        },
+        Ok(matches) => accepted(&matches),
         Err(error) => refused(alloc, &error),
     }
 }

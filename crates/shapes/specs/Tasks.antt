@@ -31,7 +31,7 @@ Does task.Board rest before after answer =
 Does (task.Count settings text) rest before after answer =
     IsSome answer.report
     × (answer.outcome ≡ outcome.Done)
-    × IfSome answer.report (λ report. Wrote (IsCountText settings.kinds text report) rest before after)
+    × IfSome answer.report (λ report. Wrote (IsCountText (2 ^ settings.k) settings.kinds text report) rest before after)
 Does (task.Find shape) rest before after answer =
     (answer.report ≡ None)
     × (answer.outcome ≡ outcome.Done → Wrote (IsFoundText shape) rest before after)
@@ -45,7 +45,7 @@ Does (task.Help text) rest before after answer =
 abbrev pub IsTaskFault : Task → Option (List ℕ) → Option (List ℕ) → Option (List ℕ) → RunFault → Type 0
 IsTaskFault task.Board rest before after found = IsRunFault IsBoardText IsBoardFault rest before after found
 IsTaskFault (task.Count settings text) rest before after found =
-    IsRunFault (HasCountText settings.kinds text) (IsCountRunFault (2 ^ settings.k) settings.kinds) rest before after found
+    IsRunFault (HasCountText (2 ^ settings.k) settings.kinds text) (IsCountRunFault (2 ^ settings.k) settings.kinds) rest before after found
 IsTaskFault (task.Find shape) rest before after found = IsRunFault (IsFindText shape) IsFindFault rest before after found
 IsTaskFault (task.Join text) rest before after found = IsRunFault (IsJoinText text) IsJoinRunFault rest before after found
 IsTaskFault (task.Help text) rest before after found = WroteFront before after text.bytes.items found

@@ -20,7 +20,8 @@ fn run<T: Threads + Wait + Sync>(rt: &HostRuntime, threads: &T) -> Result<Answer
     do_task(threads, rt.alloc(), task, &mut rt.stdin(), &mut rt.stdout())
 }
 
-/// Prints to standard error what is to be said there. Where it takes nothing, the status still says what went wrong.
+/// Prints to standard error what is to be said there. Where it takes nothing, the status still says
+/// what went wrong.
 fn tell(rt: &HostRuntime, done: &Result<Answer, RunFault>) {
     let _ = match done {
         Ok(answer) => match &answer.report {

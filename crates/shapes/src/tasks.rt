@@ -34,12 +34,14 @@ impl Answer {
     }
 }
 
-/// Does a task: `board`, `count`, `find` and `join` by their engines, each with the reader and the writer, and they read what
-/// their engines read; of help the text is written, and nothing is read. The threads that count are started through `threads`.
+/// Does a task: `board`, `count`, `find` and `join` by their engines, each with the reader and the
+/// writer, and they read what their engines read; of help the text is written, and nothing is read.
+/// The threads that count are started through `threads`.
 ///
 /// # Errors
 ///
-/// Those of the engine, and what is out then is what the engine says. `Write` where a text of help was not written whole.
+/// Those of the engine, and what is out then is what the engine says. `Write` where a text of help
+/// was not written whole.
 pub fn do_task<T: Threads + Wait + Sync, R: Read, W: Write>(
     threads: &T,
     alloc: Global,
@@ -71,7 +73,8 @@ pub fn do_task<T: Threads + Wait + Sync, R: Read, W: Write>(
     }
 }
 
-/// The exit status of a run: 0 where its task was done, 1 where what was asked for was not found, and that of the fault.
+/// The exit status of a run: 0 where its task was done, 1 where what was asked for was not found,
+/// and that of the fault.
 pub fn status_after(done: &Result<Answer, RunFault>) -> u8
     ensures { result ≡ status_after done.now }
 {

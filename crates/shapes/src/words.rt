@@ -148,12 +148,14 @@ fn refused(alloc: Global, error: &Error) -> Result<Task, RunFault>
     }
 }
 
-/// The task that the words after the program's name ask for; no word at all asks for `board`. It takes memory.
+/// The task that the words after the program's name ask for; no word at all asks for `board`. It
+/// takes memory.
 ///
 /// # Errors
 ///
-/// `Usage` where the words are none that the program knows, a mover that is no colour among them; else `Glyph` where the
-/// glyphs of `find` are not those of a pattern; `Memory` where memory was refused.
+/// `Usage` where the words are none that the program knows, a mover that is no colour among them;
+/// else `Glyph` where the glyphs of `find` are not those of a pattern; `Memory` where memory was
+/// refused.
 pub fn read_words(alloc: Global, words: &[String]) -> Result<Task, RunFault>
     ensures task { IfOk result (IsAnswered (map string_bytes words.now)
         (asked_by (map string_bytes words.now))) }

@@ -44,8 +44,8 @@ fn sort(order: Order, entries: &mut Vec<Entry>)
     entries.sort_unstable_by(|left, right| compare(order, left, right));
 }
 
-/// The first patterns of a dictionary in an order, at most this many, of those of the kind that were there at least this
-/// often. It takes memory for all patterns that qualify.
+/// The first patterns of a dictionary in an order, at most this many, of those of the kind that
+/// were there at least this often. It takes memory for all patterns that qualify.
 ///
 /// # Errors
 ///

@@ -1,4 +1,5 @@
-//! The drawing of a pattern: a tile under each point on the board, lines between such points, stones, and a mark.
+//! The drawing of a pattern: a tile under each point on the board, lines between such points,
+//! stones, and a mark.
 ghost use Rattle.std.specs.Prelude.{◌≡◌, ◌+◌, ◌==◌, ◌++◌, OnOk};
 ghost use Rattle.std.specs.List.{flat_map};
 ghost use Rattle.sheet_core.specs.Drawing.{view_text, move_text, tile_text, tiles_text, link_text};
@@ -60,7 +61,8 @@ fn is_next(number: u8, next: u8) -> bool
     u16::from(next) == u16::from(number) + 1
 }
 
-/// Appends the line from a cell to another, where this lies to the right or below, and both are on the board.
+/// Appends the line from a cell to another, where this lies to the right or below, and both are on
+/// the board.
 fn push_link(text: &mut Vec<u8>, cell: Cell, other: Cell) -> Result<(), AllocError>
     ensures { OnOk result (text.new.items ≡ text.old.items ++ link_text cell other) }
 {

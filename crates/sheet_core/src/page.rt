@@ -190,8 +190,8 @@ fn push_end(text: &mut Vec<u8>) -> Result<(), AllocError>
     text.extend_from_slice(b"</main>\n</body>\n</html>\n")
 }
 
-/// The page of chosen patterns of a dictionary. It is one file: it holds its style sheet, has no script, and loads
-/// nothing. It takes memory for the text.
+/// The page of chosen patterns of a dictionary. It is one file: it holds its style sheet, has no
+/// script, and loads nothing. It takes memory for the text.
 ///
 /// # Errors
 ///

@@ -13,7 +13,8 @@ fn hundredths(entry: &Entry) -> u128
     u128::from(entry.played) * 10_000 / u128::from(entry.there.max(1))
 }
 
-/// Appends how often the pattern was played when it was there, in percent, rounded down to two decimals.
+/// Appends how often the pattern was played when it was there, in percent, rounded down to two
+/// decimals.
 pub(crate) fn push_percent(text: &mut Vec<u8>, entry: &Entry) -> Result<(), AllocError>
     ensures { OnOk result (text.new.items
         ≡ text.old.items ++ percent_text (hundredths_of entry.now)) }

@@ -20,15 +20,16 @@ fn sheet_of(alloc: Global, asked: Asked, input: &[u8]) -> Result<Vec<u8>, RunFau
     Ok(sheet_text(alloc, asked, &dictionary)?)
 }
 
-/// Reads one dictionary, in any of the three texts, and writes its sheet: the patterns that are asked for, as a page or as
-/// text for a terminal. Of the reader it takes the bytes up to its end, or 2^28 + 1 of them, and no more, unless the reader
-/// fails or memory is refused. It takes memory for the input, the dictionary, the patterns that qualify, and the sheet.
+/// Reads one dictionary, in any of the three texts, and writes its sheet: the patterns that are
+/// asked for, as a page or as text for a terminal. Of the reader it takes the bytes up to its end,
+/// or 2^28 + 1 of them, and no more, unless the reader fails or memory is refused. It takes memory
+/// for the input, the dictionary, the patterns that qualify, and the sheet.
 ///
 /// # Errors
 ///
-/// `Dict` with 1 and the first fault of the text (X1 to X6, X8), `Read` where the reader failed, `Memory` where memory for
-/// the input or the sheet was refused: nothing is written then. `Write` where the writer failed: exactly that number of
-/// bytes of the sheet is out.
+/// `Dict` with 1 and the first fault of the text (X1 to X6, X8), `Read` where the reader failed,
+/// `Memory` where memory for the input or the sheet was refused: nothing is written then. `Write`
+/// where the writer failed: exactly that number of bytes of the sheet is out.
 pub fn run_sheet<R: Read, W: Write>(
     alloc: Global,
     asked: Asked,

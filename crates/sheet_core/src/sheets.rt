@@ -24,8 +24,8 @@ fn written_text(
     }
 }
 
-/// The sheet of a dictionary: the patterns that are asked for, as a page or as text. It takes memory for the patterns
-/// that qualify, and for the text.
+/// The sheet of a dictionary: the patterns that are asked for, as a page or as text. It takes
+/// memory for the patterns that qualify, and for the text.
 ///
 /// # Errors
 ///

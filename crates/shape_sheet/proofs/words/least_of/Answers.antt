@@ -1,11 +1,17 @@
 use Rattle.std.proofs.Common.{sym, codes}
 use Rattle.clap.specs.Words.{found_of, one_text, rows_of}
 use Rattle.clap.proofs.WalkLemmas.{one_text-rows}
-use Rattle.shape_sheet.proofs.Asked.{number_given}
+use Rattle.shape_sheet.proofs.Asked.{number_given, number_missing}
 use Rattle.shape_sheet.proofs.words.least_of.Goals as goal
 
-pub returns : goal.returns
-returns c =
+pub returns-in-Some-clause-number : goal.returns-in-Some-clause-number
+returns-in-Some-clause-number c =
     let found = found_of c.args.matches.now in
-    number_given 64 (codes "least") (rows_of found) c.in_ok-number.number (one_text found (codes "least"))
-    (sym (one_text-rows found (codes "least"))) c.in_ok-number.ensures.none (λ t is. (c.in_ok-number.ensures.value t is).0)
+    number_given 64 (codes "least") (rows_of found) c.in-Some.number (one_text found (codes "least"))
+    (sym (one_text-rows found (codes "least"))) c.in-Some.ensures.none (λ t is. (c.in-Some.ensures.value t is).0)
+
+pub returns-in-None-clause-none : goal.returns-in-None-clause-none
+returns-in-None-clause-none c =
+    let found = found_of c.args.matches.now in
+    number_missing 64 (codes "least") (rows_of found) (one_text found (codes "least")) (sym (one_text-rows found (codes "least")))
+    (λ t is ok. (c.in-None.ensures.value t is).1.0 ok)
