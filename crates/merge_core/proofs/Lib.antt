@@ -1,0 +1,11 @@
+pub mod Alone
+pub mod Counted
+pub mod Finished
+pub mod Folded
+pub mod Grown
+pub mod Prefixed
+pub mod Large
+pub mod Left
+pub mod Totals
+pub mod Unmerged
+pub mod Written

@@ -1,0 +1,7 @@
+-- What serves the contracts of private functions, and invariants: nothing here has to be believed.
+pub mod Trees
+pub mod Folds
+pub mod Leaves
+pub mod Counting
+pub mod Judging
+pub mod Writing

@@ -1,0 +1,68 @@
+-- What is written of a text, and what is still pending.
+use Rattle.std.specs.Prelude.{◌≡◌, ℕ, ◌+◌, ◌<◌, ◌≤◌, List, ◌++◌, length, take, Option, Some, None, if◌then◌else◌}
+use Rattle.std.specs.Io.KnownBytes.{Appends}
+use Rattle.shape_dict.specs.declared.entries.Entry.{Entry}
+use Rattle.shape_dict.specs.declared.entries.Text.{Text}
+use Rattle.shape_dict.specs.declared.headers.Header.{Header}
+use Rattle.shape_dict.specs.Inner.Parts.{lines_of}
+use Rattle.merge_core.specs.declared.faults.MergeFault.{MergeFault}
+use Rattle.merge_core.specs.declared.faults.MergeFault.TheVariants as fault
+use Rattle.merge_core.specs.declared.entries.NextFault.{NextFault}
+use Rattle.merge_core.specs.declared.entries.NextFault.TheVariants as next_fault
+use Rattle.merge_core.specs.declared.judged.Judged.{Judged}
+use Rattle.merge_core.specs.declared.counting.Counts.{Counts}
+
+-- a fault of a tree, after this number of bytes
+abbrev pub stopped : ℕ → NextFault → MergeFault
+stopped written next_fault.Overflow = fault.Changed written
+stopped written (next_fault.Read n) = fault.Read n written
+stopped written next_fault.Changed = fault.Changed written
+stopped written next_fault.Memory = fault.Memory written
+
+-- the writer failed in these bytes, which follow this number of others
+pub record IsCutIn (written : ℕ) (bytes : List ℕ) (before after : Option (List ℕ)) (found : MergeFault) : Type 0 where
+  pub count : ℕ
+  pub is_write : found ≡ fault.Write (written + count)
+  pub short : count < length bytes
+  pub out : Appends before after (take count bytes)
+
+-- a front of these bytes is out, and the others are still to be written
+pub record WroteSome (old new : List ℕ) (before after : Option (List ℕ)) (written count : ℕ) : Type 0 where
+  pub out : List ℕ
+  pub parts : old ≡ out ++ new
+  pub count_is : count ≡ written + length out
+  pub appends : Appends before after out
+
+-- some of the entries were pushed, and what was pushed is out or pending
+pub record HasPushed (text : Text) (header done pending : List ℕ) (Rest : List Entry → Type 0) (all : List Entry) : Type 0 where
+  pub given : List Entry
+  pub others : List Entry
+  pub parts : all ≡ given ++ others
+  pub same : header ++ lines_of text given ≡ done ++ pending
+  pub rest : Rest others
+
+-- what is out, where some are
+pub record IsOutSoFar (before after : Option (List ℕ)) (written : ℕ) (P : List ℕ → Type 0) : Type 0 where
+  pub done : List ℕ
+  pub appends : Appends before after done
+  pub count : length done ≡ written
+  pub known : P done
+
+-- a front of this text is out, as the fault says
+abbrev pub IsStopped : Option (List ℕ) → Option (List ℕ) → List ℕ → MergeFault → Type 0
+IsStopped before after text fault.Empty = ⊥
+IsStopped before after text (fault.Dict n found) = ⊥
+IsStopped before after text (fault.Read n written) = (written ≤ length text) × Appends before after (take written text)
+IsStopped before after text (fault.Changed written) = (written ≤ length text) × Appends before after (take written text)
+IsStopped before after text (fault.Write written) = (written < length text) × Appends before after (take written text)
+IsStopped before after text (fault.Memory written) = (written ≤ length text) × Appends before after (take written text)
+
+-- the header of a join
+abbrev pub header_for : Text → Judged → Counts → Header
+header_for text judged counts = record {
+  text = text;
+  games = judged.games;
+  moves = judged.moves;
+  squares = counts.squares;
+  diamonds = (if judged.counts_diamonds then Some counts.diamonds else None);
+}

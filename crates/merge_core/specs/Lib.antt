@@ -1,0 +1,4 @@
+pub mod Entries
+pub mod Merge
+pub mod Status
+pub mod Inner

@@ -1,0 +1,35 @@
+//! Entries that come one after another.
+use shape_dict::Entry;
+
+/// Why the next entry of a join could not be told.
+#[derive(Clone, Copy, Debug, PartialEq, Eq)]
+pub enum NextFault {
+    /// A sum is over 2^64 - 1.
+    Overflow,
+    /// A read of the dictionary of this number, from 1, failed, or it gave other bytes than before.
+    Read(usize),
+    /// A dictionary gave other bytes than before.
+    Changed,
+    /// Memory was refused.
+    Memory,
+}
+
+/// Entries that come one after another, as the lines of a dictionary do.
+pub trait Entries: Drop {
+    ghost use Rattle.std.specs.Prelude.{List, MatchResult};
+    ghost use Rattle.shape_dict.specs.declared.entries.Entry.{Entry as One};
+    ghost use Rattle.merge_core.specs.Entries.{IsNext, IsNextFault};
+
+    /// Whether these are the entries that are still to come.
+    ghost yields: { Self → List One → Type 0 };
+
+    /// The next entry, or None at the end.
+    ///
+    /// # Errors
+    ///
+    /// `Overflow` where the counts of an entry that is still to come are too large; `Read` where a
+    /// reader failed. What comes after an error is not said.
+    fn next_entry(&mut self) -> Result<Option<Entry>, NextFault>
+        ensures { (entries : List One) → yields self.old entries
+            → MatchResult result (IsNext (yields self.new) entries) (IsNextFault entries) };
+}

@@ -1,0 +1,43 @@
+//! What can go wrong when dictionaries are joined.
+ghost use Rattle.std.specs.Prelude.{◌≡◌};
+ghost use Rattle.merge_core.specs.Status.{status_of};
+
+use shape_dict::DictFault;
+use thiserror::Error;
+
+/// Why dictionaries were not joined, or their join was not written whole. Each says how many bytes
+/// of the text are out; where it has no such number, none are.
+#[derive(Clone, Copy, Debug, PartialEq, Eq, Error)]
+pub enum MergeFault {
+    /// There is no dictionary.
+    #[error("U1 usage")]
+    Empty,
+    /// The dictionary of this number, from 1, is none that can be read, or it cannot be added to
+    /// those before it.
+    #[error("dictionary {n}: {fault}")]
+    Dict { n: usize, fault: DictFault },
+    /// A read of the dictionary of this number failed, or it gave other bytes than before.
+    #[error("dictionary {n}: I1 read failed, {written} bytes written")]
+    Read { n: usize, written: usize },
+    /// A dictionary gave other bytes than before.
+    #[error("I1 read failed, {written} bytes written")]
+    Changed { written: usize },
+    /// A write failed.
+    #[error("I2 write failed after {written} bytes")]
+    Write { written: usize },
+    /// Memory was refused.
+    #[error("M1 no memory, {written} bytes written")]
+    Memory { written: usize },
+}
+
+/// The exit status of a fault: 2 usage, 3 input refused, 5 no memory, 6 read or write failed.
+pub fn status_of(fault: &MergeFault) -> u8
+    ensures { result ≡ status_of fault.now }
+{
+    match fault {
+        MergeFault::Empty => 2,
+        MergeFault::Dict { .. } => 3,
+        MergeFault::Memory { .. } => 5,
+        MergeFault::Read { .. } | MergeFault::Changed { .. } | MergeFault::Write { .. } => 6,
+    }
+}

@@ -1,0 +1,106 @@
+//! The tree of the joins of dictionaries that follow one another.
+ghost use Rattle.std.specs.Prelude.{◌≡◌, ◌≤◌, ◌<◌, ◌+◌, ◌^◌, ℕ, List, Bool, length, MatchResult};
+ghost use Rattle.shape_dict.specs.Contents.{Contents};
+ghost use Rattle.shape_dict.specs.Inner.Merging.{merged};
+ghost use Rattle.shape_dict.specs.declared.entries.Entry.{Entry as One};
+ghost use Rattle.merge_core.specs.Entries.{IsNextFault};
+ghost use Rattle.merge_core.specs.Inner.Folds.{FoldsAll};
+ghost use Rattle.merge_core.specs.Inner.Leaves.{HasLeft, Offers};
+ghost use Rattle.merge_core.specs.Inner.Trees.{Yields};
+
+use crate::entries::{Entries, NextFault};
+use crate::heads::Heads;
+use crate::leaves::{Leaf, open_leaf};
+use crate::sources::Sources;
+use crate::trees::{Tree, next_of};
+use std::alloc::Global;
+
+/// A tree, and how many games the dictionaries of its leaves have.
+#[derive(Drop)]
+pub(crate) struct Grown<E> {
+    pub(crate) tree: Tree<E>,
+    pub(crate) games: u64,
+}
+
+/// The join of the lists that two trees give, of which the first entries are read.
+fn pair<E: Entries>(alloc: Global, left: Grown<E>, right: Grown<E>) -> Result<Grown<E>, NextFault>
+    ensures { (mine : List One) → (other : List One) → Yields E.yields left.tree mine
+        → Yields E.yields right.tree other → MatchResult result
+        (λ both. (both.games ≡ left.games + right.games)
+        × Yields E.yields both.tree (merged left.games mine other))
+        (IsNextFault (merged left.games mine other)) }
+{
+    let Grown {
+        tree: mut first,
+        games: before,
+    } = left;
+    let Grown {
+        tree: mut second,
+        games: after,
+    } = right;
+    let Some(games) = before.checked_add(after) else {
+        return Err(NextFault::Changed);
+    };
+    let of_first = match next_of(&mut first) {
+        Ok(next) => next,
+        Err(fault) => return Err(fault),
+    };
+    let of_second = match next_of(&mut second) {
+        Ok(next) => next,
+        Err(fault) => return Err(fault),
+    };
+    let heads = Heads {
+        games: before,
+        left: of_first,
+        right: of_second,
+    };
+    let Ok(left) = Box::new(alloc, first) else {
+        return Err(NextFault::Memory);
+    };
+    let Ok(right) = Box::new(alloc, second) else {
+        return Err(NextFault::Memory);
+    };
+    Ok(Grown {
+        tree: Tree::Node { left, right, heads },
+        games,
+    })
+}
+
+/// The tree of `count` dictionaries, from the one of this number on, from 0: those of the first
+/// half and those of the other, so that no entry meets more nodes than `count` can be halved.
+pub(crate) fn grow<S: Sources>(
+    alloc: Global,
+    sources: &S,
+    from: usize,
+    count: usize,
+) -> Result<Grown<Leaf<S::Reader>>, NextFault>
+    requires some { 1 ≤ count }
+    requires few { from + count < 2 ^ 64 }
+    requires within { from + count ≤ S.number sources.now }
+    ensures { (kind : Bool) → (all : List Contents)
+        → Offers (S.bytes sources.now) kind from all → length all ≡ count
+        → (sum : Contents) × FoldsAll all sum × MatchResult result
+        (λ grown. (grown.games ≡ sum.games)
+        × Yields (λ leaf. HasLeft leaf.lines) grown.tree sum.entries)
+        (IsNextFault sum.entries) }
+{
+    if count == 1 {
+        return match open_leaf(alloc, sources, from) {
+            Ok((leaf, games)) => Ok(Grown {
+                tree: Tree::Leaf(leaf),
+                games,
+            }),
+            Err(fault) => Err(fault),
+        };
+    }
+    let half = count / 2;
+    let left = match grow(alloc, sources, from, half) {
+        Ok(left) => left,
+        Err(fault) => return Err(fault),
+    };
+    let right = match grow(alloc, sources, from + half, count - half) {
+        Ok(right) => right,
+        Err(fault) => return Err(fault),
+    };
+    pair(alloc, left, right)
+}

@@ -1,0 +1,84 @@
+//! The next entries of two lists, and the join of them.
+ghost use Rattle.std.specs.Prelude.{◌≡◌, ◌<◌, ◌≤◌, ◌+◌, ◌^◌, ◌⊎◌, IfOk, IfErr, Some};
+ghost use Rattle.shape_dict.specs.Merging.{moved_entry, summed_entry};
+ghost use Rattle.merge_core.specs.Inner.Trees.{IsFirst};
+ghost use Rattle.merge_core.specs.declared.entries.NextFault.TheVariants as fault;
+
+use crate::entries::NextFault;
+use shape_dict::Entry;
+
+/// The next entries of two lists, where there are any, and how many games the left one has.
+#[derive(Clone, Copy)]
+pub(crate) struct Heads {
+    pub(crate) games: u64,
+    pub(crate) left: Option<Entry>,
+    pub(crate) right: Option<Entry>,
+}
+
+/// Which of the two has the lesser word.
+#[derive(Clone, Copy)]
+pub(crate) enum First {
+    Neither,
+    Left(Entry),
+    Right(Entry),
+    Both(Entry, Entry),
+}
+
+impl Heads {
+    /// Which of the two has the lesser word.
+    pub(crate) fn first(&self) -> First
+        ensures { IsFirst self.now result }
+    {
+        match (self.left, self.right) {
+            (None, None) => First::Neither,
+            (Some(mine), None) => First::Left(mine),
+            (None, Some(other)) => First::Right(other),
+            (Some(mine), Some(other)) => {
+                let word = mine.shape.word().bits();
+                let other_word = other.shape.word().bits();
+                if word < other_word {
+                    First::Left(mine)
+                } else if other_word < word {
+                    First::Right(other)
+                } else {
+                    First::Both(mine, other)
+                }
+            }
+        }
+    }
+}
+
+/// An entry of the right alone, whose first game follows the left's games. The numbers of games add
+/// up to less than 2^64 in dictionaries that were judged, so a sum that is too large is a
+/// dictionary that has changed.
+pub(crate) fn moved(entry: Entry, games: u64) -> Result<Option<Entry>, NextFault>
+    ensures ok { IfOk result (λ moved. moved ≡ Some (moved_entry games entry)) }
+    ensures err { IfErr result (λ found. found ≡ fault.Changed) }
+{
+    let first = match entry.first {
+        None => None,
+        Some(game) => Some(game.checked_add(games).ok_or(NextFault::Changed)?),
+    };
+    Ok(Some(Entry { first, ..entry }))
+}
+
+/// An entry of both.
+pub(crate) fn summed(left: Entry, right: Entry) -> Result<Option<Entry>, NextFault>
+    ensures ok { IfOk result (λ both. both ≡ Some (summed_entry left right)) }
+    ensures err { IfErr result (λ found. (found ≡ fault.Overflow)
+        × ((2 ^ 64 ≤ left.there + right.there) ⊎ (2 ^ 64 ≤ left.played + right.played))) }
+{
+    let there = left
+        .there
+        .checked_add(right.there)
+        .ok_or(NextFault::Overflow)?;
+    let played = left
+        .played
+        .checked_add(right.played)
+        .ok_or(NextFault::Overflow)?;
+    Ok(Some(Entry {
+        there,
+        played,
+        ..left
+    }))
+}

@@ -1,0 +1,37 @@
+//! What is kept of dictionaries that were judged.
+ghost use Rattle.std.specs.Prelude.{IfOk, IfErr};
+ghost use Rattle.merge_core.specs.Inner.Judging.{IsBoth, IsBothFault};
+
+use shape_dict::DictFault;
+
+/// How many games and moves dictionaries have together, whether they count diamonds, and how often
+/// all their patterns were there, or 2^64 - 1 where that is more.
+#[derive(Clone, Copy)]
+pub(crate) struct Judged {
+    pub(crate) games: u64,
+    pub(crate) moves: u64,
+    pub(crate) counts_diamonds: bool,
+    pub(crate) there: u64,
+}
+
+/// What two that follow one another are together, where all patterns' sums are small.
+pub(crate) fn both_of(before: Judged, next: Judged) -> Result<Judged, DictFault>
+    ensures ok { IfOk result (IsBoth before next) }
+    ensures fault { IfErr result (IsBothFault before next) }
+{
+    if before.counts_diamonds != next.counts_diamonds {
+        return Err(DictFault::MixedKinds);
+    }
+    let Some(games) = before.games.checked_add(next.games) else {
+        return Err(DictFault::Overflow);
+    };
+    let Some(moves) = before.moves.checked_add(next.moves) else {
+        return Err(DictFault::Overflow);
+    };
+    Ok(Judged {
+        games,
+        moves,
+        counts_diamonds: before.counts_diamonds,
+        there: before.there.saturating_add(next.there),
+    })
+}

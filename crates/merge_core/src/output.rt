@@ -1,0 +1,70 @@
+//! Bytes, written block by block.
+ghost use Rattle.std.specs.Prelude.{◌≡◌, ◌<◌, [], length, take, OnOk, IfOk, IfErr};
+ghost use Rattle.std.specs.Io.KnownBytes.{Appends};
+ghost use Rattle.merge_core.specs.Inner.Writing.{IsCutIn, WroteSome};
+
+use crate::faults::MergeFault;
+use std::io::Write;
+
+/// How many bytes are written at once, or a few more.
+const BLOCK: usize = 1 << 16;
+
+/// Writes bytes. The error is how many of them are out, where the writer failed or wrote none.
+fn write_bytes<W: Write>(writer: &mut W, bytes: &[u8]) -> Result<(), usize>
+    ensures whole { OnOk result (Appends (W.contents writer.old) (W.contents writer.new) bytes.now) }
+    ensures short { IfErr result (λ written. written < length bytes.now) }
+    ensures front { IfErr result (λ written.
+        Appends (W.contents writer.old) (W.contents writer.new) (take written bytes.now)) }
+{
+    let mut written = 0;
+    while written < bytes.len() {
+        match writer.write(&bytes[written..]) {
+            Ok(count) if count > 0 => written += count,
+            _ => return Err(written),
+        }
+    }
+    Ok(())
+}
+
+/// Writes all that is pending after this number of bytes, and answers how many are out then.
+pub(crate) fn write_pending<W: Write>(
+    writer: &mut W,
+    pending: &mut Vec<u8>,
+    written: usize,
+) -> Result<usize, MergeFault>
+    ensures ok { IfOk result (WroteSome pending.old.items pending.new.items
+        (W.contents writer.old) (W.contents writer.new) written) }
+    ensures all { OnOk result (pending.new.items ≡ []) }
+    ensures err { IfErr result (IsCutIn written pending.old.items
+        (W.contents writer.old) (W.contents writer.new)) }
+{
+    let Some(after) = written.checked_add(pending.len()) else {
+        return Err(MergeFault::Write { written });
+    };
+    match write_bytes(writer, pending) {
+        Ok(()) => {
+            pending.clear();
+            Ok(after)
+        }
+        Err(count) => Err(MergeFault::Write {
+            written: written + count,
+        }),
+    }
+}
+
+/// Writes what is pending where it is a block or more, and answers how many bytes are out then.
+pub(crate) fn write_block<W: Write>(
+    writer: &mut W,
+    pending: &mut Vec<u8>,
+    written: usize,
+) -> Result<usize, MergeFault>
+    ensures ok { IfOk result (WroteSome pending.old.items pending.new.items
+        (W.contents writer.old) (W.contents writer.new) written) }
+    ensures err { IfErr result (IsCutIn written pending.old.items
+        (W.contents writer.old) (W.contents writer.new)) }
+{
+    if pending.len() < BLOCK {
+        return Ok(written);
+    }
+    write_pending(writer, pending, written)
+}

@@ -1,0 +1,137 @@
+//! Dictionaries joined line by line: against joins by hand, and with readers, writers and memory
+//! that fail.
+use crate::readers::Drip;
+use merge_core::{MergeFault, Sources, run_merge};
+use shape_dict::{DictFault, Text};
+use std::alloc::Global;
+use std::io;
+use std::io::Write;
+use std::process::Abort;
+
+/// Texts in memory, of each of which at most `most` bytes can be read.
+#[derive(Clone, Copy)]
+struct Texts<'a> {
+    texts: &'a [&'a [u8]],
+    most: usize,
+}
+
+impl<'a> Sources for Texts<'a> {
+    ghost use Rattle.std.specs.Prelude.{length, None};
+
+    type Reader = Drip<'a>;
+
+    ghost number = { λ t. length t.texts.now };
+
+    ghost bytes = { λ _ _. None };
+
+    fn count(&self) -> usize {
+        self.texts.len()
+    }
+
+    fn open(&self, n: usize) -> io::Result<Drip<'a>> {
+        Ok(Drip {
+            left: self.texts[n],
+            step: 7,
+            most: self.most,
+        })
+    }
+}
+
+/// A writer that takes `most` bytes.
+#[derive(Drop)]
+struct Full {
+    got: Vec<u8>,
+    most: usize,
+}
+
+impl Write for Full {
+    fn write(&mut self, bytes: &[u8]) -> io::Result<usize> {
+        let count = bytes.len().min(self.most.saturating_sub(self.got.len()));
+        self.got.extend_from_slice(&bytes[..count])?;
+        Ok(count)
+    }
+
+    fn flush(&mut self) -> io::Result<()> {
+        Ok(())
+    }
+}
+
+const ONE: &[u8] = b"shapes 1 games 1 moves 2 patterns 2\n3fff3fcffffff 2 1\n3fffbfcffffff 1 1\n";
+
+const TWO: &[u8] = b"shapes 3 games 3 moves 1 squares 1 diamonds -\n3fff3fcffffff 5 1 2\n";
+
+/// The count of the one pattern is the greatest that there is.
+const LARGE: &[u8] = b"shapes 1 games 3 moves 1 patterns 1\n3fff3fcffffff 18446744073709551615 1\n";
+
+const BOTH: &[u8] =
+    b"shapes 3 games 4 moves 3 squares 2 diamonds -\n3fff3fcffffff 7 2 -\n3fffbfcffffff 1 1 -\n";
+
+const OTHER: &[u8] =
+    b"shapes 3 games 4 moves 3 squares 2 diamonds -\n3fff3fcffffff 7 2 2\n3fffbfcffffff 1 1 -\n";
+
+const FIVE: &[u8] = b"shapes 1 games 9 moves 8 patterns 2\n3fff3fcffffff 16 5\n3fffbfcffffff 3 3\n";
+
+const MIXED: &[u8] = b"shapes 2 games 0 moves 0 squares 0 diamonds 0\n";
+
+/// What is written of the join, or its fault, where each text gives `read` bytes and the writer
+/// takes `written`.
+fn joined(
+    alloc: Global,
+    text: Text,
+    texts: &[&[u8]],
+    read: usize,
+    written: usize,
+) -> (Result<(), MergeFault>, Vec<u8>) {
+    let sources = Texts { texts, most: read };
+    let mut out = Full {
+        got: Vec::new(alloc),
+        most: written,
+    };
+    let done = run_merge(alloc, text, &sources, &mut out);
+    (done, out.got)
+}
+
+/// The join of the texts is this one.
+fn assert_joined(rt: &impl Abort, alloc: Global, text: Text, texts: &[&[u8]], wanted: &[u8]) {
+    let (done, got) = joined(alloc, text, texts, 1000, 1000);
+    assert!(rt; done.is_ok());
+    assert!(rt; got.as_slice() == wanted);
+}
+
+/// The texts have this fault, and nothing is written.
+fn assert_fault(rt: &impl Abort, alloc: Global, texts: &[&[u8]], n: usize, fault: DictFault) {
+    let (done, got) = joined(alloc, Text::One, texts, 1000, 1000);
+    assert!(rt; done == Err(MergeFault::Dict { n, fault }));
+    assert!(rt; got.is_empty());
+}
+
+#[test]
+fn joins_by_hand(rt: HostRuntime) {
+    let alloc = rt.alloc();
+    assert_joined(&rt, alloc, Text::Three, &[ONE, TWO], BOTH);
+    assert_joined(&rt, alloc, Text::Three, &[TWO, ONE], OTHER);
+    assert_joined(&rt, alloc, Text::One, &[ONE], ONE);
+    assert_joined(&rt, alloc, Text::One, &[ONE, TWO, ONE, TWO, ONE], FIVE);
+}
+
+#[test]
+fn first_faults(rt: HostRuntime) {
+    let alloc = rt.alloc();
+    assert_fault(&rt, alloc, &[ONE, LARGE, b""], 2, DictFault::Overflow);
+    assert_fault(&rt, alloc, &[LARGE, b"", ONE], 2, DictFault::BadHeader);
+    assert_fault(&rt, alloc, &[LARGE, MIXED, ONE], 2, DictFault::MixedKinds);
+    assert_fault(&rt, alloc, &[ONE, TWO, LARGE], 3, DictFault::Overflow);
+    let (done, _) = joined(alloc, Text::One, &[], 1000, 1000);
+    assert!(rt; done == Err(MergeFault::Empty));
+}
+
+#[test]
+fn reads_and_writes_fail(rt: HostRuntime) {
+    let alloc = rt.alloc();
+    let (unread, nothing) = joined(alloc, Text::One, &[ONE, TWO], 50, 1000);
+    assert!(rt; unread == Err(MergeFault::Read { n: 1, written: 0 }));
+    assert!(rt; nothing.is_empty());
+    let (cut, front) = joined(alloc, Text::Three, &[ONE, TWO], 1000, 20);
+    assert!(rt; cut == Err(MergeFault::Write { written: 20 }));
+    assert!(rt; front.as_slice() == b"shapes 3 games 4 mov".as_slice());
+}

@@ -1,0 +1,4 @@
+pub mod Longest
+pub mod Held
+pub mod Sums
+pub mod Given

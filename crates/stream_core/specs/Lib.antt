@@ -1,0 +1,4 @@
+pub mod Faults
+pub mod Progress
+pub mod Streams
+pub mod Inner

@@ -1,0 +1,25 @@
+//! How the reading of a text stands.
+ghost use Rattle.std.specs.Prelude.{◌≡◌};
+ghost use Rattle.stream_core.specs.Streams.{standing_of};
+
+use crate::faults::StreamFault;
+use shape_dict::Entry;
+
+/// Whether more may come, all has come, or a fault ended it.
+#[derive(Clone, Copy, Debug, PartialEq, Eq)]
+pub enum Standing {
+    More,
+    Ended,
+    Failed(StreamFault),
+}
+
+/// How the reading stands after this answer.
+pub(crate) fn standing_of(answer: &Result<Option<Entry>, StreamFault>) -> Standing
+    ensures { result ≡ standing_of answer.now }
+{
+    match answer {
+        Ok(Some(_)) => Standing::More,
+        Ok(None) => Standing::Ended,
+        Err(fault) => Standing::Failed(*fault),
+    }
+}
