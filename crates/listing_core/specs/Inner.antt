@@ -1,0 +1,4 @@
+-- What serves the contracts of private functions, and invariants: nothing here has to be believed.
+pub mod Fronts
+pub mod Reading
+pub mod Wants

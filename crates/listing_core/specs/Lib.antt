@@ -1,0 +1,5 @@
+pub mod Games
+pub mod Lines
+pub mod Listing
+pub mod Agreement
+pub mod Inner

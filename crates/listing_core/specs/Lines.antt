@@ -1,0 +1,51 @@
+-- The lines of a listing, and their texts.
+use Rattle.std.specs.Prelude.{ℕ, List, ◌++◌, Option, Some, None, codes}
+use Rattle.std.specs.Fmt.{decimal}
+use Rattle.go_record.specs.declared.faults.RecordFault.{RecordFault}
+use Rattle.go_record.specs.declared.faults.RecordFault.TheVariants as record_fault
+use Rattle.sgf_core.specs.declared.faults.SgfFault.{SgfFault}
+use Rattle.sgf_core.specs.declared.faults.SgfFault.TheVariants as sgf
+use Rattle.shape_dict.specs.Text.{line_feed}
+use Rattle.listing_core.specs.declared.lines.Line.{Line}
+use Rattle.listing_core.specs.declared.lines.What.{What}
+use Rattle.listing_core.specs.declared.lines.What.TheVariants as what
+
+-- the fault of a record, as the programs name it
+abbrev pub record_fault_text : RecordFault → List ℕ
+record_fault_text (record_fault.BadSize at) = codes "G1 bad size at " ++ decimal at
+record_fault_text (record_fault.BadPoint at) = codes "G2 bad point at " ++ decimal at
+record_fault_text (record_fault.OffBoard at) = codes "G3 off the board at " ++ decimal at
+record_fault_text record_fault.Memory = codes "G4 no memory"
+
+-- the fault of a collection, as the programs name it
+abbrev pub sgf_fault_text : SgfFault → List ℕ
+sgf_fault_text (sgf.Truncated at) = codes "S1 truncated tree at " ++ decimal at
+sgf_fault_text (sgf.BadByte at) = codes "S2 bad byte at " ++ decimal at
+sgf_fault_text (sgf.NoValue at) = codes "S3 no value at " ++ decimal at
+sgf_fault_text sgf.TooLarge = codes "S4 input too large"
+sgf_fault_text sgf.Memory = codes "S5 no memory"
+
+-- the number of a game, and `-` where the tree is none
+abbrev pub number_text : Option ℕ → List ℕ
+number_text None = codes "-"
+number_text (Some number) = decimal number
+
+-- where the tree begins and where it ends
+abbrev pub bounds_text : ℕ → ℕ → List ℕ
+bounds_text from to = codes " " ++ decimal from ++ codes " " ++ decimal to ++ codes " "
+
+-- what the tree is
+abbrev pub what_text : What → List ℕ
+what_text (what.Game size moves occasions) =
+    codes "game " ++ decimal size.columns ++ codes "x" ++ decimal size.rows ++ codes " moves " ++ decimal moves
+    ++ codes " occasions " ++ decimal occasions
+what_text what.Other = codes "other"
+what_text (what.Refused fault) = codes "refused " ++ record_fault_text fault
+
+-- the line of a tree
+abbrev pub line_text : Line → List ℕ
+line_text line = number_text line.number ++ bounds_text line.from line.to ++ what_text line.what ++ line_feed
+
+-- the last line of an input with a fault of syntax, which is looked for from `from` on
+abbrev pub fault_text : ℕ → ℕ → SgfFault → List ℕ
+fault_text from to fault = codes "-" ++ bounds_text from to ++ codes "fault " ++ sgf_fault_text fault ++ line_feed

@@ -1,0 +1,92 @@
+-- The listing of a collection: the lines of its trees in order, and a last line where it has a fault of syntax.
+use Rattle.std.specs.Prelude.{◌≡◌, ◌≢◌, ℕ, ◌+◌, ◌<◌, ◌≤◌, List, [], ◌∷◌, ◌++◌, length, drop, Option, Some, None, Result, Ok, Err}
+use Rattle.std.specs.List.{flat_map}
+use Rattle.sgf_core.specs.Tree.{GameTree}
+use Rattle.sgf_core.specs.Next.{BeginsTree, IsNextTree, HasNoTree}
+use Rattle.sgf_core.specs.Reading.{IsFaultAt}
+use Rattle.sgf_core.specs.Limit.{most_bytes}
+use Rattle.go_record.specs.declared.records.Kind.{Kind}
+use Rattle.go_record.specs.declared.records.Kind.TheVariants as kind
+use Rattle.go_record.specs.declared.faults.RecordFault.{RecordFault}
+use Rattle.go_record.specs.declared.faults.RecordFault.TheVariants as record_fault
+use Rattle.sgf_core.specs.declared.faults.SgfFault.TheVariants as sgf
+use Rattle.engine_core.specs.declared.faults.RunFault.{RunFault}
+use Rattle.engine_core.specs.declared.faults.RunFault.TheVariants as fault
+use Rattle.tally_core.specs.Collection.{record_of_tree, games_among}
+use Rattle.listing_core.specs.declared.lines.Line.{Line}
+use Rattle.listing_core.specs.declared.lines.What.{What}
+use Rattle.listing_core.specs.declared.lines.What.TheVariants as what
+use Rattle.listing_core.specs.declared.listings.Listed.{Listed}
+use Rattle.listing_core.specs.declared.listings.Listed.TheVariants as listed
+use Rattle.listing_core.specs.Games.{moves_in, HasOccasionNumber}
+use Rattle.listing_core.specs.Lines.{line_text, fault_text}
+
+-- this is what a tree of this record is
+abbrev pub IsWhat : Result Kind RecordFault → What → Type 0
+IsWhat (Ok (kind.Go game)) (what.Game size moves occasions) =
+    (size ≡ game.size) × (moves ≡ moves_in game.actions) × HasOccasionNumber game occasions
+IsWhat (Ok kind.Other) found = found ≡ what.Other
+IsWhat (Err fault) found = found ≡ what.Refused fault
+IsWhat (Ok (kind.Go game)) _ = ⊥
+
+-- the number of a tree of this record, where this is the next game's
+abbrev pub number_of : Result Kind RecordFault → ℕ → Option ℕ
+number_of (Ok (kind.Go game)) next = Some next
+number_of (Ok kind.Other) next = None
+number_of (Err fault) next = None
+
+-- these trees stand one after another from a place on, the last of them ends at `end`, and these are their lines, the games
+-- numbered from `number` on
+abbrev pub AreLines : List ℕ → ℕ → ℕ → List GameTree → ℕ → List Line → Type 0
+AreLines bytes number place [] end lines = (place ≡ end) × (lines ≡ [])
+AreLines bytes number place (tree ∷ trees) end [] = ⊥
+AreLines bytes number place (tree ∷ trees) end (line ∷ lines) =
+    IsNextTree bytes place line.from line.to tree
+    × IsWhat (record_of_tree tree) line.what
+    × (line.number ≡ number_of (record_of_tree tree) number)
+    × AreLines bytes (number + length (games_among (record_of_tree tree ∷ []))) line.to trees end lines
+
+-- why no further tree is listed: none begins any more, or the next one has a fault of syntax
+abbrev pub Stops : Listed → List ℕ → List GameTree → ℕ → Type 0
+Stops listed.Done input trees end = HasNoTree input end × (trees ≢ [])
+Stops listed.NoTree input trees end = HasNoTree input end × (trees ≡ [])
+Stops (listed.Fault found) input trees end = IsFaultAt input end found
+
+-- what follows the lines of the trees
+abbrev pub last_text : Listed → ℕ → ℕ → List ℕ
+last_text listed.Done end size = []
+last_text listed.NoTree end size = []
+last_text (listed.Fault found) end size = fault_text end size found
+
+-- the text is the listing of this input, which has at most 2 ^ 28 bytes
+pub record IsListing (found : Listed) (input text : List ℕ) : Type 0 where
+  pub trees : List GameTree
+  pub end : ℕ
+  pub lines : List Line
+  pub few : length input ≤ most_bytes
+  pub of_trees : AreLines input 0 0 trees end lines
+  pub stops : Stops found input trees end
+  pub printed : text ≡ flat_map line_text lines ++ last_text found end (length input)
+
+abbrev pub HasListing : List ℕ → List ℕ → Type 0
+HasListing input text = (found : Listed) × IsListing found input text
+
+-- a tree begins somewhere
+abbrev pub HasTree : List ℕ → Type 0
+HasTree input = (at : ℕ) × BeginsTree (drop at input)
+
+-- the input is too large, which comes first, or memory was wanting: for a tree, its record or its board only where a tree begins
+abbrev pub IsListingFault : List ℕ → RunFault → Type 0
+IsListingFault input (fault.Sgf sgf.TooLarge) = most_bytes < length input
+IsListingFault input (fault.Sgf sgf.Memory) = (length input ≤ most_bytes) × HasTree input
+IsListingFault input (fault.Record record_fault.Memory) = (length input ≤ most_bytes) × HasTree input
+IsListingFault input (fault.Board found) = (length input ≤ most_bytes) × HasTree input
+IsListingFault input fault.Memory = Unit {0}
+IsListingFault input (fault.Sgf found) = ⊥
+IsListingFault input (fault.Record found) = ⊥
+IsListingFault input (fault.Glyph found) = ⊥
+IsListingFault input (fault.Harvest found) = ⊥
+IsListingFault input (fault.Dict n found) = ⊥
+IsListingFault input fault.Usage = ⊥
+IsListingFault input fault.Read = ⊥
+IsListingFault input (fault.Write written) = ⊥

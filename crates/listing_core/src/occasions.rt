@@ -1,0 +1,51 @@
+//! How many moves and how many occasions a game has.
+ghost use Rattle.std.specs.Prelude.{◌≡◌, ◌≤◌, All, IsTrue, ◌↔◌, length};
+ghost use Rattle.go_board.specs.Board.{position_of};
+ghost use Rattle.go_record.specs.Actions.{IsActionOn};
+ghost use Rattle.listing_core.specs.Games.{is_move, moves_in, HasOccasionNumber};
+ghost use Rattle.listing_core.specs.Inner.Fronts.{number_of, HasNumberFrom};
+
+use go_board::{Board, Stone};
+use go_record::{Action, apply};
+
+/// How many of the actions are moves or passes.
+pub(crate) fn moves_in(actions: &[Action]) -> usize
+    ensures { result ≡ moves_in actions.now }
+{
+    actions.iter().filter(|action| is_move(action)).count()
+}
+
+/// Whether an action is a move or a pass.
+fn is_move(action: &Action) -> bool
+    ensures { result ≡ is_move action.now }
+{
+    match action {
+        Action::Set { .. } => false,
+        Action::Move { .. } | Action::Pass { .. } => true,
+    }
+}
+
+/// How many occasions an action is: one where it is a move onto an empty point, else none.
+fn occasions_of(board: &Board, action: Action) -> usize
+    requires { IsActionOn board.now.size action }
+    ensures number { result ≡ number_of (position_of board.now) action }
+    ensures few { result ≤ 1 }
+{
+    match action {
+        Action::Move { at, .. } => usize::from(board.cell(at) == Stone::Empty),
+        Action::Set { .. } | Action::Pass { .. } => 0,
+    }
+}
+
+/// Does the actions in order, and counts their occasions.
+pub(crate) fn count_occasions(board: &mut Board, actions: &[Action]) -> usize
+    requires { All (IsActionOn board.old.size) actions.now }
+    ensures { HasNumberFrom board.old.size actions.now (position_of board.old) result }
+{
+    let mut occasions = 0;
+    for action in actions {
+        occasions += occasions_of(board, *action);
+        apply(board, *action);
+    }
+    occasions
+}

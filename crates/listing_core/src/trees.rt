@@ -1,0 +1,132 @@
+//! The trees of an input, one line after another.
+ghost use Rattle.std.specs.Prelude.{◌≡◌, ◌≤◌, ◌∷◌, [], ℕ, List, length, IfOk, OnErr, Result, Ok};
+ghost use Rattle.sgf_core.specs.Tree.{GameTree, Node};
+ghost use Rattle.sgf_core.specs.Marks.{marks_of};
+ghost use Rattle.go_record.specs.Adding.{IsRecordOrMemory};
+ghost use Rattle.go_record.specs.Record.{record_of};
+ghost use Rattle.go_record.specs.declared.records.Kind.{Kind};
+ghost use Rattle.go_record.specs.declared.records.Kind.TheVariants as kind;
+ghost use Rattle.go_record.specs.declared.faults.RecordFault.{RecordFault};
+ghost use Rattle.tally_core.specs.Collection.{record_of_tree, games_among};
+ghost use Rattle.listing_core.specs.Listing.{IsWhat, number_of, HasTree};
+ghost use Rattle.listing_core.specs.Inner.Reading.{IsLineOf, IsTreeStep, IsStep};
+
+use crate::lines::{Line, What};
+use crate::occasions::{count_occasions, moves_in};
+use crate::wants::Want;
+use crate::writing::push_line;
+use go_board::Board;
+use go_record::{Kind, Record, RecordFault, read_record};
+use sgf_core::{SgfFault, Tree, Trees};
+use std::alloc::Global;
+
+/// What one step of a listing met.
+#[derive(Clone, Copy)]
+pub(crate) enum Step {
+    /// A tree that ends at this place, and how many games it is.
+    Tree { end: usize, games: u64 },
+    /// No tree was left.
+    End,
+    /// The next tree has this fault of syntax.
+    Fault(SgfFault),
+}
+
+/// What a game is.
+fn game_of(alloc: Global, game_record: &Record) -> Result<What, Want>
+    ensures { IfOk result (IsWhat (Ok (kind.Go game_record.now))) }
+{
+    let mut board = Board::new(alloc, game_record.size())?;
+    let actions = game_record.actions();
+    let occasions = count_occasions(&mut board, actions);
+    Ok(What::Game {
+        size: game_record.size(),
+        moves: moves_in(actions),
+        occasions,
+    })
+}
+
+/// What a tree is, by its record. Want of memory for the record is handed on.
+fn what_of(alloc: Global, recorded: Result<Kind, RecordFault>) -> Result<What, Want>
+    ensures { (line : List Node) → IsRecordOrMemory line recorded
+        → IfOk result (IsWhat (record_of line)) }
+{
+    match recorded {
+        Ok(Kind::Go(game_record)) => game_of(alloc, &game_record),
+        Ok(Kind::Other) => Ok(What::Other),
+        Err(RecordFault::Memory) => Err(Want::Record),
+        Err(fault) => Ok(What::Refused(fault)),
+    }
+}
+
+/// The number of a tree, where `next` is the number of the next game.
+fn number_of(what: &What, next: u64) -> Option<u64>
+    ensures { (recorded : Result Kind RecordFault) → IsWhat recorded what.now
+        → result ≡ number_of recorded next }
+{
+    match what {
+        What::Game { .. } => Some(next),
+        What::Other | What::Refused(_) => None,
+    }
+}
+
+/// The line of a tree that is this, where `next` is the number of the next game.
+fn line_of(tree: &Tree<'_>, next: u64, what: What) -> Line
+    ensures line { (recorded : Result Kind RecordFault) → IsWhat recorded what
+        → IsLineOf recorded next result }
+    ensures bounds { (result.from ≡ tree.now.at) × (result.to ≡ tree.now.end) }
+{
+    Line {
+        number: number_of(&what, next),
+        from: tree.at(),
+        to: tree.end(),
+        what,
+    }
+}
+
+/// How many games a line is of.
+fn games_in(line: &Line) -> u64
+    ensures games { (recorded : Result Kind RecordFault) (next : ℕ)
+        → line.now.number ≡ number_of recorded next
+        → result ≡ length (games_among (recorded ∷ [])) }
+    ensures few { result ≤ 1 }
+{
+    match line.number {
+        Some(_) => 1,
+        None => 0,
+    }
+}
+
+/// Appends the line of a tree, where `next` is the number of the next game.
+fn push_tree(alloc: Global, tree: &Tree<'_>, next: u64, text: &mut Vec<u8>) -> Result<Step, Want>
+    ensures { (game : GameTree) → tree.now.marks ≡ marks_of game
+        → IfOk result (IsTreeStep tree.now (record_of_tree game) next text.old.items
+        text.new.items) }
+{
+    let what = what_of(alloc, read_record(alloc, tree))?;
+    let line = line_of(tree, next, what);
+    let step = Step::Tree {
+        end: line.to,
+        games: games_in(&line),
+    };
+    push_line(text, &line)?;
+    Ok(step)
+}
+
+/// Appends the line of the next tree, where `next` is the number of the next game.
+pub(crate) fn push_next(
+    alloc: Global,
+    trees: &mut Trees<'_>,
+    next: u64,
+    text: &mut Vec<u8>,
+) -> Result<Step, Want>
+    ensures step { IfOk result
+        (IsStep trees.old trees.new next text.old.items text.new.items) }
+    ensures want { OnErr result (HasTree trees.old.bytes) }
+{
+    match trees.next_tree(alloc) {
+        Ok(Some(tree)) => push_tree(alloc, &tree, next, text),
+        Ok(None) => Ok(Step::End),
+        Err(SgfFault::Memory) => Err(Want::Tree),
+        Err(fault) => Ok(Step::Fault(fault)),
+    }
+}

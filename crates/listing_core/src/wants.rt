@@ -1,0 +1,56 @@
+//! What wanted memory, and the fault of a run that it is.
+ghost use Rattle.std.specs.Prelude.{◌≡◌};
+ghost use Rattle.listing_core.specs.Inner.Wants.{fault_of};
+
+use engine_core::RunFault;
+use go_board::BoardFault;
+use go_record::RecordFault;
+use sgf_core::SgfFault;
+use std::alloc::{AllocError, AllocFailed};
+
+/// What wanted memory in a listing. The whole is a run's fault, which is too large to be handed
+/// through each step.
+#[derive(Clone, Copy, Debug, PartialEq, Eq)]
+pub(crate) enum Want {
+    Tree,
+    Record,
+    Board,
+    Text,
+}
+
+impl From<AllocError> for Want {
+    ghost from_gives = { λ _ want. Unit {0} };
+
+    fn from(_: AllocError) -> Want {
+        Want::Text
+    }
+}
+
+impl<T: Drop> From<AllocFailed<T>> for Want {
+    ghost from_gives = { λ _ want. Unit {0} };
+
+    fn from(_: AllocFailed<T>) -> Want {
+        Want::Text
+    }
+}
+
+impl From<BoardFault> for Want {
+    ghost from_gives = { λ _ want. Unit {0} };
+
+    fn from(_: BoardFault) -> Want {
+        Want::Board
+    }
+}
+
+impl From<Want> for RunFault {
+    ghost from_gives = { λ want fault. fault ≡ fault_of want };
+
+    fn from(want: Want) -> RunFault {
+        match want {
+            Want::Tree => RunFault::Sgf(SgfFault::Memory),
+            Want::Record => RunFault::Record(RecordFault::Memory),
+            Want::Board => RunFault::Board(BoardFault::Memory),
+            Want::Text => RunFault::Memory,
+        }
+    }
+}

@@ -1,0 +1,136 @@
+//! The texts of lines, appended to bytes.
+ghost use Rattle.std.specs.Prelude.{◌≡◌, ◌++◌, OnOk, codes};
+ghost use Rattle.std.specs.Fmt.{decimal};
+ghost use Rattle.listing_core.specs.Lines.{record_fault_text, sgf_fault_text, number_text};
+ghost use Rattle.listing_core.specs.Lines.{bounds_text, what_text, line_text, fault_text};
+
+use crate::lines::{Line, What};
+use go_board::Size;
+use go_record::RecordFault;
+use sgf_core::SgfFault;
+use shape_dict::push_number;
+use std::alloc::AllocError;
+
+/// Appends a number of bytes, a place or a count.
+fn push_count(text: &mut Vec<u8>, count: usize) -> Result<(), AllocError>
+    ensures { OnOk result (text.new.items ≡ text.old.items ++ decimal count) }
+{
+    push_number(text, count as u64)
+}
+
+/// Appends a fault's name and its place.
+fn push_placed(text: &mut Vec<u8>, name: &[u8], at: usize) -> Result<(), AllocError>
+    ensures { OnOk result (text.new.items ≡ text.old.items ++ (name.now ++ decimal at)) }
+{
+    text.extend_from_slice(name)?;
+    push_count(text, at)
+}
+
+/// Appends the fault of a record.
+fn push_record_fault(text: &mut Vec<u8>, fault: RecordFault) -> Result<(), AllocError>
+    ensures { OnOk result (text.new.items ≡ text.old.items ++ record_fault_text fault) }
+{
+    match fault {
+        RecordFault::BadSize(at) => push_placed(text, b"G1 bad size at ", at),
+        RecordFault::BadPoint(at) => push_placed(text, b"G2 bad point at ", at),
+        RecordFault::OffBoard(at) => push_placed(text, b"G3 off the board at ", at),
+        RecordFault::Memory => text.extend_from_slice(b"G4 no memory"),
+    }
+}
+
+/// Appends the fault of a collection.
+fn push_sgf_fault(text: &mut Vec<u8>, fault: SgfFault) -> Result<(), AllocError>
+    ensures { OnOk result (text.new.items ≡ text.old.items ++ sgf_fault_text fault) }
+{
+    match fault {
+        SgfFault::Truncated(at) => push_placed(text, b"S1 truncated tree at ", at),
+        SgfFault::BadByte(at) => push_placed(text, b"S2 bad byte at ", at),
+        SgfFault::NoValue(at) => push_placed(text, b"S3 no value at ", at),
+        SgfFault::TooLarge => text.extend_from_slice(b"S4 input too large"),
+        SgfFault::Memory => text.extend_from_slice(b"S5 no memory"),
+    }
+}
+
+/// Appends the number of a game, or that there is none.
+fn push_game_number(text: &mut Vec<u8>, number: Option<u64>) -> Result<(), AllocError>
+    ensures { OnOk result (text.new.items ≡ text.old.items ++ number_text number) }
+{
+    match number {
+        None => text.extend_from_slice(b"-"),
+        Some(number) => push_number(text, number),
+    }
+}
+
+/// Appends where a tree begins and where it ends.
+fn push_bounds(text: &mut Vec<u8>, from: usize, to: usize) -> Result<(), AllocError>
+    ensures { OnOk result (text.new.items ≡ text.old.items ++ bounds_text from to) }
+{
+    text.extend_from_slice(b" ")?;
+    push_count(text, from)?;
+    text.extend_from_slice(b" ")?;
+    push_count(text, to)?;
+    text.extend_from_slice(b" ")
+}
+
+/// Appends the size of a board.
+fn push_size(text: &mut Vec<u8>, size: Size) -> Result<(), AllocError>
+    ensures { OnOk result (text.new.items
+        ≡ text.old.items ++ (decimal size.columns ++ codes "x" ++ decimal size.rows)) }
+{
+    push_count(text, usize::from(size.columns()))?;
+    text.extend_from_slice(b"x")?;
+    push_count(text, usize::from(size.rows()))
+}
+
+/// Appends what a tree is.
+fn push_what(text: &mut Vec<u8>, what: What) -> Result<(), AllocError>
+    ensures { OnOk result (text.new.items ≡ text.old.items ++ what_text what) }
+{
+    match what {
+        What::Game {
+            size,
+            moves,
+            occasions,
+        } => {
+            text.extend_from_slice(b"game ")?;
+            push_size(text, size)?;
+            text.extend_from_slice(b" moves ")?;
+            push_count(text, moves)?;
+            text.extend_from_slice(b" occasions ")?;
+            push_count(text, occasions)
+        }
+        What::Other => text.extend_from_slice(b"other"),
+        What::Refused(fault) => {
+            text.extend_from_slice(b"refused ")?;
+            push_record_fault(text, fault)
+        }
+    }
+}
+
+/// Appends the line of a tree.
+pub(crate) fn push_line(text: &mut Vec<u8>, line: &Line) -> Result<(), AllocError>
+    ensures { OnOk result (text.new.items ≡ text.old.items ++ line_text line.now) }
+{
+    push_game_number(text, line.number)?;
+    push_bounds(text, line.from, line.to)?;
+    push_what(text, line.what)?;
+    text.push(b'\n')?;
+    Ok(())
+}
+
+/// Appends the last line of an input with a fault of syntax.
+pub(crate) fn push_fault(
+    text: &mut Vec<u8>,
+    from: usize,
+    to: usize,
+    fault: SgfFault,
+) -> Result<(), AllocError>
+    ensures { OnOk result (text.new.items ≡ text.old.items ++ fault_text from to fault) }
+{
+    text.extend_from_slice(b"-")?;
+    push_bounds(text, from, to)?;
+    text.extend_from_slice(b"fault ")?;
+    push_sgf_fault(text, fault)?;
+    text.push(b'\n')?;
+    Ok(())
+}

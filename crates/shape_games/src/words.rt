@@ -1,0 +1,74 @@
+//! The words of the command line, and what they ask for.
+ghost use Rattle.std.specs.Prelude.{◌≡◌, ◌⊎◌, IfErr, IfOk};
+ghost use Rattle.clap.specs.Words.{app_of};
+ghost use Rattle.engine_core.specs.declared.faults.RunFault.TheVariants as fault;
+ghost use Rattle.shape_games.specs.Words.{program_app, IsHelp};
+
+use clap::error::ErrorKind;
+use clap::{Command, Error};
+use engine_core::RunFault;
+use std::alloc::Global;
+
+/// The end of the program's help.
+const NOTES: &str =
+    "The collection is read from standard input, up to 268,435,456 bytes. A line for each tree, in order:
+
+  0 0 812 game 19x19 moves 212 occasions 212    game 0, from byte 0 to byte 812
+  - 812 840 other                               a tree of another game
+  - 840 901 refused G2 bad point at 877         a game whose record has a fault
+  - 901 999 fault S2 bad byte at 950            the last line: no tree can be read from here on
+
+An occasion is a move onto an empty point.
+
+Exit status: 0 done, 1 no tree, 2 wrong words, 3 input refused, 5 no memory, 6 a read or a write failed";
+
+/// What the program is to do.
+#[derive(Debug, Drop)]
+pub enum Task {
+    /// List the collection.
+    List,
+    /// Print this text, which was asked for by help or version.
+    Help(String),
+}
+
+/// All that the program knows: no word but those for help and version. Its name is not among its
+/// words.
+fn program<'a>(alloc: Global) -> Command<'a>
+    ensures { app_of result ≡ program_app }
+{
+    Command::new(alloc, "shape_games")
+        .about("Lists the trees of a collection: where each is, and what")
+        .override_usage("shape_games < GAMES.sgf")
+        .after_help(NOTES)
+        .version("1.0.0")
+        .no_binary_name(true)
+}
+
+/// What a refused line asks for: a text of help or version, or nothing that the program knows.
+fn refused(alloc: Global, error: &Error) -> Result<Task, RunFault>
+    ensures task { IfOk result IsHelp }
+    ensures fault { IfErr result (λ found. (found ≡ fault.Usage) ⊎ (found ≡ fault.Memory)) }
+{
+    match error.kind() {
+        ErrorKind::DisplayHelp | ErrorKind::DisplayVersion => {
+            Ok(Task::Help(error.to_string(alloc)?))
+        }
+        ErrorKind::OutOfMemory => Err(RunFault::Memory),
+        _ => Err(RunFault::Usage),
+    }
+}
+
+/// What the words after the program's name ask for; no word at all asks for the listing. It takes
+/// memory.
+///
+/// # Errors
+///
+/// `Usage` where the words are none that the program knows; `Memory` where memory was refused.
+pub fn read_words(alloc: Global, words: &[String]) -> Result<Task, RunFault>
+    ensures fault { IfErr result (λ found. (found ≡ fault.Usage) ⊎ (found ≡ fault.Memory)) }
+{
+    match program(alloc).try_get_matches_from(words) {
+        Ok(_) => Ok(Task::List),
+        Err(error) => refused(alloc, &error),
+    }
+}
