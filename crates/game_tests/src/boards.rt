@@ -164,7 +164,8 @@ fn play_by_trait<B: Replayable>(board: &mut B, colour: Colour, point: Point) -> 
     board.play_move(colour, point)
 }
 
-/// On two points in a row White takes the stone of Black, who takes that of White; on one point Black takes its own.
+/// On two points in a row White takes the stone of Black, who takes that of White; on one point
+/// Black takes its own.
 fn assert_taken<B: Replayable>(rt: &impl Abort, pair: &mut B, single: &mut B)
     requires pair { ((B.board_of pair.old).size.columns ≡ 2)
         × ((B.board_of pair.old).size.rows ≡ 1) }

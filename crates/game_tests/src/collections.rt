@@ -249,7 +249,8 @@ fn next_bounds(alloc: Global, trees: &mut Trees<'_>) -> Result<Option<(usize, us
     }
 }
 
-/// With memory refused at any request each answer comes at the second call at the latest, once memory is there again.
+/// With memory refused at any request each answer comes at the second call at the latest, once
+/// memory is there again.
 #[test]
 fn memory_is_found_when_asked_again(rt: HostRuntime) -> Result<(), SgfFault> {
     let mut trees = Trees::new(b"(;AB[aa][bb][cc];B[aa])(;SZ[1])(;SZ[1]")?;

@@ -4,7 +4,7 @@ use shape_core::{
     Field, GlyphFault, Kind, Kinds, Shape, Symmetry, Word, around, canonical, diamond, exchange,
     from_diamond_glyphs, from_glyphs, glyphs, image,
 };
-use std::alloc::Global;
+use std::alloc::{AllocError, Global};
 use std::process::Abort;
 use std::test::Fail;
 
@@ -152,8 +152,8 @@ fn assert_words(rt: &impl Abort, field: &Field, board: &Board) {
     }
 }
 
-/// Both patterns of every point of the field are those of the board, for both colours to move, and the columns of a row that
-/// the field calls empty are those of the board.
+/// Both patterns of every point of the field are those of the board, for both colours to move, and
+/// the columns of a row that the field calls empty are those of the board.
 fn assert_patterns(rt: &impl Abort, field: &Field, board: &Board) {
     for row in 0..board.size().rows() {
         assert!(rt; row < field.size().rows() && field.kinds() == Kinds::Both);
@@ -175,10 +175,31 @@ fn assert_patterns(rt: &impl Abort, field: &Field, board: &Board) {
     }
 }
 
-/// The field's marks are taken out row by row from the top, each row from the left, and each point whose square or
-/// diamond is another than that of the board is among them.
-fn assert_marks(rt: &impl Abort, field: &mut Field, before: &Board) {
-    let mut next = field.take_changed();
+/// The field's marks, which are taken out: for each row a number with a bit for each column.
+fn moved_marks(alloc: Global, field: &mut Field) -> Result<Vec<u64>, AllocError> {
+    let rows = usize::from(field.size().rows());
+    let mut marks = vec![in alloc; 0u64; rows]?;
+    let mut also = vec![in alloc; 0u64; rows]?;
+    field.move_changed(&mut marks, &mut also);
+    Ok(marks)
+}
+
+/// Whether a point's bit is set.
+fn is_among(marks: &[u64], point: Point) -> bool {
+    match marks.get(usize::from(point.row)) {
+        Some(row) => point.column < 64 && (row >> point.column) & 1 == 1,
+        None => false,
+    }
+}
+
+/// Whether a point is among the field's marks, which are taken out.
+fn is_marked(rt: &impl Abort, alloc: Global, field: &mut Field, point: Point) -> bool {
+    let marks = moved_marks(alloc, field).expect(rt, "memory for marks");
+    is_among(&marks, point)
+}
+
+/// Each point whose square or diamond is another than that of the board is among these marks.
+fn assert_among(rt: &impl Abort, marks: &[u64], field: &Field, before: &Board) {
     for row in 0..before.size().rows() {
         for column in 0..before.size().columns() {
             let point = Point { column, row };
@@ -186,15 +207,15 @@ fn assert_marks(rt: &impl Abort, field: &mut Field, before: &Board) {
             assert!(rt; field.size().has(point) && before.size().has(point));
             let same = field.word(point) == around(before, point)
                 && field.diamond(point) == diamond(before, point);
-            let marked = next == Some(point);
-            assert!(rt; same || marked);
-            if marked {
-                assert!(rt; !field.is_changed(point));
-                next = field.take_changed();
-            }
+            assert!(rt; same || is_among(marks, point));
         }
     }
-    assert_eq!(rt; next, None);
+}
+
+/// Each point whose square or diamond is another than that of the board is among the field's marks.
+fn assert_marks(rt: &impl Abort, alloc: Global, field: &mut Field, before: &Board) {
+    let marks = moved_marks(alloc, field).expect(rt, "memory for marks");
+    assert_among(rt, &marks, field, before);
 }
 
 /// A point of a window of five columns and five rows that wanders over a board.
@@ -206,7 +227,8 @@ fn wandering(size: Size, turn: usize) -> Point {
     }
 }
 
-/// The same moves on a field and on a board. After each of them the words and the marks are compared.
+/// The same moves on a field and on a board. After each of them the words and the marks are
+/// compared.
 fn play_along(rt: &impl Abort, alloc: Global, columns: u8, rows: u8) -> Result<(), Fail> {
     let size = size_of(columns, rows)?;
     let mut field = Field::new(alloc, size)?;
@@ -223,7 +245,7 @@ fn play_along(rt: &impl Abort, alloc: Global, columns: u8, rows: u8) -> Result<(
         assert_eq!(rt; field.play(colour, point), board.play(colour, point));
         assert_eq!(rt; field.removed(), board.removed());
         assert_words(rt, &field, &board);
-        assert_marks(rt, &mut field, &before);
+        assert_marks(rt, alloc, &mut field, &before);
         assert!(rt; before.size().has(point));
         before.play(colour, point);
     }
@@ -246,11 +268,11 @@ fn copied_field_has_the_stones(rt: HostRuntime) -> Result<(), Fail> {
     let corner = Point { column: 0, row: 0 };
     assert!(&rt; field.size().has(corner));
     field.set(corner, Stone::White);
-    let copied = field.copied(rt.alloc())?;
+    let mut copied = field.copied(rt.alloc())?;
     assert!(&rt; copied.size().has(corner));
     assert_eq!(&rt; copied.cell(corner), Stone::White);
     assert_eq!(&rt; copied.word(corner), field.word(corner));
-    assert!(&rt; copied.is_changed(corner));
+    assert!(&rt; is_marked(&rt, rt.alloc(), &mut copied, corner));
     Ok(())
 }
 
@@ -263,7 +285,8 @@ fn set_stones_change_words(rt: HostRuntime) -> Result<(), Fail> {
     assert!(&rt; field.size().has(middle) && field.size().has(corner));
     field.set(middle, Stone::White);
     assert_eq!(&rt; glyphs(field.word(corner)), *b"############...##.O.##...");
-    assert!(&rt; field.is_changed(corner));
+    assert!(&rt; is_marked(&rt, rt.alloc(), &mut field, corner));
+    assert!(&rt; field.size().has(middle) && field.size().has(corner));
     field.set(middle, Stone::Empty);
     assert_eq!(&rt; glyphs(field.word(corner)), *b"############...##...##...");
     Ok(())

@@ -5,7 +5,8 @@ use sgf_core::Trees;
 use std::alloc::Global;
 use std::test::Fail;
 
-/// What a tree has to give: nothing where it is of another game, else the columns, the rows and the actions.
+/// What a tree has to give: nothing where it is of another game, else the columns, the rows and the
+/// actions.
 type Wanted<'a> = Result<Option<(u8, u8, &'a [Action])>, RecordFault>;
 
 const fn point(column: u8, row: u8) -> Point {

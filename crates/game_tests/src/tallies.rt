@@ -10,7 +10,8 @@ use tally_core::{HarvestFault, Report, Settings, count_plain, has_diamonds, tall
 /// Two stones, on a board of two points.
 pub(crate) const TWO_STONES: &[u8] = b"(;SZ[2:1];B[aa];W[ba])";
 
-/// Inputs, the texts of their dictionaries of squares, and their reports: games, others and refused.
+/// Inputs, the texts of their dictionaries of squares, and their reports: games, others and
+/// refused.
 const COLLECTIONS: [(&[u8], &str, (u64, u64, u64)); 8] = [
     (
         b"(;SZ[1];B[aa])",
@@ -231,7 +232,8 @@ fn patterns(alloc: Global, bytes: &[u8]) -> Result<usize, HarvestFault> {
     Ok(counted.dictionary.entries().len())
 }
 
-/// With memory refused at any request it still holds: the tally is the game's, or want of memory is answered.
+/// With memory refused at any request it still holds: the tally is the game's, or want of memory is
+/// answered.
 #[test]
 fn memory_is_found_or_named(rt: HostRuntime) {
     let alloc = rt.alloc();

@@ -1,5 +1,5 @@
-//! Games on boards from 1 by 1 to 7 by 7, walked, and counted by the plain definition: a look at every point at every
-//! move.
+//! Games on boards from 1 by 1 to 7 by 7, walked, and counted by the plain definition: a look at
+//! every point at every move.
 use crate::tallies::{TWO_STONES, game_of};
 use go_board::{Board, Colour, Point, Stone};
 use go_record::{Action, Record};
@@ -25,7 +25,8 @@ impl Dice {
     }
 }
 
-/// One node: mostly a move of either colour onto any point, stone or not; else a pass, or stones set or taken off.
+/// One node: mostly a move of either colour onto any point, stone or not; else a pass, or stones
+/// set or taken off.
 fn push_node(text: &mut Vec<u8>, dice: &mut Dice, columns: u8, rows: u8) -> Result<(), AllocError> {
     let name: &[u8] = match dice.throw(16) {
         0 => b";AB[",
@@ -279,7 +280,8 @@ fn walked(walk: &mut Walk, game: &Record) -> Result<(u64, usize), HarvestFault> 
     Ok((moves, walk.meetings().len()))
 }
 
-/// With memory refused at any request a walk says so, or what the game has; after that it can be used again.
+/// With memory refused at any request a walk says so, or what the game has; after that it can be
+/// used again.
 #[test]
 fn a_walk_finds_memory_or_says_so(rt: HostRuntime) {
     let alloc = rt.alloc();

@@ -1,5 +1,5 @@
-//! Gates that hold workers back: games are in work at once, and the thread that reads helps. And one that notes what it is
-//! told.
+//! Gates that hold workers back: games are in work at once, and the thread that reads helps. And
+//! one that notes what it is told.
 use crate::harvests::{collection, text_of};
 use crate::sheets::{Bytes, Full};
 use engine_core::run_count;
@@ -14,7 +14,8 @@ use std::thread;
 use std::thread::Threads;
 use tally_core::{Settings, count_plain};
 
-/// How often a gate looks before it gives up. A program that works one game after another fails, and does not hang.
+/// How often a gate looks before it gives up. A program that works one game after another fails,
+/// and does not hang.
 const LOOKS: u64 = 1 << 24;
 
 /// Holds whoever begins the first game of all, until another game has begun.
@@ -121,7 +122,8 @@ fn reader_helps(rt: HostRuntime) -> Result<(), Fail> {
     Ok(())
 }
 
-/// Notes how often each of the games 0 to 9 is told of a worker from 0 to 3, in four bits a game, and how often anything else.
+/// Notes how often each of the games 0 to 9 is told of a worker from 0 to 3, in four bits a game,
+/// and how often anything else.
 #[derive(Drop)]
 struct Notes {
     told: AtomicU64,

@@ -68,7 +68,8 @@ fn report_of(games: u64, others: u64, refused: u64) -> Report {
     }
 }
 
-/// One hundred and fifty games of each of two sorts: two points are there once empty and once taken.
+/// One hundred and fifty games of each of two sorts: two points are there once empty and once
+/// taken.
 const OF_300: &str =
     "shapes 3 games 300 moves 450 squares 3 diamonds 3\n3fff3fcffffff 300 150 1\n3fffbfcffffff 150 150 1\n3fffffcffffff 150 150 0\n7ffcffcffffff 300 150 1\n7ffeffcffffff 150 150 1\n7fffffcffffff 150 150 0\n";
 
@@ -291,7 +292,8 @@ fn a_table_of_another_input_disagrees(rt: HostRuntime) -> Result<(), Fail> {
     Ok(())
 }
 
-/// With memory refused at any request the answer is the dictionary or want of memory, and all threads end.
+/// With memory refused at any request the answer is the dictionary or want of memory, and all
+/// threads end.
 #[test]
 fn memory_is_found_or_named(rt: HostRuntime) -> Result<(), Fail> {
     let alloc = rt.alloc();

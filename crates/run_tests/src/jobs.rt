@@ -25,7 +25,8 @@ fn collection(alloc: Global, games: u64) -> Result<Vec<u8>, AllocError> {
     Ok(bytes)
 }
 
-/// What a job says: its number, its place, and of its record the columns of the board and how many actions there are.
+/// What a job says: its number, its place, and of its record the columns of the board and how many
+/// actions there are.
 fn said(job: &Job<'_>) -> (u64, usize, usize, u8, usize) {
     let record = job.record();
     (
@@ -335,7 +336,8 @@ fn next_number(alloc: Global, games: &mut Games<'_>) -> Result<Option<u64>, Harv
     }
 }
 
-/// With memory refused at any request the games come as they do, or want of memory is answered, then and later.
+/// With memory refused at any request the games come as they do, or want of memory is answered,
+/// then and later.
 #[test]
 fn memory_is_found_or_named(rt: HostRuntime) -> Result<(), HarvestFault> {
     let alloc = rt.alloc();

@@ -1,4 +1,4 @@
-//! Jobs, harvests, the engines' faults and sheets, tried from outside.
+//! Jobs, harvests, the engines' faults, sheets and listings, tried from outside.
 #![tactic(auto)]
 
 #[cfg(test)]
@@ -9,6 +9,8 @@ mod gates;
 mod harvests;
 #[cfg(test)]
 mod jobs;
+#[cfg(test)]
+mod listings;
 #[cfg(test)]
 mod parts;
 #[cfg(test)]

@@ -13,7 +13,8 @@ use std::test::Fail;
 const TIES: &[u8] =
     b"shapes 2 games 2 moves 12 squares 4 diamonds 1\n0000000000000 10 4\n0000000000001 8 4\n0000000000002 2 1\n0000000000010 3 3\n4000000000000 20 12\n";
 
-/// The point beside another one of a row of two points, that one empty at first and then with a stone.
+/// The point beside another one of a row of two points, that one empty at first and then with a
+/// stone.
 const PAIR: &[u8] = b"shapes 1 games 1 moves 2 patterns 2\n3fff3fcffffff 2 1\n3fffbfcffffff 1 1\n";
 
 /// What is asked for where nothing else is said.
@@ -163,7 +164,8 @@ impl Write for Full {
     }
 }
 
-/// A run over these bytes answers so, and what a writer of at most this many bytes got is the front of a text.
+/// A run over these bytes answers so, and what a writer of at most this many bytes got is the front
+/// of a text.
 fn assert_run(
     rt: &impl Abort,
     alloc: Global,
@@ -198,7 +200,8 @@ fn runs_write_all_or_say_why(rt: HostRuntime) -> Result<(), Fail> {
     assert_run(&rt, alloc, (short, 9), refused(DictFault::BadLine(2)), b"")
 }
 
-/// With memory refused at any request the sheet is made, or want of memory is answered and nothing is written.
+/// With memory refused at any request the sheet is made, or want of memory is answered and nothing
+/// is written.
 #[test]
 fn memory_is_found_or_named(rt: HostRuntime) -> Result<(), Fail> {
     let mut writer = Full {

@@ -1,4 +1,5 @@
-//! Numbers that look drawn by chance, the same at every run: each is the one before times a constant.
+//! Numbers that look drawn by chance, the same at every run: each is the one before times a
+//! constant.
 ghost use Rattle.std.specs.Prelude.{◌≡◌};
 ghost use Rattle.go_board.specs.Point.{IsOn};
 ghost use Rattle.shape_bench.specs.Drawn.{next_of, word_of, point_of};
@@ -40,7 +41,8 @@ impl Generator {
         Word::new(self.next() >> 13).unwrap()
     }
 
-    /// A point of a board of this size, by the upper 32 bits of the next number: 16 for each of its coordinates.
+    /// A point of a board of this size, by the upper 32 bits of the next number: 16 for each of its
+    /// coordinates.
     pub fn point(&mut self, size: Size) -> Point
         ensures on_board { IsOn size result }
         ensures value { result ≡ point_of size (next_of self.old.state) }

@@ -1,7 +1,7 @@
 //! How many canonical forms and field plays a second takes.
 //!
-//! Without a word it makes a fixed number of each and prints how many. With a whole number N it makes N times as many,
-//! and prints besides how many it made in a second.
+//! Without a word it makes a fixed number of each and prints how many. With a whole number N it
+//! makes N times as many, and prints besides how many it made in a second.
 #![tactic(auto)]
 
 ghost use Rattle.std.specs.Prelude.{◌≡◌, ◌≢◌, ◌%◌, IsOk};
@@ -33,7 +33,8 @@ fn times_asked(rt: &HostRuntime) -> Result<Option<u32>, BenchFault> {
     }
 }
 
-/// Looks at the results, so that none can be left out. It fails only where they had a value that they can't have.
+/// Looks at the results, so that none can be left out. It fails only where they had a value that
+/// they can't have.
 fn look_at(made: &Made) -> Result<(), BenchFault>
     ensures passed { IsOk result → made.now.mixed ≢ 0 }
     ensures odd { made.now.mixed % 2 ≡ 1 → IsOk result }

@@ -1,7 +1,8 @@
 //! How many of a thing are made in a second.
 ghost use Rattle.std.specs.Prelude.{◌≡◌, ◌*◌, ◌/◌, max};
 
-/// How many a second, rounded down, where `count` took `nanos` nanoseconds. No time at all counts as one nanosecond.
+/// How many a second, rounded down, where `count` took `nanos` nanoseconds. No time at all counts
+/// as one nanosecond.
 pub fn a_second(count: u64, nanos: u128) -> u128
     ensures { result ≡ count * 1_000_000_000 / max nanos 1 }
 {

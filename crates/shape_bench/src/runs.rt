@@ -12,7 +12,8 @@ use std::alloc::Global;
 pub struct Made {
     /// How many forms or plays.
     pub count: u64,
-    /// All the results mixed: odd, whatever they are. Since it is looked at, no result can be left out.
+    /// All the results mixed: odd, whatever they are. Since it is looked at, no result can be left
+    /// out.
     pub mixed: u64,
 }
 
@@ -54,7 +55,8 @@ fn mover(number: u64) -> Colour
     }
 }
 
-/// Makes this number of canonical forms, of squares and of diamonds, for Black and White in turn. Takes no memory.
+/// Makes this number of canonical forms, of squares and of diamonds, for Black and White in turn.
+/// Takes no memory.
 pub fn make_forms(count: u64) -> Made
     ensures count { result.count ≡ count }
     ensures odd { result.mixed % 2 ≡ 1 }
@@ -69,11 +71,12 @@ pub fn make_forms(count: u64) -> Made
     made
 }
 
-/// Plays this number of moves, of Black and White in turn, on a field of 19 columns and 19 rows that keeps squares and
-/// diamonds.
+/// Plays this number of moves, of Black and White in turn, on a field of 19 columns and 19 rows
+/// that keeps squares and diamonds.
 ///
-/// A move may go where a stone stands, and the board is never cleared. So it is soon as full as captures leave it, and
-/// where a move puts a stone in place of one of its own colour no word changes.
+/// A move may go where a stone stands, and the board is never cleared. So it is soon as full as
+/// captures leave it, and where a move puts a stone in place of one of its own colour no word
+/// changes.
 ///
 /// It takes memory for the field alone. `BoardFault::Memory` comes where memory is refused.
 pub fn make_plays(alloc: Global, count: u64) -> Result<Made, BoardFault>

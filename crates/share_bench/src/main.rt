@@ -1,9 +1,9 @@
-//! How long the parts of a count take on one thread: reading, replaying, walking, counting into one share over a table
-//! of 2^22 slots, and counting by a map.
+//! How long the parts of a count take on one thread: reading, replaying, walking, counting into one
+//! share over a table of 2^22 slots, and counting by a map.
 //!
-//! It reads a collection on standard input, counts squares, and prints how many games, actions, moves and patterns there
-//! are. With `--clock` it prints besides how many nanoseconds each part took a move, and with `--diamonds` it counts
-//! diamonds too.
+//! It reads a collection on standard input, counts squares, and prints how many games, actions,
+//! moves and patterns there are. With `--clock` it prints besides how many nanoseconds each part
+//! took a move, and with `--diamonds` it counts diamonds too.
 #![tactic(auto)]
 
 mod faults;

@@ -34,10 +34,11 @@ pub fn read_all<'a>(alloc: Global, input: &'a [u8]) -> Result<Vec<Job<'a>>, Benc
     Ok(jobs)
 }
 
-/// Plays all games on boards, without a look at any pattern. The answer is how many actions they have. It takes memory
-/// for one board at a time.
+/// Plays all games on boards, without a look at any pattern. The answer is how many actions they
+/// have. It takes memory for one board at a time.
 ///
-/// `BenchFault::Count` comes with `Memory` where memory was refused, and with `Overflow` where the actions pass 2^64 - 1.
+/// `BenchFault::Count` comes with `Memory` where memory was refused, and with `Overflow` where the
+/// actions pass 2^64 - 1.
 pub fn replay_all(alloc: Global, jobs: &[Job<'_>]) -> Result<usize, BenchFault>
     ensures actions { IfOk result (λ actions. actions ≡ actions_of jobs.now) }
     ensures fault { IfErr result IsWantOrLarge }
@@ -55,10 +56,11 @@ pub fn replay_all(alloc: Global, jobs: &[Job<'_>]) -> Result<usize, BenchFault>
     Ok(actions)
 }
 
-/// Walks all games. The answer is how many moves onto empty points they have. It takes memory for one game's patterns.
+/// Walks all games. The answer is how many moves onto empty points they have. It takes memory for
+/// one game's patterns.
 ///
-/// `BenchFault::Count` comes with `Memory` where memory was refused, and with `Overflow` where a game has more actions than
-/// any input or the moves pass 2^64 - 1.
+/// `BenchFault::Count` comes with `Memory` where memory was refused, and with `Overflow` where a
+/// game has more actions than any input or the moves pass 2^64 - 1.
 pub fn walk_all(alloc: Global, kinds: Kinds, jobs: &[Job<'_>]) -> Result<u64, BenchFault>
     ensures moves { IfOk result (HaveMoves jobs.now) }
     ensures fault { IfErr result IsWantOrLarge }
@@ -77,7 +79,8 @@ pub fn walk_all(alloc: Global, kinds: Kinds, jobs: &[Job<'_>]) -> Result<u64, Be
 
 /// Counts all games into one share. It takes memory for the share.
 ///
-/// `BenchFault::Count` comes with the fault of adding: F1, F4, F8, or want of memory. The pass must be of the table.
+/// `BenchFault::Count` comes with the fault of adding: F1, F4, F8, or want of memory. The pass must
+/// be of the table.
 pub fn share_all<O: ProbeOrder>(
     alloc: Global,
     kinds: Kinds,

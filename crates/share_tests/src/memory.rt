@@ -1,4 +1,5 @@
-//! Memory that is refused, whichever request it is: a share has a game or is as before, and a fault says so.
+//! Memory that is refused, whichever request it is: a share has a game or is as before, and a fault
+//! says so.
 ghost use Rattle.std.specs.Prelude.{◌≡◌, ◌++◌, ◌∷◌, [], ◌<◌, ◌^◌, IfSome};
 ghost use Rattle.std.specs.Bool.{OnTrue};
 ghost use Rattle.shape_core.specs.declared.words.Kinds.TheVariants as kinds;
@@ -57,8 +58,8 @@ fn has_kept(share: &Share, rows: &[Option<Row>; SLOTS]) -> bool {
     true
 }
 
-/// Adds a game to a share of these games; where memory is refused, which has to leave the share as it was, once more.
-/// Whether the share has the game.
+/// Adds a game to a share of these games; where memory is refused, which has to leave the share as
+/// it was, once more. Whether the share has the game.
 fn add_or_keep<O: ProbeOrder>(
     rt: &impl Abort,
     table: &SlotTable<O>,
@@ -86,7 +87,8 @@ fn add_or_keep<O: ProbeOrder>(
     share.add(table, pass, game, record).is_ok()
 }
 
-/// The share of both games, if memory was found for it, at the second time where it was refused at the first.
+/// The share of both games, if memory was found for it, at the second time where it was refused at
+/// the first.
 fn share_of_both<O: ProbeOrder>(
     rt: &impl Abort,
     alloc: Global,
@@ -115,7 +117,8 @@ fn has_both(share: &Share) -> bool {
     share.games() == [1, 0].as_slice() && share.moves() == 4
 }
 
-/// Gathers a share of both games; where memory is refused, which has to leave the share as it was, once more.
+/// Gathers a share of both games; where memory is refused, which has to leave the share as it was,
+/// once more.
 fn gather_or_keep<O: ProbeOrder>(
     rt: &(impl Abort + Threads + Sync),
     alloc: Global,
@@ -138,8 +141,8 @@ fn gather_or_keep<O: ProbeOrder>(
     gathered.ok()
 }
 
-/// The counts of both games, in which an empty point was next to an empty one twice each, once next to the other colour,
-/// and once next to its own; by squares, and by diamonds.
+/// The counts of both games, in which an empty point was next to an empty one twice each, once next
+/// to the other colour, and once next to its own; by squares, and by diamonds.
 fn wanted_of(rt: &impl Abort) -> [Entry; 6] {
     [
         entry_of(rt, 0x3fff3fcffffff, 4, 2, 0),

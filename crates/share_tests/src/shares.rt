@@ -116,7 +116,8 @@ fn a_table_is_full_of_patterns_but_not_of_one_it_has(rt: HostRuntime) -> Result<
     Ok(())
 }
 
-/// Adds the game that is written here by a table of its own, and answers the fault, if there is one.
+/// Adds the game that is written here by a table of its own, and answers the fault, if there is
+/// one.
 fn refusal_elsewhere(
     rt: &impl Abort,
     alloc: Global,

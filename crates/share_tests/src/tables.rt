@@ -68,18 +68,19 @@ fn an_absent_key_takes_no_number(rt: HostRuntime) -> Result<(), Fail> {
 }
 
 #[test]
-fn a_place_of_another_key_is_passed(rt: HostRuntime) -> Result<(), Fail> {
+fn a_look_ahead_changes_nothing(rt: HostRuntime) -> Result<(), Fail> {
     let capacity = capacity_of(&rt, 1);
     let (table, mut pass) = SlotTable::new(rt.alloc(), Linear { capacity })?;
     let (five, six) = (key_of(&rt, 5), key_of(&rt, 6));
-    assert!(&rt; table.capacity().slots() == 2);
-    assert!(&rt; !table.is_passed(five, 0));
-    assert!(&rt; table.enter(&mut pass, five) == Answer::Number(0));
-    assert!(&rt; !table.is_passed(five, 0));
-    assert!(&rt; !table.is_passed(five, 1));
-    assert!(&rt; table.enter(&mut pass, six) == Answer::Number(1));
-    assert!(&rt; table.is_passed(five, 1));
-    assert!(&rt; table.is_passed(six, 1));
+    table.look_ahead(&mut [five, six]);
+    assert!(&rt; table.look_up(&mut pass, five) == Answer::Absent);
+    let first = table.enter(&mut pass, six);
+    table.look_ahead(&mut [five, six, five]);
+    assert!(&rt; table.look_up(&mut pass, five) == Answer::Absent);
+    assert!(&rt; table.look_up(&mut pass, six) == first);
+    assert!(&rt; table.enter(&mut pass, five) != first);
+    table.look_ahead(&mut []);
+    assert!(&rt; table.look_up(&mut pass, six) == first);
     Ok(())
 }
 
@@ -182,7 +183,8 @@ fn jobs_of<O: ProbeOrder>(
     Ok(jobs)
 }
 
-/// Enters all keys, from the job's first one on in strides of its own: every key, every second one, and so on.
+/// Enters all keys, from the job's first one on in strides of its own: every key, every second one,
+/// and so on.
 fn enter_all<O: ProbeOrder>(rt: &impl Abort, table: &SlotTable<O>, job: Job<O>) -> Done<O>
     requires { IsPassOf (2 ^ O.exponent table.now.order) table.now job.pass }
     ensures { IsPassOf (2 ^ O.exponent table.now.order) table.now result.pass }
