@@ -3,6 +3,7 @@ pub mod Choice
 pub mod Pieces
 pub mod Plain
 pub mod Cells
+pub mod Sides
 pub mod Drawing
 pub mod Page
 pub mod Sheets

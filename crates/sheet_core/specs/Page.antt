@@ -10,18 +10,21 @@ use Rattle.sheet_core.specs.declared.asked.Asked.{Asked}
 use Rattle.sheet_core.specs.declared.head.TheConstants.{HEAD}
 use Rattle.sheet_core.specs.declared.orders.Order.{Order}
 use Rattle.sheet_core.specs.declared.orders.Order.TheVariants as order
-use Rattle.sheet_core.specs.Pieces.{hundredths_of, percent_text, ranked}
+use Rattle.sheet_core.specs.Pieces.{hundredths_of, whole_percent_text, ranked}
 use Rattle.sheet_core.specs.Drawing.{drawing_text}
+
+-- how many times of a hundred it was played, and how often it was there
+unfoldable pub share_text : Entry → List ℕ
+share_text entry =
+    codes "<b>" ++ whole_percent_text (hundredths_of entry) ++ codes " of " ++ decimal entry.there ++ codes "</b>"
+
+-- the same, and how often it was played
+unfoldable pub uses_text : Entry → List ℕ
+uses_text entry = share_text entry ++ codes "<br>played " ++ decimal entry.played
 
 -- a pattern's rank and word
 unfoldable pub name_text : ℕ → Entry → List ℕ
-name_text rank entry = codes "<b>" ++ decimal rank ++ codes "</b> <code>" ++ word_text entry.shape ++ codes "</code>"
-
--- how often it was there and was played, and its urgency
-unfoldable pub uses_text : Entry → List ℕ
-uses_text entry =
-    codes "<br>there " ++ decimal entry.there ++ codes ", played " ++ decimal entry.played ++ codes "<br>urgency "
-    ++ percent_text (hundredths_of entry)
+name_text rank entry = codes ", rank " ++ decimal rank ++ codes "<br><code>" ++ word_text entry.shape ++ codes "</code>"
 
 -- the first game that had it, where that is known
 unfoldable pub game_text : Option ℕ → List ℕ
@@ -31,7 +34,7 @@ game_text (Some game) = codes "<br>first in game " ++ decimal game
 -- what is below a drawing
 unfoldable pub caption_text : ℕ → Entry → List ℕ
 caption_text rank entry =
-    codes "<figcaption>" ++ name_text rank entry ++ uses_text entry ++ game_text entry.first ++ codes "</figcaption>"
+    codes "<figcaption>" ++ uses_text entry ++ name_text rank entry ++ game_text entry.first ++ codes "</figcaption>"
 
 -- a pattern with its rank
 unfoldable pub figure_text : ℕ → Entry → List ℕ
@@ -61,15 +64,15 @@ terms_text order least =
     codes ", " ++ order_name order ++ codes " first, each there at least this often: " ++ decimal least
     ++ codes ".</p>\n"
 
--- how colours are seen, and where the figures begin
-unfoldable pub colours_text : List ℕ
-colours_text =
-    codes "<p>Colours are seen from the mover, as Black: with colours exchanged it is the same pattern. The dot marks its point.</p>\n<main>\n"
+-- how a figure is read, and where the figures begin
+unfoldable pub legend_text : List ℕ
+legend_text =
+    codes "<p>1 is the move, and Black is to play it: with colours exchanged it is the same pattern. A thick line is the edge of the board; what is beyond a picture is no part of the pattern. <b>48 % of 100</b>: the pattern was there 100 times for the player to move, who played on its point 48 times.</p>\n<main>\n"
 
 -- what is above the figures
 unfoldable pub heading_text : Asked → Contents → ℕ → List ℕ
 heading_text asked contents count =
-    counted_text contents ++ number_text asked.kind count ++ terms_text asked.order asked.least ++ colours_text
+    counted_text contents ++ number_text asked.kind count ++ terms_text asked.order asked.least ++ legend_text
 
 unfoldable pub end_text : List ℕ
 end_text = codes "</main>\n</body>\n</html>\n"

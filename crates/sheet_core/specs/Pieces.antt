@@ -8,7 +8,11 @@ use Rattle.sheet_core.specs.Orders.{occasions_of}
 abbrev pub hundredths_of : Entry → ℕ
 hundredths_of entry = entry.played * 10000 / occasions_of entry
 
--- hundredths of a percent, as a percentage with two decimals
+-- hundredths of a percent, as whole percent, rounded down
+unfoldable pub whole_percent_text : ℕ → List ℕ
+whole_percent_text hundredths = decimal (hundredths / 100) ++ codes " %"
+
+-- the same with two decimals
 abbrev pub percent_text : ℕ → List ℕ
 percent_text hundredths =
     decimal (hundredths / 100) ++ codes "." ++ (48 + hundredths / 10 % 10) ∷ (48 + hundredths % 10) ∷ codes "%"

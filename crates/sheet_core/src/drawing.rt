@@ -1,25 +1,42 @@
-//! The drawing of a pattern: a tile under each point on the board, lines between such points,
-//! stones, and a mark.
-ghost use Rattle.std.specs.Prelude.{◌≡◌, ◌+◌, ◌==◌, ◌++◌, OnOk};
+//! The drawing of a pattern: a tile under each point on the board, lines that run on where the
+//! board does, thick ones at its edge, stones, and the next move.
+ghost use Rattle.std.specs.Prelude.{◌≡◌, ◌++◌, OnOk};
 ghost use Rattle.std.specs.List.{flat_map};
-ghost use Rattle.sheet_core.specs.Drawing.{view_text, move_text, tile_text, tiles_text, link_text};
-ghost use Rattle.sheet_core.specs.Drawing.{links_from, links_text, middle_text, circle_text};
-ghost use Rattle.sheet_core.specs.Drawing.{stone_text, mark_text, picture_text};
-ghost use Rattle.sheet_core.specs.Drawing.{drawing_text};
+ghost use Rattle.sheet_core.specs.Drawing.{view_text, title_text, move_text, tile_text, tiles_text};
+ghost use Rattle.sheet_core.specs.Drawing.{way_text, half_text, upright_text, level_text};
+ghost use Rattle.sheet_core.specs.Drawing.{cross_text, lines_text, upright_edge, level_edge};
+ghost use Rattle.sheet_core.specs.Drawing.{edge_text, edges_text, middle_text, circle_text};
+ghost use Rattle.sheet_core.specs.Drawing.{stone_text, next_text, picture_text, drawing_text};
 
 use crate::cells::{Cell, cells_of, is_on};
-use shape_core::{Kind, Word};
+use crate::sides::{Side, ends_at};
+use shape_core::{Kind, Word, glyphs};
 use shape_dict::push_number;
 use std::alloc::AllocError;
 
-/// Appends the beginning of a drawing, with the part of the plane that is shown.
+/// Appends the beginning of a drawing: the part of the plane that is shown, and the background of
+/// all its cells.
 fn push_view(text: &mut Vec<u8>, kind: Kind) -> Result<(), AllocError>
     ensures { OnOk result (text.new.items ≡ text.old.items ++ view_text kind) }
 {
     match kind {
-        Kind::Square => text.extend_from_slice(b"<svg viewBox='0.4 0.4 5.2 5.2'>"),
-        Kind::Diamond => text.extend_from_slice(b"<svg viewBox='-0.6 -0.6 7.2 7.2'>"),
+        Kind::Square => text.extend_from_slice(
+            b"<svg viewBox='.5 .5 5 5' role='img'><path class='outside' d='M1 1h5v5h-5z'/>",
+        ),
+        Kind::Diamond => text.extend_from_slice(
+            b"<svg viewBox='-.5 -.5 7 7' role='img'><path class='outside' d='M3 0h1v1h1v1h1v1h1v1h-1v1h-1v1h-1v1h-1v-1h-1v-1h-1v-1h-1v-1h1v-1h1v-1h1z'/>",
+        ),
     }
+}
+
+/// Appends what is read out in place of the picture: the 25 glyphs, as `find` takes them.
+fn push_title(text: &mut Vec<u8>, word: Word) -> Result<(), AllocError>
+    ensures { OnOk result (text.new.items ≡ text.old.items ++ title_text word) }
+{
+    text.extend_from_slice(b"<title>")?;
+    text.extend_from_slice(&glyphs(word))?;
+    text.extend_from_slice(b", X to move in the middle</title>")?;
+    Ok(())
 }
 
 /// Appends a pen's move to a cell.
@@ -54,49 +71,105 @@ fn push_tiles(text: &mut Vec<u8>, cells: &[Cell]) -> Result<(), AllocError>
     text.extend_from_slice(b"'/>")
 }
 
-/// Whether a number is one more than another.
-fn is_next(number: u8, next: u8) -> bool
-    ensures { result ≡ (next == number + 1) }
+/// A pen's way of half a cell to a side.
+fn way(side: Side) -> &'static [u8]
+    ensures { result.now ≡ way_text side }
 {
-    u16::from(next) == u16::from(number) + 1
+    match side {
+        Side::Right => b"h.5",
+        Side::Below => b"v.5",
+        Side::Left => b"h-.5",
+        Side::Above => b"v-.5",
+    }
 }
 
-/// Appends the line from a cell to another, where this lies to the right or below, and both are on
-/// the board.
-fn push_link(text: &mut Vec<u8>, cell: Cell, other: Cell) -> Result<(), AllocError>
-    ensures { OnOk result (text.new.items ≡ text.old.items ++ link_text cell other) }
+/// Appends the half of a line from a cell to a side, unless the board ends there.
+fn push_half(text: &mut Vec<u8>, cells: &[Cell], cell: Cell, side: Side) -> Result<(), AllocError>
+    ensures { OnOk result (text.new.items ≡ text.old.items ++ half_text cells.now cell side) }
 {
-    if !is_on(cell) || !is_on(other) {
+    if ends_at(side, cells, cell) {
         return Ok(());
     }
-    if other.row == cell.row && is_next(cell.column, other.column) {
-        push_move(text, cell)?;
-        return text.extend_from_slice(b"h1");
-    }
-    if other.column == cell.column && is_next(cell.row, other.row) {
-        push_move(text, cell)?;
-        return text.extend_from_slice(b"v1");
-    }
-    Ok(())
+    push_move(text, cell)?;
+    text.extend_from_slice(way(side))
 }
 
-/// Appends the lines from a cell to others.
-fn push_links_from(text: &mut Vec<u8>, cells: &[Cell], cell: Cell) -> Result<(), AllocError>
-    ensures { OnOk result (text.new.items ≡ text.old.items ++ links_from cells.now cell) }
+/// Appends the line of a cell up and down.
+fn push_upright(text: &mut Vec<u8>, cells: &[Cell], cell: Cell) -> Result<(), AllocError>
+    ensures { OnOk result (text.new.items ≡ text.old.items ++ upright_text cells.now cell) }
 {
-    for other in cells {
-        push_link(text, cell, *other)?;
-    }
-    Ok(())
+    push_half(text, cells, cell, Side::Below)?;
+    push_half(text, cells, cell, Side::Above)
 }
 
-/// Appends the lines between cells.
-fn push_links(text: &mut Vec<u8>, cells: &[Cell]) -> Result<(), AllocError>
-    ensures { OnOk result (text.new.items ≡ text.old.items ++ links_text cells.now) }
+/// Appends the line of a cell to the right and to the left.
+fn push_level(text: &mut Vec<u8>, cells: &[Cell], cell: Cell) -> Result<(), AllocError>
+    ensures { OnOk result (text.new.items ≡ text.old.items ++ level_text cells.now cell) }
+{
+    push_half(text, cells, cell, Side::Right)?;
+    push_half(text, cells, cell, Side::Left)
+}
+
+/// Appends both lines of a cell, where that is on the board.
+fn push_cross(text: &mut Vec<u8>, cells: &[Cell], cell: Cell) -> Result<(), AllocError>
+    ensures { OnOk result (text.new.items ≡ text.old.items ++ cross_text cells.now cell) }
+{
+    if !is_on(cell) {
+        return Ok(());
+    }
+    push_upright(text, cells, cell)?;
+    push_level(text, cells, cell)
+}
+
+/// Appends the lines of cells.
+fn push_lines(text: &mut Vec<u8>, cells: &[Cell]) -> Result<(), AllocError>
+    ensures { OnOk result (text.new.items ≡ text.old.items ++ lines_text cells.now) }
 {
     text.extend_from_slice(b"<path class='grid' d='")?;
     for cell in cells {
-        push_links_from(text, cells, *cell)?;
+        push_cross(text, cells, *cell)?;
+    }
+    text.extend_from_slice(b"'/>")
+}
+
+/// Appends the line of a cell up and down, where it is an edge of the board.
+fn push_upright_edge(text: &mut Vec<u8>, cells: &[Cell], cell: Cell) -> Result<(), AllocError>
+    ensures { OnOk result (text.new.items ≡ text.old.items ++ upright_edge cells.now cell) }
+{
+    if ends_at(Side::Left, cells, cell) || ends_at(Side::Right, cells, cell) {
+        return push_upright(text, cells, cell);
+    }
+    Ok(())
+}
+
+/// Appends the line of a cell to the right and to the left, where it is an edge of the board.
+fn push_level_edge(text: &mut Vec<u8>, cells: &[Cell], cell: Cell) -> Result<(), AllocError>
+    ensures { OnOk result (text.new.items ≡ text.old.items ++ level_edge cells.now cell) }
+{
+    if ends_at(Side::Above, cells, cell) || ends_at(Side::Below, cells, cell) {
+        return push_level(text, cells, cell);
+    }
+    Ok(())
+}
+
+/// Appends the lines of a cell that are edges of the board, where the cell is on it.
+fn push_edge(text: &mut Vec<u8>, cells: &[Cell], cell: Cell) -> Result<(), AllocError>
+    ensures { OnOk result (text.new.items ≡ text.old.items ++ edge_text cells.now cell) }
+{
+    if !is_on(cell) {
+        return Ok(());
+    }
+    push_upright_edge(text, cells, cell)?;
+    push_level_edge(text, cells, cell)
+}
+
+/// Appends the edges of the board among cells.
+fn push_edges(text: &mut Vec<u8>, cells: &[Cell]) -> Result<(), AllocError>
+    ensures { OnOk result (text.new.items ≡ text.old.items ++ edges_text cells.now) }
+{
+    text.extend_from_slice(b"<path class='edge' d='")?;
+    for cell in cells {
+        push_edge(text, cells, *cell)?;
     }
     text.extend_from_slice(b"'/>")
 }
@@ -142,22 +215,24 @@ fn push_stones(text: &mut Vec<u8>, cells: &[Cell]) -> Result<(), AllocError>
     Ok(())
 }
 
-/// Appends the mark of the point itself, and the end of the drawing.
-fn push_mark(text: &mut Vec<u8>) -> Result<(), AllocError>
-    ensures { OnOk result (text.new.items ≡ text.old.items ++ mark_text) }
+/// Appends the next move, a stone with a 1, and the end of the drawing.
+fn push_next(text: &mut Vec<u8>) -> Result<(), AllocError>
+    ensures { OnOk result (text.new.items ≡ text.old.items ++ next_text) }
 {
-    text.extend_from_slice(b"<circle class='point' cx='3' cy='3' r='.17'/></svg>")
+    text.extend_from_slice(
+        b"<circle class='black' r='.46' cx='3' cy='3'/><path class='one' d='M2.86 2.9l.16-.13v.46'/></svg>",
+    )
 }
 
 /// Appends the drawing of cells of a kind.
-fn push_picture(text: &mut Vec<u8>, kind: Kind, cells: &[Cell]) -> Result<(), AllocError>
-    ensures { OnOk result (text.new.items ≡ text.old.items ++ picture_text kind cells.now) }
+fn push_cells(text: &mut Vec<u8>, cells: &[Cell]) -> Result<(), AllocError>
+    ensures { OnOk result (text.new.items ≡ text.old.items ++ picture_text cells.now) }
 {
-    push_view(text, kind)?;
     push_tiles(text, cells)?;
-    push_links(text, cells)?;
+    push_lines(text, cells)?;
+    push_edges(text, cells)?;
     push_stones(text, cells)?;
-    push_mark(text)
+    push_next(text)
 }
 
 /// Appends the drawing of a word.
@@ -165,5 +240,8 @@ fn push_picture(text: &mut Vec<u8>, kind: Kind, cells: &[Cell]) -> Result<(), Al
 pub(crate) fn push_drawing(text: &mut Vec<u8>, word: Word) -> Result<(), AllocError>
     ensures { OnOk result (text.new.items ≡ text.old.items ++ drawing_text word) }
 {
-    push_picture(text, word.kind(), &cells_of(word))
+    push_view(text, word.kind())?;
+    push_title(text, word)?;
+    push_cells(text, &cells_of(word))?;
+    Ok(())
 }

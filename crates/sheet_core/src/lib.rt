@@ -13,6 +13,7 @@ mod plain;
 mod rows;
 mod runs;
 mod sheets;
+mod sides;
 
 pub use asked::{Asked, Form};
 pub use choosing::choose;

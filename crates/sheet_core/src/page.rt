@@ -1,43 +1,54 @@
 //! The page of chosen patterns.
 ghost use Rattle.std.specs.Prelude.{◌≡◌, ◌++◌, OnOk, IfOk};
 ghost use Rattle.sheet_core.specs.Pieces.{ranked};
-ghost use Rattle.sheet_core.specs.Page.{name_text, uses_text, game_text, caption_text, figure_text};
-ghost use Rattle.sheet_core.specs.Page.{kind_name, order_name, counted_text, number_text};
+ghost use Rattle.sheet_core.specs.Page.{name_text, share_text, uses_text, game_text, caption_text};
+ghost use Rattle.sheet_core.specs.Page.{figure_text, kind_name, order_name, counted_text, number_text};
 ghost use Rattle.sheet_core.specs.Page.{terms_text, page_text};
-ghost use Rattle.sheet_core.specs.Page.{colours_text, heading_text, end_text, head_text};
+ghost use Rattle.sheet_core.specs.Page.{legend_text, heading_text, end_text, head_text};
 
 use crate::asked::Asked;
 use crate::drawing::push_drawing;
 use crate::head::HEAD;
 use crate::orders::Order;
-use crate::pieces::push_percent;
+use crate::pieces::push_whole_percent;
 use shape_core::Kind;
 use shape_dict::{Dictionary, Entry, push_number, push_word};
 use std::alloc::{AllocError, Global};
+
+/// Appends how many times of a hundred the pattern was played, and how often it was there.
+#[tactic(auto, unfolding(crate::specs::Page::share_text))]
+fn push_share(text: &mut Vec<u8>, entry: &Entry) -> Result<(), AllocError>
+    ensures { OnOk result (text.new.items ≡ text.old.items ++ share_text entry.now) }
+{
+    text.extend_from_slice(b"<b>")?;
+    push_whole_percent(text, entry)?;
+    text.extend_from_slice(b" of ")?;
+    push_number(text, entry.there)?;
+    text.extend_from_slice(b"</b>")?;
+    Ok(())
+}
+
+/// Appends the same, and how often it was played.
+#[tactic(auto, unfolding(crate::specs::Page::uses_text))]
+fn push_uses(text: &mut Vec<u8>, entry: &Entry) -> Result<(), AllocError>
+    ensures { OnOk result (text.new.items ≡ text.old.items ++ uses_text entry.now) }
+{
+    push_share(text, entry)?;
+    text.extend_from_slice(b"<br>played ")?;
+    push_number(text, entry.played)?;
+    Ok(())
+}
 
 /// Appends a pattern's rank and word.
 #[tactic(auto, unfolding(crate::specs::Page::name_text))]
 fn push_name(text: &mut Vec<u8>, rank: u64, entry: &Entry) -> Result<(), AllocError>
     ensures { OnOk result (text.new.items ≡ text.old.items ++ name_text rank entry.now) }
 {
-    text.extend_from_slice(b"<b>")?;
+    text.extend_from_slice(b", rank ")?;
     push_number(text, rank)?;
-    text.extend_from_slice(b"</b> <code>")?;
+    text.extend_from_slice(b"<br><code>")?;
     push_word(text, entry.shape)?;
     text.extend_from_slice(b"</code>")
-}
-
-/// Appends how often a pattern was there and was played, and how urgent it is.
-#[tactic(auto, unfolding(crate::specs::Page::uses_text))]
-fn push_uses(text: &mut Vec<u8>, entry: &Entry) -> Result<(), AllocError>
-    ensures { OnOk result (text.new.items ≡ text.old.items ++ uses_text entry.now) }
-{
-    text.extend_from_slice(b"<br>there ")?;
-    push_number(text, entry.there)?;
-    text.extend_from_slice(b", played ")?;
-    push_number(text, entry.played)?;
-    text.extend_from_slice(b"<br>urgency ")?;
-    push_percent(text, entry)
 }
 
 /// Appends the first game that had a pattern, where it is known.
@@ -60,8 +71,8 @@ fn push_caption(text: &mut Vec<u8>, rank: u64, entry: &Entry) -> Result<(), Allo
     ensures { OnOk result (text.new.items ≡ text.old.items ++ caption_text rank entry.now) }
 {
     text.extend_from_slice(b"<figcaption>")?;
-    push_name(text, rank, entry)?;
     push_uses(text, entry)?;
+    push_name(text, rank, entry)?;
     push_game(text, entry.first)?;
     text.extend_from_slice(b"</figcaption>")?;
     Ok(())
@@ -155,13 +166,13 @@ fn push_terms(text: &mut Vec<u8>, order: Order, least: u64) -> Result<(), AllocE
     Ok(())
 }
 
-/// Appends how colours are seen, and the beginning of the figures.
-#[tactic(auto, unfolding(crate::specs::Page::colours_text))]
-fn push_colours(text: &mut Vec<u8>) -> Result<(), AllocError>
-    ensures { OnOk result (text.new.items ≡ text.old.items ++ colours_text) }
+/// Appends how a figure is read, and the beginning of the figures.
+#[tactic(auto, unfolding(crate::specs::Page::legend_text))]
+fn push_legend(text: &mut Vec<u8>) -> Result<(), AllocError>
+    ensures { OnOk result (text.new.items ≡ text.old.items ++ legend_text) }
 {
     text.extend_from_slice(
-        b"<p>Colours are seen from the mover, as Black: with colours exchanged it is the same pattern. The dot marks its point.</p>\n<main>\n",
+        b"<p>1 is the move, and Black is to play it: with colours exchanged it is the same pattern. A thick line is the edge of the board; what is beyond a picture is no part of the pattern. <b>48 % of 100</b>: the pattern was there 100 times for the player to move, who played on its point 48 times.</p>\n<main>\n",
     )
 }
 
@@ -179,7 +190,7 @@ fn push_heading(
     push_counted(text, dictionary)?;
     push_shown(text, asked.kind, count)?;
     push_terms(text, asked.order, asked.least)?;
-    push_colours(text)
+    push_legend(text)
 }
 
 /// Appends the end of the page.

@@ -1,6 +1,6 @@
 //! What plain text and page have in common.
 ghost use Rattle.std.specs.Prelude.{◌≡◌, ◌++◌, OnOk};
-ghost use Rattle.sheet_core.specs.Pieces.{hundredths_of, percent_text, first_text};
+ghost use Rattle.sheet_core.specs.Pieces.{hundredths_of, whole_percent_text, percent_text, first_text};
 
 use itoa::Buffer;
 use shape_dict::{Entry, push_number};
@@ -13,8 +13,18 @@ fn hundredths(entry: &Entry) -> u128
     u128::from(entry.played) * 10_000 / u128::from(entry.there.max(1))
 }
 
-/// Appends how often the pattern was played when it was there, in percent, rounded down to two
-/// decimals.
+/// Appends how often the pattern was played when it was there, in whole percent, rounded down.
+#[tactic(auto, unfolding(crate::specs::Pieces::whole_percent_text))]
+pub(crate) fn push_whole_percent(text: &mut Vec<u8>, entry: &Entry) -> Result<(), AllocError>
+    ensures { OnOk result (text.new.items
+        ≡ text.old.items ++ whole_percent_text (hundredths_of entry.now)) }
+{
+    let mut buffer = Buffer::new();
+    text.extend_from_slice(buffer.format(hundredths(entry) / 100).as_bytes())?;
+    text.extend_from_slice(b" %")
+}
+
+/// Appends the same rounded down to two decimals.
 pub(crate) fn push_percent(text: &mut Vec<u8>, entry: &Entry) -> Result<(), AllocError>
     ensures { OnOk result (text.new.items
         ≡ text.old.items ++ percent_text (hundredths_of entry.now)) }

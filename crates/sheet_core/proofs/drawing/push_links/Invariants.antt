@@ -1,9 +1,0 @@
-use Rattle.std.proofs.Common.{◌≡◌, ◌++◌, drop, codes}
-use Rattle.std.specs.List.{flat_map}
-use Rattle.sheet_core.specs.Drawing.{links_from}
-use Rattle.sheet_core.proofs.drawing.push_links.Given as goal
-
-abbrev pub invariant-loop-cell : goal.invariant-loop-cell
-invariant-loop-cell l =
-    l.text.items ++ flat_map (links_from l.cells) (drop l.cell-index l.cells)
-    ≡ (l.fn.text.items ++ codes "<path class='grid' d='") ++ flat_map (links_from l.cells) l.cells

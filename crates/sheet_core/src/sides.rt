@@ -1,0 +1,53 @@
+//! The sides of a cell, and where the board ends.
+ghost use Rattle.std.specs.Prelude.{◌≡◌, ◌+◌, ◌==◌};
+ghost use Rattle.sheet_core.specs.Sides.{is_beside, ends_at, is_end};
+
+use crate::cells::{Cell, is_on};
+
+/// A side of a cell.
+#[derive(Clone, Copy)]
+pub(crate) enum Side {
+    Right,
+    Below,
+    Left,
+    Above,
+}
+
+/// Whether a number is one more than another.
+fn is_next(number: u8, next: u8) -> bool
+    ensures { result ≡ (next == number + 1) }
+{
+    u16::from(next) == u16::from(number) + 1
+}
+
+/// Whether another cell is the next one on a side of a cell.
+fn is_beside(side: Side, cell: Cell, other: Cell) -> bool
+    ensures { result ≡ is_beside side cell other }
+{
+    match side {
+        Side::Right => other.row == cell.row && is_next(cell.column, other.column),
+        Side::Below => other.column == cell.column && is_next(cell.row, other.row),
+        Side::Left => other.row == cell.row && is_next(other.column, cell.column),
+        Side::Above => other.column == cell.column && is_next(other.row, cell.row),
+    }
+}
+
+/// Whether another cell is the next one on a side, and off the board.
+fn is_end(side: Side, cell: Cell, other: Cell) -> bool
+    ensures { result ≡ is_end side cell other }
+{
+    is_beside(side, cell, other) && !is_on(other)
+}
+
+/// Whether the board ends at a cell on a side, as its pattern has it: the next of its cells there
+/// is off the board. Of what is outside of the pattern nothing is known.
+pub(crate) fn ends_at(side: Side, cells: &[Cell], cell: Cell) -> bool
+    ensures { result ≡ ends_at side cells.now cell }
+{
+    for other in cells {
+        if is_end(side, cell, *other) {
+            return true;
+        }
+    }
+    false
+}
