@@ -15,6 +15,8 @@ use Rattle.share_core.specs.Adding.{IsAdded, HasGrown, IsKept, AreFresh, IsAddFa
 use Rattle.share_core.specs.Confirming.{HasShape}
 use Rattle.share_core.specs.Entering.{CallsOnly}
 use Rattle.slot_table.specs.Passes.{Known}
+use Rattle.job_core.specs.Rising.{Rising, past}
+use Rattle.job_core.proofs.Orders.{past_on, rising_on}
 use Rattle.share_core.proofs.Raised.{same_shape, same_length}
 use Rattle.share_core.proofs.Added.{still_of, share_of_more}
 use Rattle.share_core.proofs.Entered.{calls_weaker}
@@ -82,20 +84,23 @@ worked_kept bytes n seen kinds game actions old new is kept h =
       added = h.added;
       is_of = still_of h.added old kept.fresh (λ k inside. (kept.made k inside).0) h.is_of;
       games = h.games;
+      rises = h.rises;
       known = known_more bytes kinds game old more h.known
           (subst (AreOfGame bytes kinds game old) kept.same (rows_kept bytes n seen kinds game actions old new is h.kinds_are kept));
     })
 
--- a game was added
+-- a game was added, whose number is above those of the others
 pub worked_added : (bytes : List ℕ) (n : ℕ) (seen : List Happened) (kinds : Kinds) (game : ℕ) (actions : Actions) (old new : Held) → IsGame bytes game actions →
-    IsAdded game actions old new → HasGrown n seen actions old new → IsWorked bytes kinds old → IsWorked bytes kinds new
-worked_added bytes n seen kinds game actions old new is added grown h =
+    IsAdded game actions old new → HasGrown n seen actions old new → IsWorked bytes kinds old → past old.games ≤ game → IsWorked bytes kinds new
+worked_added bytes n seen kinds game actions old new is added grown h above =
     let one : Added = record { game = game; actions = actions; occasions = added.occasions } in
     record {
       kinds_are = added.kinds ∙ h.kinds_are;
       added = h.added ++ one ∷ [];
       is_of = share_of_more h.added game actions old new added h.is_of;
       games = All-push (λ (a : Added). IsGame bytes a.game a.actions) h.added one h.games is;
+      rises = subst (λ games. Rising 0 games (past games)) (sym added.games)
+          (subst (Rising 0 (old.games ++ game ∷ [])) (sym (past_on old.games game)) (rising_on 0 old.games (past old.games) game above h.rises));
       known = known_more bytes kinds game old new h.known (rows_added bytes n seen kinds game actions old new is h.kinds_are grown);
     }
 

@@ -20,9 +20,10 @@ use Rattle.share_core.specs.Shares.{Held}
 use Rattle.share_core.proofs.Confirmed.{more_patterns}
 use Rattle.harvest_core.specs.declared.threads.Crop.{Crop}
 use Rattle.harvest_core.specs.Inner.Parted.{shares_of, refusals_of}
-use Rattle.harvest_core.specs.Working.{IsWorked, IsPatternIn, IsPatternOfGame}
+use Rattle.harvest_core.specs.Working.{IsWorked, IsPatternIn, IsPatternOfGame, IsRefusal}
 use Rattle.harvest_core.specs.Harvest.{IsRead, HasMorePatterns, IsHarvestFault}
 use Rattle.harvest_core.specs.Inner.Harvest.{IsToldOf}
+use Rattle.harvest_core.proofs.Limited.{never_refused, never_large}
 
 -- a row of some share is of a pattern of the input
 row_known : (bytes : List ℕ) (kinds : Kinds) (shares : List Held) (row : Row) → AllByRecursion (IsWorked bytes kinds) shares → Contains (all_rows shares) row →
@@ -76,6 +77,20 @@ explained n bytes kinds shares after game word (fault.Sgf other) legal read work
 explained n bytes kinds shares after game word fault.Overflow legal read worked pattern h = absurd h
 explained n bytes kinds shares after game word (fault.Marks number of_shares of_table) legal read worked pattern h = absurd h
 
+-- a game was refused, and not for want of a number
+pub refused_for : {O : Type 0} (n : ℕ) (bytes : List ℕ) (kinds : Kinds) (shares : List Held) (after : Known O) (found : HarvestFault) →
+    ((game word : ℕ) → found ≡ fault.Full game word → ⊥) → IsRead bytes → All (IsWorked bytes kinds) shares → IsRefusal bytes kinds found → IsHarvestFault n bytes kinds after found
+refused_for n bytes kinds shares after fault.Memory other read worked h = tt
+refused_for n bytes kinds shares after (fault.Full game word) other read worked h = absurd (other game word refl)
+refused_for n bytes kinds shares after (fault.Stranger number of_share of_table) other read worked h =
+    record { report = read.0; read = read.1; shares = shares; worked = worked; why = inl h }
+refused_for n bytes kinds shares after fault.Overflow other read worked h = never_refused bytes kinds read h
+refused_for n bytes kinds shares after (fault.Missing game) other read worked h = absurd h
+refused_for n bytes kinds shares after (fault.Twice game) other read worked h = absurd h
+refused_for n bytes kinds shares after fault.BadSettings other read worked h = absurd h
+refused_for n bytes kinds shares after (fault.Sgf found) other read worked h = absurd h
+refused_for n bytes kinds shares after (fault.Marks number of_shares of_table) other read worked h = absurd h
+
 -- shares that do not go together
 pub ungathered : {O : Type 0} (n : ℕ) (bytes : List ℕ) (kinds : Kinds) (report : Report) (shares : List Held) (before after : Known O) (found : HarvestFault) →
     HasReadAll bytes report → All (IsWorked bytes kinds) shares → IsGatherFault n report.games shares before after found → IsHarvestFault n bytes kinds after found
@@ -88,8 +103,7 @@ ungathered n bytes kinds report shares before after (fault.Stranger number of_sh
     record { report = report; read = read; shares = shares; worked = worked; why = inr (inr (record { before = before; fault_is = h })) }
 ungathered n bytes kinds report shares before after (fault.Marks number of_shares of_table) read worked h =
     record { report = report; read = read; shares = shares; worked = worked; why = inr (inr (record { before = before; fault_is = h })) }
-ungathered n bytes kinds report shares before after fault.Overflow read worked h =
-    record { report = report; read = read; shares = shares; worked = worked; why = inr (inr (record { before = before; fault_is = h })) }
+ungathered n bytes kinds report shares before after fault.Overflow read worked h = never_large bytes kinds shares report worked read h.0 h.3
 ungathered n bytes kinds report shares before after (fault.Full game word) read worked h = absurd h
 ungathered n bytes kinds report shares before after fault.BadSettings read worked h = absurd h
 ungathered n bytes kinds report shares before after (fault.Sgf found) read worked h = absurd h

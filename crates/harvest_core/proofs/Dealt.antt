@@ -1,12 +1,14 @@
 -- The games that the thread that reads has dealt out, after one more.
-use Rattle.std.proofs.Common.{◌≡◌, ℕ, ◌+◌, ◌⊎◌, nat_lt, true, false, inl, inr, refl, List, [], ◌∷◌, ◌++◌, Some, None, Contains, Result, Ok, Err, OnOk, IfNone, ap, sym, subst, ◌∙◌, arith, ⊎_elim}
+use Rattle.std.proofs.Common.{◌≡◌, ℕ, ◌+◌, ◌≤◌, ◌⊎◌, nat_lt, true, false, inl, inr, refl, List, [], ◌∷◌, ◌++◌, Some, None, Contains, Result, Ok, Err, OnOk, IfNone, ap, sym, subst, ◌∙◌, arith, ⊎_elim}
 use Rattle.std.specs.Result.{result_err}
 use Rattle.std.proofs.lemmas.Bool.Decides.{nat_tests}
 use Rattle.std.proofs.lemmas.List.Elements.{Contains-push, Contains-append_left}
 use Rattle.job_core.specs.declared.hands.Hand.{Hand}
 use Rattle.job_core.specs.declared.jobs.Item.TheVariants.{Job}
 use Rattle.job_core.specs.Games.{WrittenGame}
+use Rattle.job_core.specs.Rising.{past}
 use Rattle.job_core.specs.Rule.{putting}
+use Rattle.job_core.proofs.Orders.{past_on}
 use Rattle.share_core.specs.declared.faults.HarvestFault.{HarvestFault}
 use Rattle.harvest_core.specs.declared.working.Worked.{Worked}
 use Rattle.harvest_core.specs.Working.{IsCounted}
@@ -74,6 +76,25 @@ dealt_more job desk one after two low high next is up offered dealt game from be
           let same : job.game ≡ game = Prim.grind (arith, nat_tests) in
           subst (IsDealt after two) same (offered_is job desk one after two offered)
     ] refl
+
+-- the number after the games that were counted here is at most that of the next game
+counted_below : (number : ℕ) (one two : Worked) → IsCounted number one two → past one.share.games ≤ number → past two.share.games ≤ number + 1
+counted_below number one two counted below = ⊎_elim
+    (λ (added : (two.share.games ≡ one.share.games ++ number ∷ []) × (one.refused ≡ None) × (two.refused ≡ None)).
+    omega (arith, ap past added.0, past_on one.share.games number))
+    (λ (not : (((found : HarvestFault) × (one.refused ≡ Some found)) × (two ≡ one))
+    ⊎ ((two.share.games ≡ one.share.games) × (one.refused ≡ None) × ((found : HarvestFault) × (two.refused ≡ Some found)))). ⊎_elim
+    (λ (before : ((found : HarvestFault) × (one.refused ≡ Some found)) × (two ≡ one)). omega (arith, ap (λ (w : Worked). past w.share.games) before.1, below))
+    (λ (now : (two.share.games ≡ one.share.games) × (one.refused ≡ None) × ((found : HarvestFault) × (two.refused ≡ Some found))). omega (arith, ap past now.0, below))
+    not)
+    counted
+
+pub below_next : (job : WrittenGame) (desk : Hand) (one : Worked) (after : Hand) (two : Worked) (high next : ℕ) → job.game ≡ high → next ≡ high + 1 →
+    IsOffered job desk one after two → past one.share.games ≤ high → past two.share.games ≤ next
+below_next job desk one after two high next is up offered below = ⊎_elim
+    (λ (put : (after ≡ putting desk (Job job)) × (two ≡ one)). omega (arith, ap (λ (w : Worked). past w.share.games) put.1, up, below))
+    (λ (here : (after ≡ desk) × IsCounted job.game one two). omega (arith, counted_below job.game one two here.1 (omega (arith, is, below)), is, up))
+    offered
 
 -- no end was put
 pub ends_offered : (job : WrittenGame) (desk : Hand) (one : Worked) (after : Hand) (two : Worked) → IsOffered job desk one after two → after.ends_put ≡ desk.ends_put

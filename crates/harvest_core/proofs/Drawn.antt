@@ -1,14 +1,14 @@
 -- What a worker drew, one job after another.
-use Rattle.std.proofs.Common.{◌≡◌, ℕ, ◌<◌, ◌≤◌, ◌⊎◌, List, [], ◌∷◌, ◌++◌, Some, None, refl, ap, sym, subst, ◌∙◌, append_assoc, append-nil, ⊎_elim, arith, Contains}
+use Rattle.std.proofs.Common.{◌≡◌, ℕ, suc, ◌<◌, ◌≤◌, ◌⊎◌, List, [], ◌∷◌, ◌++◌, Some, None, refl, ap, sym, subst, ◌∙◌, append_assoc, append-nil, ⊎_elim, arith, Contains}
 use Rattle.std.proofs.lemmas.List.Elements.{Contains-push, Contains-append_left}
 use Rattle.shape_core.specs.declared.words.Kinds.{Kinds}
 use Rattle.job_core.specs.Games.{WrittenGame}
-use Rattle.job_core.specs.Rising.{Rising}
+use Rattle.job_core.specs.Rising.{Rising, past}
 use Rattle.job_core.specs.declared.hands.Hand.{Hand}
 use Rattle.job_core.specs.declared.jobs.Item.TheVariants.{Job, End}
 use Rattle.job_core.specs.Rule.{drawing, Draws}
 use Rattle.job_core.proofs.Turns.{drawn_rises}
-use Rattle.job_core.proofs.Orders.{past_on}
+use Rattle.job_core.proofs.Orders.{past_on, rising_end}
 use Rattle.slot_table.specs.Passes.{Known}
 use Rattle.share_core.specs.declared.rows.Row.{Row}
 use Rattle.share_core.specs.declared.faults.HarvestFault.{HarvestFault}
@@ -46,7 +46,21 @@ drawn_none n kinds before old worked games rows none = record {
   refusal = λ found some. absurd (let clash : Some found ≡ None = sym some ∙ none in cc);
 }
 
+-- the last of rising numbers is not below the place from which they rise
+rising_last : (low : ℕ) (games : List ℕ) (last high : ℕ) → Rising low (games ++ last ∷ []) high → low ≤ last
+rising_last low [] last high r = r.0
+rising_last low (game ∷ games) last high r = omega (arith, r.0, rising_last (suc game) games last high r.1)
+
 module _ {O : Type 0} (n : ℕ) (kinds : Kinds) (before mid after : Known O) (old : Hand) (one two : Worked) (v : Hand) (job : WrittenGame) where
+  -- the game that is drawn is above those of the share
+  pub drawn_above : Draws v (Job job) → HasSoFar n kinds before mid old one v → past one.share.games ≤ job.game
+  drawn_above draws h =
+      let g = job.game in
+      let games = one.share.games in
+      let all : (h.drawn ++ g ∷ []) ≡ games ++ (h.rest ++ g ∷ []) = ap (λ (xs : List ℕ). xs ++ g ∷ []) h.first ∙ append_assoc games h.rest (g ∷ []) in
+      rising_last (past games) h.rest g (suc g)
+      (rising_end 0 (suc g) games (h.rest ++ g ∷ []) (subst (λ (xs : List ℕ). Rising 0 xs (suc g)) all (drawn_rises v old.drawn h.drawn job h.all draws)))
+
   -- a pattern of a game drawn before is one of a game drawn
   still_among : (drawn : List ℕ) (shape : ℕ) → IsPatternAmong old.bytes kinds drawn shape → IsPatternAmong old.bytes kinds (drawn ++ job.game ∷ []) shape
   still_among drawn shape h = (h.0, Contains-append_left drawn (job.game ∷ []) h.0 h.1, h.2)

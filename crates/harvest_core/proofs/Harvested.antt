@@ -45,7 +45,7 @@ use Rattle.harvest_core.specs.Working.{IsGame, IsWorked}
 
 -- ---- the games that were added are those of the input
 -- at its number these games have its record, and it was replayed
-abbrev IsAt : List Actions → Added → Type 0
+abbrev pub IsAt : List Actions → Added → Type 0
 IsAt games one = (slice_get games one.game ≡ Some one.actions) × AreOccasions one.actions one.occasions
 
 -- a game, replayed
@@ -73,7 +73,7 @@ module _ (bytes : List ℕ) (kinds : Kinds) (trees : List GameTree) (end : ℕ) 
   abbrev AreWorked : List Held → Type 0
   AreWorked shares = AllByRecursion (IsWorked bytes kinds) shares
 
-  added_at : (share : Held) (h : IsWorked bytes kinds share) → AllByRecursion (IsAt (games_of trees)) h.added
+  pub added_at : (share : Held) (h : IsWorked bytes kinds share) → AllByRecursion (IsAt (games_of trees)) h.added
   added_at share h =
       each_at bytes trees end h.added written none (recursion_from_All (λ (one : Added). IsGame bytes one.game one.actions) h.added h.games) h.is_of.replays
 
@@ -151,32 +151,42 @@ are_replayed games added at covers =
     replayed_from games added 0 games at (λ game low. let once = covers game low in omega arith)
     (λ k actions is. subst (λ g. slice_get games g ≡ Some actions) (let e : k ≡ 0 + k = omega arith in e) is)
 
--- shares that were worked from an input and have each of its games once give its dictionary
-pub harvested : (bytes : List ℕ) (kinds : Kinds) (shares : List Held) (report : Report) (contents : Contents) → All (IsWorked bytes kinds) shares → HasReadAll bytes report →
-    Covers report.games (all_games shares) → IsGathered kinds report.games shares contents → IsCounted kinds bytes (record { dictionary = contents; report = report })
-harvested bytes kinds shares report contents worked read covers gathered =
+-- shares that were worked from an input and have each of its games once have its games, replayed
+pub shares_gathered : (bytes : List ℕ) (kinds : Kinds) (shares : List Held) (report : Report) → All (IsWorked bytes kinds) shares → (read : HasReadAll bytes report) →
+    Covers report.games (all_games shares) → (addeds : List (List Added)) × HaveGames kinds report.games addeds shares
+    × AreReplayed (games_of read.trees) (replayed_games (all_added addeds) report.games)
+shares_gathered bytes kinds shares report worked read covers =
     let of = recursion_from_All (IsWorked bytes kinds) shares worked in
     let addeds = addeds_of bytes kinds read.trees read.end read.written read.no_more shares of in
-    let have : HaveGames kinds report.games addeds shares = record {
-      each = each_of bytes kinds read.trees read.end read.written read.no_more shares of;
-      of_kinds = All-from_recursion (λ (share : Held). share.kinds ≡ kinds) shares (of_kinds bytes kinds read.trees read.end read.written read.no_more shares of);
-      within = games_within bytes kinds shares report worked read;
-      covers = covers;
-    } in
     let at = all_at bytes kinds read.trees read.end read.written read.no_more shares of in
     let many = read.reported.games in
     let numbers : Covers report.games (numbers_of (all_added addeds)) =
-    subst (Covers report.games) (games_of_all bytes kinds read.trees read.end read.written read.no_more shares of) covers in
+    subst (Covers report.games) (games_of_all bytes kinds read.trees read.end read.written read.no_more shares of) covers in (
+      addeds,
+      record {
+        each = each_of bytes kinds read.trees read.end read.written read.no_more shares of;
+        of_kinds = All-from_recursion (λ (share : Held). share.kinds ≡ kinds) shares (of_kinds bytes kinds read.trees read.end read.written read.no_more shares of);
+        within = games_within bytes kinds shares report worked read;
+        covers = covers;
+      },
+      subst (λ n. AreReplayed (games_of read.trees) (replayed_games (all_added addeds) n)) (sym many)
+          (are_replayed (games_of read.trees) (all_added addeds) at (subst (λ n. Covers n (numbers_of (all_added addeds))) many numbers)),
+    )
+
+-- and they give its dictionary
+pub harvested : (bytes : List ℕ) (kinds : Kinds) (shares : List Held) (report : Report) (contents : Contents) → All (IsWorked bytes kinds) shares → HasReadAll bytes report →
+    Covers report.games (all_games shares) → IsGathered kinds report.games shares contents → IsCounted kinds bytes (record { dictionary = contents; report = report })
+harvested bytes kinds shares report contents worked read covers gathered =
+    let all = shares_gathered bytes kinds shares report worked read covers in
     record {
       trees = read.trees;
       end = read.end;
-      games = replayed_games (all_added addeds) report.games;
+      games = replayed_games (all_added all.0) report.games;
       small = read.small;
       written = read.written;
       no_more = read.no_more;
-      replayed = subst (λ n. AreReplayed (games_of read.trees) (replayed_games (all_added addeds) n)) (sym many)
-          (are_replayed (games_of read.trees) (all_added addeds) at (subst (λ n. Covers n (numbers_of (all_added addeds))) many numbers));
-      dictionary = dictionary_of_shares kinds report.games addeds shares have contents gathered;
+      replayed = all.2;
+      dictionary = dictionary_of_shares kinds report.games all.0 shares all.1 contents gathered;
       reported = read.reported;
     }
 

@@ -1,6 +1,10 @@
 mod Additions
 mod Drawn
 mod Harvested
+mod Sized
+mod Keyed
+mod Weighed
+mod Limited
 mod Concluded
 mod Parted
 mod Dealt

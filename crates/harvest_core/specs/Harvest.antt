@@ -70,12 +70,14 @@ pub record IsTrouble {O : Type 0} (n : ℕ) (bytes : List ℕ) (kinds : Kinds) (
       ⊎ (IsUnconfirmedIn n after.seen bytes kinds shares found ⊎ IsUngathered n report.games shares after found)
 
 -- why an input was not counted: memory was refused; it is too large or has a fault of syntax; it has more patterns than the
--- table has numbers; or a worker's share is refused, which names what disagrees
+-- table has numbers; or a worker's share is refused, which names what disagrees. No count of an input that can be read passes
+-- 2 ^ 64 - 1.
 abbrev pub IsHarvestFault : {O : Type 0} → ℕ → List ℕ → Kinds → Known O → HarvestFault → Type 0
 IsHarvestFault n bytes kinds after fault.Memory = Unit {0}
 IsHarvestFault n bytes kinds after (fault.Sgf found) = IsCountFault bytes (tally.Sgf found)
 IsHarvestFault n bytes kinds after (fault.Full game word) = HasMorePatterns n bytes kinds game word
 IsHarvestFault n bytes kinds after fault.BadSettings = ⊥
+IsHarvestFault n bytes kinds after fault.Overflow = ⊥
 IsHarvestFault n bytes kinds after found = IsTrouble n bytes kinds after found
 
 -- memory was refused, or some pass of a table of n numbers has seen why an input was not counted

@@ -36,12 +36,13 @@ IsPatternIn bytes kinds shape = (game : ℕ) × IsPatternOfGame bytes kinds game
 abbrev pub IsPatternAmong : List ℕ → Kinds → List ℕ → ℕ → Type 0
 IsPatternAmong bytes kinds games shape = (game : ℕ) × Contains games game × IsPatternOfGame bytes kinds game shape
 
--- a share is of games of the input, and its rows are of patterns of such games
+-- a share is of games of the input, each once, since their numbers rise; and its rows are of patterns of such games
 pub record IsWorked (bytes : List ℕ) (kinds : Kinds) (share : Held) : Type 0 where
   pub kinds_are : share.kinds ≡ kinds
   pub added : List Added
   pub is_of : IsShareOf added share
   pub games : All (λ one. IsGame bytes one.game one.actions) added
+  pub rises : Rising 0 share.games (past share.games)
   pub known : (row : Row) → Contains share.rows row → IsPatternIn bytes kinds row.shape
 
 -- why some game of the input was not added to a share

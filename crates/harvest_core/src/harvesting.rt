@@ -196,11 +196,11 @@ where
 /// else `Sgf` with the first fault of syntax; `Memory` where memory was refused or a worker was not
 /// started; `Full` with a game and one of its patterns for which no number was free, where that is
 /// confirmed: the input has as many other patterns as the table has numbers; `Missing`, `Twice`,
-/// `Stranger`, `Overflow` and `Marks` where the workers' shares do not go together. In a table that
-/// has numbers of other inputs `Stranger` may say so in place of `Full`, and `Marks` that it had a
-/// mark before. The first that applies is told, in this order: want of memory of this thread or of
-/// any worker, `Sgf`, `Full` of the least game, `Stranger`, `Overflow`, and then those of `gather`.
-/// After each the table keeps the numbers and marks that it got.
+/// `Stranger` and `Marks` where the workers' shares do not go together. In a table that has numbers
+/// of other inputs `Stranger` may say so in place of `Full`, and `Marks` that it had a mark before.
+/// The first that applies is told, in this order: want of memory of this thread or of any worker,
+/// `Sgf`, `Full` of the least game, `Stranger`, and then those of `gather`. `Overflow` never comes:
+/// no input is so large. After each the table keeps the numbers and marks that it got.
 pub fn harvest_on<R: Threads + Wait + Sync, O: ProbeOrder, G: Gate>(
     rt: &R,
     alloc: Global,

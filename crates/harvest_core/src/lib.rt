@@ -1,8 +1,8 @@
 //! A collection counted by several workers over one table of numbers.
 //!
 //! Faults are told in this order: want of memory of the thread that reads or of any worker; faults
-//! of the input; of the games that were refused `Full` of the least game, `Stranger`, `Overflow`;
-//! and then those of all shares together.
+//! of the input; of the games that were refused `Full` of the least game, then `Stranger`; and then
+//! those of all shares together. `Overflow` never comes: no count of an input is too large.
 #![tactic(auto)]
 
 mod gates;

@@ -1,10 +1,11 @@
 //! The thread that reads: it makes a job of each game and puts it into the queue, and counts those
 //! that the queue hands back.
-ghost use Rattle.std.specs.Prelude.{◌≡◌, ◌+◌, ◌^◌, ◌⊎◌, ◌↔◌, ℕ, List, IsTrue};
+ghost use Rattle.std.specs.Prelude.{◌≡◌, ◌+◌, ◌^◌, ◌≤◌, ◌⊎◌, ◌↔◌, ℕ, List, IsTrue};
 ghost use Rattle.std.specs.Prelude.{IfSome, IfNone, IfErr, OnOk};
 ghost use Rattle.job_core.specs.declared.jobs.Item.TheVariants as item;
 ghost use Rattle.shape_core.specs.declared.words.Kinds.{Kinds};
 ghost use Rattle.job_core.specs.Games.{HasReadAll};
+ghost use Rattle.job_core.specs.Rising.{past};
 ghost use Rattle.job_core.specs.Rule.{MayPut, putting};
 ghost use Rattle.job_core.specs.Inner.Rule.{IsInStep};
 ghost use Rattle.slot_table.specs.Passes.{IsPassOf};
@@ -45,6 +46,7 @@ fn offer<'a, R: Wait, O: ProbeOrder, G: Gate>(
     ensures alone { IsTrue alone → desk.new ≡ desk.old }
     ensures worker { worked.new.share.worker ≡ worked.old.share.worker }
     ensures worked { (kinds : Kinds) → IsWorked job.entry.bytes kinds worked.old.share
+        → past worked.old.share.games ≤ job.entry.game
         → IsWorked job.entry.bytes kinds worked.new.share }
     ensures refused { (kinds : Kinds) → IsWorked job.entry.bytes kinds worked.old.share
         → IsRefused job.entry.bytes kinds worked.old.refused
@@ -82,6 +84,7 @@ fn read_all<'a, R: Wait, O: ProbeOrder, G: Gate>(
 ) -> Result<(), HarvestFault>
     requires pass { IsPassOf (2 ^ O.exponent table.now.order) table.now pass.old }
     requires step { IsInStep games.old desk.old }
+    requires above { past worked.old.share.games ≤ games.old.report.games }
     ensures pass { IsPassOf (2 ^ O.exponent table.now.order) table.now pass.new }
     ensures worker { worked.new.share.worker ≡ worked.old.share.worker }
     ensures worked { (kinds : Kinds) → IsWorked games.old.bytes kinds worked.old.share

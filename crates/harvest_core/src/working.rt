@@ -1,5 +1,5 @@
 //! A worker: it draws jobs and counts their games until it draws an end.
-ghost use Rattle.std.specs.Prelude.{◌≡◌, ◌^◌, [], ℕ, List, Some, None};
+ghost use Rattle.std.specs.Prelude.{◌≡◌, ◌^◌, ◌≤◌, [], ℕ, List, Some, None};
 ghost use Rattle.shape_core.specs.declared.words.Kinds.{Kinds};
 ghost use Rattle.slot_table.specs.Passes.{IsPassOf};
 ghost use Rattle.job_core.specs.Rising.{Rising, past};
@@ -55,7 +55,7 @@ impl Worked {
 
     /// Counts the game of a job. The pass enters patterns of this game alone, and marks this game
     /// alone. Once a game was refused nothing changes: jobs are dropped, and the first refusal
-    /// stays.
+    /// stays. Jobs are to come with rising numbers, so that the share has each game once.
     pub fn count<O: ProbeOrder, G: Gate>(
         &mut self,
         table: &SlotTable<O>,
@@ -67,6 +67,7 @@ impl Worked {
         ensures pass { IsPassOf (2 ^ O.exponent table.now.order) table.now pass.new }
         ensures worker { self.new.share.worker ≡ self.old.share.worker }
         ensures worked { (kinds : Kinds) → IsWorked job.now.bytes kinds self.old.share
+            → past self.old.share.games ≤ job.now.game
             → IsWorked job.now.bytes kinds self.new.share }
         ensures refused { (kinds : Kinds) → IsWorked job.now.bytes kinds self.old.share
             → IsRefused job.now.bytes kinds self.old.refused

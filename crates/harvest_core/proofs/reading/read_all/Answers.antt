@@ -5,7 +5,7 @@ use Rattle.job_core.specs.Rule.{putting}
 use Rattle.job_core.specs.Inner.Rule.{IsInStep}
 use Rattle.job_core.proofs.Turns.{in_step_put, in_step_back}
 use Rattle.harvest_core.specs.Working.{IsWorked, IsRefused, IsCounted}
-use Rattle.harvest_core.proofs.Dealt.{dealt_more, ends_offered}
+use Rattle.harvest_core.proofs.Dealt.{dealt_more, below_next, ends_offered}
 use Rattle.harvest_core.proofs.reading.read_all.Goals as goal
 
 pub loop-job-preserved : goal.loop-job-preserved
@@ -26,6 +26,8 @@ loop-job-preserved g c =
           (λ (back : (c.offer.new.desk ≡ c.loop-job.desk) × IsCounted job.game c.loop-job.worked c.offer.new.worked).
           in_step_back before after c.offer.new.desk job same (subst (IsInStep before) (sym back.0) h.step) next)
           c.offer.ensures.offered;
+      above = below_next job c.loop-job.desk c.loop-job.worked c.offer.new.desk c.offer.new.worked before.report.games after.report.games next.game next.counted
+          c.offer.ensures.offered h.above;
       dealt = dealt_more job c.loop-job.desk c.loop-job.worked c.offer.new.desk c.offer.new.worked
           c.args.games.now.report.games before.report.games after.report.games next.game next.counted c.offer.ensures.offered h.dealt;
       worker = c.offer.ensures.worker ∙ h.worker;
@@ -34,7 +36,7 @@ loop-job-preserved g c =
           let old = h.worked kinds w r in
           let worked = subst (λ (bs : List ℕ). IsWorked bs kinds c.loop-job.worked.share) (sym bytes) old.0 in
           let refused = subst (λ (bs : List ℕ). IsRefused bs kinds c.loop-job.worked.refused) (sym bytes) old.1 in (
-            subst (λ (bs : List ℕ). IsWorked bs kinds c.offer.new.worked.share) bytes (c.offer.ensures.worked kinds worked),
+            subst (λ (bs : List ℕ). IsWorked bs kinds c.offer.new.worked.share) bytes (c.offer.ensures.worked kinds worked (omega (arith, h.above, next.game))),
             subst (λ (bs : List ℕ). IsRefused bs kinds c.offer.new.worked.refused) bytes (c.offer.ensures.refused kinds worked refused),
           );
     }

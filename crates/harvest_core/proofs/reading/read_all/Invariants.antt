@@ -1,5 +1,6 @@
-use Rattle.std.proofs.Common.{◌≡◌, ◌^◌, ◌-◌}
+use Rattle.std.proofs.Common.{◌≡◌, ◌^◌, ◌-◌, ◌≤◌}
 use Rattle.shape_core.specs.declared.words.Kinds.{Kinds}
+use Rattle.job_core.specs.Rising.{past}
 use Rattle.job_core.specs.Inner.Rule.{IsInStep}
 use Rattle.slot_table.specs.Passes.{IsPassOf}
 use Rattle.harvest_core.specs.Working.{IsWorked, IsRefused}
@@ -13,6 +14,7 @@ invariant-loop-job g l =
       pass : IsPassOf (2 ^ g.O.ProbeOrder.exponent l.table.order) l.table l.pass;
       bytes : l.games.bytes ≡ l.fn.games.bytes;
       step : IsInStep l.games l.desk;
+      above : past l.worked.share.games ≤ l.games.report.games;
       dealt : AreDealt l.fn.games.report.games l.games.report.games l.desk l.worked;
       worker : l.worked.share.worker ≡ l.fn.worked.share.worker;
       ends : l.desk.ends_put ≡ l.fn.desk.ends_put;

@@ -6,7 +6,7 @@ use Rattle.job_core.specs.declared.jobs.Item.{Item}
 use Rattle.job_core.specs.declared.jobs.Item.TheVariants.{Job, End}
 use Rattle.job_core.specs.Rule.{drawing, Draws}
 use Rattle.harvest_core.specs.Working.{IsWorked, IsRefused, HasDrawn}
-use Rattle.harvest_core.proofs.Drawn.{IsCountedBy, drawn_none, drawn_more}
+use Rattle.harvest_core.proofs.Drawn.{IsCountedBy, drawn_none, drawn_above, drawn_more}
 use Rattle.harvest_core.proofs.working.work_among.Goals as goal
 use Rattle.harvest_core.proofs.working.work_among.Goals.{in-None, in-Some+in-Some-End}
 
@@ -38,7 +38,8 @@ loop-preserved-in-Some-Job g c =
     record {
       pass = counted.pass;
       worker = counted.worker ∙ h.worker;
-      worked = subst (λ (bs : List ℕ). IsWorked bs kinds c.count.new.self.share) bytes (counted.worked kinds worked);
+      worked = subst (λ (bs : List ℕ). IsWorked bs kinds c.count.new.self.share) bytes (counted.worked kinds worked
+          (drawn_above n kinds c.args.pass.now c.loop.pass c.count.new.pass old c.loop.worked c.count.new.self c.loop.desk job drawn.1 h.drawn));
       refused = subst (λ (bs : List ℕ). IsRefused bs kinds c.count.new.self.refused) bytes
           (counted.refused kinds worked (subst (λ (bs : List ℕ). IsRefused bs kinds c.loop.worked.refused) (sym bytes) h.refused));
       drawn = drawn_more n kinds c.args.pass.now c.loop.pass c.count.new.pass old c.loop.worked c.count.new.self c.loop.desk job c.draw.new.self
