@@ -1,5 +1,6 @@
 -- A run from its judging to its end.
-use Rattle.std.proofs.Common.{◌≡◌, ℕ, List, [], ◌∷◌, ◌++◌, length, Bool, true, false, Option, Some, None, Result, Ok, Err, MatchResult, OnOk, IfErr, cond, ap, sym, refl, subst, ◌∙◌, inr}
+use Rattle.std.proofs.Common.{◌≡◌, ℕ, ◌<◌, ◌^◌, arith, List, [], ◌∷◌, ◌++◌, length, Bool, true, false, Option, Some, None, Result, Ok, Err, MatchResult, OnOk, IfErr, cond, ap, sym, refl, subst, ◌∙◌, inr}
+use Rattle.std.specs.List.{AllByRecursion}
 use Rattle.std.specs.Io.KnownBytes.{Appends}
 use Rattle.shape_dict.specs.declared.entries.Entry.{Entry}
 use Rattle.shape_dict.specs.declared.entries.Text.{Text}
@@ -10,21 +11,33 @@ use Rattle.shape_dict.specs.Text.{header_of, header_text, text_of, diamonds_coun
 use Rattle.shape_dict.specs.Inner.Parts.{lines_of}
 use Rattle.merge_core.specs.declared.faults.MergeFault.{MergeFault}
 use Rattle.merge_core.specs.declared.faults.MergeFault.TheVariants as fault
-use Rattle.merge_core.specs.declared.judged.Judged.{Judged}
+use Rattle.merge_core.specs.declared.judged.Totals.{Totals}
 use Rattle.merge_core.specs.declared.counting.Counts.{Counts}
-use Rattle.merge_core.specs.Merge.{IsMergeText, IsMergeFault, Took}
+use Rattle.merge_core.specs.Merge.{AreTexts, IsMerged, IsMergeText, IsMergeFault, Took}
 use Rattle.merge_core.specs.Inner.Counting.{IsCountOf}
-use Rattle.merge_core.specs.Inner.Judging.{IsSumOf, HasJudged}
+use Rattle.merge_core.specs.Entries.{IsSmallUse}
+use Rattle.merge_core.specs.Inner.Folds.{FoldsAll}
+use Rattle.merge_core.specs.Inner.Judging.{IsTotalOf, HasJoined}
 use Rattle.merge_core.specs.Inner.Writing.{IsStopped, header_for}
 use Rattle.merge_core.proofs.Alone.{folds_same}
-use Rattle.merge_core.proofs.Prefixed.{Joins, merged_of, texts_number}
+use Rattle.merge_core.proofs.Folded.{folds_join}
+use Rattle.merge_core.proofs.Prefixed.{Joins, texts_number}
 use Rattle.merge_core.proofs.Written.{none_appended}
 
+all_same : (all : List Contents) (a b : Contents) → FoldsAll all a → FoldsAll all b → a ≡ b
+all_same [] a b h k = absurd h
+all_same (first ∷ others) a b h k = folds_same first others a b h k
+
 -- what holds of the sum of all
-pub sum_given : (bytes : ℕ → Option (List ℕ)) (n count : ℕ) (judged : Judged) (inputs : List (List ℕ)) (P : Contents → Type 0) (h : HasJudged bytes n judged inputs) → n ≡ count → Joins bytes count P → P h.sum
-sum_given bytes n count judged inputs P h is joins =
-    let s = joins h.first.counts_diamonds (h.first ∷ h.others) h.offers (texts_number (h.first ∷ h.others) inputs h.texts ∙ (h.number ∙ is)) in
-    subst P (folds_same h.first h.others s.0 h.sum s.1 h.folds) s.2
+pub sum_given : (bytes : ℕ → Option (List ℕ)) (count : ℕ) (totals : Totals) (counts : Counts) (inputs : List (List ℕ)) (P : Contents → Type 0) (h : HasJoined bytes totals counts inputs) → length inputs ≡ count → Joins bytes count P → P h.summed.sum
+sum_given bytes count totals counts inputs P h is joins =
+    let k = h.summed in
+    let s = joins totals.counts_diamonds k.all k.offers (texts_number k.all inputs k.texts ∙ is) in
+    subst P (all_same k.all s.0 k.sum s.1 k.folds) s.2
+
+merged_of : (all : List Contents) (inputs : List (List ℕ)) (sum : Contents) → AreTexts all inputs → FoldsAll all sum → sum.games < 2 ^ 64 → sum.moves < 2 ^ 64 → AllByRecursion IsSmallUse sum.entries → IsMerged inputs sum
+merged_of [] inputs sum h folds games moves small = absurd folds
+merged_of (first ∷ others) inputs sum h folds games moves small = record { first = first; others = others; texts = h; joined = folds_join first others sum folds games moves small }
 
 abbrev header_by : Text → ℕ → ℕ → ℕ → Option ℕ → Header
 header_by t games moves squares diamonds = record { text = t; games = games; moves = moves; squares = squares; diamonds = diamonds }
@@ -33,7 +46,7 @@ diamonds_same : (b : Bool) (n : ℕ) (es : List Entry) → n ≡ length (diamond
 diamonds_same true n es is = ap Some is
 diamonds_same false n es is = refl
 
-header_same : (t : Text) (judged : Judged) (counts : Counts) (sum : Contents) → IsSumOf judged sum → IsCountOf sum.entries counts → header_for t judged counts ≡ header_of t sum
+header_same : (t : Text) (judged : Totals) (counts : Counts) (sum : Contents) → IsTotalOf judged sum → IsCountOf sum.entries counts → header_for t judged counts ≡ header_of t sum
 header_same t judged counts sum h k =
     ap (λ (x : ℕ). header_by t x judged.moves counts.squares (cond judged.counts_diamonds (Some counts.diamonds) None)) h.games
     ∙ (ap (λ (x : ℕ). header_by t sum.games x counts.squares (cond judged.counts_diamonds (Some counts.diamonds) None)) h.moves
@@ -47,13 +60,16 @@ lines_are kind.Two sum = refl
 lines_are kind.Three sum = refl
 
 -- the text of the join
-pub is_text : (bytes : ℕ → Option (List ℕ)) (n : ℕ) (judged : Judged) (counts : Counts) (inputs : List (List ℕ)) (t : Text) (header : List ℕ) (h : HasJudged bytes n judged inputs) → IsCountOf h.sum.entries counts → header ≡ header_text (header_for t judged counts) →
-    IsMergeText t inputs (header ++ lines_of t h.sum.entries)
-is_text bytes n judged counts inputs t header h k is = record {
-  sum = h.sum;
-  merged = merged_of bytes n judged inputs h;
-  printed = ap (λ (xs : List ℕ). xs ++ lines_of t h.sum.entries) (is ∙ ap header_text (header_same t judged counts h.sum h.of_sum k)) ∙ lines_are t h.sum;
-}
+pub is_text : (bytes : ℕ → Option (List ℕ)) (totals : Totals) (counts : Counts) (inputs : List (List ℕ)) (t : Text) (header : List ℕ) (h : HasJoined bytes totals counts inputs) → header ≡ header_text (header_for t totals counts) →
+    IsMergeText t inputs (header ++ lines_of t h.summed.sum.entries)
+is_text bytes totals counts inputs t header h is =
+    let k = h.summed in
+    let counted = subst (λ (es : List Entry). IsCountOf es counts) (sym k.same) h.counted in
+    record {
+      sum = k.sum;
+      merged = merged_of k.all inputs k.sum k.texts k.folds (omega (arith, k.few_games, k.of_sum.games)) (omega (arith, k.few_moves, k.of_sum.moves)) counted.small;
+      printed = ap (λ (xs : List ℕ). xs ++ lines_of t k.sum.entries) (is ∙ ap header_text (header_same t totals counts k.sum k.of_sum counted)) ∙ lines_are t k.sum;
+    }
 
 stopped_is : (t : Text) (inputs : List (List ℕ)) (a b : Option (List ℕ)) (bytes : List ℕ) → IsMergeText t inputs bytes → (found : MergeFault) → IsStopped a b bytes found → IsMergeFault t inputs a b found
 stopped_is t inputs a b bytes text fault.Empty h = absurd h

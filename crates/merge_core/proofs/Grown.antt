@@ -1,5 +1,5 @@
 -- The sum of dictionaries that sources offer, by halves.
-use Rattle.std.proofs.Common.{◌≡◌, ℕ, zero, suc, ◌+◌, ◌-◌, ◌≤◌, ◌<◌, List, [], ◌∷◌, ◌++◌, length, Bool, Option, Some, Result, MatchResult, ap, sym, refl, subst, arith, length-append}
+use Rattle.std.proofs.Common.{◌≡◌, ℕ, zero, suc, ◌+◌, ◌-◌, ◌≤◌, ◌<◌, List, [], ◌∷◌, ◌++◌, length, Bool, Option, Some, Result, Ok, Err, MatchResult, IfOk, ap, sym, refl, subst, arith, length-append}
 use Rattle.std.specs.List.{AllByRecursion}
 use Rattle.shape_dict.specs.declared.entries.Entry.{Entry}
 use Rattle.shape_dict.specs.Contents.{Contents}
@@ -8,6 +8,7 @@ use Rattle.shape_dict.specs.Inner.Merging.{merged}
 use Rattle.merge_core.specs.Inner.Folds.{both_of, FoldsAll}
 use Rattle.merge_core.specs.Inner.Leaves.{Offers}
 use Rattle.merge_core.specs.Entries.{IsNextFault}
+use Rattle.merge_core.specs.Inner.Judging.{IsTotal}
 use Rattle.merge_core.specs.Inner.Trees.{Yields}
 use Rattle.merge_core.specs.declared.growing.Grown.{Grown}
 use Rattle.merge_core.specs.declared.entries.NextFault.{NextFault}
@@ -87,14 +88,14 @@ last_sum bytes kind from count half all Q R h number some low q f =
     halves_sum bytes kind from count half all (λ sum. Unit {0}) Q R h number low (λ xs offers is. some_sum bytes kind from xs offers (omega arith)) q (λ a b x y. f a b y)
 
 abbrev pub Gives : {E : Type 0} → (E → List Entry → Type 0) → Contents → Grown E → Type 0
-Gives Of sum grown = (grown.games ≡ sum.games) × Yields Of grown.tree sum.entries
+Gives Of sum grown = (grown.totals.games ≡ sum.games) × Yields Of grown.tree sum.entries
 
 -- the tree of two gives the join of what both give
 pub pair_sum : {E : Type 0} (Of : E → List Entry → Type 0) (result : Result (Grown E) NextFault) (left right : Grown E) (a b : Contents) →
     ((mine other : List Entry) → Yields Of left.tree mine → Yields Of right.tree other →
-    MatchResult result (λ both. (both.games ≡ left.games + right.games) × Yields Of both.tree (merged left.games mine other)) (IsNextFault (merged left.games mine other))) →
-    Gives Of a left → Gives Of b right → MatchResult result (Gives Of (both_of a b)) (IsNextFault (both_of a b).entries)
-pair_sum {E} Of result left right a b h p q =
-    let one = h a.entries b.entries p.1 q.1 in
-    let two = subst (λ (m : ℕ). MatchResult result (λ (both : Grown E). (both.games ≡ m + right.games) × Yields Of both.tree (merged m a.entries b.entries)) (IsNextFault (merged m a.entries b.entries))) p.0 one in
-    subst (λ (n : ℕ). MatchResult result (λ (both : Grown E). (both.games ≡ a.games + n) × Yields Of both.tree (merged a.games a.entries b.entries)) (IsNextFault (merged a.games a.entries b.entries))) q.0 two
+    MatchResult result (λ both. Yields Of both.tree (merged left.totals.games mine other)) (IsNextFault (merged left.totals.games mine other))) →
+    IfOk result (λ both. IsTotal left.totals right.totals both.totals) → Gives Of a left → Gives Of b right → MatchResult result (Gives Of (both_of a b)) (IsNextFault (both_of a b).entries)
+pair_sum {E} Of (Ok both) left right a b h t p q =
+    let games : both.totals.games ≡ a.games + b.games = omega (arith, t.games, p.0, q.0) in
+    (games, subst (λ (m : ℕ). Yields Of both.tree (merged m a.entries b.entries)) p.0 (h a.entries b.entries p.1 q.1))
+pair_sum {E} Of (Err found) left right a b h t p q = subst (λ (m : ℕ). IsNextFault (merged m a.entries b.entries) found) p.0 (h a.entries b.entries p.1 q.1)

@@ -9,10 +9,10 @@ use Rattle.stream_core.specs.Faults.{IsStreamFault}
 use Rattle.stream_core.specs.declared.faults.StreamFault.{StreamFault}
 use Rattle.stream_core.specs.declared.standing.Standing.{Standing}
 use Rattle.stream_core.specs.declared.standing.Standing.TheVariants as standing
-use Rattle.stream_core.specs.Streams.{Stream, HasGiven, Stands, IsHeaderOf, contents_of, given_after}
+use Rattle.stream_core.specs.Streams.{Stream, HasGiven, Stands, IsHeaderOf, contents_of, given_after, standing_of}
 use Rattle.stream_core.specs.Streams as streams
-use Rattle.merge_core.specs.Entries.{IsNext}
-use Rattle.merge_core.specs.Inner.Leaves.{HasLeft}
+use Rattle.merge_core.specs.Entries.{IsNext, WasNext}
+use Rattle.merge_core.specs.Inner.Leaves.{HasLeft, HasCome}
 
 pub next_left : (stream after : Stream) (next : Option Entry) (entries : List Entry) →
     ((whole : List ℕ) (given : List Entry) → HasGiven stream whole given → HasGiven after whole (given_after given (Ok next))) →
@@ -45,6 +45,15 @@ opened_left remaining lines text d is t given only =
 -- a text that was read to its end, or up to its first fault
 pub ended : (stream : Stream) (whole : List ℕ) (entries : List Entry) (header : Header) → HasGiven stream whole entries → stream.standing ≡ standing.Ended → stream.header ≡ header → IsTextOf (contents_of header entries) whole
 ended stream whole entries header h s e = subst (λ (x : Header). IsTextOf (contents_of x entries) whole) e (subst (λ (x : Standing). Stands whole stream.header entries x) s h.stands)
+
+-- what is known where these entries come, from what is known after the next one
+pub next_came : (stream after : Stream) (next : Option Entry) → ((whole : List ℕ) (given : List Entry) → HasGiven stream whole given → HasGiven after whole (given_after given (Ok next))) →
+    after.standing ≡ standing_of (Ok next) → after.header ≡ stream.header → WasNext (HasCome stream) (HasCome after) next
+next_came stream after None given stands header = λ whole entries h.
+    subst (λ (xs : List Entry). IsTextOf (contents_of stream.header xs) whole) (sym (append-nil entries)) (ended after whole entries stream.header (given whole entries h) stands header)
+next_came stream after (Some entry) given stands header = λ others came whole entries h.
+    subst (λ (xs : List Entry). IsTextOf (contents_of stream.header xs) whole) (append_assoc entries (entry ∷ []) others)
+    (subst (λ (x : Header). IsTextOf (contents_of x ((entries ++ entry ∷ []) ++ others)) whole) header (came whole (entries ++ entry ∷ []) (given whole entries h)))
 
 pub failed : (stream : Stream) (whole : List ℕ) (entries : List Entry) (found : StreamFault) → HasGiven stream whole entries → stream.standing ≡ standing.Failed found → IsStreamFault whole found
 failed stream whole entries found h s = subst (λ (x : Standing). Stands whole stream.header entries x) s h.stands

@@ -1,4 +1,5 @@
 pub mod Alone
+pub mod Came
 pub mod Counted
 pub mod Finished
 pub mod Folded
@@ -6,6 +7,7 @@ pub mod Grown
 pub mod Prefixed
 pub mod Large
 pub mod Left
+pub mod Summed
 pub mod Totals
 pub mod Unmerged
 pub mod Written

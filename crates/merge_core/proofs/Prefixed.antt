@@ -102,7 +102,7 @@ not_added bytes n before inputs input d found h text stands after = record {
 }
 
 pub both_fault : (bytes : ℕ → Option (List ℕ)) (n : ℕ) (before next : Judged) (inputs : List (List ℕ)) (input : List ℕ) (found : DictFault) → HasJudged bytes n before inputs →
-    IsJudged input next → IsBothFault before next found → IsFaultAt inputs input (fault.Dict (n + 1) found)
+    IsJudged input next → IsBothFault before.totals next.totals found → IsFaultAt inputs input (fault.Dict (n + 1) found)
 both_fault bytes n before next inputs input dict_fault.MixedKinds h j bad =
     let a = h.of_sum in
     not_added bytes n before inputs input j.0 dict_fault.MixedKinds h j.1 (λ e. bad (a.kinds ∙ (e ∙ sym j.2.kinds)))
@@ -132,7 +132,7 @@ pub record AreJoined (bytes : ℕ → Option (List ℕ)) (n : ℕ) (inputs : Lis
   pub texts : AreTexts (first ∷ (others ++ d ∷ [])) (inputs ++ input ∷ [])
   pub number : length (first ∷ (others ++ d ∷ [])) ≡ n + 1
 
-joined : (bytes : ℕ → Option (List ℕ)) (n : ℕ) (before next : Judged) (inputs : List (List ℕ)) (input : List ℕ) (h : HasJudged bytes n before inputs) (j : IsJudged input next) → before.counts_diamonds ≡ next.counts_diamonds → bytes n ≡ Some input →
+joined : (bytes : ℕ → Option (List ℕ)) (n : ℕ) (before next : Judged) (inputs : List (List ℕ)) (input : List ℕ) (h : HasJudged bytes n before inputs) (j : IsJudged input next) → before.totals.counts_diamonds ≡ next.totals.counts_diamonds → bytes n ≡ Some input →
     AreJoined bytes n inputs input h.first h.others h.sum j.0
 joined bytes n before next inputs input h j same known =
     let d = j.0 in

@@ -9,6 +9,10 @@ abbrev pub IsNext : (List Entry → Type 0) → List Entry → Option Entry → 
 IsNext After entries next =
     MatchOption next (entries ≡ []) (λ entry. (others : List Entry) × (entries ≡ entry ∷ others) × After others)
 
+-- what is known before the next entry was told, from what is known after it: where none was told, that there was none
+abbrev pub WasNext : (List Entry → Type 0) → (List Entry → Type 0) → Option Entry → Type 0
+WasNext Before After next = MatchOption next (Before []) (λ entry. (others : List Entry) → After others → Before (entry ∷ others))
+
 -- counts that are below 2 ^ 64
 abbrev pub IsSmallUse : Entry → Type 0
 IsSmallUse entry = (entry.there < 2 ^ 64) × (entry.played < 2 ^ 64)

@@ -1,15 +1,18 @@
 //! How many squares and diamonds a join has.
-ghost use Rattle.std.specs.Prelude.{◌≡◌, ◌≤◌, ◌<◌, ◌^◌, ℕ, Bool, List, length, MatchResult};
+ghost use Rattle.std.specs.Prelude.{◌≡◌, ◌≤◌, ◌<◌, ◌^◌, ℕ, Bool, List, length, MatchResult, IfOk};
 ghost use Rattle.shape_dict.specs.declared.entries.Entry.{Entry as One};
 ghost use Rattle.shape_dict.specs.Contents.{Contents, is_square};
 ghost use Rattle.merge_core.specs.Inner.Folds.{FoldsAll};
 ghost use Rattle.merge_core.specs.Inner.Leaves.{Offers};
 ghost use Rattle.merge_core.specs.Entries.{IsNextFault, IsSmallUse};
 ghost use Rattle.merge_core.specs.Inner.Counting.{IsCountOf};
+ghost use Rattle.merge_core.specs.Inner.Judging.{HasJoined};
 ghost use Rattle.merge_core.specs.Inner.Trees.{Yields};
+ghost use Rattle.merge_core.specs.Merge.{AreInputs};
 
 use crate::entries::{Entries, NextFault};
-use crate::growing::grow;
+use crate::growing::{Grown, grow};
+use crate::judged::Totals;
 use crate::sources::Sources;
 use crate::trees::{Tree, next_of};
 use shape_core::Kind;
@@ -33,8 +36,10 @@ pub(crate) fn is_square(entry: Entry) -> bool
 
 /// How many squares and diamonds there are among the entries of a join.
 pub(crate) fn count_entries<E: Entries>(mut tree: Tree<E>) -> Result<Counts, NextFault>
-    ensures { (all : List One) → Yields E.yields tree all
+    ensures all { (all : List One) → Yields E.yields tree all
         → MatchResult result (IsCountOf all) (IsNextFault all) }
+    ensures came { IfOk result (λ counts. (all : List One) × IsCountOf all counts
+        × Yields E.came tree all) }
 {
     let mut squares = 0;
     let mut diamonds = 0;
@@ -54,22 +59,30 @@ pub(crate) fn count_entries<E: Entries>(mut tree: Tree<E>) -> Result<Counts, Nex
     Err(NextFault::Changed)
 }
 
-/// How many squares and diamonds the join of the first `count` dictionaries has.
+/// The totals of the first `count` dictionaries, and how many squares and diamonds their join has.
+/// Each is read to its end: where there is an answer, all of them are judged.
 pub(crate) fn count_join<S: Sources>(
     alloc: Global,
     sources: &S,
     count: usize,
-) -> Result<Counts, NextFault>
+) -> Result<(Totals, Counts), NextFault>
     requires some { 1 ≤ count }
     requires few { count < 2 ^ 64 }
     requires within { count ≤ S.number sources.now }
-    ensures { (kind : Bool) → (all : List Contents)
+    ensures known { (kind : Bool) → (all : List Contents)
         → Offers (S.bytes sources.now) kind 0 all → length all ≡ count
         → (sum : Contents) × FoldsAll all sum
-        × MatchResult result (IsCountOf sum.entries) (IsNextFault sum.entries) }
+        × MatchResult result (λ p. IsCountOf sum.entries p.1) (IsNextFault sum.entries) }
+    ensures judged { IfOk result (λ p. (inputs : List (List ℕ))
+        → AreInputs (S.bytes sources.now) 0 inputs → length inputs ≡ count
+        → HasJoined (S.bytes sources.now) p.0 p.1 inputs) }
 {
-    match grow(alloc, sources, 0, count) {
-        Ok(grown) => count_entries(grown.tree),
+    let Grown { tree, totals } = match grow(alloc, sources, 0, count) {
+        Ok(grown) => grown,
+        Err(fault) => return Err(fault),
+    };
+    match count_entries(tree) {
+        Ok(counts) => Ok((totals, counts)),
         Err(fault) => Err(fault),
     }
 }

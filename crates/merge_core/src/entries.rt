@@ -16,12 +16,15 @@ pub enum NextFault {
 
 /// Entries that come one after another, as the lines of a dictionary do.
 pub trait Entries: Drop {
-    ghost use Rattle.std.specs.Prelude.{List, MatchResult};
+    ghost use Rattle.std.specs.Prelude.{List, MatchResult, IfOk};
     ghost use Rattle.shape_dict.specs.declared.entries.Entry.{Entry as One};
-    ghost use Rattle.merge_core.specs.Entries.{IsNext, IsNextFault};
+    ghost use Rattle.merge_core.specs.Entries.{IsNext, IsNextFault, WasNext};
 
     /// Whether these are the entries that are still to come.
     ghost yields: { Self → List One → Type 0 };
+
+    /// What is known where these entries come from here on, and then the end.
+    ghost came: { Self → List One → Type 0 };
 
     /// The next entry, or None at the end.
     ///
@@ -30,6 +33,7 @@ pub trait Entries: Drop {
     /// `Overflow` where the counts of an entry that is still to come are too large; `Read` where a
     /// reader failed. What comes after an error is not said.
     fn next_entry(&mut self) -> Result<Option<Entry>, NextFault>
-        ensures { (entries : List One) → yields self.old entries
-            → MatchResult result (IsNext (yields self.new) entries) (IsNextFault entries) };
+        ensures next { (entries : List One) → yields self.old entries
+            → MatchResult result (IsNext (yields self.new) entries) (IsNextFault entries) }
+        ensures came { IfOk result (WasNext (came self.old) (came self.new)) };
 }

@@ -1,44 +1,51 @@
 //! The tree of the joins of dictionaries that follow one another.
 ghost use Rattle.std.specs.Prelude.{◌≡◌, ◌≤◌, ◌<◌, ◌+◌, ◌^◌, ℕ, List, Bool, length, MatchResult};
+ghost use Rattle.std.specs.Prelude.{IfOk};
 ghost use Rattle.shape_dict.specs.Contents.{Contents};
 ghost use Rattle.shape_dict.specs.Inner.Merging.{merged};
 ghost use Rattle.shape_dict.specs.declared.entries.Entry.{Entry as One};
 ghost use Rattle.merge_core.specs.Entries.{IsNextFault};
 ghost use Rattle.merge_core.specs.Inner.Folds.{FoldsAll};
-ghost use Rattle.merge_core.specs.Inner.Leaves.{HasLeft, Offers};
+ghost use Rattle.merge_core.specs.Inner.Judging.{IsTotal, HasSummed};
+ghost use Rattle.merge_core.specs.Inner.Leaves.{HasLeft, HasCome, Offers};
+ghost use Rattle.merge_core.specs.Merge.{AreInputs};
 ghost use Rattle.merge_core.specs.Inner.Trees.{Yields};
 
 use crate::entries::{Entries, NextFault};
 use crate::heads::Heads;
+use crate::judged::{Totals, total_of};
 use crate::leaves::{Leaf, open_leaf};
 use crate::sources::Sources;
 use crate::trees::{Tree, next_of};
 use std::alloc::Global;
 
-/// A tree, and how many games the dictionaries of its leaves have.
+/// A tree, and the totals of the dictionaries of its leaves.
 #[derive(Drop)]
 pub(crate) struct Grown<E> {
     pub(crate) tree: Tree<E>,
-    pub(crate) games: u64,
+    pub(crate) totals: Totals,
 }
 
 /// The join of the lists that two trees give, of which the first entries are read.
 fn pair<E: Entries>(alloc: Global, left: Grown<E>, right: Grown<E>) -> Result<Grown<E>, NextFault>
-    ensures { (mine : List One) → (other : List One) → Yields E.yields left.tree mine
+    ensures next { (mine : List One) → (other : List One) → Yields E.yields left.tree mine
         → Yields E.yields right.tree other → MatchResult result
-        (λ both. (both.games ≡ left.games + right.games)
-        × Yields E.yields both.tree (merged left.games mine other))
-        (IsNextFault (merged left.games mine other)) }
+        (λ both. Yields E.yields both.tree (merged left.totals.games mine other))
+        (IsNextFault (merged left.totals.games mine other)) }
+    ensures came { IfOk result (λ both. (entries : List One) → Yields E.came both.tree entries
+        → (mine : List One) × (other : List One) × Yields E.came left.tree mine
+        × Yields E.came right.tree other × (entries ≡ merged left.totals.games mine other)) }
+    ensures totals { IfOk result (λ both. IsTotal left.totals right.totals both.totals) }
 {
     let Grown {
         tree: mut first,
-        games: before,
+        totals: before,
     } = left;
     let Grown {
         tree: mut second,
-        games: after,
+        totals: after,
     } = right;
-    let Some(games) = before.checked_add(after) else {
+    let Ok(totals) = total_of(before, after) else {
         return Err(NextFault::Changed);
     };
     let of_first = match next_of(&mut first) {
@@ -50,7 +57,7 @@ fn pair<E: Entries>(alloc: Global, left: Grown<E>, right: Grown<E>) -> Result<Gr
         Err(fault) => return Err(fault),
     };
     let heads = Heads {
-        games: before,
+        games: before.games,
         left: of_first,
         right: of_second,
     };
@@ -62,7 +69,7 @@ fn pair<E: Entries>(alloc: Global, left: Grown<E>, right: Grown<E>) -> Result<Gr
     };
     Ok(Grown {
         tree: Tree::Node { left, right, heads },
-        games,
+        totals,
     })
 }
 
@@ -77,18 +84,22 @@ pub(crate) fn grow<S: Sources>(
     requires some { 1 ≤ count }
     requires few { from + count < 2 ^ 64 }
     requires within { from + count ≤ S.number sources.now }
-    ensures { (kind : Bool) → (all : List Contents)
+    ensures left { (kind : Bool) → (all : List Contents)
         → Offers (S.bytes sources.now) kind from all → length all ≡ count
         → (sum : Contents) × FoldsAll all sum × MatchResult result
-        (λ grown. (grown.games ≡ sum.games)
+        (λ grown. (grown.totals.games ≡ sum.games)
         × Yields (λ leaf. HasLeft leaf.lines) grown.tree sum.entries)
         (IsNextFault sum.entries) }
+    ensures came { IfOk result (λ grown. (inputs : List (List ℕ)) → (entries : List One)
+        → AreInputs (S.bytes sources.now) from inputs → length inputs ≡ count
+        → Yields (λ leaf. HasCome leaf.lines) grown.tree entries
+        → HasSummed (S.bytes sources.now) from grown.totals inputs entries) }
 {
     if count == 1 {
         return match open_leaf(alloc, sources, from) {
-            Ok((leaf, games)) => Ok(Grown {
+            Ok((leaf, totals)) => Ok(Grown {
                 tree: Tree::Leaf(leaf),
-                games,
+                totals,
             }),
             Err(fault) => Err(fault),
         };

@@ -26,6 +26,7 @@ pub(crate) enum First {
 
 impl Heads {
     /// Which of the two has the lesser word.
+    #[inline(always)]
     pub(crate) fn first(&self) -> First
         ensures { IsFirst self.now result }
     {
@@ -51,6 +52,7 @@ impl Heads {
 /// An entry of the right alone, whose first game follows the left's games. The numbers of games add
 /// up to less than 2^64 in dictionaries that were judged, so a sum that is too large is a
 /// dictionary that has changed.
+#[inline(always)]
 pub(crate) fn moved(entry: Entry, games: u64) -> Result<Option<Entry>, NextFault>
     ensures ok { IfOk result (λ moved. moved ≡ Some (moved_entry games entry)) }
     ensures err { IfErr result (λ found. found ≡ fault.Changed) }
@@ -63,6 +65,7 @@ pub(crate) fn moved(entry: Entry, games: u64) -> Result<Option<Entry>, NextFault
 }
 
 /// An entry of both.
+#[inline(always)]
 pub(crate) fn summed(left: Entry, right: Entry) -> Result<Option<Entry>, NextFault>
     ensures ok { IfOk result (λ both. both ≡ Some (summed_entry left right)) }
     ensures err { IfErr result (λ found. (found ≡ fault.Overflow)

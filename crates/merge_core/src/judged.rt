@@ -1,22 +1,27 @@
 //! What is kept of dictionaries that were judged.
 ghost use Rattle.std.specs.Prelude.{IfOk, IfErr};
-ghost use Rattle.merge_core.specs.Inner.Judging.{IsBoth, IsBothFault};
+ghost use Rattle.merge_core.specs.Inner.Judging.{IsTotal, IsBoth, IsBothFault};
 
 use shape_dict::DictFault;
 
-/// How many games and moves dictionaries have together, whether they count diamonds, and how often
-/// all their patterns were there, or 2^64 - 1 where that is more.
+/// How many games and moves dictionaries have together, and whether they count diamonds.
 #[derive(Clone, Copy)]
-pub(crate) struct Judged {
+pub(crate) struct Totals {
     pub(crate) games: u64,
     pub(crate) moves: u64,
     pub(crate) counts_diamonds: bool,
+}
+
+/// Their totals, and how often all their patterns were there, or 2^64 - 1 where that is more.
+#[derive(Clone, Copy)]
+pub(crate) struct Judged {
+    pub(crate) totals: Totals,
     pub(crate) there: u64,
 }
 
-/// What two that follow one another are together, where all patterns' sums are small.
-pub(crate) fn both_of(before: Judged, next: Judged) -> Result<Judged, DictFault>
-    ensures ok { IfOk result (IsBoth before next) }
+/// The totals of two that follow one another.
+pub(crate) fn total_of(before: Totals, next: Totals) -> Result<Totals, DictFault>
+    ensures ok { IfOk result (IsTotal before next) }
     ensures fault { IfErr result (IsBothFault before next) }
 {
     if before.counts_diamonds != next.counts_diamonds {
@@ -28,10 +33,23 @@ pub(crate) fn both_of(before: Judged, next: Judged) -> Result<Judged, DictFault>
     let Some(moves) = before.moves.checked_add(next.moves) else {
         return Err(DictFault::Overflow);
     };
-    Ok(Judged {
+    Ok(Totals {
         games,
         moves,
         counts_diamonds: before.counts_diamonds,
-        there: before.there.saturating_add(next.there),
     })
+}
+
+/// What two that follow one another are together, where all patterns' sums are small.
+pub(crate) fn both_of(before: Judged, next: Judged) -> Result<Judged, DictFault>
+    ensures ok { IfOk result (IsBoth before next) }
+    ensures fault { IfErr result (IsBothFault before.totals next.totals) }
+{
+    match total_of(before.totals, next.totals) {
+        Ok(totals) => Ok(Judged {
+            totals,
+            there: before.there.saturating_add(next.there),
+        }),
+        Err(fault) => Err(fault),
+    }
 }

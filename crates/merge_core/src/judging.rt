@@ -9,13 +9,15 @@ ghost use Rattle.stream_core.specs.Streams.{HasGiven, contents_of};
 ghost use Rattle.merge_core.specs.Merge.{AreInputs, written_of};
 ghost use Rattle.merge_core.specs.Inner.Folds.{there_in};
 ghost use Rattle.merge_core.specs.Inner.Judging.{capped, numbered, IsJudged, IsOwnFault, HasJudged};
+ghost use Rattle.merge_core.specs.Inner.Judging.{HasJoined};
 ghost use Rattle.merge_core.specs.Inner.Judging.{IsJudgeFault, IsFaultAt};
 
-use crate::counting::count_join;
+use crate::counting::{Counts, count_join};
 use crate::entries::NextFault;
 use crate::faults::MergeFault;
-use crate::judged::{Judged, both_of};
+use crate::judged::{Judged, Totals, both_of};
 use crate::sources::Sources;
+use crate::writing::stopped;
 use shape_dict::DictFault;
 use std::alloc::Global;
 use std::io::Read;
@@ -73,9 +75,11 @@ fn judge_one<S: Sources>(alloc: Global, sources: &S, n: usize) -> Result<Judged,
     let header = lines.header();
     match total_of(&mut lines) {
         Ok(there) => Ok(Judged {
-            games: header.games,
-            moves: header.moves,
-            counts_diamonds: header.diamonds.is_some(),
+            totals: Totals {
+                games: header.games,
+                moves: header.moves,
+                counts_diamonds: header.diamonds.is_some(),
+            },
             there,
         }),
         Err(fault) => Err(numbered(fault, n + 1)),
@@ -123,19 +127,16 @@ fn judge_next<S: Sources>(
     }
 }
 
-/// Judges all dictionaries, in their order.
-pub(crate) fn judge_all<S: Sources>(alloc: Global, sources: &S) -> Result<Judged, MergeFault>
-    ensures some { OnOk result (1 ≤ S.number sources.now) }
+/// Judges all of so many dictionaries, one after another, in their order.
+fn judge_each<S: Sources>(alloc: Global, sources: &S, count: usize) -> Result<Judged, MergeFault>
+    requires some { 1 ≤ count }
+    requires few { count < 2 ^ 64 }
+    requires all { count ≡ S.number sources.now }
     ensures quiet { IfErr result (λ found. written_of found ≡ 0) }
     ensures first { (inputs : List (List ℕ)) → AreInputs (S.bytes sources.now) 0 inputs
-        → length inputs ≡ S.number sources.now → MatchResult result
-        (λ judged. HasJudged (S.bytes sources.now) (S.number sources.now) judged inputs)
-        (IsJudgeFault inputs) }
+        → length inputs ≡ count → MatchResult result
+        (λ judged. HasJudged (S.bytes sources.now) count judged inputs) (IsJudgeFault inputs) }
 {
-    let count = sources.count();
-    if count == 0 {
-        return Err(MergeFault::Empty);
-    }
     let mut judged = match judge_one(alloc, sources, 0) {
         Ok(first) => first,
         Err(fault) => return Err(fault),
@@ -147,4 +148,30 @@ pub(crate) fn judge_all<S: Sources>(alloc: Global, sources: &S) -> Result<Judged
         };
     }
     Ok(judged)
+}
+
+/// Judges all dictionaries: the totals and counts of their join. Where one pass over all of them
+/// tells no join, they are judged one after another, so that the first fault is told.
+pub(crate) fn judge_all<S: Sources>(
+    alloc: Global,
+    sources: &S,
+) -> Result<(Totals, Counts), MergeFault>
+    ensures some { OnOk result (1 ≤ S.number sources.now) }
+    ensures quiet { IfErr result (λ found. written_of found ≡ 0) }
+    ensures first { (inputs : List (List ℕ)) → AreInputs (S.bytes sources.now) 0 inputs
+        → length inputs ≡ S.number sources.now → MatchResult result
+        (λ p. HasJoined (S.bytes sources.now) p.0 p.1 inputs) (IsJudgeFault inputs) }
+{
+    let count = sources.count();
+    if count == 0 {
+        return Err(MergeFault::Empty);
+    }
+    let fault = match count_join(alloc, sources, count) {
+        Ok(joined) => return Ok(joined),
+        Err(fault) => fault,
+    };
+    match judge_each(alloc, sources, count) {
+        Ok(_) => Err(stopped(fault, 0)),
+        Err(first) => Err(first),
+    }
 }

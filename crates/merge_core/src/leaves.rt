@@ -1,11 +1,14 @@
 //! The lines of one dictionary, which was judged before.
-ghost use Rattle.std.specs.Prelude.{◌≡◌, ◌<◌, ◌+◌, ◌^◌, ℕ, List, Some, MatchResult};
+ghost use Rattle.std.specs.Prelude.{◌≡◌, ◌<◌, ◌+◌, ◌^◌, ℕ, [], List, Some, MatchResult, IfOk};
 ghost use Rattle.shape_dict.specs.Contents.{Contents};
 ghost use Rattle.shape_dict.specs.Reading.{IsTextOf};
 ghost use Rattle.merge_core.specs.Entries.{IsNextFault};
-ghost use Rattle.merge_core.specs.Inner.Leaves.{HasLeft};
+ghost use Rattle.stream_core.specs.Streams.{HasGiven};
+ghost use Rattle.merge_core.specs.Inner.Leaves.{HasLeft, HasCome};
+ghost use Rattle.merge_core.specs.Inner.Judging.{IsTotalIn};
 
 use crate::entries::{Entries, NextFault};
+use crate::judged::Totals;
 use crate::sources::Sources;
 use shape_dict::Entry;
 use std::alloc::Global;
@@ -22,6 +25,8 @@ pub(crate) struct Leaf<R: Read> {
 impl<R: Read + Drop> Entries for Leaf<R> {
     ghost yields = { λ leaf entries. HasLeft leaf.lines entries };
 
+    ghost came = { λ leaf entries. HasCome leaf.lines entries };
+
     fn next_entry(&mut self) -> Result<Option<Entry>, NextFault> {
         match self.lines.next_entry() {
             Ok(next) => Ok(next),
@@ -30,30 +35,38 @@ impl<R: Read + Drop> Entries for Leaf<R> {
     }
 }
 
-/// The lines of a dictionary, from 0, and how many games it has.
+/// The lines of a dictionary, from 0, and what its header says of it.
 pub(crate) fn open_leaf<S: Sources>(
     alloc: Global,
     sources: &S,
     n: usize,
-) -> Result<(Leaf<S::Reader>, u64), NextFault>
+) -> Result<(Leaf<S::Reader>, Totals), NextFault>
     requires few { n + 1 < 2 ^ 64 }
     requires within { n < S.number sources.now }
-    ensures { (text : List ℕ) → (d : Contents) → S.bytes sources.now n ≡ Some text
+    ensures left { (text : List ℕ) → (d : Contents) → S.bytes sources.now n ≡ Some text
         → IsTextOf d text → MatchResult result
-        (λ p. (p.1 ≡ d.games) × HasLeft p.0.lines d.entries) (IsNextFault d.entries) }
+        (λ p. (p.1.games ≡ d.games) × HasLeft p.0.lines d.entries) (IsNextFault d.entries) }
+    ensures given { IfOk result (λ p. (text : List ℕ) → S.bytes sources.now n ≡ Some text
+        → HasGiven p.0.lines text []) }
+    ensures totals { IfOk result (λ p. IsTotalIn p.1 p.0.lines.header) }
 {
     let Ok(reader) = sources.open(n) else {
         return Err(NextFault::Read(n + 1));
     };
     match Lines::open(alloc, reader) {
         Ok(lines) => {
-            let games = lines.header().games;
+            let header = lines.header();
+            let totals = Totals {
+                games: header.games,
+                moves: header.moves,
+                counts_diamonds: header.diamonds.is_some(),
+            };
             Ok((
                 Leaf {
                     number: n + 1,
                     lines,
                 },
-                games,
+                totals,
             ))
         }
         Err(StreamFault::Memory) => Err(NextFault::Memory),

@@ -3,7 +3,6 @@ ghost use Rattle.std.specs.Prelude.{◌≡◌, ℕ, List, length, OnOk, IfErr};
 ghost use Rattle.std.specs.Io.KnownBytes.{Appends};
 ghost use Rattle.merge_core.specs.Merge.{AreInputs, IsMergeText, IsMergeFault, Took, written_of};
 
-use crate::counting::count_join;
 use crate::faults::MergeFault;
 use crate::growing::grow;
 use crate::judging::judge_all;
@@ -14,9 +13,10 @@ use std::alloc::Global;
 use std::io::Write;
 
 /// Reads dictionaries, each a text of its own in any of the three texts and of any size, and writes
-/// a text of their join: the earlier ones are the left of each join. Each is read three times: to
-/// be judged, to count what the join has, and to be written. It takes memory for two blocks of
-/// 65,536 bytes, and for one of each dictionary.
+/// a text of their join: the earlier ones are the left of each join. Each is read twice: to be
+/// judged while what the join has is counted, and to be written. It takes memory for two blocks of
+/// 65,536 bytes, and for one of each dictionary. Where there is a fault, they are judged again, one
+/// after another.
 ///
 /// # Errors
 ///
@@ -41,20 +41,15 @@ pub fn run_merge<S: Sources, W: Write>(
     ensures took { IfErr result (λ found.
         Took (W.contents writer.old) (W.contents writer.new) (written_of found)) }
 {
-    let judged = match judge_all(alloc, sources) {
-        Ok(judged) => judged,
+    let (totals, counts) = match judge_all(alloc, sources) {
+        Ok(joined) => joined,
         Err(fault) => return Err(fault),
     };
-    let count = sources.count();
-    let counts = match count_join(alloc, sources, count) {
-        Ok(counts) => counts,
-        Err(fault) => return Err(stopped(fault, 0)),
-    };
-    let tree = match grow(alloc, sources, 0, count) {
+    let tree = match grow(alloc, sources, 0, sources.count()) {
         Ok(grown) => grown.tree,
         Err(fault) => return Err(stopped(fault, 0)),
     };
-    let Ok(header) = header_of(alloc, text, judged, counts) else {
+    let Ok(header) = header_of(alloc, text, totals, counts) else {
         return Err(MergeFault::Memory { written: 0 });
     };
     write_lines(tree, text, counts, header, writer)

@@ -1,7 +1,7 @@
 //! The join of several lists of entries as a tree of joins of two.
-ghost use Rattle.std.specs.Prelude.{List, MatchResult};
+ghost use Rattle.std.specs.Prelude.{List, MatchResult, IfOk, OnOk};
 ghost use Rattle.shape_dict.specs.declared.entries.Entry.{Entry as One};
-ghost use Rattle.merge_core.specs.Entries.{IsNext, IsNextFault};
+ghost use Rattle.merge_core.specs.Entries.{IsNext, IsNextFault, WasNext};
 ghost use Rattle.merge_core.specs.Inner.Trees.{Yields};
 
 use crate::entries::{Entries, NextFault};
@@ -20,41 +20,76 @@ pub(crate) enum Tree<E> {
     },
 }
 
-/// The next entry of the join, or None at the end.
+/// Puts the next entry of the join, or None at the end, where it is wanted: in a tree of many
+/// levels an entry would else be moved several times at each of them.
 #[tactic(auto, using(crate::proofs::Unmerged::left_fault, crate::proofs::Unmerged::right_fault, crate::proofs::Unmerged::both_fault))]
-pub(crate) fn next_of<E: Entries>(tree: &mut Tree<E>) -> Result<Option<Entry>, NextFault>
-    ensures { (entries : List One) → Yields E.yields tree.old entries
-        → MatchResult result (IsNext (Yields E.yields tree.new) entries) (IsNextFault entries) }
+fn advance<E: Entries>(tree: &mut Tree<E>, next: &mut Option<Entry>) -> Result<(), NextFault>
+    ensures next { (entries : List One) → Yields E.yields tree.old entries → MatchResult result
+        (λ _. IsNext (Yields E.yields tree.new) entries next.new) (IsNextFault entries) }
+    ensures came { OnOk result
+        (WasNext (Yields E.came tree.old) (Yields E.came tree.new) next.new) }
 {
     match tree {
-        Tree::Leaf(leaf) => leaf.next_entry(),
+        Tree::Leaf(leaf) => {
+            *next = match leaf.next_entry() {
+                Ok(found) => found,
+                Err(fault) => return Err(fault),
+            };
+            Ok(())
+        }
         Tree::Node { left, right, heads } => match heads.first() {
-            First::Neither => Ok(None),
+            First::Neither => {
+                *next = None;
+                Ok(())
+            }
             First::Left(entry) => {
-                heads.left = match next_of(left) {
-                    Ok(next) => next,
+                match advance(left, &mut heads.left) {
+                    Ok(()) => {}
                     Err(fault) => return Err(fault),
-                };
-                Ok(Some(entry))
+                }
+                *next = Some(entry);
+                Ok(())
             }
             First::Right(entry) => {
-                heads.right = match next_of(right) {
-                    Ok(next) => next,
+                match advance(right, &mut heads.right) {
+                    Ok(()) => {}
+                    Err(fault) => return Err(fault),
+                }
+                *next = match moved(entry, heads.games) {
+                    Ok(entry) => entry,
                     Err(fault) => return Err(fault),
                 };
-                moved(entry, heads.games)
+                Ok(())
             }
             First::Both(mine, other) => {
-                heads.left = match next_of(left) {
-                    Ok(next) => next,
+                match advance(left, &mut heads.left) {
+                    Ok(()) => {}
+                    Err(fault) => return Err(fault),
+                }
+                match advance(right, &mut heads.right) {
+                    Ok(()) => {}
+                    Err(fault) => return Err(fault),
+                }
+                *next = match summed(mine, other) {
+                    Ok(entry) => entry,
                     Err(fault) => return Err(fault),
                 };
-                heads.right = match next_of(right) {
-                    Ok(next) => next,
-                    Err(fault) => return Err(fault),
-                };
-                summed(mine, other)
+                Ok(())
             }
         },
+    }
+}
+
+/// The next entry of the join, or None at the end.
+#[inline(always)]
+pub(crate) fn next_of<E: Entries>(tree: &mut Tree<E>) -> Result<Option<Entry>, NextFault>
+    ensures next { (entries : List One) → Yields E.yields tree.old entries
+        → MatchResult result (IsNext (Yields E.yields tree.new) entries) (IsNextFault entries) }
+    ensures came { IfOk result (WasNext (Yields E.came tree.old) (Yields E.came tree.new)) }
+{
+    let mut next = None;
+    match advance(tree, &mut next) {
+        Ok(()) => Ok(next),
+        Err(fault) => Err(fault),
     }
 }

@@ -12,7 +12,7 @@ ghost use Rattle.merge_core.specs.Inner.Writing.{IsStopped, stopped, header_for}
 use crate::counting::{Counts, is_square};
 use crate::entries::{Entries, NextFault};
 use crate::faults::MergeFault;
-use crate::judged::Judged;
+use crate::judged::Totals;
 use crate::output::{write_block, write_pending};
 use crate::trees::{Tree, next_of};
 use shape_dict::{Entry, Text, push_header, push_line};
@@ -23,14 +23,14 @@ use std::io::Write;
 pub(crate) fn header_of(
     alloc: Global,
     text: Text,
-    judged: Judged,
+    totals: Totals,
     counts: Counts,
 ) -> Result<Vec<u8>, AllocError>
     ensures { IfOk result (λ header. header.items
-        ≡ header_text (header_for text judged counts)) }
+        ≡ header_text (header_for text totals counts)) }
 {
     let mut header = Vec::new(alloc);
-    let diamonds = if judged.counts_diamonds {
+    let diamonds = if totals.counts_diamonds {
         Some(counts.diamonds)
     } else {
         None
@@ -38,8 +38,8 @@ pub(crate) fn header_of(
     push_header(
         &mut header,
         text,
-        judged.games,
-        judged.moves,
+        totals.games,
+        totals.moves,
         counts.squares,
         diamonds,
     )?;

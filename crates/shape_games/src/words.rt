@@ -1,8 +1,10 @@
 //! The words of the command line, and what they ask for.
-ghost use Rattle.std.specs.Prelude.{◌≡◌, ◌⊎◌, IfErr, IfOk};
+ghost use Rattle.std.specs.Prelude.{◌≡◌, ◌⊎◌, IfErr, IfOk, map, string_bytes};
+ghost use Rattle.clap.specs.Values.{kind_of};
 ghost use Rattle.clap.specs.Words.{app_of};
 ghost use Rattle.engine_core.specs.declared.faults.RunFault.TheVariants as fault;
-ghost use Rattle.shape_games.specs.Words.{program_app, IsHelp};
+ghost use Rattle.shape_games.specs.Words.{program_app, IsHelp, IsHelpKind, IsRefusal};
+ghost use Rattle.shape_games.specs.Words.{IsAnswered, IsLineFault};
 
 use clap::error::ErrorKind;
 use clap::{Command, Error};
@@ -46,8 +48,9 @@ fn program<'a>(alloc: Global) -> Command<'a>
 
 /// What a refused line asks for: a text of help or version, or nothing that the program knows.
 fn refused(alloc: Global, error: &Error) -> Result<Task, RunFault>
-    ensures task { IfOk result IsHelp }
-    ensures fault { IfErr result (λ found. (found ≡ fault.Usage) ⊎ (found ≡ fault.Memory)) }
+    ensures help { IfOk result (λ found. IsHelp found × IsHelpKind (kind_of error.now)) }
+    ensures fault { IfErr result (λ found. (found ≡ fault.Memory)
+        ⊎ ((found ≡ fault.Usage) × IsRefusal (kind_of error.now))) }
 {
     match error.kind() {
         ErrorKind::DisplayHelp | ErrorKind::DisplayVersion => {
@@ -65,7 +68,8 @@ fn refused(alloc: Global, error: &Error) -> Result<Task, RunFault>
 ///
 /// `Usage` where the words are none that the program knows; `Memory` where memory was refused.
 pub fn read_words(alloc: Global, words: &[String]) -> Result<Task, RunFault>
-    ensures fault { IfErr result (λ found. (found ≡ fault.Usage) ⊎ (found ≡ fault.Memory)) }
+    ensures task { IfOk result (IsAnswered (map string_bytes words.now)) }
+    ensures fault { IfErr result (IsLineFault (map string_bytes words.now)) }
 {
     match program(alloc).try_get_matches_from(words) {
         Ok(_) => Ok(Task::List),

@@ -1,8 +1,14 @@
 //! The files whose dictionaries are joined, and the one that is written.
+ghost use Rattle.std.specs.Prelude.{◌≡◌, ◌↔◌, IsTrue, IfOk, MatchOption, length, vec_len};
+ghost use Rattle.shape_merge.specs.Files.{AreFree, AreOf, IsBarred, IsFirstBarred};
+ghost use Rattle.shape_merge.specs.Files.{IsRefused, IsWritten};
+
 use crate::words::Asked;
 use merge_core::Sources;
+use std::alloc::AllocError;
 use std::fs::File;
 use std::io::Write;
+use std::os::unix::fs::MetadataExt;
 use std::{fs, io};
 
 /// Files of these names.
@@ -39,7 +45,9 @@ pub struct Target<'a> {
 }
 
 /// The file of this name, which isn't touched before the first byte is written.
-pub fn new_target<'a>(rt: &'a HostRuntime, name: &'a str) -> Target<'a> {
+pub fn new_target<'a>(rt: &'a HostRuntime, name: &'a str) -> Target<'a>
+    ensures { result ≡ record { rt = rt.entry; name = name.entry; file = None } }
+{
     Target {
         rt,
         name,
@@ -63,17 +71,106 @@ impl Write for Target<'_> {
     }
 }
 
-/// The first name that is there and is no regular file, as a pipe, which can't be read twice; or
-/// that of the file that is to be written.
-pub fn which_is_no_file<'a>(rt: &HostRuntime, asked: &Asked<'a>) -> Option<&'a str> {
-    for name in asked.names {
-        if asked.out == Some(*name) {
-            return Some(*name);
-        }
-        if let Ok(found) = fs::metadata(rt, *name) {
-            if !found.is_file() {
-                return Some(*name);
-            }
+/// What a name stands for, as the system tells it.
+#[derive(Clone, Copy, PartialEq, Eq)]
+pub enum Seen {
+    /// Nothing that can be looked at: to open it will say why.
+    Nothing,
+    /// A regular file: its device, and its number there.
+    File { device: u64, number: u64 },
+    /// No regular file, as a pipe, which can't be read twice.
+    Other,
+}
+
+/// What the names of a join stand for: that of the file that is written, and those of the
+/// dictionaries in their order.
+#[derive(Drop)]
+pub struct Sights {
+    pub target: Seen,
+    pub dictionaries: Vec<Seen>,
+}
+
+/// What the system tells of a name.
+fn look(rt: &HostRuntime, name: &str) -> Seen {
+    match fs::metadata(rt, name) {
+        Ok(found) if found.is_file() => Seen::File {
+            device: found.dev(),
+            number: found.ino(),
+        },
+        Ok(_) => Seen::Other,
+        Err(_) => Seen::Nothing,
+    }
+}
+
+/// What the system tells of each of these names, in their order.
+fn look_at_all(rt: &HostRuntime, names: &[&str]) -> Result<Vec<Seen>, AllocError>
+    ensures { IfOk result (λ seen. vec_len seen ≡ length names.now) }
+{
+    let mut seen = Vec::new(rt.alloc());
+    for name in names {
+        seen.push(look(rt, *name))?;
+    }
+    Ok(seen)
+}
+
+/// What the system tells of the names of a join.
+///
+/// # Errors
+///
+/// `AllocError` where memory was refused.
+pub fn look_at(rt: &HostRuntime, asked: &Asked<'_>) -> Result<Sights, AllocError>
+    ensures { IfOk result (AreOf asked.now) }
+{
+    let target = match asked.out {
+        Some(name) => look(rt, name),
+        None => Seen::Nothing,
+    };
+    let dictionaries = look_at_all(rt, &asked.names)?;
+    Ok(Sights {
+        target,
+        dictionaries,
+    })
+}
+
+/// Whether what a dictionary's name stands for can't be read twice, or is what is written.
+fn is_refused(found: Seen, target: Seen) -> bool
+    ensures { IsTrue result ↔ IsRefused found target }
+{
+    match found {
+        Seen::Nothing => false,
+        Seen::File { .. } => found == target,
+        Seen::Other => true,
+    }
+}
+
+/// Whether a name is that of the file that is written.
+fn is_written(asked: &Asked<'_>, name: &str) -> bool
+    ensures { IsTrue result ↔ IsWritten asked.now name.now }
+{
+    match asked.out {
+        Some(out) => out == name,
+        None => false,
+    }
+}
+
+/// Whether a dictionary of this name can't be joined.
+fn is_barred(asked: &Asked<'_>, target: Seen, name: &str, found: Seen) -> bool
+    ensures { IsTrue result ↔ IsBarred asked.now target name.now found }
+{
+    is_written(asked, name) || is_refused(found, target)
+}
+
+/// The first of the dictionaries' names that is there and is no regular file, as a pipe, which
+/// can't be read twice; or that is written, under this name or another.
+pub fn which_is_barred<'a>(asked: &Asked<'a>, sights: &Sights) -> Option<&'a str>
+    requires { AreOf asked.now sights.now }
+    ensures { MatchOption result (AreFree asked.now sights.now)
+        (IsFirstBarred asked.now sights.now) }
+{
+    for (k, found) in sights.dictionaries.iter().enumerate() {
+        let name = asked.names[k];
+        if is_barred(asked, sights.target, name, *found) {
+            return asked.out;
         }
     }
     None

@@ -5,6 +5,7 @@ mod blocks;
 mod faults;
 mod lines;
 mod progress;
+mod quick;
 mod standing;
 mod steps;
 

@@ -3,7 +3,7 @@ use Rattle.std.specs.Prelude.{◌≡◌, ℕ, ◌+◌, Bool, List, [], ◌∷◌
 use Rattle.shape_dict.specs.declared.entries.Entry.{Entry}
 use Rattle.shape_dict.specs.Contents.{Contents}
 use Rattle.shape_dict.specs.Reading.{IsTextOf}
-use Rattle.stream_core.specs.Streams.{Stream, HasGiven}
+use Rattle.stream_core.specs.Streams.{Stream, HasGiven, contents_of}
 
 -- the bytes are a text, of whose entries these are still to come
 pub record HasLeft (stream : Stream) (entries : List Entry) : Type 0 where
@@ -13,6 +13,11 @@ pub record HasLeft (stream : Stream) (entries : List Entry) : Type 0 where
   pub has : HasGiven stream whole given
   pub is_text : IsTextOf contents whole
   pub rest : contents.entries ≡ given ++ entries
+
+-- where these entries come and then the end, the bytes are a text
+abbrev pub HasCome : Stream → List Entry → Type 0
+HasCome stream entries =
+    (whole : List ℕ) → (given : List Entry) → HasGiven stream whole given → IsTextOf (contents_of stream.header (given ++ entries)) whole
 
 -- the text of this number is known, and is one of this dictionary, of this kind
 pub record IsOffered (bytes : ℕ → Option (List ℕ)) (kind : Bool) (n : ℕ) (d : Contents) : Type 0 where

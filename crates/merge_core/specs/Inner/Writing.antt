@@ -9,7 +9,7 @@ use Rattle.merge_core.specs.declared.faults.MergeFault.{MergeFault}
 use Rattle.merge_core.specs.declared.faults.MergeFault.TheVariants as fault
 use Rattle.merge_core.specs.declared.entries.NextFault.{NextFault}
 use Rattle.merge_core.specs.declared.entries.NextFault.TheVariants as next_fault
-use Rattle.merge_core.specs.declared.judged.Judged.{Judged}
+use Rattle.merge_core.specs.declared.judged.Totals.{Totals}
 use Rattle.merge_core.specs.declared.counting.Counts.{Counts}
 
 -- a fault of a tree, after this number of bytes
@@ -58,11 +58,11 @@ IsStopped before after text (fault.Write written) = (written < length text) × A
 IsStopped before after text (fault.Memory written) = (written ≤ length text) × Appends before after (take written text)
 
 -- the header of a join
-abbrev pub header_for : Text → Judged → Counts → Header
-header_for text judged counts = record {
+abbrev pub header_for : Text → Totals → Counts → Header
+header_for text totals counts = record {
   text = text;
-  games = judged.games;
-  moves = judged.moves;
+  games = totals.games;
+  moves = totals.moves;
   squares = counts.squares;
-  diamonds = (if judged.counts_diamonds then Some counts.diamonds else None);
+  diamonds = (if totals.counts_diamonds then Some counts.diamonds else None);
 }

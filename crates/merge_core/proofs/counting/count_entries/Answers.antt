@@ -1,29 +1,43 @@
-use Rattle.std.proofs.Common.{arith, ◌∙◌, sym, ◌+◌}
+use Rattle.std.proofs.Common.{arith, List, [], ◌∷◌, ◌++◌, ◌∙◌, sym, subst, append_assoc, ◌+◌}
+use Rattle.std.proofs.lemmas.List.{append-nil}
+use Rattle.shape_dict.specs.declared.entries.Entry.{Entry}
 use Rattle.merge_core.specs.Inner.Trees.{Yields}
 use Rattle.merge_core.proofs.Counted.{counted_more, square_more, diamond_more}
 use Rattle.merge_core.proofs.Unmerged.{fault_after}
 use Rattle.merge_core.proofs.counting.count_entries.Goals as goal
 use Rattle.merge_core.proofs.counting.count_entries.Goals.{then-is_square, else-is_square}
 
-pub returns-in-Err : goal.returns-in-Err
-returns-in-Err g c = λ all y.
+pub returns-in-Err-clause-all : goal.returns-in-Err-clause-all
+returns-in-Err-clause-all g c = λ all y.
     let h = c.loop-place.invariant.counted all y in
-    fault_after h.given h.others all c.in-Err.fault h.parts (c.in-Err.ensures h.others h.rest)
+    fault_after h.given h.others all c.in-Err.fault h.parts (c.in-Err.ensures.next h.others h.rest)
+
+pub returns-in-Ok-None-clause-came : goal.returns-in-Ok-None-clause-came
+returns-in-Ok-None-clause-came g c =
+    let next = rw c.in-Ok-None.field-0-is at c.in-Ok-None.ensures in
+    let h = c.loop-place.invariant.came in
+    (h.0, h.1, subst (λ (xs : List Entry). Yields g.E.Entries.came c.args.tree xs) (append-nil h.0) (h.2 [] next.came))
 
 pub loop-place-preserved : goal.loop-place-preserved
 loop-place-preserved g c =
     let next = rw c.in-Ok-Some.field-0-is at c.in-Ok-Some.ensures in
+    let entry = c.in-Ok-Some.entry in
+    let h = c.loop-place.invariant.came in
+    let follow : (others : List Entry) → Yields g.E.Entries.came c.next_of.new.tree others → Yields g.E.Entries.came c.args.tree ((h.0 ++ entry ∷ []) ++ others) = λ others y.
+    subst (λ (xs : List Entry). Yields g.E.Entries.came c.args.tree xs) (sym (append_assoc h.0 (entry ∷ []) others)) (h.2 (entry ∷ others) (next.came others y)) in
     elim c.if-is_square.branch [
       | then-is_square w ↦ rw (w.squares-is, w.diamonds-is) (record {
         few = omega arith;
         counted = λ all y. counted_more c.loop-place.squares c.loop-place.diamonds (c.loop-place.squares + 1) c.loop-place.diamonds (Yields g.E.Entries.yields c.loop-place.tree) (Yields g.E.Entries.yields c.next_of.new.tree)
-            all c.in-Ok-Some.entry (c.loop-place.invariant.counted all y) next
-            (λ given h. square_more c.loop-place.squares c.loop-place.diamonds given c.in-Ok-Some.entry (sym c.is_square.ensures.square ∙ w.if-is_square.true) c.is_square.ensures.small h);
+            all entry (c.loop-place.invariant.counted all y) next.next
+            (λ given h. square_more c.loop-place.squares c.loop-place.diamonds given entry (sym c.is_square.ensures.square ∙ w.if-is_square.true) c.is_square.ensures.small h);
+        came = (h.0 ++ entry ∷ [], square_more c.loop-place.squares c.loop-place.diamonds h.0 entry (sym c.is_square.ensures.square ∙ w.if-is_square.true) c.is_square.ensures.small h.1, follow);
       })
       | else-is_square w ↦ rw (w.squares-is, w.diamonds-is) (record {
         few = omega arith;
         counted = λ all y. counted_more c.loop-place.squares c.loop-place.diamonds c.loop-place.squares (c.loop-place.diamonds + 1) (Yields g.E.Entries.yields c.loop-place.tree) (Yields g.E.Entries.yields c.next_of.new.tree)
-            all c.in-Ok-Some.entry (c.loop-place.invariant.counted all y) next
-            (λ given h. diamond_more c.loop-place.squares c.loop-place.diamonds given c.in-Ok-Some.entry (sym c.is_square.ensures.square ∙ w.if-is_square.false) c.is_square.ensures.small h);
+            all entry (c.loop-place.invariant.counted all y) next.next
+            (λ given h. diamond_more c.loop-place.squares c.loop-place.diamonds given entry (sym c.is_square.ensures.square ∙ w.if-is_square.false) c.is_square.ensures.small h);
+        came = (h.0 ++ entry ∷ [], diamond_more c.loop-place.squares c.loop-place.diamonds h.0 entry (sym c.is_square.ensures.square ∙ w.if-is_square.false) c.is_square.ensures.small h.1, follow);
       })
     ]

@@ -1,25 +1,27 @@
-use Rattle.std.proofs.Common.{arith, take}
-use Rattle.merge_core.proofs.Prefixed.{first_failed, first_judged, nth_input, known_at, fault_next, judged_next}
+use Rattle.std.proofs.Common.{◌∙◌, ℕ, List, sym, subst, ap, refl}
+use Rattle.merge_core.specs.declared.faults.MergeFault.{MergeFault}
+use Rattle.merge_core.specs.declared.entries.NextFault.{NextFault}
+use Rattle.merge_core.specs.declared.entries.NextFault.TheVariants as next_fault
+use Rattle.merge_core.specs.Merge.{written_of}
+use Rattle.merge_core.specs.Inner.Judging.{IsJudgeFault}
+use Rattle.merge_core.specs.Inner.Writing.{stopped}
+use Rattle.merge_core.proofs.Written.{stopped_number}
 use Rattle.merge_core.proofs.judging.judge_all.Goals as goal
 
-pub returns-in-Err-clause-first : goal.returns-in-Err-clause-first
-returns-in-Err-clause-first g c = λ inputs are number.
-    first_failed (g.S.Sources.bytes c.args.sources.now) c.in-Err.fault inputs are (omega (arith, number, c.count-count.ensures, c.if-count-eq0.false)) c.in-Err.ensures.judged
+stopped_judged : (inputs : List (List ℕ)) (found : NextFault) → IsJudgeFault inputs (stopped 0 found)
+stopped_judged inputs next_fault.Overflow = refl
+stopped_judged inputs (next_fault.Read n) = refl
+stopped_judged inputs next_fault.Changed = refl
+stopped_judged inputs next_fault.Memory = refl
 
-pub loop-n-init : goal.loop-n-init
-loop-n-init g c = λ inputs are number.
-    first_judged (g.S.Sources.bytes c.args.sources.now) c.in-Ok.first inputs are (omega (arith, number, c.count-count.ensures, c.if-count-eq0.false)) c.in-Ok.ensures.judged
+pub returns-in-Ok-clause-first : goal.returns-in-Ok-clause-first
+returns-in-Ok-clause-first g c = λ inputs are number. c.in-Ok.ensures.judged inputs are (number ∙ sym c.count-count.ensures)
 
-pub returns-in-Err-judge_next-clause-first : goal.returns-in-Err-judge_next-clause-first
-returns-in-Err-judge_next-clause-first g c = λ inputs are number.
-    let bytes = g.S.Sources.bytes c.args.sources.now in
-    let s = nth_input bytes 0 c.loop-n.n inputs are (omega (arith, number, c.count-count.ensures, c.loop-n-test.true)) in
-    fault_next bytes c.loop-n.n inputs s c.in-Err-judge_next.fault
-    (c.in-Err-judge_next.ensures.judged (take c.loop-n.n inputs) s.input (c.loop-n.invariant inputs are number) (known_at bytes c.loop-n.n inputs s))
+pub returns-in-Ok-judge_each-clause-quiet : goal.returns-in-Ok-judge_each-clause-quiet
+returns-in-Ok-judge_each-clause-quiet g c = ap written_of c.stopped.ensures ∙ stopped_number 0 c.in-Err.fault
 
-pub loop-n-preserved : goal.loop-n-preserved
-loop-n-preserved g c = λ inputs are number.
-    let bytes = g.S.Sources.bytes c.args.sources.now in
-    let s = nth_input bytes 0 c.loop-n.n inputs are (omega (arith, number, c.count-count.ensures, c.loop-n-test.true)) in
-    judged_next bytes c.loop-n.n c.in-Ok-judge_next.both inputs s
-    (c.in-Ok-judge_next.ensures.judged (take c.loop-n.n inputs) s.input (c.loop-n.invariant inputs are number) (known_at bytes c.loop-n.n inputs s))
+pub returns-in-Ok-judge_each-clause-first : goal.returns-in-Ok-judge_each-clause-first
+returns-in-Ok-judge_each-clause-first g c = λ inputs are number. subst (λ (f : MergeFault). IsJudgeFault inputs f) (sym c.stopped.ensures) (stopped_judged inputs c.in-Err.fault)
+
+pub returns-in-Err-judge_each-clause-first : goal.returns-in-Err-judge_each-clause-first
+returns-in-Err-judge_each-clause-first g c = λ inputs are number. c.in-Err-judge_each.ensures.first inputs are (number ∙ sym c.count-count.ensures)

@@ -15,9 +15,9 @@ returns-then-both-lt18446744073709551615-clause-judged g c = λ inputs input h k
 
 pub returns-in-Ok-count_join-clause-judged : goal.returns-in-Ok-count_join-clause-judged
 returns-in-Ok-count_join-clause-judged g c = λ inputs input h known.
-    judged_counted (g.S.Sources.bytes c.args.sources.now) c.args.n c.args.before c.in-Ok.next c.in-Ok-both_of.both c.in-Ok-count_join.field-0 inputs input h (c.in-Ok.ensures.judged input known) c.in-Ok-both_of.ensures.ok known c.in-Ok-count_join.ensures
+    judged_counted (g.S.Sources.bytes c.args.sources.now) c.args.n c.args.before c.in-Ok.next c.in-Ok-both_of.both c.in-Ok-count_join.field-0.1 inputs input h (c.in-Ok.ensures.judged input known) c.in-Ok-both_of.ensures.ok known c.in-Ok-count_join.ensures.known
 
 pub returns-in-Err-Overflow-clause-judged : goal.returns-in-Err-Overflow-clause-judged
 returns-in-Err-Overflow-clause-judged g c = λ inputs input h known.
     large_fault (g.S.Sources.bytes c.args.sources.now) c.args.n c.args.before c.in-Ok.next c.in-Ok-both_of.both inputs input h (c.in-Ok.ensures.judged input known) c.in-Ok-both_of.ensures.ok known
-    (rw c.in-Err-Overflow.field-0-is at c.in-Err-Overflow.ensures)
+    (rw c.in-Err-Overflow.field-0-is at c.in-Err-Overflow.ensures.known)

@@ -1,7 +1,6 @@
-use Rattle.std.proofs.Common.{◌≡◌, ◌++◌, sym}
+use Rattle.std.proofs.Common.{◌++◌, ◌≡◌, ◌∙◌, sym}
 use Rattle.shape_dict.specs.Contents.{Contents}
 use Rattle.shape_dict.specs.Inner.Parts.{lines_of}
-use Rattle.merge_core.specs.Inner.Counting.{IsCountOf}
 use Rattle.merge_core.specs.Inner.Leaves.{HasLeft}
 use Rattle.merge_core.specs.Inner.Trees.{Yields}
 use Rattle.merge_core.proofs.Finished.{took_none, sum_given, is_text, done_of, fault_of}
@@ -13,21 +12,17 @@ returns-in-Err-clause-took g c = took_none (g.W.Write.contents c.args.writer.now
 pub returns-clause-done : goal.returns-clause-done
 returns-clause-done g c = λ inputs are number.
     let bytes = g.S.Sources.bytes c.args.sources.now in
-    let n = g.S.Sources.number c.args.sources.now in
     let h = c.in-Ok.ensures.first inputs are number in
-    let counted = sum_given bytes n c.count-count.result c.in-Ok.judged inputs (λ (sum : Contents). IsCountOf sum.entries c.in-Ok-count_join.counts) h (sym c.count-count.ensures) c.in-Ok-count_join.ensures in
-    let given = sum_given bytes n c.count-count.result c.in-Ok.judged inputs (λ (sum : Contents). (c.in-Ok-grow.grown.games ≡ sum.games) × Yields (λ leaf. HasLeft leaf.lines) c.in-Ok-grow.grown.tree sum.entries) h (sym c.count-count.ensures) c.in-Ok-grow.ensures in
-    let text = is_text bytes n c.in-Ok.judged c.in-Ok-count_join.counts inputs c.args.text c.in-Ok-header_of.header.items h counted c.in-Ok-header_of.ensures in
-    done_of c.write_lines.result c.args.text inputs (g.W.Write.contents c.args.writer.now) (g.W.Write.contents c.write_lines.new.writer) (c.in-Ok-header_of.header.items ++ lines_of c.args.text h.sum.entries) text
-    (c.write_lines.ensures.known h.sum.entries given.1)
+    let given = sum_given bytes c.count.result c.in-Ok.joined.0 c.in-Ok.joined.1 inputs (λ (sum : Contents). (c.in-Ok-grow.grown.totals.games ≡ sum.games) × Yields (λ leaf. HasLeft leaf.lines) c.in-Ok-grow.grown.tree sum.entries) h (number ∙ sym c.count.ensures) c.in-Ok-grow.ensures.left in
+    let text = is_text bytes c.in-Ok.joined.0 c.in-Ok.joined.1 inputs c.args.text c.in-Ok-header_of.header.items h c.in-Ok-header_of.ensures in
+    done_of c.write_lines.result c.args.text inputs (g.W.Write.contents c.args.writer.now) (g.W.Write.contents c.write_lines.new.writer) (c.in-Ok-header_of.header.items ++ lines_of c.args.text h.summed.sum.entries) text
+    (c.write_lines.ensures.known h.summed.sum.entries given.1)
 
 pub returns-clause-fault : goal.returns-clause-fault
 returns-clause-fault g c = λ inputs are number.
     let bytes = g.S.Sources.bytes c.args.sources.now in
-    let n = g.S.Sources.number c.args.sources.now in
     let h = c.in-Ok.ensures.first inputs are number in
-    let counted = sum_given bytes n c.count-count.result c.in-Ok.judged inputs (λ (sum : Contents). IsCountOf sum.entries c.in-Ok-count_join.counts) h (sym c.count-count.ensures) c.in-Ok-count_join.ensures in
-    let given = sum_given bytes n c.count-count.result c.in-Ok.judged inputs (λ (sum : Contents). (c.in-Ok-grow.grown.games ≡ sum.games) × Yields (λ leaf. HasLeft leaf.lines) c.in-Ok-grow.grown.tree sum.entries) h (sym c.count-count.ensures) c.in-Ok-grow.ensures in
-    let text = is_text bytes n c.in-Ok.judged c.in-Ok-count_join.counts inputs c.args.text c.in-Ok-header_of.header.items h counted c.in-Ok-header_of.ensures in
-    fault_of c.write_lines.result c.args.text inputs (g.W.Write.contents c.args.writer.now) (g.W.Write.contents c.write_lines.new.writer) (c.in-Ok-header_of.header.items ++ lines_of c.args.text h.sum.entries) text
-    (c.write_lines.ensures.known h.sum.entries given.1)
+    let given = sum_given bytes c.count.result c.in-Ok.joined.0 c.in-Ok.joined.1 inputs (λ (sum : Contents). (c.in-Ok-grow.grown.totals.games ≡ sum.games) × Yields (λ leaf. HasLeft leaf.lines) c.in-Ok-grow.grown.tree sum.entries) h (number ∙ sym c.count.ensures) c.in-Ok-grow.ensures.left in
+    let text = is_text bytes c.in-Ok.joined.0 c.in-Ok.joined.1 inputs c.args.text c.in-Ok-header_of.header.items h c.in-Ok-header_of.ensures in
+    fault_of c.write_lines.result c.args.text inputs (g.W.Write.contents c.args.writer.now) (g.W.Write.contents c.write_lines.new.writer) (c.in-Ok-header_of.header.items ++ lines_of c.args.text h.summed.sum.entries) text
+    (c.write_lines.ensures.known h.summed.sum.entries given.1)

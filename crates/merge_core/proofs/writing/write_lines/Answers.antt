@@ -33,7 +33,7 @@ returns-in-Err-write_block-clause-took g c =
     let before = g.W.Write.contents c.args.writer.now in
     let between = g.W.Write.contents c.loop-place.writer in
     let pushed = push_known before between c.loop-place.written c.args.text c.args.pending.items (Yields g.E.Entries.yields c.args.tree) (Yields g.E.Entries.yields c.loop-place.tree) (Yields g.E.Entries.yields c.next_of.new.tree)
-    c.loop-place.pending.items c.push_entry.new.out.items c.in-Ok-Some.entry c.loop-place.invariant next c.in-Ok.ensures.line in
+    c.loop-place.pending.items c.push_entry.new.out.items c.in-Ok-Some.entry c.loop-place.invariant next.next c.in-Ok.ensures.line in
     took_cut before between (g.W.Write.contents c.write_block.new.writer) c.loop-place.written (Known c.args.text c.args.pending.items (Yields g.E.Entries.yields c.args.tree) (Yields g.E.Entries.yields c.next_of.new.tree) c.push_entry.new.out.items)
     c.push_entry.new.out.items c.in-Err-write_block.fault pushed c.in-Err-write_block.ensures.err
 
@@ -43,7 +43,7 @@ returns-in-Err-write_block-clause-known g c =
     let before = g.W.Write.contents c.args.writer.now in
     let between = g.W.Write.contents c.loop-place.writer in
     let pushed = push_known before between c.loop-place.written c.args.text c.args.pending.items (Yields g.E.Entries.yields c.args.tree) (Yields g.E.Entries.yields c.loop-place.tree) (Yields g.E.Entries.yields c.next_of.new.tree)
-    c.loop-place.pending.items c.push_entry.new.out.items c.in-Ok-Some.entry c.loop-place.invariant next c.in-Ok.ensures.line in
+    c.loop-place.pending.items c.push_entry.new.out.items c.in-Ok-Some.entry c.loop-place.invariant next.next c.in-Ok.ensures.line in
     cut_known before between (g.W.Write.contents c.write_block.new.writer) c.loop-place.written c.args.text c.args.pending.items (Yields g.E.Entries.yields c.args.tree) (Yields g.E.Entries.yields c.next_of.new.tree)
     c.push_entry.new.out.items c.in-Err-write_block.fault pushed c.in-Err-write_block.ensures.err
 
@@ -53,7 +53,7 @@ loop-place-preserved g c =
     let before = g.W.Write.contents c.args.writer.now in
     let between = g.W.Write.contents c.loop-place.writer in
     let pushed = push_known before between c.loop-place.written c.args.text c.args.pending.items (Yields g.E.Entries.yields c.args.tree) (Yields g.E.Entries.yields c.loop-place.tree) (Yields g.E.Entries.yields c.next_of.new.tree)
-    c.loop-place.pending.items c.push_entry.new.out.items c.in-Ok-Some.entry c.loop-place.invariant next c.in-Ok.ensures.line in
+    c.loop-place.pending.items c.push_entry.new.out.items c.in-Ok-Some.entry c.loop-place.invariant next.next c.in-Ok.ensures.line in
     block_known before between (g.W.Write.contents c.write_block.new.writer) c.loop-place.written c.in-Ok-write_block.count c.args.text c.args.pending.items (Yields g.E.Entries.yields c.args.tree) (Yields g.E.Entries.yields c.next_of.new.tree)
     c.push_entry.new.out.items c.write_block.new.pending.items pushed c.in-Ok-write_block.ensures.ok
 
@@ -71,4 +71,4 @@ pub returns-in-Ok-write_pending-clause-known : goal.returns-in-Ok-write_pending-
 returns-in-Ok-write_pending-clause-known g c =
     let end = rw c.in-Ok-None.field-0-is at c.in-Ok-None.ensures in
     whole_known (g.W.Write.contents c.args.writer.now) (g.W.Write.contents c.loop-place.writer) (g.W.Write.contents c.write_pending.new.writer) c.loop-place.written c.in-Ok-write_pending.field-0 c.args.text c.args.pending.items (Yields g.E.Entries.yields c.args.tree) (Yields g.E.Entries.yields c.loop-place.tree)
-    c.loop-place.pending.items c.write_pending.new.pending.items c.loop-place.invariant c.in-Ok-write_pending.ensures.ok c.in-Ok-write_pending.ensures.all end
+    c.loop-place.pending.items c.write_pending.new.pending.items c.loop-place.invariant c.in-Ok-write_pending.ensures.ok c.in-Ok-write_pending.ensures.all end.next

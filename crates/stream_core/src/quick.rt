@@ -1,0 +1,226 @@
+//! The next line's entry, read with few branches where its numbers are of the common lengths.
+ghost use Rattle.std.specs.Prelude.{◌≡◌, ◌++◌, ◌∷◌, ◌<◌, ◌≤◌, ◌^◌, ℕ, length, take, true, codes};
+ghost use Rattle.std.specs.Prelude.{IfSome, IfOk, IfErr};
+ghost use Rattle.std.specs.Fmt.{decimal};
+ghost use Rattle.shape_core.specs.Symmetry.{least_image};
+ghost use Rattle.shape_dict.specs.Text.{hexadecimal_digit, word_text, first_text, line_text, line_feed};
+ghost use Rattle.shape_dict.specs.Text.{optional_number};
+ghost use Rattle.shape_dict.specs.Inner.Parsing.{AreDigits, read_on};
+ghost use Rattle.shape_dict.specs.Reading.{IsLine, IsAbove, IsFirst, IsLineFault, kind_at};
+ghost use Rattle.shape_core.specs.Word.{kind_of};
+ghost use Rattle.stream_core.specs.Inner.Counting.{CountedTo};
+
+use crate::progress::Progress;
+use shape_core::{Kind, Shape, Word};
+use shape_dict::{DictFault, Entry, Header, Text, read_entry};
+
+/// No more digits of a number are read here.
+const DIGITS: usize = 18;
+
+/// The value of each byte as a hexadecimal digit in lower case, and 16 where it is none. A table in
+/// place of tests, since no processor can foresee which digit comes.
+static VALUES: [u8; 256] = [
+    16, 16, 16, 16, 16, 16, 16, 16, 16, 16, 16, 16, 16, 16, 16, 16, 16, 16, 16, 16, 16, 16, 16, 16,
+    16, 16, 16, 16, 16, 16, 16, 16, 16, 16, 16, 16, 16, 16, 16, 16, 16, 16, 16, 16, 16, 16, 16, 16,
+    0, 1, 2, 3, 4, 5, 6, 7, 8, 9, 16, 16, 16, 16, 16, 16, 16, 16, 16, 16, 16, 16, 16, 16, 16, 16,
+    16, 16, 16, 16, 16, 16, 16, 16, 16, 16, 16, 16, 16, 16, 16, 16, 16, 16, 16, 16, 16, 16, 16, 10,
+    11, 12, 13, 14, 15, 16, 16, 16, 16, 16, 16, 16, 16, 16, 16, 16, 16, 16, 16, 16, 16, 16, 16, 16,
+    16, 16, 16, 16, 16, 16, 16, 16, 16, 16, 16, 16, 16, 16, 16, 16, 16, 16, 16, 16, 16, 16, 16, 16,
+    16, 16, 16, 16, 16, 16, 16, 16, 16, 16, 16, 16, 16, 16, 16, 16, 16, 16, 16, 16, 16, 16, 16, 16,
+    16, 16, 16, 16, 16, 16, 16, 16, 16, 16, 16, 16, 16, 16, 16, 16, 16, 16, 16, 16, 16, 16, 16, 16,
+    16, 16, 16, 16, 16, 16, 16, 16, 16, 16, 16, 16, 16, 16, 16, 16, 16, 16, 16, 16, 16, 16, 16, 16,
+    16, 16, 16, 16, 16, 16, 16, 16, 16, 16, 16, 16, 16, 16, 16, 16, 16, 16, 16, 16, 16, 16, 16, 16,
+    16, 16, 16, 16, 16, 16, 16, 16, 16, 16, 16, 16, 16, 16,
+];
+
+/// The value of a hexadecimal digit in lower case, or 16 of another byte.
+#[inline(always)]
+fn value_of(byte: u8) -> u8
+    ensures small { result ≤ 16 }
+    ensures is { result < 16 → hexadecimal_digit result ≡ byte }
+{
+    VALUES[byte as usize]
+}
+
+/// The greater of two bytes.
+#[inline(always)]
+fn greater(one: u8, other: u8) -> u8
+    ensures one { one ≤ result }
+    ensures other { other ≤ result }
+{
+    if one < other { other } else { one }
+}
+
+/// The number of 13 hexadecimal digits, and what follows them.
+#[inline(always)]
+fn quick_word(bytes: &[u8]) -> Option<(u64, &[u8])>
+    ensures { IfSome result (λ p. (bytes.now ≡ word_text p.0 ++ p.1.now) × (p.0 < 2 ^ 52)) }
+{
+    if bytes.len() < 13 {
+        return None;
+    }
+    let mut bits: u64 = 0;
+    let mut most = 0;
+    for place in 0..13 {
+        let value = value_of(bytes[place]);
+        most = greater(most, value);
+        bits = 16 * bits + u64::from(value);
+    }
+    if most > 15 {
+        return None;
+    }
+    Some((bits, &bytes[13..]))
+}
+
+/// The number that the first digits are, and how many these are.
+#[inline(always)]
+fn quick_digits(bytes: &[u8]) -> (u64, usize)
+    ensures fits { result.1 ≤ length bytes.now }
+    ensures digits { AreDigits (take result.1 bytes.now) }
+    ensures value { result.0 ≡ read_on 0 (take result.1 bytes.now) }
+    ensures small { result.0 < 2 ^ 64 }
+{
+    let mut value: u64 = 0;
+    let mut count = 0;
+    while count < DIGITS && count < bytes.len() && bytes[count].is_ascii_digit() {
+        value = 10 * value + u64::from(bytes[count] - b'0');
+        count += 1;
+    }
+    (value, count)
+}
+
+/// A decimal number without leading zeros, and what follows it.
+#[inline(always)]
+fn quick_number(bytes: &[u8]) -> Option<(u64, &[u8])>
+    ensures { IfSome result (λ p. (bytes.now ≡ decimal p.0 ++ p.1.now) × (p.0 < 2 ^ 64)) }
+{
+    let (value, count) = quick_digits(bytes);
+    if count == 0 {
+        return None;
+    }
+    if count > 1 && bytes[0] == b'0' {
+        return None;
+    }
+    Some((value, &bytes[count..]))
+}
+
+/// What follows this byte.
+#[inline(always)]
+fn after(bytes: &[u8], byte: u8) -> Option<&[u8]>
+    ensures { IfSome result (λ rest. bytes.now ≡ byte ∷ rest.now) }
+{
+    if bytes.is_empty() || bytes[0] != byte {
+        return None;
+    }
+    Some(&bytes[1..])
+}
+
+/// How often a pattern was there and was played.
+#[inline(always)]
+fn quick_uses(bytes: &[u8]) -> Option<(u64, u64, &[u8])>
+    ensures { IfSome result (λ p. (bytes.now
+        ≡ codes " " ++ (decimal p.0 ++ (codes " " ++ (decimal p.1 ++ p.2.now)))) × (p.0 < 2 ^ 64)
+        × (p.1 < 2 ^ 64)) }
+{
+    let rest = after(bytes, b' ')?;
+    let (there, rest) = quick_number(rest)?;
+    let rest = after(rest, b' ')?;
+    let (played, rest) = quick_number(rest)?;
+    Some((there, played, rest))
+}
+
+/// A first game, or none where there is `-`.
+#[inline(always)]
+fn quick_game(bytes: &[u8]) -> Option<(Option<u64>, &[u8])>
+    ensures { IfSome result (λ p. (bytes.now ≡ optional_number p.0 ++ p.1.now)
+        × IfSome p.0 (λ game. game < 2 ^ 64)) }
+{
+    if let Some(rest) = after(bytes, b'-') {
+        return Some((None, rest));
+    }
+    let (game, rest) = quick_number(bytes)?;
+    Some((Some(game), rest))
+}
+
+/// What a line says of a first game, up to the line's end.
+#[inline(always)]
+fn quick_end<'a>(bytes: &'a [u8], header: &Header) -> Option<(Option<u64>, &'a [u8])>
+    ensures { IfSome result (λ p. (bytes.now ≡ first_text header.now.text p.0 ++ (line_feed ++ p.1.now))
+        × IsFirst header.now.text header.now.games p.0 × IfSome p.0 (λ game. game < 2 ^ 64)) }
+{
+    if header.text != Text::Three {
+        let rest = after(bytes, b'\n')?;
+        return Some((None, rest));
+    }
+    let rest = after(bytes, b' ')?;
+    let (first, rest) = quick_game(rest)?;
+    let rest = after(rest, b'\n')?;
+    if first.unwrap_or(0) >= header.games && first.is_some() {
+        return None;
+    }
+    Some((first, rest))
+}
+
+/// Whether a word's place may have it: the squares come first, and words rise.
+#[inline(always)]
+fn may_stand(header: &Header, place: u64, last: Option<Shape>, word: Word) -> bool
+    ensures { result ≡ true → (kind_of word ≡ kind_at header.now place) × IsAbove last word }
+{
+    let is_above = match last {
+        None => true,
+        Some(shape) => shape.word().bits() < word.bits(),
+    };
+    let is_square = word.kind() == Kind::Square;
+    is_above && is_square == (place < header.squares)
+}
+
+/// The line at the front of the bytes, or None where that is not said here.
+#[inline(always)]
+fn quick_entry<'a>(
+    header: &Header,
+    place: u64,
+    last: Option<Shape>,
+    bytes: &'a [u8],
+) -> Option<(Entry, &'a [u8])>
+    ensures line { IfSome result (λ p. IsLine header.now place p.0) }
+    ensures shape { IfSome result (λ p. IsAbove last p.0.shape
+        × (least_image p.0.shape ≡ p.0.shape)) }
+    ensures same { IfSome result (λ p. bytes.now ≡ line_text header.now.text p.0 ++ p.1.now) }
+{
+    let (bits, rest) = quick_word(bytes)?;
+    let (there, played, rest) = quick_uses(rest)?;
+    let (first, rest) = quick_end(rest, header)?;
+    let word = Word::new(bits)?;
+    if there < 1 || there < played || !may_stand(header, place, last, word) {
+        return None;
+    }
+    let shape = Shape::of_word(word)?;
+    let entry = Entry {
+        shape,
+        there,
+        played,
+        first,
+    };
+    Some((entry, rest))
+}
+
+/// The entry of the line at the front of the bytes, and what follows it, as `read_entry` has them.
+#[inline(always)]
+pub(crate) fn entry_of<'a>(
+    header: &Header,
+    progress: &Progress,
+    bytes: &'a [u8],
+) -> Result<(Entry, &'a [u8]), DictFault>
+    requires { CountedTo progress.now.given progress.now.last }
+    ensures line { IfOk result (λ p. IsLine header.now progress.now.given p.0) }
+    ensures shape { IfOk result (λ p. IsAbove progress.now.last p.0.shape
+        × (least_image p.0.shape ≡ p.0.shape)) }
+    ensures same { IfOk result (λ p. bytes.now ≡ line_text header.now.text p.0 ++ p.1.now) }
+    ensures fault { IfErr result (IsLineFault header.now progress.now.given progress.now.last
+        bytes.now) }
+{
+    if let Some((entry, rest)) = quick_entry(header, progress.given, progress.last, bytes) {
+        return Ok((entry, rest));
+    }
+    read_entry(header, progress.given, progress.last, bytes)
+}
