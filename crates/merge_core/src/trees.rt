@@ -20,7 +20,7 @@ pub(crate) enum Tree<E> {
     },
 }
 
-/// Puts the next entry of the join, or None at the end, where it is wanted: in a tree of many
+/// Puts the next entry of the join, or None at the end, where it is wanted. In a tree of many
 /// levels an entry would else be moved several times at each of them.
 #[tactic(auto, using(crate::proofs::Unmerged::left_fault, crate::proofs::Unmerged::right_fault, crate::proofs::Unmerged::both_fault))]
 fn advance<E: Entries>(tree: &mut Tree<E>, next: &mut Option<Entry>) -> Result<(), NextFault>

@@ -170,7 +170,7 @@ pub fn which_is_barred<'a>(asked: &Asked<'a>, sights: &Sights) -> Option<&'a str
     for (k, found) in sights.dictionaries.iter().enumerate() {
         let name = asked.names[k];
         if is_barred(asked, sights.target, name, *found) {
-            return asked.out;
+            return Some(name);
         }
     }
     None
