@@ -127,7 +127,7 @@ fn judge_next<S: Sources>(
     }
 }
 
-/// Judges all of so many dictionaries, one after another, in their order.
+/// Judges this many dictionaries, one after another, in their order.
 fn judge_each<S: Sources>(alloc: Global, sources: &S, count: usize) -> Result<Judged, MergeFault>
     requires some { 1 ≤ count }
     requires few { count < 2 ^ 64 }
