@@ -1,0 +1,5 @@
+mod Sums
+mod Rooms
+mod Rising
+mod Spelled
+mod Shortest

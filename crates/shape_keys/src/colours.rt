@@ -1,0 +1,16 @@
+//! Who is to move, as a number.
+ghost use Rattle.std.specs.Prelude.{◌≡◌};
+ghost use Rattle.shape_keys.specs.Mover.{mover_of};
+
+use go_board::Colour;
+
+/// The mover of a number, or None where it is neither 1 nor 2.
+pub(crate) fn mover_of(number: u32) -> Option<Colour>
+    ensures { result ≡ mover_of number }
+{
+    match number {
+        1 => Some(Colour::Black),
+        2 => Some(Colour::White),
+        _ => None,
+    }
+}

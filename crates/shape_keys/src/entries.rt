@@ -1,0 +1,60 @@
+//! The entries and the header of a dictionary, as they cross to other languages.
+ghost use Rattle.std.specs.Prelude.{◌≡◌};
+ghost use Rattle.shape_keys.specs.Entries.{or_unknown, said, said_header};
+
+use shape_dict::{Entry, Header, count_lines};
+
+/// One pattern of a dictionary: its canonical word, how often it was there, how often it was
+/// played, and the first game that had it, from 0, or 2^64 - 1 where that is not known.
+#[repr(C)]
+#[derive(Clone, Copy)]
+pub struct ShapesEntry {
+    pub shape: u64,
+    pub there: u64,
+    pub played: u64,
+    pub first: u64,
+}
+
+/// What the header of a dictionary's text says: how many games and moves were counted, how many
+/// squares and diamonds follow (2^64 - 1 where diamonds were not counted), and how many both are.
+#[repr(C)]
+#[derive(Clone, Copy)]
+pub struct ShapesHeader {
+    pub games: u64,
+    pub moves: u64,
+    pub squares: u64,
+    pub diamonds: u64,
+    pub patterns: u64,
+}
+
+/// The number, or 2^64 - 1 where it is not known.
+fn or_unknown(number: Option<u64>) -> u64
+    ensures { result ≡ or_unknown number }
+{
+    number.unwrap_or(u64::MAX)
+}
+
+/// What is said of an entry.
+pub(crate) fn said(entry: &Entry) -> ShapesEntry
+    ensures { result ≡ said entry.now }
+{
+    ShapesEntry {
+        shape: entry.shape.word().bits(),
+        there: entry.there,
+        played: entry.played,
+        first: or_unknown(entry.first),
+    }
+}
+
+/// What is said of a header.
+pub(crate) fn said_header(header: &Header) -> ShapesHeader
+    ensures { result ≡ said_header header.now }
+{
+    ShapesHeader {
+        games: header.games,
+        moves: header.moves,
+        squares: header.squares,
+        diamonds: or_unknown(header.diamonds),
+        patterns: count_lines(header),
+    }
+}

@@ -1,0 +1,85 @@
+//! Words and their glyphs: `.` empty, `X` black, `O` white, `#` off the board.
+ghost use Rattle.std.specs.Prelude.{◌≡◌, ◌≢◌, ◌<◌, ◌≤◌, ◌^◌, ℕ};
+ghost use Rattle.shape_core.specs.Glyph.{glyphs_of};
+ghost use Rattle.shape_core.specs.declared.spelling.GlyphFault.TheVariants as fault;
+ghost use Rattle.shape_keys.specs.Glyphs.{IsGlyphFault};
+ghost use Rattle.shape_keys.specs.Status.{number_of};
+ghost use Rattle.shape_keys.specs.declared.statuses.Status.TheVariants as status;
+
+use crate::statuses::Status;
+use shape_core::{GlyphFault, Word, from_diamond_glyphs, from_glyphs, glyphs};
+
+/// The status of a fault of glyphs.
+fn status_of(found: GlyphFault) -> Status
+    ensures length { found ≡ fault.BadLength → result ≡ status.BadLength }
+    ensures glyph { (at : ℕ) → found ≡ fault.BadGlyph at → result ≡ status.BadGlyph }
+{
+    match found {
+        GlyphFault::BadLength => Status::BadLength,
+        GlyphFault::BadGlyph(_) => Status::BadGlyph,
+    }
+}
+
+/// The word of the square of these 25 glyphs, cell 0 first. Takes no memory.
+///
+/// Returns `Done` and writes the word. Returns `BadLength` exactly where there are not 25 bytes,
+/// and else `BadGlyph` exactly where one is no glyph; the word stays as it was then.
+#[unsafe(no_mangle)]
+pub extern "C" fn shapes_square_of_glyphs(glyphs: &[u8], word: &mut u64) -> u32
+    ensures done { result ≡ number_of status.Done → (word.new < 2 ^ 50)
+        × (glyphs_of word.new ≡ glyphs.now) }
+    ensures found { (square : ℕ) → square < 2 ^ 50 → glyphs_of square ≡ glyphs.now
+        → (result ≡ number_of status.Done) × (word.new ≡ square) }
+    ensures fault { result ≢ number_of status.Done → IsGlyphFault glyphs.now result
+        × (word.new ≡ word.old) }
+{
+    match from_glyphs(glyphs) {
+        Ok(square) => {
+            *word = square.bits();
+            Status::Done.number()
+        }
+        Err(fault) => status_of(fault).number(),
+    }
+}
+
+/// The word of the diamond of these 25 glyphs, cell 0 first. Takes no memory.
+///
+/// Returns `Done` and writes the word. Returns `BadLength` exactly where there are not 25 bytes,
+/// and else `BadGlyph` exactly where one is no glyph; the word stays as it was then.
+#[unsafe(no_mangle)]
+pub extern "C" fn shapes_diamond_of_glyphs(glyphs: &[u8], word: &mut u64) -> u32
+    ensures done { result ≡ number_of status.Done → (2 ^ 50 ≤ word.new) × (word.new < 2 ^ 51)
+        × (glyphs_of word.new ≡ glyphs.now) }
+    ensures found { (diamond : ℕ) → 2 ^ 50 ≤ diamond → diamond < 2 ^ 51
+        → glyphs_of diamond ≡ glyphs.now
+        → (result ≡ number_of status.Done) × (word.new ≡ diamond) }
+    ensures fault { result ≢ number_of status.Done → IsGlyphFault glyphs.now result
+        × (word.new ≡ word.old) }
+{
+    match from_diamond_glyphs(glyphs) {
+        Ok(diamond) => {
+            *word = diamond.bits();
+            Status::Done.number()
+        }
+        Err(fault) => status_of(fault).number(),
+    }
+}
+
+/// The 25 glyphs of a word, cell 0 first, with no byte after them. Takes no memory.
+///
+/// Returns `Done` and writes the glyphs. Returns `BadWord` exactly where the number is 2^51 or
+/// more; what was there stays then.
+#[unsafe(no_mangle)]
+pub extern "C" fn shapes_glyphs(word: u64, text: &mut [u8; 25]) -> u32
+    ensures done { word < 2 ^ 51 → (result ≡ number_of status.Done)
+        × (text.new ≡ glyphs_of word) }
+    ensures word { 2 ^ 51 ≤ word → (result ≡ number_of status.BadWord) × (text.new ≡ text.old) }
+{
+    match Word::new(word) {
+        Some(known) => {
+            *text = glyphs(known);
+            Status::Done.number()
+        }
+        None => Status::BadWord.number(),
+    }
+}

@@ -1,0 +1,99 @@
+//! Dictionaries read from their texts, in memory of the caller's.
+ghost use Rattle.std.specs.Prelude.{◌≡◌, ◌≢◌, ◌≤◌, ◌⊎◌, ◌++◌, ◌+◌, ◌*◌, ℕ, Ok, length, map, drop};
+ghost use Rattle.sgf_core.specs.Limit.{most_bytes};
+ghost use Rattle.shape_dict.specs.Contents.{Contents};
+ghost use Rattle.shape_dict.specs.Reading.{HasNoHeader, IsTextOf};
+ghost use Rattle.shape_dict.specs.declared.faults.DictFault.TheVariants as fault;
+ghost use Rattle.shape_keys.specs.Entries.{said};
+ghost use Rattle.shape_keys.specs.Read.{IsHeaderSaid, IsRead, IsWritten};
+ghost use Rattle.shape_keys.specs.Status.{number_of, line_of};
+ghost use Rattle.shape_keys.specs.declared.statuses.Status.TheVariants as status;
+
+use crate::entries::{ShapesEntry, ShapesHeader, said, said_header};
+use crate::statuses::Status;
+use shape_dict::{DictFault, Dictionary, Entry, read_header};
+use std::alloc::Global;
+
+/// The line that a fault names, from 1 at the header, or 0 where it names none.
+fn line_of(fault: DictFault) -> u64
+    ensures { result ≡ line_of fault }
+{
+    match fault {
+        DictFault::BadLine(line) | DictFault::NotRising(line) | DictFault::NotCanonical(line) => {
+            line
+        }
+        _ => 0,
+    }
+}
+
+/// Writes what is said of the entries to the front of a room that is large enough for them.
+fn put_entries(entries: &[Entry], room: &mut [ShapesEntry])
+    requires { length entries.now ≤ length room.old }
+    ensures { room.new ≡ map said entries.now ++ drop (length entries.now) room.old }
+{
+    for (place, entry) in entries.iter().enumerate() {
+        room[place] = said(entry);
+    }
+}
+
+/// What the header of a dictionary's text says; the lines after it are not looked at. Takes no
+/// memory.
+///
+/// Returns `Done` and writes the header. Returns `BadText` of X1 exactly where the bytes do not
+/// begin with a header of one of the three texts; what was there stays then.
+#[unsafe(no_mangle)]
+pub extern "C" fn shapes_header(text: &[u8], header: &mut ShapesHeader) -> u32
+    ensures done { result ≡ number_of status.Done → IsHeaderSaid text.now header.new }
+    ensures none { result ≢ number_of status.Done
+        → (result ≡ number_of (status.BadText fault.BadHeader)) × HasNoHeader text.now
+        × (header.new ≡ header.old) }
+{
+    match read_header(text) {
+        Some((read, _)) => {
+            *header = said_header(&read);
+            Status::Done.number()
+        }
+        None => Status::BadText(DictFault::BadHeader).number(),
+    }
+}
+
+/// Reads a dictionary's text, in any of its three texts, and writes its entries, whose shapes rise,
+/// to the front of a room of the caller's. It takes memory for the entries, and gives it back
+/// before it returns.
+///
+/// Returns `Done` and writes the entries and how many they are. Returns `NoRoom` where there is not
+/// room for them all, and writes how many they are alone; a line has 18 bytes or more, so room for
+/// an entry for each 18 bytes of the text is always enough. Else returns `BadText` of the first
+/// fault of the text, X1 to X6 or X8, and writes alone the line that the fault names, from 1 at the
+/// header, or 0 where it names none. X6, want of memory, comes only after a header and a first line
+/// without a fault.
+#[unsafe(no_mangle)]
+pub extern "C" fn shapes_read(
+    alloc: Global,
+    text: &[u8],
+    entries: &mut [ShapesEntry],
+    number: &mut u64,
+) -> u32
+    ensures read { IsRead text.now result entries.old entries.new number.new }
+    ensures only { (contents : Contents) → IsTextOf contents text.now
+        → length text.now ≤ most_bytes
+        → IsWritten contents result entries.old entries.new number.new
+        ⊎ (result ≡ number_of (status.BadText fault.Memory)) }
+    ensures room { result ≡ number_of status.NoRoom
+        → 18 * (length entries.old + 1) ≤ length text.now }
+{
+    let dictionary = match Dictionary::read(alloc, text) {
+        Ok(dictionary) => dictionary,
+        Err(fault) => {
+            *number = line_of(fault);
+            return Status::BadText(fault).number();
+        }
+    };
+    let found = dictionary.entries();
+    *number = found.len() as u64;
+    if found.len() > entries.len() {
+        return Status::NoRoom.number();
+    }
+    put_entries(found, entries);
+    Status::Done.number()
+}

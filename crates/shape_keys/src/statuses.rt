@@ -1,0 +1,67 @@
+//! What a call says of how it went, as the number that it returns.
+ghost use Rattle.std.specs.Prelude.{◌≡◌};
+ghost use Rattle.shape_keys.specs.Status.{number_of, number_of_fault};
+
+use shape_dict::DictFault;
+
+/// How a call went.
+#[derive(Clone, Copy)]
+pub enum Status {
+    /// What was asked for is written.
+    Done,
+    /// No entry has the shape.
+    Absent,
+    /// A code is over 3.
+    BadCode,
+    /// The number is no word: it is 2^51 or more.
+    BadWord,
+    /// The mover is neither 1 nor 2.
+    BadMover,
+    /// There are not 25 glyphs.
+    BadLength,
+    /// A byte is no glyph.
+    BadGlyph,
+    /// There is not room for all entries.
+    NoRoom,
+    /// What is wrong with a text of a dictionary.
+    BadText(DictFault),
+}
+
+impl Status {
+    ghost use Rattle.std.specs.Prelude.{◌≡◌};
+    ghost use Rattle.shape_keys.specs.Status.{number_of};
+
+    /// The number of the status: X1 to X9, what is wrong with a text, are 11 to 19.
+    pub fn number(self) -> u32
+        ensures { result ≡ number_of self }
+    {
+        match self {
+            Status::Done => 0,
+            Status::Absent => 1,
+            Status::BadCode => 2,
+            Status::BadWord => 3,
+            Status::BadMover => 4,
+            Status::BadLength => 5,
+            Status::BadGlyph => 6,
+            Status::NoRoom => 7,
+            Status::BadText(fault) => number_of_fault(fault),
+        }
+    }
+}
+
+/// The number of a fault of a text.
+fn number_of_fault(fault: DictFault) -> u32
+    ensures { result ≡ number_of_fault fault }
+{
+    match fault {
+        DictFault::BadHeader => 11,
+        DictFault::BadLine(_) => 12,
+        DictFault::NotRising(_) => 13,
+        DictFault::NotCanonical(_) => 14,
+        DictFault::WrongTotals => 15,
+        DictFault::Memory => 16,
+        DictFault::Overflow => 17,
+        DictFault::TooLarge => 18,
+        DictFault::MixedKinds => 19,
+    }
+}
