@@ -53,13 +53,13 @@ fn counted_text<T: Threads + Wait + Sync, G: Gate>(
 ///
 /// # Errors
 ///
-/// `Harvest` with the collection's first fault of syntax (S1 to S3), with S4 where it has more than
-/// 2^28 bytes, with F1 where it has more patterns than the table has slots, or with F6 where memory
-/// for counting was refused or a thread was not started; with F2 to F4 or F9 where the workers'
-/// shares do not go together, which no test has met; never with F8. `Dict` with X6 where memory for
-/// the text was refused, `Memory` where that for the input was; `Read` where the reader failed.
-/// Nothing is written then. `Write` where the writer failed: exactly that number of bytes of the
-/// text is out.
+/// `Read` where the reader failed; `Memory` where memory for the input was refused, `Harvest` with
+/// F6 where that for counting was or a thread was not started, `Dict` with X6 where that for the
+/// text was. Else `Harvest` with S4 where the collection has more than 2^28 bytes, else with its
+/// first fault of syntax (S1 to S3), else with F1 where it has more patterns than the table has
+/// slots: which of these comes is determined by the input and the settings. Nothing is written
+/// then. `Write` where the writer failed: exactly that number of bytes of the text is out. F2 to
+/// F4, F8 and F9 never come.
 pub fn run_count<T: Threads + Wait + Sync, G: Gate, R: Read, W: Write>(
     rt: &T,
     alloc: Global,

@@ -1,5 +1,5 @@
 -- Shares of games of an input, once one more game was added or refused.
-use Rattle.std.proofs.Common.{◌≡◌, ℕ, ◌<◌, ◌≤◌, ◌*◌, ◌^◌, ◌⊎◌, Some, inl, inr, refl, List, [], ◌∷◌, ◌++◌, length, ap, sym, subst, ◌∙◌, arith, ⊎_elim, Contains}
+use Rattle.std.proofs.Common.{◌≡◌, ℕ, ◌<◌, ◌≤◌, ◌*◌, ◌^◌, ◌⊎◌, Option, Some, inl, inr, refl, List, [], ◌∷◌, ◌++◌, length, ap, sym, subst, ◌∙◌, arith, ⊎_elim, Contains}
 use Rattle.std.proofs.lemmas.List.{map-append, get_or_default}
 use Rattle.std.proofs.lemmas.List.Elements.{All-push, Contains-append_cases, Contains-get_or}
 use Rattle.go_record.specs.Actions.{Actions}
@@ -11,16 +11,17 @@ use Rattle.share_core.specs.declared.faults.HarvestFault.TheVariants as fault
 use Rattle.share_core.specs.Rows.{row_at, blank}
 use Rattle.share_core.specs.Raising.{Numbered, numbered_of}
 use Rattle.share_core.specs.Shares.{Held, Added, IsPatternOf}
-use Rattle.share_core.specs.Adding.{IsAdded, HasGrown, IsKept, AreFresh, IsAddFault, IsTooLarge}
+use Rattle.share_core.specs.Adding.{IsAdded, HasGrown, IsKept, AreFresh, IsAddFault, IsTooLarge, IsEntryOf, IsMarkOf}
 use Rattle.share_core.specs.Confirming.{HasShape}
 use Rattle.share_core.specs.Entering.{CallsOnly}
+use Rattle.probe_core.specs.declared.calls.Answer.{Answer}
 use Rattle.slot_table.specs.Passes.{Known}
 use Rattle.job_core.specs.Rising.{Rising, past}
 use Rattle.job_core.proofs.Orders.{past_on, rising_on}
 use Rattle.share_core.proofs.Raised.{same_shape, same_length}
 use Rattle.share_core.proofs.Added.{still_of, share_of_more}
 use Rattle.share_core.proofs.Entered.{calls_weaker}
-use Rattle.harvest_core.specs.Working.{IsGame, IsPatternOfGame, IsPatternIn, IsWorked, IsRefusal, AreOfGame}
+use Rattle.harvest_core.specs.Working.{IsGame, IsPatternOfGame, IsPatternIn, IsMarkIn, CallsOfGame, IsWorked, IsRefusal, AreOfGame}
 
 -- a pattern of a game's record is one of the game
 of_game : (bytes : List ℕ) (held kinds : Kinds) (game : ℕ) (actions : Actions) (key : ℕ) → IsGame bytes game actions → held ≡ kinds → IsPatternOf held actions key →
@@ -104,25 +105,35 @@ worked_added bytes n seen kinds game actions old new is added grown h above =
       known = known_more bytes kinds game old new h.known (rows_added bytes n seen kinds game actions old new is h.kinds_are grown);
     }
 
--- what a pass entered and marked for a game
-pub game_calls : {O : Type 0} (n : ℕ) (bytes : List ℕ) (held kinds : Kinds) (game : ℕ) (actions : Actions) (marks : ℕ → Type 0) (old new : Known O) → IsGame bytes game actions →
-    held ≡ kinds → ((marked : ℕ) → marks marked → marked ≡ game) → CallsOnly n (IsPatternOf held actions) marks old new →
-    CallsOnly n (IsPatternOfGame bytes kinds game) (λ marked. marked ≡ game) old new
-game_calls n bytes held kinds game actions marks old new is same own calls =
-    calls_weaker n (IsPatternOf held actions) (IsPatternOfGame bytes kinds game) marks (λ marked. marked ≡ game) old new
-    (λ key pattern. of_game bytes held kinds game actions key is same pattern) own calls
+-- a mark of a game's own pattern is one of the input
+pub mark_of_game : (n : ℕ) (seen : List Happened) (bytes : List ℕ) (held kinds : Kinds) (game : ℕ) (actions : Actions) (rows : List Row) → IsGame bytes game actions → held ≡ kinds →
+    (number marked : ℕ) → IsMarkOf n seen held actions rows game number marked → (marked ≡ game) × IsMarkIn n seen bytes kinds number marked
+mark_of_game n seen bytes held kinds game actions rows is same number marked one = (one.game_is, record {
+  shape = one.row.shape;
+  pattern = subst (λ g. IsPatternOfGame bytes kinds g one.row.shape) (sym one.game_is) (of_game bytes held kinds game actions one.row.shape is same one.pattern);
+  number_is = one.stands;
+})
 
--- why a game of an input was not added
+-- what a pass entered and marked for a game
+pub calls_of_game : {O : Type 0} (n : ℕ) (bytes : List ℕ) (held kinds : Kinds) (game : ℕ) (actions : Actions) (rowed : ℕ → Answer → Type 0) (marks : ℕ → ℕ → Type 0) (old new : Known O) →
+    IsGame bytes game actions → held ≡ kinds → ((number marked : ℕ) → marks number marked → (marked ≡ game) × IsMarkIn n new.seen bytes kinds number marked) →
+    CallsOnly n (IsEntryOf held actions rowed) marks old new → CallsOfGame n bytes kinds game old new
+calls_of_game n bytes held kinds game actions rowed marks old new is same own calls =
+    calls_weaker n (IsEntryOf held actions rowed) (λ key found. IsPatternOfGame bytes kinds game key) marks
+    (λ number marked. (marked ≡ game) × IsMarkIn n new.seen bytes kinds number marked) old new
+    (λ key found one. of_game bytes held kinds game actions key is same one.pattern) own calls
+
+-- why a game of an input was not added to a share whose rows stand in the table
 pub refusal_is : (bytes : List ℕ) (n : ℕ) (seen : List Happened) (kinds : Kinds) (game : ℕ) (actions : Actions) (old new : Held) (found : HarvestFault) → IsGame bytes game actions → IsWorked bytes kinds old →
+    ((number : ℕ) (of_share of_table : Option ℕ) → IsAddFault n seen game actions old new (fault.Stranger number of_share of_table) → ⊥) →
     IsAddFault n seen game actions old new found → IsRefusal bytes kinds found
-refusal_is bytes n seen kinds game actions old new fault.Memory is h why = tt
-refusal_is bytes n seen kinds game actions old new fault.Overflow is h why = ⊎_elim
+refusal_is bytes n seen kinds game actions old new fault.Memory is h strange why = tt
+refusal_is bytes n seen kinds game actions old new fault.Overflow is h strange why = ⊎_elim
     (λ (large : IsTooLarge actions old). (game, actions, is, inl (old, h, large)))
     (λ (long : 2 ^ 64 ≤ 5410 * length actions.actions). (game, actions, is, inr long))
     why
-refusal_is bytes n seen kinds game actions old new (fault.Full at word) is h why =
+refusal_is bytes n seen kinds game actions old new (fault.Full at word) is h strange why =
     subst (λ g. IsPatternOfGame bytes kinds g word) (sym why.0)
     (record { actions = actions; is_game = is; pattern = subst (λ k. IsPatternOf k actions word) h.kinds_are why.1 })
-refusal_is bytes n seen kinds game actions old new (fault.Stranger number (Some held) (Some other)) is h why =
-    ((game, record { actions = actions; is_game = is; pattern = subst (λ k. IsPatternOf k actions other) h.kinds_are why.0 }), why.2)
-refusal_is bytes n seen kinds game actions old new _ is h why = absurd why
+refusal_is bytes n seen kinds game actions old new (fault.Stranger number of_share of_table) is h strange why = strange number of_share of_table why
+refusal_is bytes n seen kinds game actions old new _ is h strange why = absurd why

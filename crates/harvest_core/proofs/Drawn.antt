@@ -9,20 +9,23 @@ use Rattle.job_core.specs.declared.jobs.Item.TheVariants.{Job, End}
 use Rattle.job_core.specs.Rule.{drawing, Draws}
 use Rattle.job_core.proofs.Turns.{drawn_rises}
 use Rattle.job_core.proofs.Orders.{past_on, rising_end}
+use Rattle.probe_core.specs.declared.calls.Answer.{Answer}
+use Rattle.slot_table.specs.declared.entries.Happened.{Happened}
+use Rattle.slot_table.specs.History.{Keeps}
 use Rattle.slot_table.specs.Passes.{Known}
 use Rattle.share_core.specs.declared.rows.Row.{Row}
 use Rattle.share_core.specs.declared.faults.HarvestFault.{HarvestFault}
 use Rattle.share_core.specs.Confirming.{HasShape}
 use Rattle.share_core.specs.Entering.{CallsOnly}
 use Rattle.harvest_core.specs.declared.working.Worked.{Worked}
-use Rattle.harvest_core.specs.Working.{IsPatternOfGame, IsPatternAmong, AreOfGame, IsRefusedGame, IsCounted, HasDrawn}
+use Rattle.harvest_core.specs.Working.{IsPatternOfGame, IsPatternAmong, IsMarkIn, CallsOfGame, CallsAmong, AreOfGame, IsRefusedGame, IsCounted, HasDrawn}
 use Rattle.share_core.proofs.Entered.{calls_self, calls_through, calls_weaker}
 
 -- what counting a game of the input does, with a pass
 pub record IsCountedBy {O : Type 0} (n : ℕ) (bytes : List ℕ) (kinds : Kinds) (game : ℕ) (mid after : Known O) (one two : Worked) : Type 0 where
   pub counted : IsCounted game one two
   pub first : (found : HarvestFault) → one.refused ≡ Some found → (two ≡ one) × (after ≡ mid)
-  pub later : CallsOnly n (IsPatternOfGame bytes kinds game) (λ marked. marked ≡ game) mid after
+  pub later : CallsOfGame n bytes kinds game mid after
   pub rows : AreOfGame bytes kinds game one.share two.share
   pub refusal : (found : HarvestFault) → one.refused ≡ None → two.refused ≡ Some found → IsRefusedGame n after.seen bytes game one.share two.share found
 
@@ -41,7 +44,7 @@ drawn_none n kinds before old worked games rows none = record {
   first = sym (append-nil worked.share.games ∙ games);
   whole = λ _. refl;
   rises = (let low : 0 ≤ 0 = omega arith in low);
-  later = calls_self n (IsPatternAmong old.bytes kinds []) (Contains []) before;
+  later = calls_self n (λ key found. IsPatternAmong old.bytes kinds [] key) (λ number game. Contains [] game × IsMarkIn n before.seen old.bytes kinds number game) before;
   rows = λ row among. absurd (let none : Contains [] row = subst (λ (rs : List Row). Contains rs row) rows among in let low : none.0 < 0 = none.1 in omega arith);
   refusal = λ found some. absurd (let clash : Some found ≡ None = sym some ∙ none in cc);
 }
@@ -69,22 +72,29 @@ module _ {O : Type 0} (n : ℕ) (kinds : Kinds) (before mid after : Known O) (ol
   last_among : (drawn : List ℕ) (shape : ℕ) → IsPatternOfGame old.bytes kinds job.game shape → IsPatternAmong old.bytes kinds (drawn ++ job.game ∷ []) shape
   last_among drawn shape h = (job.game, Contains-push drawn job.game, h)
 
+  -- a mark stays one of a pattern of its game
+  mark_kept : (seen history : List Happened) (number game : ℕ) → Keeps n seen history → IsMarkIn n seen old.bytes kinds number game → IsMarkIn n history old.bytes kinds number game
+  mark_kept seen history number game keeps h = record { shape = h.shape; pattern = h.pattern; number_is = keeps.numbers h.shape number h.number_is }
+
   -- the calls so far
-  before_calls : (drawn : List ℕ) → CallsOnly n (IsPatternAmong old.bytes kinds drawn) (Contains drawn) before mid →
-      CallsOnly n (IsPatternAmong old.bytes kinds (drawn ++ job.game ∷ [])) (Contains (drawn ++ job.game ∷ [])) before mid
-  before_calls drawn calls = calls_weaker n (IsPatternAmong old.bytes kinds drawn) (IsPatternAmong old.bytes kinds (drawn ++ job.game ∷ [])) (Contains drawn)
-      (Contains (drawn ++ job.game ∷ [])) before mid (still_among drawn) (λ game among. Contains-append_left drawn (job.game ∷ []) game among) calls
+  before_calls : (drawn : List ℕ) (seen : List Happened) → Keeps n mid.seen seen → CallsAmong n old.bytes kinds drawn before mid →
+      CallsOnly n (λ key found. IsPatternAmong old.bytes kinds (drawn ++ job.game ∷ []) key)
+      (λ number game. Contains (drawn ++ job.game ∷ []) game × IsMarkIn n seen old.bytes kinds number game) before mid
+  before_calls drawn seen keeps calls = calls_weaker n (λ key found. IsPatternAmong old.bytes kinds drawn key) (λ key found. IsPatternAmong old.bytes kinds (drawn ++ job.game ∷ []) key)
+      (λ number game. Contains drawn game × IsMarkIn n mid.seen old.bytes kinds number game)
+      (λ number game. Contains (drawn ++ job.game ∷ []) game × IsMarkIn n seen old.bytes kinds number game) before mid
+      (λ key found h. still_among drawn key h) (λ number game h. (Contains-append_left drawn (job.game ∷ []) game h.0, mark_kept mid.seen seen number game keeps h.1)) calls
 
   -- with those of one game more
-  more_calls : (drawn : List ℕ) → CallsOnly n (IsPatternAmong old.bytes kinds drawn) (Contains drawn) before mid →
-      CallsOnly n (IsPatternOfGame old.bytes kinds job.game) (λ marked. marked ≡ job.game) mid after →
-      CallsOnly n (IsPatternAmong old.bytes kinds (drawn ++ job.game ∷ [])) (Contains (drawn ++ job.game ∷ [])) before after
+  more_calls : (drawn : List ℕ) → CallsAmong n old.bytes kinds drawn before mid → CallsOfGame n old.bytes kinds job.game mid after →
+      CallsAmong n old.bytes kinds (drawn ++ job.game ∷ []) before after
   more_calls drawn calls last =
-      let enters = IsPatternAmong old.bytes kinds (drawn ++ job.game ∷ []) in
-      let marks : ℕ → Type 0 = Contains (drawn ++ job.game ∷ []) in
-      calls_through n enters marks before mid after (before_calls drawn calls)
-      (calls_weaker n (IsPatternOfGame old.bytes kinds job.game) enters (λ marked. marked ≡ job.game) marks mid after (last_among drawn)
-      (λ game is. subst marks (sym is) (Contains-push drawn job.game)) last)
+      let enters : ℕ → Answer → Type 0 = λ key found. IsPatternAmong old.bytes kinds (drawn ++ job.game ∷ []) key in
+      let marks : ℕ → ℕ → Type 0 = λ number game. Contains (drawn ++ job.game ∷ []) game × IsMarkIn n after.seen old.bytes kinds number game in
+      calls_through n enters marks before mid after (before_calls drawn after.seen last.later.keeps calls)
+      (calls_weaker n (λ key found. IsPatternOfGame old.bytes kinds job.game key) enters (λ number marked. (marked ≡ job.game) × IsMarkIn n after.seen old.bytes kinds number marked) marks mid after
+      (λ key found h. last_among drawn key h)
+      (λ number game h. (subst (Contains (drawn ++ job.game ∷ [])) (sym h.0) (Contains-push drawn job.game), h.1)) last)
 
   -- and the rows
   more_rows : (drawn : List ℕ) → ((row : Row) → Contains one.share.rows row → IsPatternAmong old.bytes kinds drawn row.shape) → AreOfGame old.bytes kinds job.game one.share two.share →
@@ -125,7 +135,7 @@ module _ {O : Type 0} (n : ℕ) (kinds : Kinds) (before mid after : Known O) (ol
         first = ap (λ (xs : List ℕ). xs ++ g ∷ []) h.first ∙ append_assoc one.share.games h.rest (g ∷ []);
         whole = λ none. absurd (let clash : Some found ≡ None = sym some ∙ none in cc);
         rises = subst (Rising 0 (h.drawn ++ g ∷ [])) (sym (past_on h.drawn g)) (drawn_rises v old.drawn h.drawn job h.all draws);
-        later = before_calls h.drawn h.later;
+        later = before_calls h.drawn mid.seen (record { numbers = λ key p number. number; marks = λ p least at_most. at_most }) h.later;
         rows = λ row among. still_among h.drawn row.shape (h.rows row among);
         refusal = λ why is. (let r = h.refusal why is in (r.0, r.1 ++ g ∷ [], ap (λ (xs : List ℕ). xs ++ g ∷ []) r.2, r.3));
       }

@@ -5,7 +5,13 @@ mod Sized
 mod Keyed
 mod Weighed
 mod Limited
-mod Concluded
-mod Parted
+mod InTable
+mod CallsIn
+mod Stays
 mod Dealt
-mod Workers
+mod Taken
+mod Together
+mod Concluded
+mod Answered
+mod Parted
+mod Promised

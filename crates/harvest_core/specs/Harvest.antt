@@ -1,26 +1,22 @@
 -- What several workers count of an input over one table of numbers, and why they may not.
-use Rattle.std.specs.Prelude.{◌≡◌, ◌≢◌, ℕ, ◌≤◌, ◌⊎◌, List, length, All, AllPairs, Contains}
+use Rattle.std.specs.Prelude.{◌≡◌, ◌≢◌, ℕ, ◌≤◌, ◌⊎◌, List, length, Some, All, AllPairs, Contains}
 use Rattle.probe_core.specs.Sequential.{IsNumber}
-use Rattle.probe_core.specs.declared.orders.OddStep.{OddStep}
+use Rattle.probe_core.specs.declared.calls.Call.TheVariants as asked
+use Rattle.probe_core.specs.declared.calls.Answer.TheVariants as answer
 use Rattle.slot_table.specs.declared.entries.Happened.{Happened}
-use Rattle.slot_table.specs.History.{content_of}
-use Rattle.slot_table.specs.Passes.{Known}
-use Rattle.slot_table.specs.Stakes.{halved}
+use Rattle.slot_table.specs.declared.entries.Happened.TheVariants as call
+use Rattle.slot_table.specs.History.{content_of, Begins, Keeps}
+use Rattle.slot_table.specs.Passes.{Known, calls_of}
 use Rattle.shape_core.specs.declared.words.Kinds.{Kinds}
 use Rattle.shape_dict.specs.declared.entries.Entry.{Entry}
 use Rattle.tally_core.specs.Counted.{IsCounted, IsCountFault}
 use Rattle.tally_core.specs.declared.collections.Counted.{Counted}
 use Rattle.tally_core.specs.declared.reports.Report.{Report}
-use Rattle.job_core.specs.Games.{HasReadAll}
 use Rattle.tally_core.specs.declared.faults.HarvestFault.TheVariants as tally
+use Rattle.job_core.specs.Games.{HasReadAll}
 use Rattle.share_core.specs.declared.faults.HarvestFault.{HarvestFault}
 use Rattle.share_core.specs.declared.faults.HarvestFault.TheVariants as fault
-use Rattle.share_core.specs.Shares.{Held}
-use Rattle.share_core.specs.Checking.{all_rows}
-use Rattle.share_core.specs.Entering.{AsksOnly}
-use Rattle.share_core.specs.Confirming.{IsConfirmation}
-use Rattle.share_core.specs.GatherFaults.{IsGatherFault}
-use Rattle.harvest_core.specs.Working.{IsWorked, IsRefusal, IsPatternIn, IsPatternOfGame}
+use Rattle.harvest_core.specs.Working.{IsPatternIn, IsPatternOfGame, IsCallIn}
 
 -- each pattern of a dictionary has a number after a history of a table of n numbers
 abbrev pub AreNumbered : ℕ → List Happened → List Entry → Type 0
@@ -48,43 +44,42 @@ pub record HasMorePatterns (n : ℕ) (bytes : List ℕ) (kinds : Kinds) (game wo
   pub known : All (IsPatternIn bytes kinds) keys
   pub another : Contains keys word → ⊥
 
--- a game was refused for want of a number for its pattern, and the shares do not confirm it
-pub record IsUnconfirmedIn (n : ℕ) (seen : List Happened) (bytes : List ℕ) (kinds : Kinds) (shares : List Held) (found : HarvestFault) : Type 0 where
-  pub game : ℕ
-  pub word : ℕ
-  pub of_game : IsPatternOfGame bytes kinds game word
-  pub confirmation : IsConfirmation n seen (all_rows shares) game word found
+-- what a pass knows before and after a harvest of an input over a table of n numbers: it goes on from what it had seen; its
+-- calls of before are still its own; and each other call of it entered a pattern of the input, marked a game of it at the number
+-- of a pattern of that game, or only asked
+pub record HasHarvested {O : Type 0} (n : ℕ) (bytes : List ℕ) (kinds : Kinds) (old new : Known O) : Type 0 where
+  pub begins : Begins old.seen new.seen
+  pub keeps : Keeps n old.seen new.seen
+  pub kept : (e : Happened) → Contains (calls_of old) e → Contains (calls_of new) e
+  pub calls : (e : Happened) → Contains (calls_of new) e → Contains (calls_of old) e ⊎ IsCallIn n new.seen bytes kinds e
 
--- the shares do not go together, for this number of games; what the pass had seen before they were looked at, and after
-pub record IsUngathered {O : Type 0} (n games : ℕ) (shares : List Held) (after : Known O) (found : HarvestFault) : Type 0 where
-  pub before : Known O
-  pub fault_is : IsGatherFault n games shares before after found
+-- the key of a number, which the harvest did not enter: where the pass has a call that gave it the number, that is one of those
+-- which it had made before
+pub record IsOthersKey {O : Type 0} (n : ℕ) (earlier : List Happened) (after : Known O) (number key : ℕ) : Type 0 where
+  pub number_is : IsNumber (content_of n after.seen) key number
+  pub others : Contains (calls_of after) (call.Asked (asked.Enter key) (answer.Number number))
+      → Contains earlier (call.Asked (asked.Enter key) (answer.Number number))
 
--- the input can be read, and a game of it was not added to a share, or the shares of its games do not go together
-pub record IsTrouble {O : Type 0} (n : ℕ) (bytes : List ℕ) (kinds : Kinds) (after : Known O) (found : HarvestFault) : Type 0 where
-  pub report : Report
-  pub read : HasReadAll bytes report
-  pub shares : List Held
-  pub worked : All (IsWorked bytes kinds) shares
-  pub why : IsRefusal bytes kinds found
-      ⊎ (IsUnconfirmedIn n after.seen bytes kinds shares found ⊎ IsUngathered n report.games shares after found)
+-- a game that is marked at a number, and that the harvest did not mark there
+pub record IsOthersMark {O : Type 0} (earlier : List Happened) (after : Known O) (number game : ℕ) : Type 0 where
+  pub marked : Contains after.seen (call.Marked number game)
+  pub others : Contains (calls_of after) (call.Marked number game) → Contains earlier (call.Marked number game)
 
--- why an input was not counted: memory was refused; it is too large or has a fault of syntax; it has more patterns than the
--- table has numbers; or a worker's share is refused, which names what disagrees. No count of an input that can be read passes
--- 2 ^ 64 - 1.
-abbrev pub IsHarvestFault : {O : Type 0} → ℕ → List ℕ → Kinds → Known O → HarvestFault → Type 0
-IsHarvestFault n bytes kinds after fault.Memory = Unit {0}
-IsHarvestFault n bytes kinds after (fault.Sgf found) = IsCountFault bytes (tally.Sgf found)
-IsHarvestFault n bytes kinds after (fault.Full game word) = HasMorePatterns n bytes kinds game word
-IsHarvestFault n bytes kinds after fault.BadSettings = ⊥
-IsHarvestFault n bytes kinds after fault.Overflow = ⊥
-IsHarvestFault n bytes kinds after found = IsTrouble n bytes kinds after found
+-- why an input was not counted by a pass that had made these calls before: memory was refused; it is too large or has a fault
+-- of syntax; it has more patterns than the table has numbers; or it can be read, and somebody else uses the table: a number has
+-- a key, or a game is marked at it, that is not from here
+abbrev pub IsHarvestFault : {O : Type 0} → ℕ → List ℕ → Kinds → List Happened → Known O → HarvestFault → Type 0
+IsHarvestFault n bytes kinds earlier after fault.Memory = Unit {0}
+IsHarvestFault n bytes kinds earlier after (fault.Sgf found) = IsCountFault bytes (tally.Sgf found)
+IsHarvestFault n bytes kinds earlier after (fault.Full game word) = HasMorePatterns n bytes kinds game word
+IsHarvestFault n bytes kinds earlier after (fault.Stranger number of_share (Some key)) = IsRead bytes × IsOthersKey n earlier after number key
+IsHarvestFault n bytes kinds earlier after (fault.Marks number of_shares (Some game)) = IsRead bytes × IsOthersMark earlier after number game
+IsHarvestFault n bytes kinds earlier after found = ⊥
 
--- memory was refused, or some pass of a table of n numbers has seen why an input was not counted
+-- why an input was not counted over a table that nobody else uses: memory was refused; or it is too large or has a fault of
+-- syntax; or it has more patterns than the table has numbers
 abbrev pub IsHarvestRefused : ℕ → List ℕ → Kinds → HarvestFault → Type 0
-IsHarvestRefused n bytes kinds found = (found ≡ fault.Memory) ⊎ ((after : Known OddStep) × IsHarvestFault n bytes kinds after found)
-
--- what the pass had seen begins what it has seen; its own calls since enter and mark nothing; and its stake is the same, or
--- what a split left of it, whose other part went to the workers
-abbrev pub HasAsked : {O : Type 0} → ℕ → Known O → Known O → Type 0
-HasAsked n old new = AsksOnly n old new ⊎ AsksOnly n (record old { stake = halved old.stake }) new
+IsHarvestRefused n bytes kinds fault.Memory = Unit {0}
+IsHarvestRefused n bytes kinds (fault.Sgf found) = IsCountFault bytes (tally.Sgf found)
+IsHarvestRefused n bytes kinds (fault.Full game word) = HasMorePatterns n bytes kinds game word
+IsHarvestRefused n bytes kinds found = ⊥

@@ -1,5 +1,5 @@
 -- What a worker has counted of an input, and why it was refused.
-use Rattle.std.specs.Prelude.{◌≡◌, ◌≢◌, ℕ, ◌+◌, ◌≤◌, ◌^◌, ◌*◌, ◌⊎◌, List, [], ◌∷◌, ◌++◌, length, All, Contains, Option, Some, None}
+use Rattle.std.specs.Prelude.{◌≡◌, ℕ, ◌+◌, ◌≤◌, ◌^◌, ◌*◌, ◌⊎◌, List, [], ◌∷◌, ◌++◌, length, All, Contains, Option, Some, None}
 use Rattle.go_record.specs.Actions.{Actions}
 use Rattle.shape_core.specs.declared.words.Kinds.{Kinds}
 use Rattle.job_core.specs.Games.{IsGameOf}
@@ -11,10 +11,14 @@ use Rattle.share_core.specs.declared.faults.HarvestFault.TheVariants as fault
 use Rattle.share_core.specs.Shares.{Held, Added, IsShareOf, IsPatternOf}
 use Rattle.share_core.specs.Adding.{IsTooLarge, IsKept, IsAddFault}
 use Rattle.share_core.specs.Confirming.{HasShape}
-use Rattle.share_core.specs.Entering.{CallsOnly}
+use Rattle.share_core.specs.Entering.{IsCall, CallsOnly}
+use Rattle.probe_core.specs.Sequential.{IsNumber}
 use Rattle.slot_table.specs.declared.entries.Happened.{Happened}
-use Rattle.slot_table.specs.Passes.{Known}
+use Rattle.slot_table.specs.History.{content_of}
+use Rattle.slot_table.specs.Passes.{Numbers, Known, IsPassOf}
+use Rattle.harvest_core.specs.declared.workers.Returned.{Returned}
 use Rattle.harvest_core.specs.declared.working.Worked.{Worked}
+use Rattle.harvest_core.specs.InTable.{IsInTableSince}
 
 -- these bytes have a game of this number with this record
 pub record IsGame (bytes : List ℕ) (game : ℕ) (actions : Actions) : Type 0 where
@@ -45,10 +49,34 @@ pub record IsWorked (bytes : List ℕ) (kinds : Kinds) (share : Held) : Type 0 w
   pub rises : Rising 0 share.games (past share.games)
   pub known : (row : Row) → Contains share.rows row → IsPatternIn bytes kinds row.shape
 
--- why some game of the input was not added to a share
+-- a number has a pattern of the game that was marked there
+pub record IsMarkIn (n : ℕ) (seen : List Happened) (bytes : List ℕ) (kinds : Kinds) (number game : ℕ) : Type 0 where
+  pub shape : ℕ
+  pub pattern : IsPatternOfGame bytes kinds game shape
+  pub number_is : IsNumber (content_of n seen) shape number
+
+-- a call enters a pattern of the input, or marks a game of it at the number of a pattern of that game; or it only asks
+abbrev pub IsCallIn : ℕ → List Happened → List ℕ → Kinds → Happened → Type 0
+IsCallIn n seen bytes kinds e = IsCall (λ key found. IsPatternIn bytes kinds key) (IsMarkIn n seen bytes kinds) e
+
+-- a pass entered patterns of the input alone, and marked games of it at numbers of their own patterns alone
+abbrev pub CallsIn : {O : Type 0} → ℕ → List ℕ → Kinds → Known O → Known O → Type 0
+CallsIn n bytes kinds before after = CallsOnly n (λ key found. IsPatternIn bytes kinds key) (IsMarkIn n after.seen bytes kinds) before after
+
+-- the same of one game of the input
+abbrev pub CallsOfGame : {O : Type 0} → ℕ → List ℕ → Kinds → ℕ → Known O → Known O → Type 0
+CallsOfGame n bytes kinds game before after = CallsOnly n (λ key found. IsPatternOfGame bytes kinds game key)
+    (λ number marked. (marked ≡ game) × IsMarkIn n after.seen bytes kinds number marked) before after
+
+-- the same of these games of the input
+abbrev pub CallsAmong : {O : Type 0} → ℕ → List ℕ → Kinds → List ℕ → Known O → Known O → Type 0
+CallsAmong n bytes kinds games before after = CallsOnly n (λ key found. IsPatternAmong bytes kinds games key)
+    (λ number game. Contains games game × IsMarkIn n after.seen bytes kinds number game) before after
+
+-- why some game of the input was not added to a share: a pattern of it found no number, memory was refused, or counts are too
+-- large
 abbrev pub IsRefusal : List ℕ → Kinds → HarvestFault → Type 0
 IsRefusal bytes kinds (fault.Full game word) = IsPatternOfGame bytes kinds game word
-IsRefusal bytes kinds (fault.Stranger number (Some held) (Some other)) = IsPatternIn bytes kinds other × (held ≢ other)
 IsRefusal bytes kinds fault.Memory = Unit {0}
 IsRefusal bytes kinds fault.Overflow = (game : ℕ) × (actions : Actions) × IsGame bytes game actions
     × (((share : Held) × IsWorked bytes kinds share × IsTooLarge actions share) ⊎ (2 ^ 64 ≤ 5410 * length actions.actions))
@@ -79,8 +107,8 @@ pub record IsRefusedGame (n : ℕ) (seen : List Happened) (bytes : List ℕ) (ga
   pub why : IsAddFault n seen game actions old new found
 
 -- a worker drew these games and one end in one call, and its share has the first of them: all where nothing was refused. Its
--- pass entered patterns of these games alone and marked these games alone; each row of its share is of a pattern of one of
--- them; and where a game was refused, it is the first that the share has not
+-- pass entered patterns of these games alone and marked these games alone, each at numbers of its own patterns; each row of its
+-- share is of a pattern of one of them; and where a game was refused, it is the first that the share has not
 pub record HasDrawn {O : Type 0} (n : ℕ) (kinds : Kinds) (before after : Known O) (old : Hand) (worked : Worked) (new : Hand) : Type 0 where
   pub drawn : List ℕ
   pub all : new.drawn ≡ old.drawn ++ drawn
@@ -89,7 +117,17 @@ pub record HasDrawn {O : Type 0} (n : ℕ) (kinds : Kinds) (before after : Known
   pub first : drawn ≡ worked.share.games ++ rest
   pub whole : worked.refused ≡ None → rest ≡ []
   pub rises : Rising 0 drawn (past drawn)
-  pub later : CallsOnly n (IsPatternAmong old.bytes kinds drawn) (Contains drawn) before after
+  pub later : CallsAmong n old.bytes kinds drawn before after
   pub rows : (row : Row) → Contains worked.share.rows row → IsPatternAmong old.bytes kinds drawn row.shape
   pub refusal : (found : HarvestFault) → worked.refused ≡ Some found → (game : ℕ) × (dropped : List ℕ) × (rest ≡ game ∷ dropped)
       × ((share : Held) × IsRefusedGame n after.seen old.bytes game share worked.share found)
+
+-- what a worker's loop hands back, which worked at this table for these kinds under this number, and had this desk and this
+-- pass before: its pass is of the table, its share is of games of the input, and what it drew, counted and called goes together
+pub record IsReturned {O : Type 0} (exponent : O → ℕ) (table : Numbers O) (kinds : Kinds) (number : ℕ) (desk : Hand) (pass : Known O) (back : Returned O) : Type 0 where
+  pub pass_is : IsPassOf (2 ^ exponent table.order) table back.pass
+  pub number_is : back.worked.share.worker ≡ number
+  pub worked_is : IsWorked desk.bytes kinds back.worked.share
+  pub refused_is : IsRefused desk.bytes kinds back.worked.refused
+  pub drawn : HasDrawn (2 ^ exponent table.order) kinds pass back.pass desk back.worked back.desk
+  pub in_table : IsInTableSince (2 ^ exponent table.order) pass back.pass back.worked

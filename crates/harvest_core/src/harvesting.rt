@@ -1,35 +1,38 @@
 //! What several workers count over one table: the dictionary of an input.
-ghost use Rattle.std.specs.Prelude.{◌≡◌, ◌*◌, ◌^◌, ◌<◌, ◌≤◌, [], ℕ, List, length, max, min};
+ghost use Rattle.std.specs.Prelude.{◌≡◌, ◌≢◌, ◌⊎◌, ◌*◌, ◌^◌, ◌<◌, ◌≤◌, ◌++◌, ◌∷◌, [], ℕ, List};
+ghost use Rattle.std.specs.Prelude.{length, max, min, All, Contains, MatchResult, IfOk, IfErr, IfSome};
+ghost use Rattle.std.specs.Prelude.{IsErrAnd, Some};
+ghost use Rattle.sgf_core.specs.Limit.{most_bytes};
 ghost use Rattle.sgf_core.specs.declared.faults.SgfFault.TheVariants as sgf;
-ghost use Rattle.std.specs.Prelude.{All, Contains, MatchResult, IfOk, IfErr, IfSome, IsErrAnd, ◌⊎◌};
 ghost use Rattle.shape_core.specs.declared.words.Kinds.{Kinds};
 ghost use Rattle.slot_table.specs.declared.entries.Happened.{Happened};
-ghost use Rattle.slot_table.specs.Passes.{IsPassOf};
-ghost use Rattle.slot_table.specs.Stakes.{halved};
+ghost use Rattle.slot_table.specs.Passes.{IsPassOf, IsAlone, calls_of};
+ghost use Rattle.slot_table.specs.Stakes.{IsAsMuch, IsWhole, halved, half_of};
 ghost use Rattle.share_core.specs.declared.faults.HarvestFault.TheVariants as fault;
+ghost use Rattle.share_core.specs.Checking.{all_rows};
+ghost use Rattle.share_core.specs.Covering.{all_games};
 ghost use Rattle.share_core.specs.Entering.{AsksOnly};
 ghost use Rattle.share_core.specs.GatherFaults.{IsGatherFault};
-ghost use Rattle.crossbeam_queue.specs.Passes.{view};
-ghost use Rattle.crossbeam_queue.specs.Passes.{IsPassOf as IsSeatOf};
 ghost use Rattle.job_core.specs.Games.{HasReadAll};
-ghost use Rattle.job_core.specs.Rule.{blank};
+ghost use Rattle.harvest_core.specs.InTable.{IsFullOf};
 ghost use Rattle.harvest_core.specs.Working.{IsWorked, IsRefusal};
-ghost use Rattle.harvest_core.specs.Inner.Crew.{IsCrop, AreAsked};
+ghost use Rattle.harvest_core.specs.Harvest.{IsRead, IsHarvest, IsHarvestFault, IsHarvestRefused};
+ghost use Rattle.harvest_core.specs.Harvest.{HasHarvested};
+ghost use Rattle.harvest_core.specs.Inner.Crew.{IsCrop};
 ghost use Rattle.harvest_core.specs.Inner.Parted.{refusals_of};
-ghost use Rattle.harvest_core.specs.Harvest.{IsRead};
-ghost use Rattle.harvest_core.specs.Inner.Harvest.{IsExplained, IsToldOf};
-ghost use Rattle.harvest_core.specs.Harvest.{IsHarvest, IsHarvestFault, IsHarvestRefused};
-ghost use Rattle.harvest_core.specs.Harvest.{HasAsked};
-ghost use Rattle.sgf_core.specs.Limit.{most_bytes};
+ghost use Rattle.harvest_core.specs.Inner.Reading.{IsOnceEach};
+ghost use Rattle.harvest_core.specs.Inner.Harvest.{AreTogether, IsExplained, IsTold};
 
 use crate::gates::Gate;
 use crate::parting::{Parted, part, want_memory, worst};
-use crate::threads::{Bench, Crew, Crop};
-use job_core::{Desk, Games, Jobs, Seat, new_queue};
+use crate::taking::Crop;
+use crate::threads::Crew;
+use crate::workers::Worker;
+use job_core::{Desk, Games, new_queue};
 use probe_core::{Capacity, OddStep, ProbeOrder};
 use shape_core::Kinds;
 use share_core::{HarvestFault, Share, confirm_full, gather};
-use slot_table::{Pass, SlotTable};
+use slot_table::{Pass, SlotTable, laws};
 use std::alloc::Global;
 use std::sync::Wait;
 use std::thread::Threads;
@@ -48,9 +51,11 @@ fn explain<O: ProbeOrder>(
     ensures later { AsksOnly (2 ^ O.exponent table.now.order) pass.old pass.new }
     ensures explained { IsExplained (2 ^ O.exponent table.now.order) pass.new.seen shares.now
         refused result }
-    ensures why { (bytes : List ℕ) (kinds : Kinds) → IsRead bytes
+    ensures why { (bytes : List ℕ) (kinds : Kinds) (earlier : List Happened) → IsRead bytes
         → All (IsWorked bytes kinds) shares.now → IsRefusal bytes kinds refused
-        → IsHarvestFault (2 ^ O.exponent table.now.order) bytes kinds pass.new result }
+        → IsFullOf (2 ^ O.exponent table.now.order) pass.old.seen (Some refused)
+        → AreTogether (2 ^ O.exponent table.now.order) earlier pass.old (all_rows shares.now)
+        → IsHarvestFault (2 ^ O.exponent table.now.order) bytes kinds earlier pass.new result }
 {
     match refused {
         HarvestFault::Full { game, word } => confirm_full(table, pass, shares, game, word),
@@ -65,30 +70,32 @@ fn count_of<R: Threads + Sync, O: ProbeOrder>(
     kinds: Kinds,
     table: &SlotTable<O>,
     pass: &mut Pass<O>,
-    bytes: &[u8],
     report: Report,
     shares: &[Share],
 ) -> Result<Counted, HarvestFault>
     requires pass { IsPassOf (2 ^ O.exponent table.now.order) table.now pass.old }
-    requires read { HasReadAll bytes.now report }
-    requires worked { All (IsWorked bytes.now kinds) shares.now }
+    requires worked { (bytes : List ℕ) × HasReadAll bytes report
+        × All (IsWorked bytes kinds) shares.now }
     ensures pass { IsPassOf (2 ^ O.exponent table.now.order) table.now pass.new }
     ensures later { AsksOnly (2 ^ O.exponent table.now.order) pass.old pass.new }
     ensures gathered { IfErr result (IsGatherFault (2 ^ O.exponent table.now.order) report.games
         shares.now pass.old pass.new) }
-    ensures harvest { IfOk result (IsHarvest (2 ^ O.exponent table.now.order) pass.new.seen kinds
-        bytes.now) }
-    ensures fault { IfErr result (IsHarvestFault (2 ^ O.exponent table.now.order) bytes.now kinds
+    ensures harvest { (bytes : List ℕ) → HasReadAll bytes report
+        → All (IsWorked bytes kinds) shares.now
+        → IfOk result (IsHarvest (2 ^ O.exponent table.now.order) pass.new.seen kinds bytes) }
+    ensures fault { (bytes : List ℕ) (earlier : List Happened) → HasReadAll bytes report
+        → All (IsWorked bytes kinds) shares.now → IsOnceEach report.games (all_games shares.now)
+        → AreTogether (2 ^ O.exponent table.now.order) earlier pass.old (all_rows shares.now)
+        → IfErr result (IsHarvestFault (2 ^ O.exponent table.now.order) bytes kinds earlier
         pass.new) }
 {
-    let _ = bytes;
     let dictionary = gather(rt, alloc, table, pass, kinds, report.games, shares)?;
     Ok(Counted { dictionary, report })
 }
 
 /// The dictionary of all shares, or the fault that is told, in this order: want of memory, that of
 /// the input, the one that goes first of the games that were refused, and that of the shares
-/// together.
+/// together. The calls of all threads come to this pass.
 fn conclude<R: Threads + Sync, O: ProbeOrder>(
     rt: &R,
     alloc: Global,
@@ -96,29 +103,35 @@ fn conclude<R: Threads + Sync, O: ProbeOrder>(
     table: &SlotTable<O>,
     pass: &mut Pass<O>,
     bytes: &[u8],
-    crop: Crop,
+    crop: Crop<O>,
 ) -> Result<Counted, HarvestFault>
     requires pass { IsPassOf (2 ^ O.exponent table.now.order) table.now pass.old }
-    requires crop { IsCrop bytes.now kinds crop }
+    requires crop { (stake : List ℕ) × IsCrop O.exponent table.now bytes.now kinds stake crop }
     ensures pass { IsPassOf (2 ^ O.exponent table.now.order) table.now pass.new }
-    ensures later { AsksOnly (2 ^ O.exponent table.now.order) pass.old pass.new }
+    ensures calls { HasHarvested (2 ^ O.exponent table.now.order) bytes.now kinds pass.old
+        pass.new }
+    ensures stake { pass.new.stake ≡ pass.old.stake ++ crop.pass.stake }
+    ensures alone { IsAlone pass.new }
     ensures memory { Contains (refusals_of crop.worked.items) fault.Memory
         → result ≡ Err fault.Memory }
     ensures input { IfSome crop.fault (λ found. (result ≡ Err found)
         ⊎ (result ≡ Err fault.Memory)) }
     ensures refused { crop.fault ≡ None → MatchResult result
         (λ _. refusals_of crop.worked.items ≡ [])
-        (IsToldOf (2 ^ O.exponent table.now.order) crop pass.old pass.new) }
+        (IsTold (2 ^ O.exponent table.now.order) crop pass.new) }
     ensures harvest { IfOk result (IsHarvest (2 ^ O.exponent table.now.order) pass.new.seen kinds
         bytes.now) }
     ensures fault { IfErr result (IsHarvestFault (2 ^ O.exponent table.now.order) bytes.now kinds
-        pass.new) }
+        (calls_of pass.old) pass.new) }
 {
     let Crop {
         worked,
         report,
         fault,
+        pass: theirs,
     } = crop;
+    let _ = bytes;
+    table.absorb(pass, theirs);
     let Parted { shares, refusals } = part(alloc, worked)?;
     if want_memory(&refusals) {
         return Err(HarvestFault::Memory);
@@ -128,7 +141,7 @@ fn conclude<R: Threads + Sync, O: ProbeOrder>(
     }
     match worst(&refusals) {
         Some(refused) => Err(explain(table, pass, &shares, refused)),
-        None => count_of(rt, alloc, kinds, table, pass, bytes, report, &shares),
+        None => count_of(rt, alloc, kinds, table, pass, report, &shares),
     }
 }
 
@@ -142,41 +155,17 @@ fn places_for(workers: u8) -> usize
     (16 * usize::from(workers).max(1)).min(128)
 }
 
-/// Counts with a queue: the threads draw from it what this thread reads.
-fn count_over<'a, R: Threads + Wait + Sync, O: ProbeOrder, G: Gate>(
-    rt: &R,
-    alloc: Global,
-    settings: Settings,
-    table: &SlotTable<O>,
-    pass: &mut Pass<O>,
-    bytes: &'a [u8],
-    games: Games<'a>,
-    queue: &Jobs<'a>,
-    seat: Seat<'a>,
-    gate: &G,
-) -> Result<Crop, HarvestFault>
-where
-    O: Send + Sync,
-    requires pass { IsPassOf (2 ^ O.exponent table.now.order) table.now pass.old }
-    requires seat { IsSeatOf queue.now seat × (view seat ≡ blank) }
-    requires games { (games.bytes ≡ bytes.now) × (games.report.games ≡ 0) }
-    ensures pass { IsPassOf (2 ^ O.exponent table.now.order) table.now pass.new }
-    ensures same { pass.new ≡ record pass.old { stake = halved pass.old.stake } }
-    ensures crop { IfOk result (IsCrop bytes.now settings.kinds) }
-    ensures workers { IfOk result (AreAsked settings.workers) }
-    ensures fault { IfErr result (λ found. found ≡ fault.Memory) }
+/// What comes back for a half of a stake makes the whole of it again, and whatever is as much as
+/// the whole is the whole.
+fn stakes_come_together()
+    ensures halves { (stake back : List ℕ) → IsAsMuch back (half_of stake)
+        → IsAsMuch (halved stake ++ back) stake }
+    ensures whole { (stake whole : List ℕ) → IsAsMuch stake whole → IsWhole whole → IsWhole stake }
+    ensures first { IsWhole (0 ∷ []) }
 {
-    let bench = Bench {
-        desk: Desk::open(queue, seat, bytes),
-        table,
-        pass: table.split(pass),
-        gate,
-        worker: 0,
-        workers: usize::from(settings.workers()),
-        kinds: settings.kinds(),
-    };
-    let crew = Crew { games, bench };
-    Ok(crew.run(rt, alloc, bytes, usize::from(settings.workers()))?)
+    laws::a_split_loses_no_stake();
+    laws::stakes_add_up();
+    laws::as_much_as_the_whole_is_the_whole();
 }
 
 /// Counts a whole collection by several workers over a table: the dictionary of its games, which
@@ -185,22 +174,21 @@ where
 ///
 /// This thread reads, and counts what the queue has no room for; as many workers as the settings
 /// say count what they draw from it. The slots of the settings are not looked at: those of the
-/// table count. The pass must be of the table, which may have numbers already. The pass itself
-/// enters and marks nothing, and a part of its stake goes to the workers. It takes memory for a
-/// queue of at most 128 games, for each thread for the largest tree and its record, the board and
-/// the patterns of its games, and for the dictionary.
+/// table count. The pass must be of the table, which may have numbers already. Afterwards it has
+/// made the calls of all threads: they entered patterns of the input alone, and marked games of it
+/// at numbers of their own patterns alone. It has as much stake as before, unless `Memory` was
+/// told. It takes memory for a queue of at most 128 games, for each thread for the largest tree and
+/// its record, the board and the patterns of its games, and for the dictionary.
 ///
 /// # Errors
 ///
 /// `Sgf` with S4 where the input has more than 2^28 bytes, and then nothing was done to the table;
-/// else `Sgf` with the first fault of syntax; `Memory` where memory was refused or a worker was not
-/// started; `Full` with a game and one of its patterns for which no number was free, where that is
-/// confirmed: the input has as many other patterns as the table has numbers; `Missing`, `Twice`,
-/// `Stranger` and `Marks` where the workers' shares do not go together. In a table that has numbers
-/// of other inputs `Stranger` may say so in place of `Full`, and `Marks` that it had a mark before.
-/// The first that applies is told, in this order: want of memory of this thread or of any worker,
-/// `Sgf`, `Full` of the least game, `Stranger`, and then those of `gather`. `Overflow` never comes:
-/// no input is so large. After each the table keeps the numbers and marks that it got.
+/// else `Memory` where memory was refused or a worker was not started; else `Sgf` with the first
+/// fault of syntax; else `Full` with a game and one of its patterns for which no number was free,
+/// where the input has as many other patterns as the table has numbers. In a table that nobody else
+/// uses no other fault comes. Else `Stranger` may name a number whose key, and `Marks` one whose
+/// mark, somebody else made: `Stranger` where a number was wanting, `Marks` where all games were
+/// counted. After each the table keeps the numbers and marks that it got.
 pub fn harvest_on<R: Threads + Wait + Sync, O: ProbeOrder, G: Gate>(
     rt: &R,
     alloc: Global,
@@ -214,19 +202,32 @@ where
     O: Send + Sync,
     requires pass { IsPassOf (2 ^ O.exponent table.now.order) table.now pass.old }
     ensures pass { IsPassOf (2 ^ O.exponent table.now.order) table.now pass.new }
-    ensures later { HasAsked (2 ^ O.exponent table.now.order) pass.old pass.new }
+    ensures calls { HasHarvested (2 ^ O.exponent table.now.order) bytes.now settings.kinds pass.old
+        pass.new }
+    ensures stake { result ≢ Err fault.Memory → IsAsMuch pass.new.stake pass.old.stake }
     ensures large { most_bytes < length bytes.now
         → (result ≡ Err (fault.Sgf sgf.TooLarge)) × (pass.new ≡ pass.old) }
     ensures harvest { IfOk result (IsHarvest (2 ^ O.exponent table.now.order) pass.new.seen
         settings.kinds bytes.now) }
     ensures fault { IfErr result (IsHarvestFault (2 ^ O.exponent table.now.order) bytes.now
-        settings.kinds pass.new) }
+        settings.kinds (calls_of pass.old) pass.new) }
+    ensures alone { IsWhole pass.old.stake → calls_of pass.old ≡ []
+        → IfErr result (IsHarvestRefused (2 ^ O.exponent table.now.order) bytes.now
+        settings.kinds) }
 {
+    stakes_come_together();
     let games = Games::new(bytes)?;
     let (queue, seat) = new_queue(alloc, places_for(settings.workers()))?;
-    let crop = count_over(
-        rt, alloc, settings, table, pass, bytes, games, &queue, seat, gate,
-    )?;
+    let own = Worker {
+        desk: Desk::open(&queue, seat, bytes),
+        table,
+        pass: table.split(pass),
+        gate,
+        number: 0,
+        workers: usize::from(settings.workers()),
+        kinds: settings.kinds(),
+    };
+    let crop = Crew::begin(games, own).run(rt, alloc)?;
     conclude(rt, alloc, settings.kinds(), table, pass, bytes, crop)
 }
 
@@ -238,8 +239,10 @@ where
 ///
 /// # Errors
 ///
-/// Those of `harvest_on`; the new table is dropped. `Memory` also where memory was refused for the
-/// table.
+/// `Memory` where memory was refused or a worker was not started. Else the answer is determined by
+/// the input and the settings: `Sgf` with S4 where the input has more than 2^28 bytes, else with
+/// its first fault of syntax; else `Full` where it has more patterns than the table has slots, with
+/// a game of it and one of that game's patterns. No other fault comes.
 pub fn harvest<R: Threads + Wait + Sync, G: Gate>(
     rt: &R,
     alloc: Global,
@@ -256,6 +259,7 @@ pub fn harvest<R: Threads + Wait + Sync, G: Gate>(
     let Some(capacity) = Capacity::new(u32::from(settings.k())) else {
         return Err(HarvestFault::BadSettings);
     };
+    stakes_come_together();
     let (table, mut pass) = SlotTable::new(alloc, OddStep { capacity })?;
     harvest_on(rt, alloc, settings, &table, &mut pass, bytes, gate)
 }

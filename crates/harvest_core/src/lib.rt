@@ -9,9 +9,12 @@ mod gates;
 mod harvesting;
 mod parting;
 mod reading;
+mod taking;
 mod threads;
+mod workers;
 mod working;
 
 pub use gates::{FreeGate, Gate};
 pub use harvesting::{harvest, harvest_on};
-pub use working::{Worked, work};
+pub use workers::{Returned, Worker, work};
+pub use working::Worked;

@@ -1,7 +1,7 @@
 //! The thread that reads: it makes a job of each game and puts it into the queue, and counts those
 //! that the queue hands back.
-ghost use Rattle.std.specs.Prelude.{◌≡◌, ◌+◌, ◌^◌, ◌≤◌, ◌⊎◌, ◌↔◌, ℕ, List, IsTrue};
-ghost use Rattle.std.specs.Prelude.{IfSome, IfNone, IfErr, OnOk};
+ghost use Rattle.std.specs.Prelude.{◌≡◌, ◌+◌, ◌^◌, ◌≤◌, ◌⊎◌, ◌↔◌, [], ℕ, List, true, None};
+ghost use Rattle.std.specs.Prelude.{IsTrue, IfErr, OnOk};
 ghost use Rattle.job_core.specs.declared.jobs.Item.TheVariants as item;
 ghost use Rattle.shape_core.specs.declared.words.Kinds.{Kinds};
 ghost use Rattle.job_core.specs.Games.{HasReadAll};
@@ -9,56 +9,56 @@ ghost use Rattle.job_core.specs.Rising.{past};
 ghost use Rattle.job_core.specs.Rule.{MayPut, putting};
 ghost use Rattle.job_core.specs.Inner.Rule.{IsInStep};
 ghost use Rattle.slot_table.specs.Passes.{IsPassOf};
+ghost use Rattle.share_core.specs.Checking.{Stand};
 ghost use Rattle.share_core.specs.declared.faults.HarvestFault.TheVariants as fault;
-ghost use Rattle.harvest_core.specs.Working.{IsWorked, IsRefused, IsCounted};
-ghost use Rattle.harvest_core.specs.Inner.Reading.{IsReadFault, AreDealt};
+ghost use Rattle.harvest_core.specs.InTable.{IsInTableSince, GoesOnInTable};
+ghost use Rattle.harvest_core.specs.Working.{IsWorked, IsRefused, IsCounted, CallsIn};
+ghost use Rattle.harvest_core.specs.Inner.Reading.{IsReadFault, AreDealt, IsReadingOf};
 
 use crate::gates::Gate;
+use crate::workers::Worker;
 use crate::working::Worked;
 use job_core::{Desk, Games, Item, Job};
 use probe_core::ProbeOrder;
-use shape_core::Kinds;
 use share_core::HarvestFault;
-use slot_table::{Pass, SlotTable};
 use std::alloc::Global;
 use std::sync::Wait;
 use std::thread;
 use tally_core::Report;
 
-/// Puts a job into the queue. It is counted here where the queue is full, or no worker draws from
-/// it.
+/// Puts a job into the queue, and counts it here where the queue is full.
 fn offer<'a, R: Wait, O: ProbeOrder, G: Gate>(
     rt: &R,
-    desk: &mut Desk<'_, 'a>,
+    own: &mut Worker<'_, 'a, '_, O, G>,
     worked: &mut Worked,
-    table: &SlotTable<O>,
-    pass: &mut Pass<O>,
-    gate: &G,
     job: Job<'a>,
-    alone: bool,
 )
-    requires pass { IsPassOf (2 ^ O.exponent table.now.order) table.now pass.old }
-    requires job { MayPut desk.old (item.Job job) }
-    ensures pass { IsPassOf (2 ^ O.exponent table.now.order) table.now pass.new }
-    ensures offered { ((desk.new ≡ putting desk.old (item.Job job.entry))
+    requires pass { IsPassOf (2 ^ O.exponent own.old.table.now.order) own.old.table.now
+        own.old.pass }
+    requires job { MayPut own.old.desk (item.Job job) }
+    ensures same { own.new ≡ record own.old { desk = own.new.desk; pass = own.new.pass } }
+    ensures pass { IsPassOf (2 ^ O.exponent own.old.table.now.order) own.old.table.now
+        own.new.pass }
+    ensures offered { ((own.new.desk ≡ putting own.old.desk (item.Job job.entry))
         × (worked.new ≡ worked.old))
-        ⊎ ((desk.new ≡ desk.old) × IsCounted job.entry.game worked.old worked.new) }
-    ensures alone { IsTrue alone → desk.new ≡ desk.old }
+        ⊎ ((own.new.desk ≡ own.old.desk) × IsCounted job.entry.game worked.old worked.new) }
     ensures worker { worked.new.share.worker ≡ worked.old.share.worker }
     ensures worked { (kinds : Kinds) → IsWorked job.entry.bytes kinds worked.old.share
         → past worked.old.share.games ≤ job.entry.game
         → IsWorked job.entry.bytes kinds worked.new.share }
     ensures refused { (kinds : Kinds) → IsWorked job.entry.bytes kinds worked.old.share
+        → Stand (2 ^ O.exponent own.old.table.now.order) own.old.pass.seen worked.old.share.rows
         → IsRefused job.entry.bytes kinds worked.old.refused
         → IsRefused job.entry.bytes kinds worked.new.refused }
+    ensures calls { (kinds : Kinds) → worked.old.share.kinds ≡ kinds
+        → CallsIn (2 ^ O.exponent own.old.table.now.order) job.entry.bytes kinds
+        own.old.pass own.new.pass }
+    ensures table { GoesOnInTable (2 ^ O.exponent own.old.table.now.order) own.old.pass
+        own.new.pass worked.old worked.new }
 {
-    if alone {
-        worked.count(table, pass, gate, &job);
-        return;
-    }
-    match desk.put(rt, Item::Job(job)) {
+    match own.desk.put(rt, Item::Job(job)) {
         Ok(()) => (),
-        Err(Item::Job(back)) => worked.count(table, pass, gate, &back),
+        Err(Item::Job(back)) => worked.count(own.table, &mut own.pass, own.gate, &back),
         Err(Item::End) => (),
     }
 }
@@ -70,36 +70,42 @@ fn wants_memory(worked: &Worked) -> bool
     matches!(worked.refused, Some(HarvestFault::Memory))
 }
 
-/// Reads all games. Want of memory ends it, also where it came in counting here.
+/// Reads all games of an input of which none was read. Want of memory ends it, also where it came
+/// in counting here.
 fn read_all<'a, R: Wait, O: ProbeOrder, G: Gate>(
     rt: &R,
     alloc: Global,
     games: &mut Games<'a>,
-    desk: &mut Desk<'_, 'a>,
+    own: &mut Worker<'_, 'a, '_, O, G>,
     worked: &mut Worked,
-    table: &SlotTable<O>,
-    pass: &mut Pass<O>,
-    gate: &G,
-    alone: bool,
 ) -> Result<(), HarvestFault>
-    requires pass { IsPassOf (2 ^ O.exponent table.now.order) table.now pass.old }
-    requires step { IsInStep games.old desk.old }
-    requires above { past worked.old.share.games ≤ games.old.report.games }
-    ensures pass { IsPassOf (2 ^ O.exponent table.now.order) table.now pass.new }
+    requires pass { IsPassOf (2 ^ O.exponent own.old.table.now.order) own.old.table.now
+        own.old.pass }
+    requires step { IsInStep games.old own.old.desk }
+    requires none { (games.old.report.games ≡ 0) × (own.old.desk.put ≡ []) }
+    requires begun { (worked.old.share.games ≡ []) × (worked.old.share.rows ≡ [])
+        × (worked.old.refused ≡ None) }
+    requires worked { IsWorked games.old.bytes own.old.kinds worked.old.share }
+    ensures same { own.new ≡ record own.old {
+      desk = record own.old.desk { put = own.new.desk.put };
+      pass = own.new.pass;
+    } }
+    ensures pass { IsPassOf (2 ^ O.exponent own.old.table.now.order) own.old.table.now
+        own.new.pass }
     ensures worker { worked.new.share.worker ≡ worked.old.share.worker }
-    ensures worked { (kinds : Kinds) → IsWorked games.old.bytes kinds worked.old.share
-        → IsRefused games.old.bytes kinds worked.old.refused
-        → IsWorked games.old.bytes kinds worked.new.share
-        × IsRefused games.old.bytes kinds worked.new.refused }
+    ensures worked { IsWorked games.old.bytes own.old.kinds worked.new.share }
+    ensures refused { IsRefused games.old.bytes own.old.kinds worked.new.refused }
+    ensures calls { CallsIn (2 ^ O.exponent own.old.table.now.order) games.old.bytes own.old.kinds
+        own.old.pass own.new.pass }
+    ensures table { IsInTableSince (2 ^ O.exponent own.old.table.now.order) own.old.pass
+        own.new.pass worked.new }
     ensures all { OnOk result (HasReadAll games.old.bytes games.new.report) }
-    ensures dealt { OnOk result (AreDealt games.old.report.games games.new.report.games desk.new
-        worked.new) }
-    ensures ends { desk.new.ends_put ≡ desk.old.ends_put }
+    ensures dealt { OnOk result (AreDealt games.new.report.games own.new.desk.put worked.new) }
     ensures fault { IfErr result (IsReadFault games.old.bytes) }
 {
     loop {
         match games.next_job(alloc)? {
-            Some(job) => offer(rt, desk, worked, table, pass, gate, job, alone),
+            Some(job) => offer(rt, own, worked, job),
             None => return Ok(()),
         }
         if wants_memory(worked) {
@@ -110,6 +116,7 @@ fn read_all<'a, R: Wait, O: ProbeOrder, G: Gate>(
 
 /// Puts an end, and tries again while the queue is full.
 fn put_end<R: Wait>(rt: &R, desk: &mut Desk<'_, '_>)
+    requires { desk.old.writes ≡ true }
     ensures { desk.new ≡ putting desk.old item.End }
 {
     for _ in rt.forever() {
@@ -122,6 +129,7 @@ fn put_end<R: Wait>(rt: &R, desk: &mut Desk<'_, '_>)
 
 /// Puts an end for each worker, and no other item.
 pub(crate) fn close<R: Wait>(rt: &R, desk: &mut Desk<'_, '_>, workers: usize)
+    requires { desk.old.writes ≡ true }
     ensures { desk.new ≡ record desk.old { ends_put = desk.old.ends_put + workers } }
 {
     for _ in 0..workers {
@@ -129,56 +137,37 @@ pub(crate) fn close<R: Wait>(rt: &R, desk: &mut Desk<'_, '_>, workers: usize)
     }
 }
 
-/// What the thread that reads has come to.
+/// What the thread that reads has come to, with its desk and pass.
 #[derive(Drop)]
-pub(crate) struct Reading {
+pub(crate) struct Reading<'q, 'a, 't, O: ProbeOrder, G: Gate> {
     pub worked: Worked,
     pub report: Report,
     pub fault: Option<HarvestFault>,
+    pub own: Worker<'q, 'a, 't, O, G>,
 }
 
 /// Reads all games and puts an end for each worker that was started. It waits for the workers.
-pub(crate) fn read_games<'a, R: Wait, O: ProbeOrder, G: Gate>(
+pub(crate) fn read_games<'q, 'a, 't, R: Wait, O: ProbeOrder, G: Gate>(
     rt: &R,
     alloc: Global,
     games: Games<'a>,
-    desk: &mut Desk<'_, 'a>,
-    kinds: Kinds,
-    table: &SlotTable<O>,
-    pass: &mut Pass<O>,
-    gate: &G,
+    own: Worker<'q, 'a, 't, O, G>,
     workers: usize,
-) -> Reading
-    requires pass { IsPassOf (2 ^ O.exponent table.now.order) table.now pass.old }
-    requires step { IsInStep games desk.old }
-    ensures pass { IsPassOf (2 ^ O.exponent table.now.order) table.now pass.new }
-    ensures worker { result.worked.share.worker ≡ 0 }
-    ensures worked { IsWorked games.entry.bytes kinds result.worked.share }
-    ensures refused { IsRefused games.entry.bytes kinds result.worked.refused }
-    ensures all { IfNone result.fault (HasReadAll games.entry.bytes result.report) }
-    ensures dealt { IfNone result.fault (AreDealt games.entry.report.games result.report.games
-        desk.new result.worked) }
-    ensures ends { desk.new.ends_put ≡ desk.old.ends_put + workers }
-    ensures fault { IfSome result.fault (IsReadFault games.entry.bytes) }
+) -> Reading<'q, 'a, 't, O, G>
+    requires pass { IsPassOf (2 ^ O.exponent own.table.now.order) own.table.now own.pass }
+    requires step { IsInStep games own.desk }
+    requires none { (games.report.games ≡ 0) × (own.desk.put ≡ []) }
+    ensures { IsReadingOf O.exponent games.entry.bytes own.entry result }
 {
     let mut games = games;
-    let mut worked = Worked::begin_among(alloc, 0, workers, kinds);
-    let alone = workers == 0;
-    let outcome = read_all(
-        rt,
-        alloc,
-        &mut games,
-        desk,
-        &mut worked,
-        table,
-        pass,
-        gate,
-        alone,
-    );
-    close(rt, desk, workers);
+    let mut own = own;
+    let mut worked = Worked::begin_among(alloc, 0, workers, own.kinds);
+    let outcome = read_all(rt, alloc, &mut games, &mut own, &mut worked);
+    close(rt, &mut own.desk, workers);
     Reading {
         worked,
         report: games.report(),
         fault: outcome.err(),
+        own,
     }
 }

@@ -1,224 +1,232 @@
 //! The thread that reads and the workers beside it.
-ghost use Rattle.std.specs.Prelude.{◌≡◌, ◌+◌, ◌++◌, ◌∷◌, ◌^◌, [], All, Contains, length, IfOk};
-ghost use Rattle.job_core.specs.Games.{HasReadAll};
-ghost use Rattle.job_core.specs.Inner.Rule.{IsInStep};
+ghost use Rattle.std.specs.Prelude.{◌≡◌, ◌≢◌, ◌+◌, ◌^◌, ◌++◌, ◌∷◌, [], ℕ, List, All, length};
+ghost use Rattle.std.specs.Prelude.{IfOk, Some};
+ghost use Rattle.std.specs.List.{AllByRecursion};
 ghost use Rattle.slot_table.specs.Passes.{IsPassOf};
-ghost use Rattle.harvest_core.specs.Inner.Working.{IsWorkOf};
-ghost use Rattle.harvest_core.specs.Inner.Crew.{IsHandleOf, IsReadingOf, IsCrop};
-ghost use Rattle.harvest_core.specs.Inner.Crew.{workers_of, promised_of};
+ghost use Rattle.job_core.specs.Inner.Rule.{IsInStep};
 ghost use Rattle.share_core.specs.declared.faults.HarvestFault.TheVariants as fault;
+ghost use Rattle.harvest_core.specs.Inner.Reading.{IsReadingOf};
+ghost use Rattle.slot_table.specs.Stakes.{IsAsMuch, halved, half_of};
+ghost use Rattle.harvest_core.specs.Inner.Crew.{IsHandleOf, IsBackOf, IsCrop, IsJoinable};
+ghost use Rattle.harvest_core.specs.Inner.Crew.{stakes_of, stakes_back};
+ghost use Rattle.harvest_core.specs.Inner.Crew.{promised_of, numbers_back, workers_of};
 
 use crate::gates::Gate;
 use crate::reading::{Reading, close, read_games};
-use crate::working::{Worked, work_among};
+use crate::taking::{Crop, take_up};
+use crate::workers::{Returned, Worker, work};
+use crate::working::Worked;
 use job_core::{Desk, Games};
 use probe_core::ProbeOrder;
 use shape_core::Kinds;
 use share_core::HarvestFault;
-use slot_table::{Pass, SlotTable};
+use slot_table::{Pass, SlotTable, laws};
 use std::alloc::{AllocError, Global};
+use std::snapshot::Snapshot;
 use std::sync::Wait;
 use std::thread;
 use std::thread::{Promise, PromisedHandle, Threads};
-use tally_core::Report;
 
-/// What one thread works with: its desk at the queue, the table with a pass, and the gate.
-#[derive(Drop)]
-pub(crate) struct Bench<'q, 'a, 't, O: ProbeOrder, G: Gate> {
-    pub desk: Desk<'q, 'a>,
-    pub table: &'t SlotTable<O>,
-    pub pass: Pass<O>,
-    pub gate: &'t G,
-    pub worker: usize,
-    /// How many workers there are, beside the thread that reads.
-    pub workers: usize,
-    pub kinds: Kinds,
-}
-
-impl<'q, 'a, 't, O: ProbeOrder, G: Gate> Bench<'q, 'a, 't, O, G> {
-    ghost use Rattle.std.specs.Prelude.{◌≡◌, ◌^◌};
-    ghost use Rattle.slot_table.specs.Passes.{IsPassOf};
-    ghost use Rattle.harvest_core.specs.Inner.Working.{IsWorkOf};
-
-    /// Draws and counts to the first end.
-    fn work<R: Wait>(self, rt: &R, alloc: Global) -> Worked
-        requires { IsPassOf (2 ^ O.exponent self.table.now.order) self.table.now self.pass }
-        ensures work { IsWorkOf self.entry.desk.bytes self.entry.kinds result }
-        ensures worker { result.share.worker ≡ self.entry.worker }
-    {
-        let Bench {
-            desk,
-            table,
-            pass,
-            gate,
-            worker,
-            workers,
-            kinds,
-        } = self;
-        let mut desk = desk;
-        let mut pass = pass;
-        work_among(
-            rt, alloc, &mut desk, worker, workers, kinds, table, &mut pass, gate,
-        )
-    }
-}
-
-/// What the thread that reads works with: the games of the input, and its own bench.
+/// What the thread that reads works with: the games of the input, what it counts with itself, and
+/// the pass as it was before a part of it went to workers, for the proof alone.
 #[derive(Drop)]
 pub(crate) struct Crew<'q, 'a, 't, O: ProbeOrder, G: Gate> {
     pub games: Games<'a>,
-    pub bench: Bench<'q, 'a, 't, O, G>,
+    pub own: Worker<'q, 'a, 't, O, G>,
+    pub begun: Snapshot<Pass<O>>,
+}
+
+/// What a worker was before it began: it promises to hand back what `work` does.
+#[derive(Drop)]
+pub(crate) struct BackTo<'q, 'a, 't, O: ProbeOrder> {
+    table: &'t SlotTable<O>,
+    kinds: Kinds,
+    number: usize,
+    desk: Snapshot<Desk<'q, 'a>>,
+    pass: Snapshot<Pass<O>>,
+}
+
+impl<'q, 'a, 't, O: ProbeOrder> Promise<Returned<'q, 'a, O>> for BackTo<'q, 'a, 't, O> {
+    ghost use Rattle.std.specs.Prelude.{◌≡◌};
+    ghost use Rattle.harvest_core.specs.Working.{IsReturned};
+
+    ghost kept_by = { λ p r. IsReturned O.exponent p.table.now p.kinds p.number p.desk.value
+        p.pass.value r };
+}
+
+/// What a worker promises.
+fn back_to<'q, 'a, 't, O: ProbeOrder, G: Gate>(
+    worker: &Worker<'q, 'a, 't, O, G>,
+) -> BackTo<'q, 'a, 't, O>
+    ensures table { result.table.now ≡ worker.now.table.now }
+    ensures kinds { result.kinds ≡ worker.now.kinds }
+    ensures number { result.number ≡ worker.now.number }
+    ensures desk { result.desk.value ≡ worker.now.desk }
+    ensures pass { result.pass.value ≡ worker.now.pass }
+{
+    BackTo {
+        table: worker.table,
+        kinds: worker.kinds,
+        number: worker.number,
+        desk: Snapshot::of(&worker.desk),
+        pass: Snapshot::of(&worker.pass),
+    }
+}
+
+/// What was split off stays the whole with what is left.
+fn splits_lose_no_stake()
+    ensures { (stake given whole : List ℕ) → IsAsMuch (stake ++ given) whole
+        → IsAsMuch (halved stake ++ (given ++ half_of stake)) whole }
+{
+    laws::a_split_loses_no_stake();
+    laws::stakes_add_up();
 }
 
 impl<'q, 'a, 't, O: ProbeOrder, G: Gate> Crew<'q, 'a, 't, O, G> {
-    ghost use Rattle.std.specs.Prelude.{◌≡◌, ◌^◌, [], IfNone, IfSome};
+    ghost use Rattle.std.specs.Prelude.{◌≡◌, ◌-◌, ◌<◌, ◌^◌};
     ghost use Rattle.slot_table.specs.Passes.{IsPassOf};
-    ghost use Rattle.job_core.specs.Games.{HasReadAll};
-    ghost use Rattle.harvest_core.specs.Inner.Working.{IsWorkOf};
-    ghost use Rattle.harvest_core.specs.Inner.Reading.{IsReadFault};
-    ghost use Rattle.harvest_core.specs.Inner.Crew.{IsCrew, IsBenchOf};
+    ghost use Rattle.slot_table.specs.Stakes.{halved, half_of};
+    ghost use Rattle.harvest_core.specs.Inner.Crew.{IsFresh};
 
-    /// A bench for a worker, beside this one.
-    fn another(&mut self, worker: usize) -> Bench<'q, 'a, 't, O, G>
-        requires { IsCrew O.exponent self.old }
-        ensures same { IsCrew O.exponent self.new × (self.new.games.bytes ≡ self.old.games.bytes)
-            × (self.new.bench.kinds ≡ self.old.bench.kinds) }
-        ensures theirs { IsBenchOf O.exponent self.old.games.bytes self.old.bench.kinds result }
-        ensures number { result.worker ≡ worker }
+    /// Nothing was read, and no worker was started.
+    pub(crate) fn begin(games: Games<'a>, own: Worker<'q, 'a, 't, O, G>) -> Crew<'q, 'a, 't, O, G>
+        ensures games { result.games ≡ games.entry }
+        ensures own { result.own ≡ own.entry }
+        ensures begun { result.begun.value ≡ own.entry.pass }
     {
-        Bench {
-            desk: self.bench.desk.another(),
-            table: self.bench.table,
-            pass: self.bench.table.split(&mut self.bench.pass),
-            gate: self.bench.gate,
-            worker,
-            workers: self.bench.workers,
-            kinds: self.bench.kinds,
+        let begun = Snapshot::of(&own.pass);
+        Crew { games, own, begun }
+    }
+
+    /// A worker beside this thread, with a part of its desk and of its pass.
+    fn another(&mut self, number: usize) -> Worker<'q, 'a, 't, O, G>
+        requires pass { IsPassOf (2 ^ O.exponent self.old.own.table.now.order)
+            self.old.own.table.now self.old.own.pass }
+        requires parts { 1 < self.old.own.desk.parts }
+        ensures same { self.new ≡ record self.old { own = record self.old.own {
+          desk = record self.old.own.desk { parts = self.old.own.desk.parts - 1 };
+          pass = record self.old.own.pass { stake = halved self.old.own.pass.stake };
+        } } }
+        ensures still { IsPassOf (2 ^ O.exponent self.old.own.table.now.order)
+            self.old.own.table.now self.new.own.pass }
+        ensures theirs { IsFresh O.exponent self.old.own.table.now self.old.own.desk.queue
+            self.old.own.desk.bytes result.desk result.pass }
+        ensures table { result.table.now ≡ self.old.own.table.now }
+        ensures kinds { result.kinds ≡ self.old.own.kinds }
+        ensures number { result.number ≡ number }
+        ensures stake { result.pass.stake ≡ half_of self.old.own.pass.stake }
+    {
+        Worker {
+            desk: self.own.desk.another(),
+            table: self.own.table,
+            pass: self.own.table.split(&mut self.own.pass),
+            gate: self.own.gate,
+            number,
+            workers: self.own.workers,
+            kinds: self.own.kinds,
         }
     }
+}
 
-    /// Reads all games, beside this number of workers.
-    fn read<R: Wait>(self, rt: &R, alloc: Global, workers: usize) -> Reading
-        requires { IsCrew O.exponent self }
-        ensures worked { IsWorkOf self.entry.games.bytes self.entry.bench.kinds result.worked }
-        ensures worker { result.worked.share.worker ≡ 0 }
-        ensures all { IfNone result.fault (HasReadAll self.entry.games.bytes result.report) }
-        ensures fault { IfSome result.fault (IsReadFault self.entry.games.bytes) }
-    {
-        let Crew { games, bench } = self;
-        let Bench {
-            desk,
-            table,
-            pass,
-            gate,
-            worker: _,
-            workers: _,
-            kinds,
-        } = bench;
-        let mut pass = pass;
-        let mut desk = desk;
-        read_games(
-            rt, alloc, games, &mut desk, kinds, table, &mut pass, gate, workers,
-        )
+/// Reads all games beside the workers that were started. Where these are fewer than were asked for,
+/// that is want of memory, and nothing is read: the workers are told to end.
+fn finish<'q, 'a, 't, R: Wait, O: ProbeOrder, G: Gate>(
+    rt: &R,
+    alloc: Global,
+    games: Games<'a>,
+    own: Worker<'q, 'a, 't, O, G>,
+    started: usize,
+) -> Reading<'q, 'a, 't, O, G>
+    requires pass { IsPassOf (2 ^ O.exponent own.table.now.order) own.table.now own.pass }
+    requires step { IsInStep games own.desk }
+    requires none { (games.report.games ≡ 0) × (own.desk.put ≡ []) }
+    ensures reading { IsReadingOf O.exponent games.entry.bytes own.entry result }
+    ensures asked { started ≢ own.entry.workers → result.fault ≡ Some fault.Memory }
+{
+    if started == own.workers {
+        return read_games(rt, alloc, games, own, started);
     }
-}
-
-/// Of which input, kinds and worker a worker's result is.
-#[derive(Clone, Copy)]
-struct WorkOf<'a> {
-    bytes: &'a [u8],
-    kinds: Kinds,
-    worker: usize,
-}
-
-impl<'a> Promise<Worked> for WorkOf<'a> {
-    ghost use Rattle.std.specs.Prelude.{◌≡◌};
-    ghost use Rattle.harvest_core.specs.Inner.Working.{IsWorkOf};
-
-    ghost kept_by = { λ p r. IsWorkOf p.bytes.now p.kinds r × (r.share.worker ≡ p.worker) };
-}
-
-/// What all threads came to.
-#[derive(Drop)]
-pub(crate) struct Crop {
-    pub worked: Vec<Worked>,
-    pub report: Report,
-    pub fault: Option<HarvestFault>,
+    let mut own = own;
+    close(rt, &mut own.desk, started);
+    Reading {
+        worked: Worked::begin(alloc, 0, own.kinds),
+        report: games.report(),
+        fault: Some(HarvestFault::Memory),
+        own,
+    }
 }
 
 /// Waits for all workers, and takes what they hand back, in their order.
-fn theirs<'a, R: Threads>(
+fn theirs<'q, 'a, 't, R: Threads, O: ProbeOrder, G: Gate>(
     rt: &R,
-    of: WorkOf<'a>,
-    handles: Vec<PromisedHandle<Worked, WorkOf<'a>>>,
-) -> Result<Vec<Worked>, AllocError>
-    requires { All (IsHandleOf of.bytes.now of.kinds) handles.items }
-    ensures work { IfOk result (λ all. All (IsWorkOf of.entry.bytes.now of.entry.kinds) all.items) }
+    own: &Worker<'q, 'a, 't, O, G>,
+    handles: Vec<PromisedHandle<Returned<'q, 'a, O>, BackTo<'q, 'a, 't, O>>>,
+) -> Result<Vec<Returned<'q, 'a, O>>, AllocError>
+    requires { All (IsHandleOf O.exponent own.now.table.now own.now.desk.queue own.now.desk.bytes
+        own.now.kinds) handles.items }
+    ensures back { IfOk result (λ all. AllByRecursion (IsBackOf O.exponent own.now.table.now
+        own.now.desk.queue own.now.desk.bytes own.now.kinds) all.items) }
     ensures each { IfOk result (λ all. length all.items ≡ length handles.entry.items) }
-    ensures workers { IfOk result (λ all. workers_of all.items ≡ promised_of handles.entry.items) }
+    ensures stakes { IfOk result (λ all. stakes_back all.items ≡ stakes_of handles.entry.items) }
+    ensures numbers { IfOk result (λ all. numbers_back all.items
+        ≡ promised_of handles.entry.items) }
 {
-    Ok(thread::join_promised(rt, handles)?)
+    let _ = own;
+    match thread::join_promised(rt, handles) {
+        Ok(all) => Ok(all),
+        Err(_refused) => Err(AllocError),
+    }
 }
 
-/// Waits for all workers, and puts what the thread that reads has come to beside what they hand
-/// back.
-fn joined<'a, R: Threads>(
+/// Waits for all workers, takes up what they hand back, and puts what the thread that reads has
+/// come to beside it.
+fn joined<'q, 'a, 't, R: Threads, O: ProbeOrder, G: Gate>(
     rt: &R,
-    of: WorkOf<'a>,
-    own: Reading,
-    handles: Vec<PromisedHandle<Worked, WorkOf<'a>>>,
-) -> Result<Crop, AllocError>
-    requires handles { All (IsHandleOf of.bytes.now of.kinds) handles.items }
-    requires own { IsReadingOf of.bytes.now of.kinds own }
-    ensures crop { IfOk result (IsCrop of.entry.bytes.now of.entry.kinds) }
-    ensures fault { IfOk result (λ crop. crop.fault ≡ own.fault) }
-    ensures mine { IfOk result (λ crop. Contains crop.worked.items own.worked) }
+    alloc: Global,
+    begun: Snapshot<Pass<O>>,
+    reading: Reading<'q, 'a, 't, O, G>,
+    handles: Vec<PromisedHandle<Returned<'q, 'a, O>, BackTo<'q, 'a, 't, O>>>,
+) -> Result<Crop<O>, AllocError>
+    requires handles { All (IsHandleOf O.exponent reading.own.table.now reading.own.desk.queue
+        reading.own.desk.bytes reading.own.kinds) handles.items }
+    requires reading { IsJoinable O.exponent begun.value.stake (stakes_of handles.items)
+        (length handles.items) reading }
+    ensures crop { IfOk result (IsCrop O.exponent reading.entry.own.table.now
+        reading.entry.own.desk.bytes reading.entry.own.kinds begun.value.stake) }
+    ensures fault { IfOk result (λ crop. crop.fault ≡ reading.entry.fault) }
     ensures each { IfOk result (λ crop. length crop.worked.items
         ≡ length handles.entry.items + 1) }
     ensures workers { IfOk result (λ crop. workers_of crop.worked.items
-        ≡ promised_of handles.entry.items ++ own.worked.share.worker ∷ []) }
+        ≡ promised_of handles.entry.items ++ reading.entry.worked.share.worker ∷ []) }
 {
-    let mut worked = theirs(rt, of, handles)?;
+    let _ = begun;
     let Reading {
         worked: mine,
         report,
         fault,
-    } = own;
+        own,
+    } = reading;
+    let mut own = own;
+    let all = theirs(rt, &own, handles)?;
+    let mut worked = Vec::new(alloc);
+    take_up(&mut own, &mut worked, all)?;
+    if fault.is_none() {
+        own.desk.settle();
+    }
     worked.push(mine)?;
     Ok(Crop {
         worked,
         report,
         fault,
+        pass: own.pass,
     })
 }
 
 impl<'q, 'a, 't, O: ProbeOrder, G: Gate> Crew<'q, 'a, 't, O, G> {
-    ghost use Rattle.std.specs.Prelude.{◌≡◌, ◌≢◌, ◌^◌, IfOk};
-    ghost use Rattle.share_core.specs.declared.faults.HarvestFault.TheVariants as fault;
+    ghost use Rattle.std.specs.Prelude.{◌^◌, [], IfOk};
     ghost use Rattle.slot_table.specs.Passes.{IsPassOf};
-    ghost use Rattle.harvest_core.specs.Inner.Working.{IsWorkOf};
-    ghost use Rattle.harvest_core.specs.Inner.Crew.{IsCrew, IsReadingOf, IsCrop, AreAsked};
-
-    /// Reads all games beside the workers that were started. Where these are fewer than were asked
-    /// for, that is want of memory, and nothing is read: the workers are told to end.
-    fn finish<R: Wait>(self, rt: &R, alloc: Global, started: usize, asked: usize) -> Reading
-        requires { IsCrew O.exponent self }
-        ensures reading { IsReadingOf self.entry.games.bytes self.entry.bench.kinds result }
-        ensures worker { result.worked.share.worker ≡ 0 }
-        ensures asked { started ≢ asked → result.fault ≡ Some fault.Memory }
-    {
-        if started == asked {
-            return self.read(rt, alloc, started);
-        }
-        let Crew { games, bench } = self;
-        let mut desk = bench.desk;
-        close(rt, &mut desk, started);
-        Reading {
-            worked: Worked::begin(alloc, 0, bench.kinds),
-            report: games.report(),
-            fault: Some(HarvestFault::Memory),
-        }
-    }
+    ghost use Rattle.harvest_core.specs.Working.{IsReturned};
+    ghost use Rattle.harvest_core.specs.Inner.Crew.{IsCrew, IsCrop, AreAsked};
 
     /// Starts workers, reads all games, and waits for the workers. All that were asked for have
     /// counted, in the order of their numbers, or the fault is want of memory.
@@ -226,60 +234,53 @@ impl<'q, 'a, 't, O: ProbeOrder, G: Gate> Crew<'q, 'a, 't, O, G> {
         self,
         rt: &R,
         alloc: Global,
-        bytes: &'a [u8],
-        workers: usize,
-    ) -> Result<Crop, AllocError>
+    ) -> Result<Crop<O>, AllocError>
     where
         O: Send + Sync,
-        requires crew { IsCrew O.exponent self }
-        requires bytes { self.games.bytes ≡ bytes.now }
-        ensures crop { IfOk result (IsCrop bytes.now self.entry.bench.kinds) }
-        ensures workers { IfOk result (AreAsked workers) }
+        requires crew { IsCrew O.exponent self.own.table.now self.own.desk.queue self.games.bytes
+            self.own.kinds [] 0 self }
+        ensures crop { IfOk result (IsCrop O.exponent self.entry.own.table.now
+            self.entry.games.bytes self.entry.own.kinds self.entry.begun.value.stake) }
+        ensures workers { IfOk result (AreAsked self.entry.own.workers) }
     {
         let crew = self;
-        let of = WorkOf {
-            bytes,
-            kinds: crew.bench.kinds,
-            worker: 0,
-        };
         thread::scope(
             thread::scope_env(),
             rt,
-            move |scope| -> Result<Crop, AllocError>
-                requires { IsCrew O.exponent crew × (crew.games.bytes ≡ of.bytes.now)
-                    × (crew.bench.kinds ≡ of.kinds) }
-                ensures crop { IfOk result (IsCrop of.entry.bytes.now of.entry.kinds) }
-                ensures workers { IfOk result (AreAsked workers) }
+            move |scope| -> Result<Crop<O>, AllocError>
+                requires { IsCrew O.exponent crew.own.table.now crew.own.desk.queue
+                    crew.games.bytes crew.own.kinds [] 0 crew }
+                ensures crop { IfOk result (IsCrop O.exponent crew.entry.own.table.now
+                    crew.entry.games.bytes crew.entry.own.kinds crew.entry.begun.value.stake) }
+                ensures workers { IfOk result (AreAsked crew.entry.own.workers) }
             {
                 let mut crew = crew;
                 let mut started = 0;
                 let mut handles = Vec::new(alloc);
-                for _ in 0..workers {
+                for _ in 0..crew.own.workers {
                     if handles.reserve(1).is_err() {
                         break;
                     }
-                    let number = started + 1;
-                    let promise = WorkOf {
-                        worker: number,
-                        ..of
-                    };
-                    let bench = crew.another(number);
-                    let worker = move || -> Worked
-                        requires { IsPassOf (2 ^ O.exponent bench.table.now.order) bench.table.now
-                            bench.pass }
-                        ensures { IsWorkOf bench.entry.desk.bytes bench.entry.kinds result
-                            × (result.share.worker ≡ bench.entry.worker) }
-                    { bench.work(rt, alloc) };
-                    match scope.spawn_with(promise, worker) {
+                    splits_lose_no_stake();
+                    let worker = crew.another(started + 1);
+                    let promise = back_to(&worker);
+                    let task = move || -> Returned<'_, '_, O>
+                        requires { IsPassOf (2 ^ O.exponent worker.table.now.order)
+                            worker.table.now worker.pass }
+                        ensures { IsReturned O.exponent worker.entry.table.now worker.entry.kinds
+                            worker.entry.number worker.entry.desk worker.entry.pass result }
+                    { work(rt, alloc, worker) };
+                    match scope.spawn_with(promise, task) {
                         Ok(handle) => {
                             handles.push_reserved(handle);
-                            started = number;
+                            started += 1;
                         }
                         Err(_refused) => break,
                     }
                 }
-                let own = crew.finish(rt, alloc, started, workers);
-                joined(rt, of, own, handles)
+                let Crew { games, own, begun } = crew;
+                let reading = finish(rt, alloc, games, own, started);
+                joined(rt, alloc, begun, reading, handles)
             },
         )
     }

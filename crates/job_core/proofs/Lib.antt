@@ -1,4 +1,6 @@
 pub mod Orders
+pub mod Sums
+mod Accounts
 mod Rules
 mod Reports
 pub mod OneGame

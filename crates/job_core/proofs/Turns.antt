@@ -11,11 +11,11 @@ use Rattle.job_core.proofs.Orders.{past_on, rising_end, rising_down}
 
 -- the next game was put
 pub in_step_put : (before after : Reading) (v w : Hand) (job : WrittenGame) → after.bytes ≡ before.bytes → IsInStep before v → IsNextGame before after job → w ≡ putting v (Job job) → IsInStep after w
-in_step_put before after v w job same h next is = subst (λ (u : Hand). IsInStep after u) (sym is) (h.0, same ∙ h.1, omega (arith, past_on v.put job.game, next.game, next.counted))
+in_step_put before after v w job same h next is = subst (λ (u : Hand). IsInStep after u) (sym is) (h.0, same ∙ h.1, omega (arith, past_on v.put job.game, next.game, next.counted), h.3)
 
 -- the next game came back
 pub in_step_back : (before after : Reading) (v : Hand) (job : WrittenGame) → after.bytes ≡ before.bytes → IsInStep before v → IsNextGame before after job → IsInStep after v
-in_step_back before after v job same h next = (h.0, same ∙ h.1, omega (arith, h.2, next.counted))
+in_step_back before after v job same h next = (h.0, same ∙ h.1, omega (arith, h.2, next.counted), h.3)
 
 -- the games that were drawn in one call rise, and the next one too, whatever was drawn before it
 pub drawn_rises : (v : Hand) (before drawn : List ℕ) (job : WrittenGame) → v.drawn ≡ before ++ drawn → Draws v (Job job) → Rising 0 (drawn ++ job.game ∷ []) (suc job.game)

@@ -1,6 +1,8 @@
 pub mod Games
 pub mod Reading
 pub mod Rising
+pub mod Times
+pub mod Which
 pub mod Rule
 pub mod Queue
 pub mod Inner

@@ -1,26 +1,42 @@
--- What the passes of the queue know, and what is true of the queue.
-use Rattle.std.specs.Prelude.{◌≡◌, ℕ, ◌+◌, ◌≤◌, suc, Bool, true, false, List, [], ◌∷◌, ◌++◌, ⊤}
+-- What the passes of the queue know, and how that changes.
+use Rattle.std.specs.Prelude.{◌≡◌, ℕ, ◌+◌, ◌-◌, ◌≤◌, suc, true, false, List, [], ◌∷◌, ◌++◌, ⊤}
+use Rattle.atomic_table.specs.Seated.{TableId}
 use Rattle.job_core.specs.declared.jobs.Item.{Item}
 use Rattle.job_core.specs.declared.jobs.Item.TheVariants.{Job, End}
 use Rattle.job_core.specs.declared.hands.Hand.{Hand}
 use Rattle.job_core.specs.Rising.{Rising, past}
+use Rattle.job_core.specs.Which.{nowhere}
 
--- a pass that put and drew these games, and no end
-abbrev pub hand : Bool → Bool → List ℕ → List ℕ → List ℕ → Hand
-hand named writes bytes put drawn = record
-    { named = named; writes = writes; bytes = bytes; put = put; drawn = drawn; ends_put = 0; ends_drawn = 0 }
+-- how many parts the passes of a queue have, all together: a pass that has them all knows what every pass put and drew
+abbrev pub all_parts : ℕ
+all_parts = 1024
 
--- the pass of a new queue, which names no input yet
+-- the pass of a new queue, with all parts, which names no input yet
 abbrev pub blank : Hand
-blank = hand false false [] [] []
+blank = record {
+  queue = nowhere;
+  parts = all_parts;
+  named = false;
+  writes = false;
+  bytes = [];
+  put = [];
+  drawn = [];
+  taken = [];
+  ends_put = 0;
+  ends_drawn = 0;
+}
 
--- the reader's pass, which put the jobs of these games
-abbrev pub reader : List ℕ → List ℕ → Hand
-reader bytes put = hand true true bytes put []
+-- a pass without parts: it put and drew nothing, and never will
+abbrev pub spent : Hand
+spent = record blank { parts = 0 }
 
--- a worker's pass, which drew the jobs of these games
-abbrev pub worker : List ℕ → List ℕ → Hand
-worker bytes drawn = hand true false bytes [] drawn
+-- the reader's pass, with all parts, which put the jobs of these games
+abbrev pub reader : TableId → List ℕ → List ℕ → Hand
+reader queue bytes put = record blank { queue = queue; named = true; writes = true; bytes = bytes; put = put }
+
+-- a worker's pass, with one part, which drew the jobs of these games
+abbrev pub worker : TableId → List ℕ → List ℕ → Hand
+worker queue bytes drawn = record blank { queue = queue; parts = 1; named = true; bytes = bytes; drawn = drawn }
 
 -- what a pass knows once it put this
 abbrev pub putting : Hand → Item → Hand
@@ -32,12 +48,24 @@ abbrev pub drawing : Hand → Item → Hand
 drawing v (Job job) = record v { drawn = v.drawn ++ job.game ∷ [] }
 drawing v End = record v { ends_drawn = v.ends_drawn + 1 }
 
+-- what a pass knows once it gave a part away
+abbrev pub lending : Hand → Hand
+lending v = record v { parts = v.parts - 1 }
+
+-- what a pass knows once it took up another, which put nothing: the parts of both, and what both drew
+abbrev pub taking_up : Hand → Hand → Hand
+taking_up v w = record v {
+  parts = v.parts + w.parts;
+  taken = v.taken ++ (w.drawn ++ w.taken);
+  ends_drawn = v.ends_drawn + w.ends_drawn;
+}
+
 -- a job that is drawn holds the input, and its game is above all that the pass drew
 abbrev pub Draws : Hand → Item → Type 0
 Draws v (Job job) = (job.bytes ≡ v.bytes) × Rising 0 (v.drawn ++ job.game ∷ []) (suc job.game)
 Draws v End = ⊤
 
--- the reader may put a job of the input whose game is above all that it put; each pass may put an end
+-- the reader alone puts, jobs before ends: a job of the input whose game is above all that it put, and then ends
 abbrev pub MayPut : Hand → Item → Type 0
-MayPut v (Job job) = (v.writes ≡ true) × (job.bytes ≡ v.bytes) × (past v.put ≤ job.game)
-MayPut v End = ⊤
+MayPut v (Job job) = (v.writes ≡ true) × (job.bytes ≡ v.bytes) × (past v.put ≤ job.game) × (v.ends_put ≡ 0)
+MayPut v End = v.writes ≡ true

@@ -2,25 +2,46 @@
 ghost use Rattle.std.specs.Prelude.{◌≡◌, ⊤};
 
 use crate::jobs::Item;
-use crossbeam_queue::protocol::{Lesson, Outcome, Protocol, Split};
+use crossbeam_queue::protocol::{Join, Lesson, Outcome, Protocol, Split};
 use crossbeam_queue::{Pass, RuledArrayQueue};
 use std::collections::LinkedList;
-use std::marker::{Brand, PhantomData};
+use std::marker::{Brand, Model, PhantomData};
 
-/// What a pass knows: the input, once it is named, the games that it put, if it may put any, and
-/// those that it drew, and how many ends it put and drew. No value of it is made.
+/// Which queue of jobs it is. No value of it is made.
+pub struct QueueName;
+
+impl Model for QueueName {
+    ghost use Rattle.atomic_table.specs.Seated.{TableId, table_id_coded};
+    ghost use Rattle.job_core.specs.Which.{nowhere};
+
+    ghost Value = { TableId };
+
+    ghost coded = { table_id_coded };
+
+    ghost view = { λ _. nowhere };
+}
+
+/// What a pass knows: the queue and the input, once they are named; its parts of the right to know
+/// all that was put and drawn; the games that it put, if it may put any, and those that it drew;
+/// those that passes drew which it took up, in no order; how many ends it put, and how many it and
+/// those drew. No value of it is made.
 pub struct Hand {
+    pub queue: QueueName,
+    pub parts: u64,
     pub named: bool,
     pub writes: bool,
     pub bytes: LinkedList<u8>,
     pub put: LinkedList<u64>,
     pub drawn: LinkedList<u64>,
+    pub taken: LinkedList<u64>,
     pub ends_put: u64,
     pub ends_drawn: u64,
 }
 
 /// The rule of the queue: all passes name the same input, each queued job holds it, the queued
 /// games rise, each is above every game that was drawn, and none is above the last that was put.
+/// Nothing is lost: what was put was drawn or is queued, by the parts of all passes together, and
+/// no job stands behind an end.
 pub struct InTurn;
 
 impl<'a> Protocol<Item<'a>, Hand> for InTurn {
@@ -66,41 +87,68 @@ impl<'a> Lesson<Item<'a>, Hand> for Takes {
     ghost fact = { λ v items. ⊤ };
 }
 
-/// An input, for the proof alone.
+/// What the pass learns that has all parts.
+pub(crate) struct Settles;
+
+impl<'a> Lesson<Item<'a>, Hand> for Settles {
+    ghost use Rattle.job_core.specs.Inner.Rule.{IsSettled};
+
+    ghost fact = { λ v items. IsSettled v };
+}
+
+/// A queue and an input, for the proof alone.
 pub(crate) trait Input {
     ghost use Rattle.std.specs.Prelude.{ℕ, List};
+    ghost use Rattle.atomic_table.specs.Seated.{TableId};
+
+    ghost queue: { TableId };
 
     ghost bytes: { List ℕ };
 }
 
 impl Input for Brand {
     ghost use Rattle.std.specs.Prelude.{[]};
+    ghost use Rattle.job_core.specs.Which.{nowhere};
+
+    ghost queue = { nowhere };
 
     ghost bytes = { [] };
 }
 
-/// The first pass becomes the reader's, of this input, and a worker's comes beside it.
+/// The first pass becomes the reader's, of this queue and input; one comes beside it that has no
+/// part.
 pub(crate) struct Names<B> {
     input: PhantomData<B>,
 }
 
 impl<B: Input> Split<Hand> for Names<B> {
     ghost use Rattle.std.specs.Prelude.{[]};
-    ghost use Rattle.job_core.specs.Rule.{reader, worker};
+    ghost use Rattle.job_core.specs.Rule.{reader, spent};
 
-    ghost left = { λ v. reader B.bytes [] };
+    ghost left = { λ v. reader B.queue B.bytes [] };
 
-    ghost right = { λ v. worker B.bytes [] };
+    ghost right = { λ v. spent };
 }
 
-/// A worker's pass comes beside one that stays as it is.
+/// A part of a pass goes to a worker's.
 pub(crate) struct Cut;
 
 impl Split<Hand> for Cut {
     ghost use Rattle.std.specs.Prelude.{[]};
-    ghost use Rattle.job_core.specs.Rule.{worker};
+    ghost use Rattle.job_core.specs.Rule.{lending, worker};
 
-    ghost left = { λ v. v };
+    ghost left = { lending };
 
-    ghost right = { λ v. worker v.bytes [] };
+    ghost right = { λ v. worker v.queue v.bytes [] };
+}
+
+/// A pass is taken up by another, with its parts and what it drew.
+pub(crate) struct Joined;
+
+impl Join<Hand> for Joined {
+    ghost use Rattle.job_core.specs.Rule.{taking_up, spent};
+
+    ghost both = { taking_up };
+
+    ghost spent = { spent };
 }

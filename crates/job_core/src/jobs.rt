@@ -101,6 +101,6 @@ impl<'a> Job<'a> {
 pub enum Item<'a> {
     /// A game that is to be counted.
     Job(Job<'a>),
-    /// No job comes after it for the worker that draws it.
+    /// For the worker that draws it: no job comes after it.
     End,
 }

@@ -1,10 +1,15 @@
 //! The queue of jobs, as a reader and its workers call it.
-ghost use Rattle.std.specs.Prelude.{◌≡◌, ◌<◌, [], IfOk, IfErr, MatchOption, MatchResult};
+ghost use Rattle.std.specs.Prelude.{◌≡◌, ◌-◌, ◌<◌, ◌≤◌, ℕ, false, [], IfOk, IfErr};
+ghost use Rattle.std.specs.Prelude.{MatchOption, MatchResult};
 ghost use Rattle.crossbeam_queue.specs.Passes.{view, IsPassOf, IsSamePass, ruled_capacity};
 ghost use Rattle.tally_core.specs.declared.faults.HarvestFault.TheVariants as fault;
-ghost use Rattle.job_core.specs.Rule.{blank, reader, worker, putting, drawing, Draws, MayPut};
+ghost use Rattle.job_core.specs.Which.{id_of};
+ghost use Rattle.job_core.specs.Rule.{all_parts, blank, reader, spent, worker};
+ghost use Rattle.job_core.specs.Rule.{putting, drawing, taking_up, Draws, MayPut};
+ghost use Rattle.job_core.specs.Queue.{all_drawn};
+ghost use Rattle.job_core.specs.Times.{times_of};
 
-use crate::hands::{Cut, Hand, Input, Jobs, Names, Puts, Seat, Takes};
+use crate::hands::{Cut, Input, Jobs, Joined, Names, Puts, Seat, Settles, Takes};
 use crate::jobs::Item;
 use std::alloc::Global;
 use std::marker::{Brand, Model};
@@ -26,29 +31,37 @@ pub fn new_queue<'a>(alloc: Global, places: usize) -> Result<(Jobs<'a>, Seat<'a>
     Ok(Jobs::ruled(alloc, places)?)
 }
 
-/// Names the input.
+/// Names the queue and the input.
 fn name<'a, B: Input>(queue: &Jobs<'a>, pass: &mut Seat<'a>, bytes: &[u8]) -> Seat<'a>
+    requires queue { id_of queue.now ≡ B.queue }
     requires bytes { bytes.now ≡ B.bytes }
     requires pass { IsPassOf queue.now pass.old × (view pass.old ≡ blank) }
     ensures queue { IsSamePass pass.old pass.new × IsPassOf queue.now result }
-    ensures views { (view pass.new ≡ reader bytes.now []) × (view result ≡ worker bytes.now []) }
+    ensures views { (view pass.new ≡ reader (id_of queue.now) bytes.now [])
+        × (view result ≡ spent) }
 {
     queue.another::<Names<B>>(pass)
 }
 
-/// The first pass of a new queue becomes the reader's, of this input.
+/// The first pass of a new queue becomes the reader's, of this input. The pass that comes beside it
+/// has no part, so that nothing goes with it.
 fn open<'a>(queue: &Jobs<'a>, pass: &mut Seat<'a>, bytes: &[u8])
     requires pass { IsPassOf queue.now pass.old × (view pass.old ≡ blank) }
     ensures queue { IsSamePass pass.old pass.new }
-    ensures view { view pass.new ≡ reader bytes.now [] }
+    ensures view { view pass.new ≡ reader (id_of queue.now) bytes.now [] }
 {
-    let _worker = name::<Brand>(queue, pass, bytes);
+    let _spent = name::<Brand>(queue, pass, bytes);
 }
 
 /// A pass of a queue of jobs, beside its queue: the right of one thread to put or to draw.
 ///
-/// Contracts see what the pass knows: the `bytes` of the input, the games that it `put`, those that
-/// it has `drawn`, and how many ends it put and drew, `ends_put` and `ends_drawn`.
+/// Contracts see at which `queue` it is, and what the pass knows: its `parts`, the `bytes` of the
+/// input, whether it `writes`, the games that it `put`, those that it has `drawn`, those that were
+/// drawn at desks that it took up, `taken`, and how many ends it put and all these drew, `ends_put`
+/// and `ends_drawn`.
+///
+/// The parts of all desks of a queue are 1024, and each has one at least. A desk that is dropped
+/// takes its parts along, so a desk has all 1024 only where each that was made of it came back.
 #[derive(Drop)]
 pub struct Desk<'q, 'a> {
     queue: &'q Jobs<'a>,
@@ -56,36 +69,36 @@ pub struct Desk<'q, 'a> {
 }
 
 impl<'q, 'a> Model for Desk<'q, 'a> {
-    ghost use Rattle.std.specs.Prelude.{◌≡◌, true};
-    ghost use Rattle.crossbeam_queue.specs.Passes.{IsPassOf};
     ghost use Rattle.job_core.specs.declared.hands.Hand.{Hand};
-    ghost use Rattle.job_core.specs.Inner.Rule.{hand_of};
+    ghost use Rattle.job_core.specs.Inner.Rule.{hand_of, IsAtDesk};
 
     ghost Value = { Hand };
 
     ghost view = { λ desk. hand_of desk.pass };
 
-    ghost invariant = { λ desk. IsPassOf desk.queue.now desk.pass
-        × ((hand_of desk.pass).named ≡ true) };
+    ghost invariant = { λ desk. IsAtDesk desk.queue.now desk.pass };
 }
 
 impl<'q, 'a> Desk<'q, 'a> {
-    /// The reader's desk at a new queue, for the jobs of this input. It takes no memory.
+    /// The reader's desk at a new queue, for the jobs of this input, with all parts. It takes no
+    /// memory.
     ///
     /// The pass must be the first of the queue, and new.
     pub fn open(queue: &'q Jobs<'a>, pass: Seat<'a>, bytes: &'a [u8]) -> Desk<'q, 'a>
         requires { IsPassOf queue.now pass × (view pass ≡ blank) }
-        ensures { result ≡ reader bytes.now [] }
+        ensures { result ≡ reader (id_of queue.now) bytes.now [] }
     {
         let mut pass = pass;
         open(queue, &mut pass, bytes);
         Desk { queue, pass }
     }
 
-    /// A worker's desk at the same queue. It takes no memory.
+    /// A worker's desk at the same queue. It gets one part of this one, which must have more. It
+    /// takes no memory.
     pub fn another(&mut self) -> Desk<'q, 'a>
-        ensures same { self.new ≡ self.old }
-        ensures theirs { result ≡ worker self.old.bytes [] }
+        requires { 1 < self.old.parts }
+        ensures lent { self.new ≡ record self.old { parts = self.old.parts - 1 } }
+        ensures theirs { result ≡ worker self.old.queue self.old.bytes [] }
     {
         let pass = self.queue.another::<Cut>(&mut self.pass);
         Desk {
@@ -94,10 +107,21 @@ impl<'q, 'a> Desk<'q, 'a> {
         }
     }
 
+    /// A worker's desk at the same queue comes back: this one has the parts of both, and knows what
+    /// was drawn at both. It takes no memory.
+    pub fn take_up(&mut self, theirs: Desk<'q, 'a>)
+        requires queue { theirs.queue ≡ self.old.queue }
+        requires draws { theirs.writes ≡ false }
+        ensures { self.new ≡ taking_up self.old theirs.entry }
+    {
+        let Desk { queue: _, pass } = theirs;
+        self.queue.absorb::<Joined>(&mut self.pass, pass);
+    }
+
     /// Puts an item. It takes no memory, and may wait for a thread that is in the middle of a call.
     ///
-    /// A job is put by the reader alone, is of the input of the queue, and its game is above all
-    /// that were put.
+    /// The reader alone puts. A job is of the input of the queue, its game is above all that were
+    /// put, and no end was put before it.
     ///
     /// # Errors
     ///
@@ -119,5 +143,21 @@ impl<'q, 'a> Desk<'q, 'a> {
             (λ x. (self.new ≡ drawing self.old x) × Draws self.old x) }
     {
         self.queue.pop_as::<Takes, R>(rt, &mut self.pass)
+    }
+
+    /// What a desk with all parts knows of the whole queue: no game was drawn more often than it
+    /// was put, and once an end was drawn, each game was drawn just as often. It changes nothing,
+    /// and takes no memory.
+    pub fn settle(&mut self)
+        requires { self.old.parts ≡ all_parts }
+        ensures same { self.new ≡ self.old }
+        ensures all { 0 < self.old.ends_drawn → (game : ℕ)
+            → times_of self.old.put game ≡ times_of (all_drawn self.old) game }
+        ensures no_more { (game : ℕ)
+            → times_of (all_drawn self.old) game ≤ times_of self.old.put game }
+        ensures ends { self.old.ends_drawn ≤ self.old.ends_put }
+        ensures none { self.old.put ≡ [] → all_drawn self.old ≡ [] }
+    {
+        self.queue.learn_as::<Settles>(&mut self.pass);
     }
 }

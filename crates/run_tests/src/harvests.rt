@@ -1,9 +1,10 @@
 //! Small collections, counted by workers: always the dictionary that one thread counts.
-ghost use Rattle.std.specs.Prelude.{◌^◌};
+ghost use Rattle.std.specs.Prelude.{◌≡◌, ◌+◌, ◌-◌, ◌<◌, ◌^◌, []};
 ghost use Rattle.slot_table.specs.Passes.{IsPassOf};
+ghost use Rattle.job_core.specs.Rule.{worker};
 
 use crate::jobs::{put_until_full, puts_an_end};
-use harvest_core::{FreeGate, harvest, harvest_on, work};
+use harvest_core::{FreeGate, Returned, Worker, harvest, harvest_on, work};
 use job_core::{Desk, Games, new_queue};
 use probe_core::{Capacity, Linear, OddStep, ProbeOrder};
 use sgf_core::SgfFault;
@@ -133,34 +134,57 @@ fn any_order_of_probes_counts_the_same(rt: HostRuntime) -> Result<(), Fail> {
 }
 
 /// A worker draws to its end, and adds these games.
-fn draw_to_the_end<R: Abort + Wait, O: ProbeOrder>(
+fn draw_to_the_end<'q, 'a, R: Abort + Wait, O: ProbeOrder>(
     rt: &R,
     alloc: Global,
-    desk: &mut Desk<'_, '_>,
-    worker: usize,
-    table: &SlotTable<O>,
-    pass: &mut Pass<O>,
+    worker: Worker<'q, 'a, '_, O, FreeGate>,
     games: &[u64],
     moves: u64,
-)
-    requires { IsPassOf (2 ^ O.exponent table.now.order) table.now pass.old }
-    ensures { IsPassOf (2 ^ O.exponent table.now.order) table.now pass.new }
+) -> Returned<'q, 'a, O>
+    requires { IsPassOf (2 ^ O.exponent worker.table.now.order) worker.table.now worker.pass }
+    ensures pass { IsPassOf (2 ^ O.exponent worker.entry.table.now.order) worker.entry.table.now
+        result.pass }
+    ensures desk { result.desk ≡ record worker.entry.desk {
+      drawn = result.desk.drawn;
+      ends_drawn = worker.entry.desk.ends_drawn + 1;
+    } }
 {
-    let worked = work(
-        rt,
-        alloc,
-        desk,
-        worker,
-        Kinds::Squares,
-        table,
-        pass,
-        &FreeGate,
-    );
-    assert!(rt; worked.refused.is_none() && worked.share.games() == games);
-    assert!(rt; worked.share.worker() == worker && worked.share.moves() == moves);
+    let number = worker.number;
+    let back = work(rt, alloc, worker);
+    assert!(rt; back.worked.refused.is_none() && back.worked.share.games() == games);
+    assert!(rt; back.worked.share.worker() == number && back.worked.share.moves() == moves);
+    back
 }
 
-/// More workers draw to their ends, one after another, and no game is left for them.
+/// A worker beside these, who counts squares with a part of the desk and of the pass.
+fn worker_beside<'q, 'a, 't, O: ProbeOrder>(
+    desk: &mut Desk<'q, 'a>,
+    table: &'t SlotTable<O>,
+    pass: &mut Pass<O>,
+    number: usize,
+    workers: usize,
+) -> Worker<'q, 'a, 't, O, FreeGate>
+    requires pass { IsPassOf (2 ^ O.exponent table.now.order) table.now pass.old }
+    requires parts { 1 < desk.old.parts }
+    ensures still { IsPassOf (2 ^ O.exponent table.now.order) table.now pass.new }
+    ensures lent { desk.new ≡ record desk.old { parts = desk.old.parts - 1 } }
+    ensures desk { result.desk ≡ worker desk.old.queue desk.old.bytes [] }
+    ensures table { result.table.now ≡ table.now }
+    ensures pass { IsPassOf (2 ^ O.exponent table.now.order) table.now result.pass }
+{
+    Worker {
+        desk: desk.another(),
+        table,
+        pass: table.split(pass),
+        gate: &FreeGate,
+        number,
+        workers,
+        kinds: Kinds::Squares,
+    }
+}
+
+/// More workers draw to their ends, one after another, and no game is left for them. Their desks
+/// and passes come back.
 fn draw_ends<R: Abort + Wait, O: ProbeOrder>(
     rt: &R,
     alloc: Global,
@@ -169,11 +193,14 @@ fn draw_ends<R: Abort + Wait, O: ProbeOrder>(
     pass: &mut Pass<O>,
     workers: usize,
 )
-    requires { IsPassOf (2 ^ O.exponent table.now.order) table.now pass.old }
+    requires pass { IsPassOf (2 ^ O.exponent table.now.order) table.now pass.old }
+    requires parts { 1 < desk.old.parts }
 {
-    for worker in 1..workers {
-        let mut own = desk.another();
-        draw_to_the_end(rt, alloc, &mut own, worker, table, pass, &[], 0);
+    for number in 1..workers {
+        let worker = worker_beside(desk, table, pass, number, workers);
+        let back = draw_to_the_end(rt, alloc, worker, &[], 0);
+        desk.take_up(back.desk);
+        table.absorb(pass, back.pass);
     }
 }
 
@@ -189,14 +216,14 @@ fn work_in_turn<R: Abort + Wait>(
     let mut games = Games::new(bytes)?;
     let (queue, seat) = new_queue(alloc, 128)?;
     let mut desk = Desk::open(&queue, seat, bytes);
-    let mut own = desk.another();
+    let own = worker_beside(&mut desk, &table, &mut pass, 0, workers);
     assert!(rt; put_until_full(rt, alloc, &mut desk, &mut games)?.is_none());
     for _ in 0..workers {
         assert!(rt; puts_an_end(rt, &mut desk));
     }
-    draw_to_the_end(rt, alloc, &mut own, 0, &table, &mut pass, &[0, 1, 2, 3], 6);
+    let mut back = draw_to_the_end(rt, alloc, own, &[0, 1, 2, 3], 6);
     draw_ends(rt, alloc, &mut desk, &table, &mut pass, workers);
-    assert!(rt; own.draw(rt).is_none());
+    assert!(rt; back.desk.draw(rt).is_none());
     Ok(())
 }
 

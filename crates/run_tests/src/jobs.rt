@@ -1,5 +1,5 @@
 //! Small collections, and each public call once.
-ghost use Rattle.std.specs.Prelude.{◌≡◌, OnOk};
+ghost use Rattle.std.specs.Prelude.{◌≡◌, ◌<◌, true, OnOk};
 ghost use Rattle.job_core.specs.Rule.{MayPut, putting};
 ghost use Rattle.job_core.specs.Inner.Rule.{IsInStep};
 
@@ -101,7 +101,8 @@ pub(crate) fn put_until_full<'a, R: Wait>(
     games: &mut Games<'a>,
 ) -> Result<Option<Item<'a>>, HarvestFault>
     requires { IsInStep games.old desk.old }
-    ensures { OnOk result (IsInStep games.new desk.new) }
+    ensures step { OnOk result (IsInStep games.new desk.new) }
+    ensures same { OnOk result (desk.new ≡ record desk.old { put = desk.new.put }) }
 {
     while let Some(job) = games.next_job(alloc)? {
         match desk.put(rt, Item::Job(job)) {
@@ -121,35 +122,55 @@ fn number(item: Option<Item<'_>>) -> Option<u64> {
 }
 
 /// Puts an end, and says whether there was room.
-pub(crate) fn puts_an_end<R: Wait>(rt: &R, desk: &mut Desk<'_, '_>) -> bool {
+pub(crate) fn puts_an_end<R: Wait>(rt: &R, desk: &mut Desk<'_, '_>) -> bool
+    requires { desk.old.writes ≡ true }
+    ensures { desk.new ≡ record desk.old { ends_put = desk.new.ends_put } }
+{
     desk.put(rt, Item::End).is_ok()
 }
 
 /// Draws the game of the next job, where the next item is one.
-fn draw_game<R: Wait>(rt: &R, desk: &mut Desk<'_, '_>) -> Option<u64> {
+fn draw_game<R: Wait>(rt: &R, desk: &mut Desk<'_, '_>) -> Option<u64>
+    ensures { desk.new ≡ record desk.old {
+      drawn = desk.new.drawn;
+      ends_drawn = desk.new.ends_drawn;
+    } }
+{
     number(desk.draw(rt))
 }
 
 /// Draws the next item, and says whether it was an end.
-fn draws_an_end<R: Wait>(rt: &R, desk: &mut Desk<'_, '_>) -> bool {
+fn draws_an_end<R: Wait>(rt: &R, desk: &mut Desk<'_, '_>) -> bool
+    ensures { desk.new ≡ record desk.old {
+      drawn = desk.new.drawn;
+      ends_drawn = desk.new.ends_drawn;
+    } }
+{
     matches!(desk.draw(rt), Some(Item::End))
 }
 
 /// Draws, and says whether the queue was empty.
-fn draws_nothing<R: Wait>(rt: &R, desk: &mut Desk<'_, '_>) -> bool {
+fn draws_nothing<R: Wait>(rt: &R, desk: &mut Desk<'_, '_>) -> bool
+    ensures { desk.new ≡ record desk.old {
+      drawn = desk.new.drawn;
+      ends_drawn = desk.new.ends_drawn;
+    } }
+{
     desk.draw(rt).is_none()
 }
 
-/// Draws the jobs of a queue that was full, and the end.
-fn empty<R: Abort + Wait>(rt: &R, desk: &mut Desk<'_, '_>) {
-    assert!(rt; draw_game(rt, desk) == Some(0));
+/// A worker draws the jobs of a queue that was full, and the end, which the reader puts.
+fn empty<R: Abort + Wait>(rt: &R, desk: &mut Desk<'_, '_>, own: &mut Desk<'_, '_>)
+    requires { desk.old.writes ≡ true }
+{
+    assert!(rt; draw_game(rt, own) == Some(0));
     assert!(rt; puts_an_end(rt, desk));
     assert!(rt; !puts_an_end(rt, desk));
     for game in 1..128 {
-        assert!(rt; draw_game(rt, desk) == Some(game));
+        assert!(rt; draw_game(rt, own) == Some(game));
     }
-    assert!(rt; draws_an_end(rt, desk));
-    assert!(rt; draws_nothing(rt, desk));
+    assert!(rt; draws_an_end(rt, own));
+    assert!(rt; draws_nothing(rt, own));
 }
 
 /// Fills a queue and empties it.
@@ -159,13 +180,15 @@ fn fill_and_empty<'a, R: Abort + Wait>(
     desk: &mut Desk<'_, 'a>,
     games: &mut Games<'a>,
 ) -> Result<(), HarvestFault>
-    requires { IsInStep games.old desk.old }
+    requires step { IsInStep games.old desk.old }
+    requires parts { 1 < desk.old.parts }
 {
-    assert!(rt; draws_nothing(rt, &mut desk.another()));
+    let mut own = desk.another();
+    assert!(rt; draws_nothing(rt, &mut own));
     let back = number(put_until_full(rt, alloc, desk, games)?);
     assert!(rt; back == Some(128));
     assert!(rt; games.report().games == 129);
-    empty(rt, &mut desk.another());
+    empty(rt, desk, &mut own);
     Ok(())
 }
 
@@ -181,6 +204,35 @@ fn open_and_fill<R: Abort + Wait>(rt: &R, alloc: Global, bytes: &[u8]) -> Result
 fn a_full_queue_hands_the_item_back(rt: HostRuntime) -> Result<(), Fail> {
     let bytes = collection(rt.alloc(), 200)?;
     open_and_fill(&rt, rt.alloc(), bytes.as_slice())?;
+    Ok(())
+}
+
+/// A worker's desk draws the one job and the end, and comes back: the reader's has all parts again.
+fn draw_and_come_back<R: Abort + Wait>(
+    rt: &R,
+    alloc: Global,
+    bytes: &[u8],
+) -> Result<(), HarvestFault> {
+    let mut games = Games::new(bytes)?;
+    let (queue, pass) = new_queue(alloc, 2)?;
+    let mut desk = Desk::open(&queue, pass, bytes);
+    let mut own = desk.another();
+    assert!(rt; put_until_full(rt, alloc, &mut desk, &mut games)?.is_none());
+    assert!(rt; puts_an_end(rt, &mut desk));
+    assert!(rt; !puts_an_end(rt, &mut desk));
+    assert!(rt; draw_game(rt, &mut own) == Some(0));
+    assert!(rt; draws_an_end(rt, &mut own));
+    desk.take_up(own);
+    desk.settle();
+    assert!(rt; draws_nothing(rt, &mut desk));
+    assert!(rt; puts_an_end(rt, &mut desk));
+    assert!(rt; draws_an_end(rt, &mut desk));
+    Ok(())
+}
+
+#[test]
+fn a_desk_comes_back(rt: HostRuntime) -> Result<(), Fail> {
+    draw_and_come_back(&rt, rt.alloc(), b"(;SZ[1];B[aa])")?;
     Ok(())
 }
 
@@ -282,7 +334,8 @@ fn put_and_draw<'a, R: Threads + Wait + Sync>(
     mut desk: Desk<'_, 'a>,
     mut games: Games<'a>,
 ) -> Result<(u64, Vec<u64>), HarvestFault>
-    requires { IsInStep games desk }
+    requires step { IsInStep games desk }
+    requires parts { 2 < desk.parts }
 {
     let one = desk.another();
     let other = desk.another();

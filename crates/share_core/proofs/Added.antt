@@ -207,3 +207,11 @@ counted game moves actions meetings places old new fresh walk among blank worker
       omega arith;
   first = λ shape. h.rows.first shape ∙ ap₂ earlier (first_same old.rows fresh shape blank) (met_game old.kinds game actions meetings moves shape walk);
 }
+
+-- its occasions are those of the walk
+pub counted_walked : (game moves : ℕ) (actions : Actions) (meetings : List Meeting) (places : List ℕ) (old new : Held) (fresh : List Row) →
+    (walk : IsWalk old.kinds actions meetings moves) → IsAmong meetings → AreBlank fresh → new.worker ≡ old.worker → new.kinds ≡ old.kinds →
+    CountsIn game moves meetings places (record { games = old.games; moves = old.moves; rows = old.rows ++ fresh }) (record { games = new.games; moves = new.moves; rows = new.rows }) →
+    (added : IsAdded game actions old new) × (added.occasions ≡ walk.occasions)
+unfolding counted
+counted_walked game moves actions meetings places old new fresh walk among blank worker kinds h = (counted game moves actions meetings places old new fresh walk among blank worker kinds h, refl)

@@ -33,3 +33,4 @@ pub mod Confirmed
 mod SoughtRows
 mod Agreed
 mod Parted
+pub mod Standings

@@ -1,11 +1,12 @@
 -- Rows to which a game's meetings are added, one after another.
-use Rattle.std.proofs.Common.{◌≡◌, ℕ, ◌+◌, ◌<◌, ◌^◌, ◌==◌, cond, true, false, zero, suc, List, [], ◌∷◌, ◌++◌, length, take, Option, Some, None, get_or, refl, ap, ap₂, sym, ◌∙◌, arith, length-take, inl, inr, ⊎_elim}
+use Rattle.std.proofs.Common.{◌≡◌, ℕ, ◌+◌, ◌<◌, ◌^◌, ◌==◌, cond, true, false, zero, suc, List, [], ◌∷◌, ◌++◌, length, take, Option, Some, None, get_or, refl, ap, ap₂, sym, subst, min, ◌≤◌, ◌∙◌, arith, length-take, inl, inr, ⊎_elim}
 use Rattle.std.proofs.Math.ListN.{set, get_or-map}
 use Rattle.std.proofs.lemmas.List.Sums.{sum_by-set, sum_by_more, sum_by-take-le, get_or-le-sum_by}
-use Rattle.std.proofs.lemmas.List.{take_more, get_or-set_other}
+use Rattle.std.proofs.lemmas.List.{take_more, get_or-set_other, get_or-set_same}
 use Rattle.std.proofs.lemmas.Bool.{cases_eq}
 use Rattle.std.specs.Prelude.{slice_index}
 use Rattle.share_core.specs.declared.rows.Row.{Row}
+use Rattle.slot_table.specs.History.{IsAtMost}
 use Rattle.tally_core.specs.declared.meetings.Meeting.{Meeting}
 use Rattle.share_core.specs.Rows.{row_at, blank, there_of, played_of, first_of, earlier}
 use Rattle.share_core.specs.Raising.{Numbered, numbered_of, weight_of, weight_among}
@@ -87,6 +88,15 @@ weight_put rows at meeting game within =
     let step = sum_by-set (λ (r : Row). r.there + r.played) rows at (raised row meeting game) (blank 0 0) within in
     omega arith
 
+-- a row to which a meeting of a game was added has no later game as its first
+at_most_raised : (first : Option ℕ) (game : ℕ) → IsAtMost (earlier first (Some game)) game
+at_most_raised None game = (let low : game ≤ game = omega arith in low)
+at_most_raised (Some other) game = (let low : min other game ≤ game = omega arith in low)
+
+begun_put : (rows : List Row) (at : ℕ) (meeting : Meeting) (game : ℕ) → at < length rows → IsAtMost (row_at (set rows at (raised (row_at rows at) meeting game)) at).first game
+begun_put rows at meeting game within =
+    subst (λ (r : Row). IsAtMost r.first game) (sym (get_or-set_same rows at (raised (row_at rows at) meeting game) (blank 0 0) within)) (at_most_raised (row_at rows at).first game)
+
 -- ---- one meeting more
 met_last : (game : ℕ) (meetings : List Meeting) (m : Meeting) (shape : ℕ) → game_met game (meetings ++ m ∷ []) shape ≡ earlier (game_met game meetings shape) (if_met game m.shape shape)
 met_last game [] m shape = refl
@@ -140,6 +150,15 @@ raised_more meetings places i game old rows inside within same h =
           (λ (kept : row_at rows place ≡ row_at old place). inr (get_or-set_other rows at place (raised (row_at rows at) m game) (blank 0 0) away ∙ kept))
           (h.others place))
           (cases_eq place at);
+      begun = λ k low.
+          let new = set rows at (raised (row_at rows at) m game) in
+          ⊎_elim
+          (λ (here : slice_index places k ≡ at). subst (λ p. IsAtMost (row_at new p).first game) (sym here) (begun_put rows at m game within))
+          (λ (away : slice_index places k ≡ at → ⊥).
+          let apart : k ≡ i → ⊥ = λ same. away (ap (slice_index places) same) in
+          let before : k < length (take i meetings) = omega (arith, low, few, more_few, apart, inside) in
+          subst (λ (r : Row). IsAtMost r.first game) (sym (get_or-set_other rows at (slice_index places k) (raised (row_at rows at) m game) (blank 0 0) away)) (h.begun k before))
+          (cases_eq (slice_index places k) at);
     }
 
 -- a row's pattern stays

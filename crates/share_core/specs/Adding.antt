@@ -1,7 +1,9 @@
 -- What adding a game to a share does, and why it may be refused.
-use Rattle.std.specs.Prelude.{◌≡◌, ◌≢◌, ℕ, ◌+◌, ◌*◌, ◌^◌, ◌<◌, ◌≤◌, ◌⊎◌, List, [], ◌∷◌, ◌++◌, length, Some, All}
+use Rattle.std.specs.Prelude.{◌≡◌, ◌≢◌, ℕ, ◌+◌, ◌*◌, ◌^◌, ◌<◌, ◌≤◌, ◌⊎◌, List, [], ◌∷◌, ◌++◌, length, Some, All, Contains}
 use Rattle.go_record.specs.Actions.{Actions}
 use Rattle.shape_core.specs.declared.words.Kinds.{Kinds}
+use Rattle.probe_core.specs.declared.calls.Answer.{Answer}
+use Rattle.probe_core.specs.declared.calls.Answer.TheVariants as answer
 use Rattle.probe_core.specs.Sequential.{IsNumber, IsAbsent, IsFull}
 use Rattle.slot_table.specs.declared.entries.Happened.{Happened}
 use Rattle.slot_table.specs.History.{content_of, least_at, IsAtMost}
@@ -50,10 +52,10 @@ pub record HasGrown (n : ℕ) (seen : List Happened) (actions : Actions) (old ne
   pub stands : (place : ℕ) → place < length new.rows → (row_at new.rows place ≡ row_at (old.rows ++ fresh) place)
       ⊎ IsNumber (content_of n seen) (row_at new.rows place).shape (row_at new.rows place).number
 
--- each pattern of the game has a number at which a game is marked that is no later
-abbrev pub IsMarked : ℕ → List Happened → ℕ → Kinds → Actions → Type 0
-IsMarked n seen game kinds actions = (occasions : List Occasion) × AreOccasions actions occasions
-    × ((shape : ℕ) → 0 < there_in (kinds_of kinds) (record { size = actions.size; occasions = occasions }) shape
+-- the game was added, and each pattern that was there in it has a number at which a game is marked that is no later
+abbrev pub IsMarked : ℕ → List Happened → ℕ → Actions → Held → Held → Type 0
+IsMarked n seen game actions old new = (added : IsAdded game actions old new)
+    × ((shape : ℕ) → 0 < there_in (kinds_of old.kinds) (record { size = actions.size; occasions = added.occasions }) shape
     → (p : ℕ) × IsNumber (content_of n seen) shape p × IsAtMost (least_at p seen) game)
 
 -- a share after a game was refused: rows may have come that count nothing
@@ -99,3 +101,32 @@ IsPrepareFault n seen game kinds actions rows found = ⊥
 abbrev pub IsAddFault : ℕ → List Happened → ℕ → Actions → Held → Held → HarvestFault → Type 0
 IsAddFault n seen game actions old new fault.Overflow = IsTooLarge actions old ⊎ (2 ^ 64 ≤ 5410 * length actions.actions)
 IsAddFault n seen game actions old new found = IsPrepareFault n seen game old.kinds actions new.rows found
+
+-- where a key got this answer, and it is a number, some row is of the number and the key
+abbrev pub IsRowed : List Row → ℕ → Answer → Type 0
+IsRowed rows key (answer.Number number) = HasRow rows number key
+IsRowed rows key answer.Absent = Unit {0}
+IsRowed rows key answer.Full = Unit {0}
+
+-- the same after a fault; where it is want of memory, or a row of another pattern, a number may have got no row
+abbrev pub IsRowedAfter : HarvestFault → List Row → ℕ → Answer → Type 0
+IsRowedAfter fault.Memory rows key found = Unit {0}
+IsRowedAfter (fault.Stranger number of_share of_table) rows key found = Unit {0}
+IsRowedAfter one rows key found = IsRowed rows key found
+
+-- a key that was entered for a game, with its answer: it is a pattern of the game, and `rowed` holds of both, which says
+-- whether the number has a row
+pub record IsEntryOf (kinds : Kinds) (actions : Actions) (rowed : ℕ → Answer → Type 0) (key : ℕ) (found : Answer) : Type 0 where
+  pub pattern : IsPatternOf kinds actions key
+  pub has_row : rowed key found
+
+-- a game that was marked at a number: it is this game, and a row of the number is of a pattern of the game, which has the
+-- number after a history; the row's first game is no later
+pub record IsMarkOf (n : ℕ) (seen : List Happened) (kinds : Kinds) (actions : Actions) (rows : List Row) (game number marked : ℕ) : Type 0 where
+  pub game_is : marked ≡ game
+  pub row : Row
+  pub there : Contains rows row
+  pub number_is : row.number ≡ number
+  pub first : IsAtMost row.first game
+  pub pattern : IsPatternOf kinds actions row.shape
+  pub stands : IsNumber (content_of n seen) row.shape number

@@ -1,7 +1,8 @@
 -- The least games of rows against those that a table has marked.
-use Rattle.std.specs.Prelude.{◌≡◌, ◌≢◌, ℕ, zero, suc, ◌<◌, List, [], ◌∷◌, ◌++◌}
+use Rattle.std.specs.Prelude.{◌≡◌, ◌≢◌, ℕ, zero, suc, ◌<◌, List, [], ◌∷◌, ◌++◌, IfSome, Contains}
 use Rattle.slot_table.specs.declared.entries.Happened.{Happened}
 use Rattle.slot_table.specs.declared.entries.Happened.TheVariants as call
+use Rattle.slot_table.specs.History.{least_at, IsAtMost}
 use Rattle.slot_table.specs.Passes.{Known, IsLater}
 use Rattle.share_core.specs.declared.rows.Row.{Row}
 use Rattle.share_core.specs.declared.faults.HarvestFault.{HarvestFault}
@@ -22,8 +23,11 @@ AskedFirst n count rows old new = IsLater n old (agreeing_firsts rows count) new
 abbrev pub AskedAll : {O : Type 0} → ℕ → List Row → Known O → Known O → Type 0
 AskedAll n rows old new = AskedFirst n n rows old new
 
--- at some number the answer differed from the least game of the rows; at each lesser one it agreed
+-- at some number the answer differed from the least game of the rows; at each lesser one it agreed. The answer is no later
+-- than what had been seen there before, and some call marked it
 abbrev pub IsMarksFault : {O : Type 0} → ℕ → List Row → Known O → Known O → HarvestFault → Type 0
 IsMarksFault n rows old new (fault.Marks number of_shares of_table) = (number < n) × (of_shares ≡ first_at rows number) × (of_shares ≢ of_table)
     × IsLater n old (agreeing_firsts rows number ++ call.First number of_table ∷ []) new
+    × ((game : ℕ) → IsAtMost (least_at number old.seen) game → IsAtMost of_table game)
+    × IfSome of_table (λ game. Contains new.seen (call.Marked number game))
 IsMarksFault n rows old new found = ⊥

@@ -1,37 +1,30 @@
--- What is known of a table once the patterns of a game were entered, and once the game was marked.
-use Rattle.std.specs.Prelude.{ℕ, List, [], ◌∷◌}
+-- Which calls a pass made at a table: what it entered, with what answer, and which games it marked at which numbers.
+use Rattle.std.specs.Prelude.{ℕ, List}
 use Rattle.std.specs.List.{AllByRecursion}
+use Rattle.probe_core.specs.declared.calls.Answer.{Answer}
 use Rattle.probe_core.specs.declared.calls.Call.TheVariants as asked
 use Rattle.slot_table.specs.declared.entries.Happened.{Happened}
 use Rattle.slot_table.specs.declared.entries.Happened.TheVariants as call
 use Rattle.slot_table.specs.Passes.{Known, IsLater}
 
--- the keys that these calls asked to enter, in order, whether a number was free or not
-abbrev pub entered_by : List Happened → List ℕ
-entered_by [] = []
-entered_by (call.Asked (asked.Enter key) found ∷ calls) = key ∷ entered_by calls
-entered_by (call.Asked (asked.LookUp key) found ∷ calls) = entered_by calls
-entered_by (call.Marked number game ∷ calls) = entered_by calls
-entered_by (call.First number found ∷ calls) = entered_by calls
+-- a call: where it enters a key, it is such a key with such an answer; where it marks a game, it is at such a number, and such
+-- a game. To look a key up or to ask for a least game enters and marks nothing
+abbrev pub IsCall : (ℕ → Answer → Type 0) → (ℕ → ℕ → Type 0) → Happened → Type 0
+IsCall enters marks (call.Asked (asked.Enter key) found) = enters key found
+IsCall enters marks (call.Asked (asked.LookUp key) found) = Unit {0}
+IsCall enters marks (call.Marked number game) = marks number game
+IsCall enters marks (call.First number found) = Unit {0}
 
--- the games that were marked by these calls, in order
-abbrev pub marked_by : List Happened → List ℕ
-marked_by [] = []
-marked_by (call.Asked one found ∷ calls) = marked_by calls
-marked_by (call.Marked number game ∷ calls) = game ∷ marked_by calls
-marked_by (call.First number found ∷ calls) = marked_by calls
-
--- a pass has seen more since; it entered such keys alone, and marked such games alone
-pub record CallsOnly {O : Type 0} (n : ℕ) (enters marks : ℕ → Type 0) (old new : Known O) : Type 0 where
+-- a pass has seen more since; it entered such keys alone, with such answers, and marked at such numbers such games alone
+pub record CallsOnly {O : Type 0} (n : ℕ) (enters : ℕ → Answer → Type 0) (marks : ℕ → ℕ → Type 0) (old new : Known O) : Type 0 where
   pub made : List Happened
   pub later : IsLater n old made new
-  pub entered : AllByRecursion enters (entered_by made)
-  pub marked : AllByRecursion marks (marked_by made)
+  pub only : AllByRecursion (IsCall enters marks) made
 
--- it entered such keys alone, and marked nothing
-abbrev pub EntersOnly : {O : Type 0} → ℕ → (ℕ → Type 0) → Known O → Known O → Type 0
-EntersOnly n enters old new = CallsOnly n enters (λ _. ⊥) old new
+-- it entered such keys alone, with such answers, and marked nothing
+abbrev pub EntersOnly : {O : Type 0} → ℕ → (ℕ → Answer → Type 0) → Known O → Known O → Type 0
+EntersOnly n enters old new = CallsOnly n enters (λ _ _. ⊥) old new
 
 -- it entered and marked nothing
 abbrev pub AsksOnly : {O : Type 0} → ℕ → Known O → Known O → Type 0
-AsksOnly n old new = CallsOnly n (λ _. ⊥) (λ _. ⊥) old new
+AsksOnly n old new = CallsOnly n (λ _ _. ⊥) (λ _ _. ⊥) old new

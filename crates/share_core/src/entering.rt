@@ -1,12 +1,13 @@
 //! A game's patterns are entered into the table, and at last the game is marked at their numbers.
 ghost use Rattle.std.specs.Prelude.{◌≡◌, false, ◌-◌, ◌^◌, ◌<◌, ◌≤◌, ℕ, length, IfSome, IfNone};
-ghost use Rattle.std.specs.Prelude.{IfOk, IfErr, OnOk};
+ghost use Rattle.std.specs.Prelude.{IfOk, IfErr, OnOk, OnErr};
 ghost use Rattle.probe_core.specs.Sequential.{IsAbsent, IsFull};
 ghost use Rattle.slot_table.specs.History.{content_of, least_at, IsAtMost};
 ghost use Rattle.slot_table.specs.Passes.{IsPassOf};
 ghost use Rattle.share_core.specs.Inner.Entering.{IsEntered, AreEntered, IsRefused, AreMarked};
 ghost use Rattle.share_core.specs.Entering.{EntersOnly};
-ghost use Rattle.share_core.specs.Inner.Entering.{MarksOnly, IsMetIn};
+ghost use Rattle.share_core.specs.Inner.Entering.{IsEnteredAs, IsNoted, IsMetIn};
+ghost use Rattle.share_core.specs.Inner.Entering.{MarksOnly, IsMarkAt, IsMarkAmong};
 ghost use Rattle.share_core.specs.declared.faults.HarvestFault.TheVariants as fault;
 
 use crate::ahead::{BLOCK, look_ahead};
@@ -44,7 +45,7 @@ fn enter_one<O: ProbeOrder>(
 ) -> Option<Entered>
     requires { IsPassOf (2 ^ O.exponent table.now.order) table.now pass.old }
     ensures pass { IsPassOf (2 ^ O.exponent table.now.order) table.now pass.new }
-    ensures later { EntersOnly (2 ^ O.exponent table.now.order) (λ key. key ≡ shape)
+    ensures later { EntersOnly (2 ^ O.exponent table.now.order) (IsEnteredAs shape result)
         pass.old pass.new }
     ensures some { IfSome result (IsEntered (2 ^ O.exponent table.now.order) pass.new.seen game
         shape) }
@@ -73,8 +74,10 @@ pub(crate) fn enter_all<O: ProbeOrder>(
 ) -> Result<Option<Shape>, HarvestFault>
     requires { IsPassOf (2 ^ O.exponent table.now.order) table.now pass.old }
     ensures pass { IsPassOf (2 ^ O.exponent table.now.order) table.now pass.new }
-    ensures later { EntersOnly (2 ^ O.exponent table.now.order) (IsMetIn meetings.now)
-        pass.old pass.new }
+    ensures noted { OnOk result (EntersOnly (2 ^ O.exponent table.now.order)
+        (IsNoted meetings.now entered.new.items) pass.old pass.new) }
+    ensures met { OnErr result (EntersOnly (2 ^ O.exponent table.now.order)
+        (λ key _. IsMetIn meetings.now key) pass.old pass.new) }
     ensures few { length entered.new.items ≤ length meetings.now }
     ensures each { AreEntered (2 ^ O.exponent table.now.order) pass.new.seen game meetings.now
         entered.new.items }
@@ -105,7 +108,8 @@ fn mark_one<O: ProbeOrder>(table: &SlotTable<O>, pass: &mut Pass<O>, one: Entere
     requires late { one.late ≡ false → IsAtMost (least_at one.number pass.old.seen) game }
     requires game { game < 2 ^ 64 - 1 }
     ensures pass { IsPassOf (2 ^ O.exponent table.now.order) table.now pass.new }
-    ensures later { MarksOnly (2 ^ O.exponent table.now.order) game pass.old pass.new }
+    ensures later { MarksOnly (2 ^ O.exponent table.now.order) (IsMarkAt one.number game)
+        pass.old pass.new }
     ensures marked { IsAtMost (least_at one.number pass.new.seen) game }
 {
     if one.late {
@@ -126,7 +130,8 @@ pub(crate) fn mark_all<O: ProbeOrder>(
         entered.now }
     requires game { game < 2 ^ 64 - 1 }
     ensures pass { IsPassOf (2 ^ O.exponent table.now.order) table.now pass.new }
-    ensures later { MarksOnly (2 ^ O.exponent table.now.order) game pass.old pass.new }
+    ensures later { MarksOnly (2 ^ O.exponent table.now.order) (IsMarkAmong entered.now game)
+        pass.old pass.new }
     ensures marked { AreMarked pass.new.seen game entered.now }
 {
     for one in entered {

@@ -69,8 +69,9 @@ impl Share {
     ghost use Rattle.slot_table.specs.Passes.{IsPassOf};
     ghost use Rattle.share_core.specs.Rows.{row_of, AreOfNumbers};
     ghost use Rattle.share_core.specs.Inner.Rows.{IsIndexed};
-    ghost use Rattle.share_core.specs.Shares.{IsShare, IsPatternOf};
+    ghost use Rattle.share_core.specs.Shares.{IsShare};
     ghost use Rattle.share_core.specs.Adding.{IsAdded, HasGrown, IsMarked, IsKept, IsAddFault};
+    ghost use Rattle.share_core.specs.Adding.{IsEntryOf, IsRowed, IsRowedAfter, IsMarkOf};
     ghost use Rattle.share_core.specs.Entering.{CallsOnly, EntersOnly};
 
     /// A share without games, of the worker with this number. It takes no memory.
@@ -188,8 +189,9 @@ impl Share {
     /// goes into the row of its number; at last the game is marked at each number where no game was
     /// that is not later.
     ///
-    /// No other pattern is entered, and no other game is marked. The pass must be of the table, and
-    /// the game below 2^28.
+    /// No other pattern is entered, and each that got a number has a row of that number. No other
+    /// game is marked, and this one only at numbers of rows of its patterns. The pass must be of
+    /// the table, and the game below 2^28.
     ///
     /// # Errors
     ///
@@ -199,7 +201,8 @@ impl Share {
     /// share's moves or all its counts together would pass 2^64 - 1, or the game has more actions
     /// than any input; `Memory` where memory was refused. After each the share's games, moves and
     /// sums are as they were and the game is nowhere marked. Rows without counts may have come, and
-    /// numbers in the table, of patterns of the game.
+    /// numbers in the table, of patterns of the game; after `Full` and `Overflow` each pattern that
+    /// was entered and got a number has a row of that number.
     pub fn add<O: ProbeOrder>(
         &mut self,
         table: &SlotTable<O>,
@@ -215,14 +218,18 @@ impl Share {
             record.now
             self.old self.new) }
         ensures marked { OnOk result (IsMarked (2 ^ O.exponent table.now.order) pass.new.seen game
-            self.old.kinds record.now) }
+            record.now
+            self.old self.new) }
         ensures calls { OnOk result (CallsOnly (2 ^ O.exponent table.now.order)
-            (IsPatternOf self.old.kinds record.now) (λ marked. marked ≡ game) pass.old pass.new) }
+            (IsEntryOf self.old.kinds record.now (IsRowed self.new.rows))
+            (IsMarkOf (2 ^ O.exponent table.now.order) pass.new.seen self.old.kinds record.now
+            self.new.rows game) pass.old pass.new) }
         ensures kept { OnErr result (IsKept (2 ^ O.exponent table.now.order) pass.new.seen
             record.now
             self.old self.new) }
-        ensures enters { OnErr result (EntersOnly (2 ^ O.exponent table.now.order)
-            (IsPatternOf self.old.kinds record.now) pass.old pass.new) }
+        ensures enters { IfErr result (λ found. EntersOnly (2 ^ O.exponent table.now.order)
+            (IsEntryOf self.old.kinds record.now (IsRowedAfter found self.new.rows))
+            pass.old pass.new) }
         ensures fault { IfErr result (IsAddFault (2 ^ O.exponent table.now.order) pass.new.seen
             game record.now
             self.old self.new) }

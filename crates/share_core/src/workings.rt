@@ -1,10 +1,9 @@
 //! What a share needs to count a game, kept from game to game.
-ghost use Rattle.std.specs.Prelude.{◌≡◌, ◌^◌, ◌<◌, IfOk, IfErr};
+ghost use Rattle.std.specs.Prelude.{◌≡◌, ◌^◌, ◌<◌, IfOk, IfErr, OnOk};
 ghost use Rattle.slot_table.specs.Passes.{IsPassOf};
-ghost use Rattle.share_core.specs.Adding.{IsPrepareFault};
+ghost use Rattle.share_core.specs.Adding.{IsPrepareFault, IsEntryOf, IsRowed, IsRowedAfter};
 ghost use Rattle.share_core.specs.Inner.Adding.{HasFresh};
 ghost use Rattle.share_core.specs.Entering.{EntersOnly};
-ghost use Rattle.share_core.specs.Shares.{IsPatternOf};
 ghost use Rattle.share_core.specs.Inner.Preparing.{IsPrepared};
 ghost use Rattle.share_core.specs.declared.faults.HarvestFault.TheVariants as fault;
 
@@ -35,7 +34,7 @@ fn full(game: u64, word: Word) -> HarvestFault
 }
 
 impl Workings {
-    ghost use Rattle.std.specs.Prelude.{◌≡◌, ◌^◌, [], IfOk, IfErr};
+    ghost use Rattle.std.specs.Prelude.{◌≡◌, ◌^◌, [], IfOk, IfErr, OnOk};
 
     /// Nothing was counted yet. It takes no memory.
     pub fn begin(alloc: Global, kinds: Kinds) -> Workings
@@ -66,8 +65,12 @@ impl Workings {
     ) -> Result<u64, HarvestFault>
         requires { IsPassOf (2 ^ O.exponent table.now.order) table.now pass.old }
         ensures pass { IsPassOf (2 ^ O.exponent table.now.order) table.now pass.new }
-        ensures later { EntersOnly (2 ^ O.exponent table.now.order)
-            (IsPatternOf self.old.walk.kinds record.now) pass.old pass.new }
+        ensures rowed { OnOk result (EntersOnly (2 ^ O.exponent table.now.order)
+            (IsEntryOf self.old.walk.kinds record.now (IsRowed ledger.new.rows))
+            pass.old pass.new) }
+        ensures enters { IfErr result (λ found. EntersOnly (2 ^ O.exponent table.now.order)
+            (IsEntryOf self.old.walk.kinds record.now (IsRowedAfter found ledger.new.rows))
+            pass.old pass.new) }
         ensures kinds { self.new.walk.kinds ≡ self.old.walk.kinds }
         ensures ledger { ledger.new ≡ record ledger.old { rows = ledger.new.rows } }
         ensures fresh { HasFresh (2 ^ O.exponent table.now.order) pass.new.seen self.old.walk.kinds

@@ -135,6 +135,20 @@ fn marks_and_keys_leave_each_other(rt: HostRuntime) -> Result<(), Fail> {
 }
 
 #[test]
+fn a_split_pass_comes_back(rt: HostRuntime) -> Result<(), Fail> {
+    let capacity = capacity_of(&rt, 1);
+    let (table, mut pass) = SlotTable::new(rt.alloc(), Linear { capacity })?;
+    let (five, six) = (key_of(&rt, 5), key_of(&rt, 6));
+    assert!(&rt; table.enter(&mut pass, five) == Answer::Number(0));
+    let mut other = table.split(&mut pass);
+    assert!(&rt; table.enter(&mut other, six) == Answer::Number(1));
+    table.absorb(&mut pass, other);
+    assert!(&rt; table.look_up(&mut pass, six) == Answer::Number(1));
+    assert!(&rt; table.look_up(&mut pass, five) == Answer::Number(0));
+    Ok(())
+}
+
+#[test]
 fn the_largest_table_is_made(rt: HostRuntime) -> Result<(), Fail> {
     let capacity = capacity_of(&rt, 22);
     let (table, mut pass) = SlotTable::new(rt.alloc(), Linear { capacity })?;

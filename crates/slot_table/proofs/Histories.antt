@@ -121,7 +121,7 @@ mark_stays : (least : Option ℕ) (game g : ℕ) (b : Bool) → IsAtMost least g
 mark_stays least game g true at_most = lowered_stays least game g at_most
 mark_stays least game g false at_most = at_most
 
-marks_stay : (least : Option ℕ) (p game : ℕ) (h : List Happened) → IsAtMost least game → IsAtMost (least_from least p h) game
+pub marks_stay : (least : Option ℕ) (p game : ℕ) (h : List Happened) → IsAtMost least game → IsAtMost (least_from least p h) game
 marks_stay least p game [] at_most = at_most
 marks_stay least p game (entry.Asked c a ∷ h) at_most = marks_stay least p game h at_most
 marks_stay least p game (entry.Marked q g ∷ h) at_most =

@@ -21,6 +21,7 @@ later_self n pass = record {
   keeps = record { numbers = λ key p number. number; marks = λ p game at_most. at_most };
   calls = sym (append-nil (calls_of pass));
   stake = refl;
+  alone = λ is. is;
 }
 
 -- a pass is later than what it was later than, by the calls of both times
@@ -34,6 +35,7 @@ later_through n first old new made more before after = record {
   };
   calls = after.calls ∙ ap (λ (t : List Happened). t ++ more) before.calls ∙ append_assoc (calls_of first) made more;
   stake = after.stake ∙ before.stake;
+  alone = λ is. after.alone (before.alone is);
 }
 
 -- what is at a place of a history
@@ -48,7 +50,7 @@ seam_at [] e more = refl
 seam_at (x ∷ seen) e more = seam_at seen e more
 
 -- places that rise in a history are those of the same calls in one that begins with it
-calls_stay : (seen rest : List Happened) (low : ℕ) (mine : List ℕ) → IsRising low mine (length seen)
+pub calls_stay : (seen rest : List Happened) (low : ℕ) (mine : List ℕ) → IsRising low mine (length seen)
     → filter_map (slice_get (seen ++ rest)) mine ≡ filter_map (slice_get seen) mine
 calls_stay seen rest low [] rises = refl
 calls_stay seen rest low (k ∷ mine) rises =
@@ -93,6 +95,7 @@ grown_later n table table' old new longest added rises grown =
           ∙ ap (λ (t : List Happened). t ++ filter_map (slice_get new.seen) (places_from (length longest) added)) own
           ∙ ap (λ (t : List Happened). filter_map (slice_get old.seen) old.mine ++ t) more;
       stake = grown.stake;
+      alone = λ _. grown.lone;
     }
 
 -- the same of the pass, whose table has this order

@@ -12,3 +12,6 @@ mod Joining
 mod Marking
 pub mod Contents
 pub mod Later
+pub mod Meetings
+pub mod Leasts
+pub mod Enters

@@ -36,12 +36,14 @@ abbrev pub IsAlone : {O : Type 0} → Known O → Type 0
 IsAlone pass = IsWhole pass.stake → calls_of pass ≡ pass.seen
 
 -- a pass at an earlier and at a later time: what it had seen begins what it has seen, each key has kept its number and
--- no least game has risen, and in between the pass made these calls and gave nothing of its stake away
+-- no least game has risen, and in between the pass made these calls and gave nothing of its stake away; and where it was
+-- alone, it still is
 pub record IsLater {O : Type 0} (n : ℕ) (old : Known O) (made : List Happened) (new : Known O) : Type 0 where
   pub begins : Begins old.seen new.seen
   pub keeps : Keeps n old.seen new.seen
   pub calls : calls_of new ≡ calls_of old ++ made
   pub stake : new.stake ≡ old.stake
+  pub alone : IsAlone old → IsAlone new
 
 -- the pass has seen more since, and its own calls and its stake are the same
 pub record Saw {O : Type 0} (n : ℕ) (old new : Known O) : Type 0 where

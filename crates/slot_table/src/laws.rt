@@ -1,10 +1,14 @@
 //! Laws of tables and their histories, for proofs in the crates above. Each is a function that does
 //! nothing, and its contract is the law, for any number of numbers n and any history.
-ghost use Rattle.std.specs.Prelude.{◌≡◌, ◌≢◌, ℕ, ◌<◌, ◌↔◌, List, None, Some, AllPairs, Contains};
-ghost use Rattle.std.specs.Prelude.{[], ◌∷◌, ◌++◌, length, slice_index_or};
+ghost use Rattle.std.specs.Prelude.{◌≡◌, ◌≢◌, ℕ, ◌<◌, ◌≤◌, ◌↔◌, ◌⊎◌, List, None, Some, AllPairs};
+ghost use Rattle.std.specs.Prelude.{[], ◌∷◌, ◌++◌, length, slice_index_or, Contains};
+ghost use Rattle.probe_core.specs.declared.calls.Call.TheVariants.{Enter};
+ghost use Rattle.probe_core.specs.declared.calls.Answer.TheVariants.{Number};
 ghost use Rattle.probe_core.specs.Sequential.{IsNumber, IsFree, IsFull};
 ghost use Rattle.slot_table.specs.declared.entries.Happened.{Happened};
-ghost use Rattle.slot_table.specs.History.{IsLegal, content_of, keys_of};
+ghost use Rattle.slot_table.specs.declared.entries.Happened.TheVariants.{Asked, Marked};
+ghost use Rattle.slot_table.specs.History.{IsLegal, content_of, keys_of, least_at, IsAtMost};
+ghost use Rattle.slot_table.specs.Passes.{Numbers, Known, IsPassOf, calls_of, Met};
 ghost use Rattle.slot_table.specs.Stakes.{IsAsMuch, IsWhole, halved, half_of};
 
 /// The content of a table of n numbers has n places. It takes no memory.
@@ -29,6 +33,13 @@ pub fn a_key_has_one_number()
         IsNumber (content_of n history) key p →
         IsNumber (content_of n history) key q →
         p ≡ q }
+{}
+
+/// A key that has a number was entered, and the number was the answer. It takes no memory.
+pub fn a_number_was_entered()
+    ensures { (n : ℕ) (history : List Happened) (key number : ℕ) →
+        IsNumber (content_of n history) key number →
+        Contains history (Asked (Enter key) (Number number)) }
 {}
 
 /// A number is that of one key. It takes no memory.
@@ -71,4 +82,21 @@ pub fn stakes_add_up()
 pub fn as_much_as_the_whole_is_the_whole()
     ensures first { IsWhole (0 ∷ []) }
     ensures others { (stake whole : List ℕ) → IsAsMuch stake whole → IsWhole whole → IsWhole stake }
+{}
+
+/// Where two passes of a table met, the calls of the one pass are those of both, and no others. It
+/// takes no memory.
+pub fn a_met_pass_has_the_calls_of_both<O>()
+    ensures { (n : ℕ) (numbers : Numbers O) (one other both : Known O) (happened : Happened) →
+        IsPassOf n numbers one → IsPassOf n numbers other → Met n one other both →
+        Contains (calls_of both) happened ↔
+        (Contains (calls_of one) happened ⊎ Contains (calls_of other) happened) }
+{}
+
+/// The least game marked at a number is at most this game exactly where one at most this was marked
+/// there. It takes no memory.
+pub fn a_least_game_was_marked()
+    ensures { (number game : ℕ) (history : List Happened) →
+        IsAtMost (least_at number history) game ↔
+        ((marked : ℕ) × (marked ≤ game) × Contains history (Marked number marked)) }
 {}

@@ -84,7 +84,7 @@ impl<O: ProbeOrder> SlotTable<O> {
     /// A pass that has seen what this one has, and has made no call. It takes no memory.
     ///
     /// It has a half of the first piece of this one's stake, and this one keeps the rest. The half
-    /// comes back by `meet` alone, and with it the calls that it made.
+    /// comes back by `meet` and `absorb` alone, and with it the calls that it made.
     ///
     /// The pass must be of this table.
     pub fn split(&self, pass: &mut Pass<O>) -> Pass<O>
@@ -190,10 +190,24 @@ impl<O: ProbeOrder> SlotTable<O> {
         ensures met { Met (2 ^ O.exponent self.now.order) one other result }
         ensures alone { IsAlone result }
     {
-        let Pass { mut seat } = one;
+        let mut both = one;
+        self.absorb(&mut both, other);
+        both
+    }
+
+    /// Takes another pass up into this one, which then has seen what both have; its own calls are
+    /// those of both, and so is its stake. It takes no memory and waits for no other thread.
+    ///
+    /// The passes must be of this table.
+    pub fn absorb(&self, pass: &mut Pass<O>, other: Pass<O>)
+        requires pass { IsPassOf (2 ^ O.exponent self.now.order) self.now pass.old }
+        requires other { IsPassOf (2 ^ O.exponent self.now.order) self.now other }
+        ensures pass { IsPassOf (2 ^ O.exponent self.now.order) self.now pass.new }
+        ensures met { Met (2 ^ O.exponent self.now.order) pass.old other pass.new }
+        ensures alone { IsAlone pass.new }
+    {
         let Pass { seat: other } = other;
-        steps::meet(&self.words.shared, &mut seat, other);
-        Pass { seat }
+        steps::meet(&self.words.shared, &mut pass.seat, other);
     }
 
     /// Marks the game at the number, by one step: the number's least game is the lesser of that and

@@ -1,11 +1,19 @@
 -- Which games a thread that reads has dealt out, and why an input was not read to its end.
-use Rattle.std.specs.Prelude.{◌≡◌, ◌⊎◌, ℕ, ◌<◌, ◌≤◌, List, Contains, Some}
-use Rattle.job_core.specs.declared.hands.Hand.{Hand}
+use Rattle.std.specs.Prelude.{◌≡◌, ℕ, ◌^◌, nat_lt, if◌then◌else◌, List, ◌++◌, None, IfNone, IfSome}
+use Rattle.shape_core.specs.declared.words.Kinds.{Kinds}
 use Rattle.tally_core.specs.Counted.{IsCountFault}
 use Rattle.tally_core.specs.declared.faults.HarvestFault.TheVariants as tally
+use Rattle.slot_table.specs.Passes.{IsPassOf}
+use Rattle.job_core.specs.Games.{HasReadAll}
+use Rattle.share_core.specs.Covering.{times_of}
 use Rattle.share_core.specs.declared.faults.HarvestFault.{HarvestFault}
 use Rattle.share_core.specs.declared.faults.HarvestFault.TheVariants as fault
+use Rattle.harvest_core.specs.declared.reading.Reading.{Reading}
+use Rattle.harvest_core.specs.declared.workers.Worker.{Worker}
 use Rattle.harvest_core.specs.declared.working.Worked.{Worked}
+use Rattle.harvest_core.specs.InTable.{IsInTableSince}
+use Rattle.harvest_core.specs.Working.{CallsIn}
+use Rattle.harvest_core.specs.Inner.Working.{IsWorkOf}
 
 -- memory was refused, or the input is too large or has a fault of syntax
 abbrev pub IsReadFault : List ℕ → HarvestFault → Type 0
@@ -13,11 +21,26 @@ IsReadFault bytes fault.Memory = Unit {0}
 IsReadFault bytes (fault.Sgf found) = IsCountFault bytes (tally.Sgf found)
 IsReadFault bytes found = ⊥
 
--- a game was put into the queue, or it is in the share of the thread that reads; or a game was refused by that share
-abbrev pub IsDealt : Hand → Worked → ℕ → Type 0
-IsDealt desk worked game = Contains desk.put game
-    ⊎ (Contains worked.share.games game ⊎ ((found : HarvestFault) × (worked.refused ≡ Some found)))
+-- each game below this number is in the list once, and no other
+abbrev pub IsOnceEach : ℕ → List ℕ → Type 0
+IsOnceEach high games = (game : ℕ) → times_of games game ≡ (if nat_lt game high then 1 else 0)
 
--- each game from `low` up to `high` was dealt out
-abbrev pub AreDealt : ℕ → ℕ → Hand → Worked → Type 0
-AreDealt low high desk worked = (game : ℕ) → low ≤ game → game < high → IsDealt desk worked game
+-- unless a game was refused here, each game below this number was dealt out once, and no other: it was put into the queue, or
+-- it is in the share of the thread that reads
+abbrev pub AreDealt : ℕ → List ℕ → Worked → Type 0
+AreDealt high put worked = worked.refused ≡ None → IsOnceEach high (put ++ worked.share.games)
+
+-- what the thread that reads has come to, which had this desk and pass before
+pub record IsReadingOf {O G : Type 0} (exponent : O → ℕ) (bytes : List ℕ) (before : Worker O G) (reading : Reading O G) : Type 0 where
+  pub own_is : reading.own ≡ record before {
+      desk = record before.desk { put = reading.own.desk.put; ends_put = reading.own.desk.ends_put };
+      pass = reading.own.pass;
+    }
+  pub pass : IsPassOf (2 ^ exponent before.table.now.order) before.table.now reading.own.pass
+  pub number : reading.worked.share.worker ≡ 0
+  pub worked_is : IsWorkOf bytes before.kinds reading.worked
+  pub calls : CallsIn (2 ^ exponent before.table.now.order) bytes before.kinds before.pass reading.own.pass
+  pub table : IsInTableSince (2 ^ exponent before.table.now.order) before.pass reading.own.pass reading.worked
+  pub all : IfNone reading.fault (HasReadAll bytes reading.report)
+  pub dealt : IfNone reading.fault (AreDealt reading.report.games reading.own.desk.put reading.worked)
+  pub fault_is : IfSome reading.fault (IsReadFault bytes)

@@ -1,5 +1,7 @@
 -- What the definitions of `Entering` serve inside the crate.
-use Rattle.std.specs.Prelude.{◌≡◌, ℕ, ◌<◌, List, length, false}
+use Rattle.std.specs.Prelude.{◌≡◌, ℕ, ◌<◌, List, length, false, Option, Some, None}
+use Rattle.probe_core.specs.declared.calls.Answer.{Answer}
+use Rattle.probe_core.specs.declared.calls.Answer.TheVariants as answer
 use Rattle.probe_core.specs.Sequential.{IsNumber, IsAbsent, IsFull}
 use Rattle.slot_table.specs.declared.entries.Happened.{Happened}
 use Rattle.slot_table.specs.History.{content_of, least_at, IsAtMost}
@@ -10,13 +12,46 @@ use Rattle.share_core.specs.Inner.Raising.{meeting_at}
 use Rattle.share_core.specs.Inner.Making.{entered_at}
 use Rattle.share_core.specs.Entering.{CallsOnly}
 
--- it marked this game alone, and entered nothing
-abbrev pub MarksOnly : {O : Type 0} → ℕ → ℕ → Known O → Known O → Type 0
-MarksOnly n game old new = CallsOnly n (λ _. ⊥) (λ marked. marked ≡ game) old new
+-- it marked such games at such numbers alone, and entered nothing
+abbrev pub MarksOnly : {O : Type 0} → ℕ → (ℕ → ℕ → Type 0) → Known O → Known O → Type 0
+MarksOnly n marks old new = CallsOnly n (λ _ _. ⊥) marks old new
+
+-- this game was marked, at this number
+abbrev pub IsMarkAt : ℕ → ℕ → ℕ → ℕ → Type 0
+IsMarkAt at game number marked = (number ≡ at) × (marked ≡ game)
+
+-- this game was marked, at one of these numbers
+abbrev pub IsMarkAmong : List Entered → ℕ → ℕ → ℕ → Type 0
+IsMarkAmong entered game number marked = (marked ≡ game)
+    × ((place : ℕ) × (place < length entered) × ((entered_at entered place).number ≡ number))
+
+-- what was answered is this number, or none
+abbrev pub IsAnswer : Option Entered → Answer → Type 0
+IsAnswer None (answer.Number number) = ⊥
+IsAnswer (Some entered) (answer.Number number) = entered.number ≡ number
+IsAnswer entered answer.Absent = Unit {0}
+IsAnswer entered answer.Full = Unit {0}
+
+-- this pattern was entered, and got this number, or none
+abbrev pub IsEnteredAs : ℕ → Option Entered → ℕ → Answer → Type 0
+IsEnteredAs shape entered key found = (key ≡ shape) × IsAnswer entered found
 
 -- a key is the pattern of one of these meetings
 abbrev pub IsMetIn : List Meeting → ℕ → Type 0
 IsMetIn meetings key = (place : ℕ) × (place < length meetings) × ((meeting_at meetings place).shape ≡ key)
+
+-- where a number was answered, it is kept at this place
+abbrev pub IsKeptAt : List Entered → ℕ → Answer → Type 0
+IsKeptAt entered place (answer.Number number) = (place < length entered) × ((entered_at entered place).number ≡ number)
+IsKeptAt entered place answer.Absent = Unit {0}
+IsKeptAt entered place answer.Full = Unit {0}
+
+-- a key is the pattern of one of these meetings, and the number that was answered, if one was, is kept for this meeting
+pub record IsNoted (meetings : List Meeting) (entered : List Entered) (key : ℕ) (found : Answer) : Type 0 where
+  pub place : ℕ
+  pub within : place < length meetings
+  pub shape_is : (meeting_at meetings place).shape ≡ key
+  pub kept : IsKeptAt entered place found
 
 -- after a history of a table of n numbers the pattern has this number; where that need not be marked, a game that is no
 -- later was marked there

@@ -1,6 +1,7 @@
 -- What the definitions of `Raising` serve inside the crate.
 use Rattle.std.specs.Prelude.{◌≡◌, ℕ, ◌+◌, ◌<◌, ◌==◌, ◌⊎◌, if◌then◌else◌, List, [], ◌∷◌, length, Option, Some, None, slice_index, slice_index_or}
 use Rattle.share_core.specs.declared.rows.Row.{Row}
+use Rattle.slot_table.specs.History.{IsAtMost}
 use Rattle.tally_core.specs.declared.meetings.Meeting.{Meeting}
 use Rattle.tally_core.specs.Walk.{there_among, played_among}
 use Rattle.share_core.specs.Rows.{row_at, there_of, played_of, first_of, earlier}
@@ -43,3 +44,4 @@ pub record AreRaised (meetings : List Meeting) (places : List ℕ) (game : ℕ) 
   pub first : (shape : ℕ) → first_of new shape ≡ earlier (first_of old shape) (game_met game meetings shape)
   pub weight : weight_of new ≡ weight_of old + weight_among meetings
   pub others : (place : ℕ) → IsAmongFirst (length meetings) places place ⊎ (row_at new place ≡ row_at old place)
+  pub begun : (i : ℕ) → i < length meetings → IsAtMost (row_at new (slice_index places i)).first game

@@ -1,25 +1,41 @@
-use Rattle.std.proofs.Common.{rules, ◌<◌, length, subst, ap, ◌∙◌, ℕ, List}
+use Rattle.std.proofs.Common.{rules, ◌<◌, ◌^◌, length, ap, sym, subst, ◌∙◌}
 use Rattle.std.specs.Prelude.{slice_index_or, vec_len}
 use Rattle.std.proofs.lemmas.List.{get_or_default}
-use Rattle.std.specs.declared.thread.PromisedHandle.{PromisedHandle}
-use Rattle.harvest_core.specs.declared.threads.WorkOf.{WorkOf}
-use Rattle.harvest_core.specs.declared.working.Worked.{Worked}
-use Rattle.harvest_core.proofs.Workers.{workers_promised}
-use Rattle.harvest_core.specs.Inner.Working.{IsWorkOf}
+use Rattle.std.proofs.lemmas.List.Elements.{recursion_from_All}
+use Rattle.slot_table.specs.Passes.{Numbers}
+use Rattle.harvest_core.specs.Working.{IsReturned}
+use Rattle.harvest_core.specs.Inner.Crew.{IsBackOf, IsHandleOf}
+use Rattle.harvest_core.proofs.Promised.{back_of, stakes_come_back, numbers_come_back}
 use Rattle.harvest_core.proofs.threads.theirs.Goals as goal
 
-pub returns-clause-work : goal.returns-clause-work
-returns-clause-work g c = λ k d below. let there : k < vec_len c.args.handles = search rules in let here : k < length c.args.handles.items = search rules in
-    let keeps = (c.in_ok-join_promised.ensures.each k d there).1 in
-    let mine = c.requires k keeps.handle here in
-    let one = slice_index_or c.in_ok-join_promised.field-0.items k d in
-    subst (λ (bs : List ℕ). IsWorkOf bs c.args.of.kinds one) (ap (λ h. h.promise.bytes.now) keeps.handle_is ∙ mine.0)
-    (subst (λ ks. IsWorkOf keeps.handle.promise.bytes.now ks one) (ap (λ h. h.promise.kinds) keeps.handle_is ∙ mine.1) keeps.kept.0)
-
-pub returns-clause-workers : goal.returns-clause-workers
-returns-clause-workers g c =
-    let handles = c.args.handles.items in
-    workers_promised c.in_ok-join_promised.field-0.items handles (search rules) (λ k one other low.
+pub returns-in-Ok-clause-back : goal.returns-in-Ok-clause-back
+returns-in-Ok-clause-back g c =
+    let own = c.args.own.now in
+    let E = g.O.ProbeOrder.exponent in
+    let all = c.in-Ok.all.items in
+    let P = IsBackOf E own.table.now own.desk.queue own.desk.bytes own.kinds in
+    recursion_from_All P all (λ k d below.
     let there : k < vec_len c.args.handles = search rules in
-    let keeps = (c.in_ok-join_promised.ensures.each k one there).1 in
-    keeps.kept.1 ∙ ap (λ (h : PromisedHandle Worked WorkOf). h.promise.worker) (keeps.handle_is ∙ get_or_default handles k keeps.handle other low))
+    let here : k < length c.args.handles.items = search rules in
+    let keeps = (c.in-Ok.ensures.each k d there).1 in
+    let promise = keeps.handle.promise in
+    let mine = subst (IsHandleOf E own.table.now own.desk.queue own.desk.bytes own.kinds) (sym keeps.handle_is) (c.requires k keeps.handle here) in
+    back_of E own.table.now own.desk.queue own.desk.bytes own.kinds promise.number promise.desk.value promise.pass.value (slice_index_or all k d) mine.fresh
+    (subst (λ (t : Numbers _). IsReturned E t own.kinds promise.number promise.desk.value promise.pass.value (slice_index_or all k d)) mine.table_is
+    (subst (λ ks. IsReturned E promise.table.now ks promise.number promise.desk.value promise.pass.value (slice_index_or all k d)) mine.kinds_are keeps.kept)))
+
+pub returns-in-Ok-clause-stakes : goal.returns-in-Ok-clause-stakes
+returns-in-Ok-clause-stakes g c =
+    let handles = c.args.handles.items in
+    stakes_come_back c.in-Ok.all.items handles (search rules) (λ k one other low.
+    let there : k < vec_len c.args.handles = search rules in
+    let keeps = (c.in-Ok.ensures.each k one there).1 in
+    keeps.kept.drawn.later.later.stake ∙ ap (λ h. h.promise.pass.value.stake) (keeps.handle_is ∙ get_or_default handles k keeps.handle other low))
+
+pub returns-in-Ok-clause-numbers : goal.returns-in-Ok-clause-numbers
+returns-in-Ok-clause-numbers g c =
+    let handles = c.args.handles.items in
+    numbers_come_back c.in-Ok.all.items handles (search rules) (λ k one other low.
+    let there : k < vec_len c.args.handles = search rules in
+    let keeps = (c.in-Ok.ensures.each k one there).1 in
+    keeps.kept.number_is ∙ ap (λ h. h.promise.number) (keeps.handle_is ∙ get_or_default handles k keeps.handle other low))

@@ -1,4 +1,5 @@
+use Rattle.job_core.specs.Which.{id_of}
 use Rattle.job_core.proofs.queues.open.Given as goal
 
 abbrev pub ghosts-name : goal.ghosts-name
-ghosts-name a = record { bytes = a.bytes.now }
+ghosts-name a = record { queue = id_of a.queue.now; bytes = a.bytes.now }

@@ -5,10 +5,10 @@ use Rattle.share_core.proofs.Visits.{agree_more, differs_here}
 use Rattle.share_core.proofs.agreeing.compare.Goals as goal
 
 pub returns-then-eq-clause-later : goal.returns-then-eq-clause-later
-returns-then-eq-clause-later g c = record { made = call.First c.args.number c.first-of_table.result ∷ []; later = c.first-of_table.ensures.later; entered = tt; marked = tt }
+returns-then-eq-clause-later g c = record { made = call.First c.args.number c.first-of_table.result ∷ []; later = c.first-of_table.ensures.later; only = (tt, tt) }
 
 pub returns-clause-later : goal.returns-clause-later
-returns-clause-later g c = record { made = call.First c.args.number c.first-of_table.result ∷ []; later = c.first-of_table.ensures.later; entered = tt; marked = tt }
+returns-clause-later g c = record { made = call.First c.args.number c.first-of_table.result ∷ []; later = c.first-of_table.ensures.later; only = (tt, tt) }
 
 pub returns-then-eq-clause-agree : goal.returns-then-eq-clause-agree
 returns-then-eq-clause-agree g c rows first shares h =
@@ -22,4 +22,4 @@ returns-clause-agree g c rows first shares h =
     let n = 2 ^ g.O.ProbeOrder.exponent c.args.table.now.order in
     let of_table = c.first-of_table.result in
     differs_here n rows c.args.number (c.args.number + 1) first c.args.pass.now c.first-of_table.new.pass c.args.differs.now c.args.of_shares of_table (sym c.is_some.ensures ∙ c.if-is_some.false) c.first-of_table.ensures.later
-    c.requires.number shares (games_differ c.args.of_shares of_table c.if-eq.ensures) h
+    c.first-of_table.ensures.least c.requires.number shares (games_differ c.args.of_shares of_table c.if-eq.ensures) h

@@ -1,7 +1,7 @@
 use Rattle.std.proofs.Common.{◌≡◌, ◌^◌, length}
 use Rattle.slot_table.specs.Passes.{IsPassOf}
 use Rattle.share_core.specs.Entering.{EntersOnly}
-use Rattle.share_core.specs.Inner.Entering.{AreEntered, IsMetIn}
+use Rattle.share_core.specs.Inner.Entering.{AreEntered, IsNoted}
 use Rattle.share_core.proofs.entering.enter_all.Given as goal
 
 -- the meetings so far have numbers
@@ -10,7 +10,7 @@ invariant-loop-i g l =
     let n = 2 ^ g.O.ProbeOrder.exponent l.table.order in
     record {
       pass : IsPassOf n l.table l.pass;
-      later : EntersOnly n (IsMetIn l.meetings) l.fn.pass l.pass;
+      noted : EntersOnly n (IsNoted l.meetings l.entered.items) l.fn.pass l.pass;
       count : length l.entered.items ≡ l.i;
       each : AreEntered n l.pass.seen l.game l.meetings l.entered.items;
     }

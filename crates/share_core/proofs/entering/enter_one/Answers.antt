@@ -1,4 +1,4 @@
-use Rattle.std.proofs.Common.{◌^◌, ◌∷◌, [], subst}
+use Rattle.std.proofs.Common.{◌^◌, ◌∷◌, [], refl, subst}
 use Rattle.probe_core.specs.Sequential.{IsNumber}
 use Rattle.probe_core.specs.declared.calls.Call.TheVariants as asked
 use Rattle.probe_core.specs.declared.calls.Answer.TheVariants as answer
@@ -14,8 +14,7 @@ returns-in-Number-clause-later g c =
       made = call.Asked (asked.Enter c.key_of.result) (answer.Number c.in-Number.number) ∷ call.First c.in-Number.number c.first.result ∷ [];
       later = later_through n c.args.pass.now c.enter.new.pass c.first.new.pass (call.Asked (asked.Enter c.key_of.result) (answer.Number c.in-Number.number) ∷ [])
           (call.First c.in-Number.number c.first.result ∷ []) c.in-Number.ensures.later c.first.ensures.later;
-      entered = (c.key_of.ensures, tt);
-      marked = tt;
+      only = ((c.key_of.ensures, refl), (tt, tt));
     }
 
 pub returns-in-Number-clause-some : goal.returns-in-Number-clause-some

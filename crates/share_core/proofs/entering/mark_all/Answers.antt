@@ -1,8 +1,9 @@
-use Rattle.std.proofs.Common.{◌≡◌, ◌^◌, ◌<◌, ◌≤◌, length, subst, arith, ⊎_elim}
+use Rattle.std.proofs.Common.{◌≡◌, ◌^◌, ◌<◌, ◌≤◌, length, sym, subst, arith, ⊎_elim}
 use Rattle.std.proofs.lemmas.Bool.{cases_lt}
 use Rattle.slot_table.specs.History.{least_at, IsAtMost}
 use Rattle.share_core.specs.Inner.Making.{entered_at}
-use Rattle.share_core.proofs.Entered.{calls_through}
+use Rattle.share_core.specs.Inner.Entering.{IsMarkAt, IsMarkAmong}
+use Rattle.share_core.proofs.Entered.{calls_through, calls_weaker}
 use Rattle.share_core.proofs.entering.mark_all.Goals as goal
 
 pub loop-one-preserved : goal.loop-one-preserved
@@ -13,7 +14,9 @@ loop-one-preserved g c =
     let inside : i < length c.args.entered.now = omega arith in
     record {
       pass = c.mark_one.ensures.pass;
-      later = calls_through n (λ _. ⊥) (λ marked. marked ≡ c.args.game) c.args.pass.now c.loop-one.pass c.mark_one.new.pass c.loop-one.invariant.later c.mark_one.ensures.later;
+      later = calls_through n (λ _ _. ⊥) (IsMarkAmong c.args.entered.now c.args.game) c.args.pass.now c.loop-one.pass c.mark_one.new.pass c.loop-one.invariant.later
+          (calls_weaker n (λ _ _. ⊥) (λ _ _. ⊥) (IsMarkAt (entered_at c.args.entered.now i).number c.args.game) (IsMarkAmong c.args.entered.now c.args.game) c.loop-one.pass c.mark_one.new.pass
+          (λ key found none. none) (λ number marked h. (h.1, (i, inside, sym h.0))) c.mark_one.ensures.later);
       marked = λ k low. ⊎_elim
           (λ (before : k < i). after.marks (entered_at c.args.entered.now k).number c.args.game (c.loop-one.invariant.marked k before))
           (λ (last : i ≤ k).

@@ -10,7 +10,7 @@ pub returns-in_default-clause-later : goal.returns-in_default-clause-later
 returns-in_default-clause-later g c =
     let n = 2 ^ g.O.ProbeOrder.exponent c.args.table.now.order in
     let look = c.word_at.new.pass in
-    calls_through n (λ _. ⊥) (λ _. ⊥) c.args.pass.now look c.compare.new.pass (calls_seen n (λ _. ⊥) (λ _. ⊥) c.args.pass.now look c.word_at.ensures.later) c.compare.ensures.later
+    calls_through n (λ _ _. ⊥) (λ _ _. ⊥) c.args.pass.now look c.compare.new.pass (calls_seen n (λ _ _. ⊥) (λ _ _. ⊥) c.args.pass.now look c.word_at.ensures.later) c.compare.ensures.later
 
 pub returns-in_default-clause-ok : goal.returns-in_default-clause-ok
 returns-in_default-clause-ok g c rows high low h first before =
@@ -41,7 +41,7 @@ pub returns-clause-later : goal.returns-clause-later
 returns-clause-later g c =
     let n = 2 ^ g.O.ProbeOrder.exponent c.args.table.now.order in
     let look = c.word_at.new.pass in
-    calls_through n (λ _. ⊥) (λ _. ⊥) c.args.pass.now look c.compare-2.new.pass (calls_seen n (λ _. ⊥) (λ _. ⊥) c.args.pass.now look c.word_at.ensures.later) c.compare-2.ensures.later
+    calls_through n (λ _ _. ⊥) (λ _ _. ⊥) c.args.pass.now look c.compare-2.new.pass (calls_seen n (λ _ _. ⊥) (λ _ _. ⊥) c.args.pass.now look c.word_at.ensures.later) c.compare-2.ensures.later
 
 pub returns-clause-ok : goal.returns-clause-ok
 returns-clause-ok g c rows high low h first before =

@@ -30,10 +30,10 @@ returns-clause-ok g c first h =
 
 pub returns-in-Some-clause-later : goal.returns-in-Some-clause-later
 returns-in-Some-clause-later g c =
-    calls_seen (2 ^ g.O.ProbeOrder.exponent c.args.table.now.order) (λ _. ⊥) (λ _. ⊥) c.args.pass.now c.word_at.new.pass c.word_at.ensures.later
+    calls_seen (2 ^ g.O.ProbeOrder.exponent c.args.table.now.order) (λ _ _. ⊥) (λ _ _. ⊥) c.args.pass.now c.word_at.new.pass c.word_at.ensures.later
 
 pub returns-clause-later : goal.returns-clause-later
 returns-clause-later g c =
     let n = 2 ^ g.O.ProbeOrder.exponent c.args.table.now.order in
     let look = c.word_at.new.pass in
-    calls_through n (λ _. ⊥) (λ _. ⊥) c.args.pass.now look c.compare.new.pass (calls_seen n (λ _. ⊥) (λ _. ⊥) c.args.pass.now look c.word_at.ensures.later) c.compare.ensures.later
+    calls_through n (λ _ _. ⊥) (λ _ _. ⊥) c.args.pass.now look c.compare.new.pass (calls_seen n (λ _ _. ⊥) (λ _ _. ⊥) c.args.pass.now look c.word_at.ensures.later) c.compare.ensures.later

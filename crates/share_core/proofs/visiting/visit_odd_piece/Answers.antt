@@ -7,7 +7,7 @@ use Rattle.share_core.proofs.visiting.visit_odd_piece.Goals as goal
 
 pub returns-in_err-visit_odd-clause-later : goal.returns-in_err-visit_odd-clause-later
 returns-in_err-visit_odd-clause-later g c =
-    calls_through (2 ^ g.O.ProbeOrder.exponent c.args.table.now.order) (λ _. ⊥) (λ _. ⊥) c.args.pass.now c.loop-number.pass c.visit_odd.new.pass c.loop-number.invariant.later c.visit_odd.ensures.later
+    calls_through (2 ^ g.O.ProbeOrder.exponent c.args.table.now.order) (λ _ _. ⊥) (λ _ _. ⊥) c.args.pass.now c.loop-number.pass c.visit_odd.new.pass c.loop-number.invariant.later c.visit_odd.ensures.later
 
 pub returns-in_err-visit_odd-clause-fault : goal.returns-in_err-visit_odd-clause-fault
 returns-in_err-visit_odd-clause-fault g c =
@@ -19,7 +19,7 @@ pub loop-number-preserved : goal.loop-number-preserved
 loop-number-preserved g c =
     record {
       pass = c.visit_odd.ensures.pass;
-      later = calls_through (2 ^ g.O.ProbeOrder.exponent c.args.table.now.order) (λ _. ⊥) (λ _. ⊥) c.args.pass.now c.loop-number.pass c.visit_odd.new.pass c.loop-number.invariant.later c.visit_odd.ensures.later;
+      later = calls_through (2 ^ g.O.ProbeOrder.exponent c.args.table.now.order) (λ _ _. ⊥) (λ _ _. ⊥) c.args.pass.now c.loop-number.pass c.visit_odd.new.pass c.loop-number.invariant.later c.visit_odd.ensures.later;
       visited = λ first h. c.in_ok-visit_odd.ensures.ok first (c.loop-number.invariant.visited first h);
     }
 

@@ -1,15 +1,18 @@
-use Rattle.std.proofs.Common.{◌≡◌, ◌^◌, ◌≤◌, List, length, take, IfSome, IfNone, ap, sym, subst, ◌∙◌}
+use Rattle.std.proofs.Common.{◌≡◌, ◌^◌, ◌<◌, ◌≤◌, List, length, take, IfSome, IfNone, false, ap, sym, subst, ◌∙◌}
 use Rattle.std.proofs.Math.Seq.{take-length}
 use Rattle.std.proofs.lemmas.Result.{err_from_is_err_and}
+use Rattle.std.proofs.lemmas.List.Elements.{All-from_get_or}
 use Rattle.tally_core.specs.declared.meetings.Meeting.{Meeting}
 use Rattle.tally_core.specs.Walk.{IsWalk}
 use Rattle.share_core.specs.declared.making.Entered.{Entered}
 use Rattle.share_core.specs.declared.faults.HarvestFault.TheVariants as fault
 use Rattle.share_core.specs.Inner.Raising.{AreRowsOf}
-use Rattle.share_core.specs.Inner.Making.{AreNumbered}
-use Rattle.share_core.specs.Inner.Entering.{AreEntered, IsRefused}
-use Rattle.share_core.specs.Adding.{IsPrepareFault}
-use Rattle.share_core.proofs.Prepared.{entered_patterns, fresh_of, stranger_of, full_of}
+use Rattle.share_core.specs.Inner.Making.{AreBelow, AreNumbered}
+use Rattle.share_core.specs.Entering.{EntersOnly}
+use Rattle.share_core.specs.Inner.Entering.{AreEntered, IsRefused, IsNoted}
+use Rattle.share_core.specs.Adding.{IsPrepareFault, IsEntryOf, IsRowedAfter}
+use Rattle.share_core.proofs.Entered.{calls_self}
+use Rattle.share_core.proofs.Prepared.{fresh_of, stranger_of, full_of, entries_met, entries_unrowed, entries_rowed}
 use Rattle.share_core.proofs.workings.Workings.prepare.Goals as goal
 
 pub returns-in_err-make_rows-clause-fresh : goal.returns-in_err-make_rows-clause-fresh
@@ -108,26 +111,70 @@ returns-in-None-clause-ok g c =
       numbered = subst (λ (es : List Entered). AreNumbered es places rows) value c.in_ok-make_rows.ensures.numbered;
     }
 
-pub returns-in_err-refused-clause-later : goal.returns-in_err-refused-clause-later
-returns-in_err-refused-clause-later g c =
+pub returns-in_err-refused-clause-enters : goal.returns-in_err-refused-clause-enters
+returns-in_err-refused-clause-enters g c =
     let n = 2 ^ g.O.ProbeOrder.exponent c.args.table.now.order in
-    entered_patterns n c.args.self.now.walk.kinds c.args.record.now c.meetings-meetings.result.now c.in_ok-moves.moves c.args.pass.now c.enter_all.new.pass
-    (subst (λ (ms : List Meeting). IsWalk c.args.self.now.walk.kinds c.args.record.now ms c.in_ok-moves.moves) (sym c.meetings-meetings.ensures) c.in_ok-moves.ensures.walked) c.enter_all.ensures.later
+    let kinds = c.args.self.now.walk.kinds in
+    let actions = c.args.record.now in
+    let rows = c.args.ledger.now.rows in
+    let meetings = c.meetings-meetings.result.now in
+    let walked = subst (λ (ms : List Meeting). IsWalk kinds actions ms c.in_ok-moves.moves) (sym c.meetings-meetings.ensures) c.in_ok-moves.ensures.walked in
+    let p = err_from_is_err_and c.from_residual-in_err-refused.result c.from_residual-in_err-refused.ensures.1 in
+    rw (p.1, p.2) (subst (λ found. EntersOnly n (IsEntryOf kinds actions (IsRowedAfter found rows)) c.args.pass.now c.enter_all.new.pass) (sym c.in_err-refused.ensures.fault)
+    (entries_met n kinds actions meetings c.in_ok-moves.moves rows c.args.pass.now c.enter_all.new.pass walked c.in_err-refused.ensures.met))
 
-pub returns-in_err-make_rows-clause-later : goal.returns-in_err-make_rows-clause-later
-returns-in_err-make_rows-clause-later g c =
+pub returns-in_err-make_rows-clause-enters : goal.returns-in_err-make_rows-clause-enters
+returns-in_err-make_rows-clause-enters g c =
     let n = 2 ^ g.O.ProbeOrder.exponent c.args.table.now.order in
-    entered_patterns n c.args.self.now.walk.kinds c.args.record.now c.meetings-meetings.result.now c.in_ok-moves.moves c.args.pass.now c.enter_all.new.pass
-    (subst (λ (ms : List Meeting). IsWalk c.args.self.now.walk.kinds c.args.record.now ms c.in_ok-moves.moves) (sym c.meetings-meetings.ensures) c.in_ok-moves.ensures.walked) c.enter_all.ensures.later
+    let kinds = c.args.self.now.walk.kinds in
+    let actions = c.args.record.now in
+    let meetings = c.meetings-meetings.result.now in
+    let walked = subst (λ (ms : List Meeting). IsWalk kinds actions ms c.in_ok-moves.moves) (sym c.meetings-meetings.ensures) c.in_ok-moves.ensures.walked in
+    let noted = subst (λ (es : List Entered). EntersOnly n (IsNoted meetings es) c.args.pass.now c.enter_all.new.pass) (sym c.as_slice-entered.ensures.value) c.in_ok-refused.ensures.noted in
+    let p = err_from_is_err_and c.from_residual-in_err-make_rows.result c.from_residual-in_err-make_rows.ensures.1 in
+    rw (p.1, p.2) (entries_unrowed n kinds actions meetings c.as_slice-entered.result.now c.in_ok-moves.moves c.make_rows.new.self.rows c.in_err-make_rows.field-0.0 c.args.pass.now c.enter_all.new.pass
+    walked c.in_err-make_rows.ensures.fault noted)
 
-pub returns-in-Some-clause-later : goal.returns-in-Some-clause-later
-returns-in-Some-clause-later g c =
+pub returns-in-Some-clause-enters : goal.returns-in-Some-clause-enters
+returns-in-Some-clause-enters g c =
     let n = 2 ^ g.O.ProbeOrder.exponent c.args.table.now.order in
-    entered_patterns n c.args.self.now.walk.kinds c.args.record.now c.meetings-meetings.result.now c.in_ok-moves.moves c.args.pass.now c.enter_all.new.pass
-    (subst (λ (ms : List Meeting). IsWalk c.args.self.now.walk.kinds c.args.record.now ms c.in_ok-moves.moves) (sym c.meetings-meetings.ensures) c.in_ok-moves.ensures.walked) c.enter_all.ensures.later
+    let kinds = c.args.self.now.walk.kinds in
+    let actions = c.args.record.now in
+    let rows = c.make_rows.new.self.rows in
+    let meetings = c.meetings-meetings.result.now in
+    let entered = c.as_slice-entered.result.now in
+    let walked = subst (λ (ms : List Meeting). IsWalk kinds actions ms c.in_ok-moves.moves) (sym c.meetings-meetings.ensures) c.in_ok-moves.ensures.walked in
+    let value = c.as_slice-entered.ensures.value in
+    let few = subst (λ (es : List Entered). length es ≤ length meetings) (sym value) c.enter_all.ensures.few in
+    let noted = subst (λ (es : List Entered). EntersOnly n (IsNoted meetings es) c.args.pass.now c.enter_all.new.pass) (sym value) c.in_ok-refused.ensures.noted in
+    subst (λ found. EntersOnly n (IsEntryOf kinds actions (IsRowedAfter found rows)) c.args.pass.now c.enter_all.new.pass) (sym (c.full.ensures ∙ ap (λ w. fault.Full c.args.game w) c.word.ensures.value))
+    (entries_rowed n kinds actions meetings entered c.make_rows.new.places.items c.in_ok-moves.moves rows c.args.pass.now c.enter_all.new.pass walked few
+    c.in_ok-make_rows.ensures.rows c.in_ok-make_rows.ensures.numbered noted)
 
-pub returns-in-None-clause-later : goal.returns-in-None-clause-later
-returns-in-None-clause-later g c =
+pub returns-in-None-clause-rowed : goal.returns-in-None-clause-rowed
+returns-in-None-clause-rowed g c =
     let n = 2 ^ g.O.ProbeOrder.exponent c.args.table.now.order in
-    entered_patterns n c.args.self.now.walk.kinds c.args.record.now c.meetings-meetings.result.now c.in_ok-moves.moves c.args.pass.now c.enter_all.new.pass
-    (subst (λ (ms : List Meeting). IsWalk c.args.self.now.walk.kinds c.args.record.now ms c.in_ok-moves.moves) (sym c.meetings-meetings.ensures) c.in_ok-moves.ensures.walked) c.enter_all.ensures.later
+    let kinds = c.args.self.now.walk.kinds in
+    let actions = c.args.record.now in
+    let meetings = c.meetings-meetings.result.now in
+    let entered = c.as_slice-entered.result.now in
+    let walked = subst (λ (ms : List Meeting). IsWalk kinds actions ms c.in_ok-moves.moves) (sym c.meetings-meetings.ensures) c.in_ok-moves.ensures.walked in
+    let value = c.as_slice-entered.ensures.value in
+    let few = subst (λ (es : List Entered). length es ≤ length meetings) (sym value) c.enter_all.ensures.few in
+    let noted = subst (λ (es : List Entered). EntersOnly n (IsNoted meetings es) c.args.pass.now c.enter_all.new.pass) (sym value) c.in_ok-refused.ensures.noted in
+    entries_rowed n kinds actions meetings entered c.make_rows.new.places.items c.in_ok-moves.moves c.make_rows.new.self.rows c.args.pass.now c.enter_all.new.pass walked few
+    c.in_ok-make_rows.ensures.rows c.in_ok-make_rows.ensures.numbered noted
+
+pub returns-in_err-moves-clause-enters : goal.returns-in_err-moves-clause-enters
+returns-in_err-moves-clause-enters g c =
+    let n = 2 ^ g.O.ProbeOrder.exponent c.args.table.now.order in
+    let p = err_from_is_err_and c.from_residual.result c.from_residual.ensures.1 in
+    rw p.1 (calls_self n (IsEntryOf c.args.self.now.walk.kinds c.args.record.now (IsRowedAfter p.0 c.args.ledger.now.rows)) (λ _ _. ⊥) c.args.pass.now)
+
+pub make_rows-requires-clause-numbers : goal.make_rows-requires-clause-numbers
+make_rows-requires-clause-numbers g c =
+    let n = 2 ^ g.O.ProbeOrder.exponent c.args.table.now.order in
+    let entered = c.as_slice-entered.result.now in
+    let slots : c.slots-slots.result ≡ n = c.slots-slots.ensures.value ∙ ap (λ k. 2 ^ k) c.capacity.ensures in
+    let each = subst (λ (es : List Entered). AreEntered n c.enter_all.new.pass.seen c.args.game c.meetings-meetings.result.now es) (sym c.as_slice-entered.ensures.value) c.enter_all.ensures.each in
+    subst (λ k. AreBelow k entered) (sym slots) (All-from_get_or (λ (e : Entered). e.number < n) entered (record { number = 0; late = false }) (λ i low. (each i low).within))
