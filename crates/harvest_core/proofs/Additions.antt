@@ -108,11 +108,14 @@ worked_added bytes n seen kinds game actions old new is added grown h above =
 -- a mark of a game's own pattern is one of the input
 pub mark_of_game : (n : ℕ) (seen : List Happened) (bytes : List ℕ) (held kinds : Kinds) (game : ℕ) (actions : Actions) (rows : List Row) → IsGame bytes game actions → held ≡ kinds →
     (number marked : ℕ) → IsMarkOf n seen held actions rows game number marked → (marked ≡ game) × IsMarkIn n seen bytes kinds number marked
-mark_of_game n seen bytes held kinds game actions rows is same number marked one = (one.game_is, record {
-  shape = one.row.shape;
-  pattern = subst (λ g. IsPatternOfGame bytes kinds g one.row.shape) (sym one.game_is) (of_game bytes held kinds game actions one.row.shape is same one.pattern);
-  number_is = one.stands;
-})
+mark_of_game n seen bytes held kinds game actions rows is same number marked one = (
+  one.game_is,
+  record {
+    shape = one.row.shape;
+    pattern = subst (λ g. IsPatternOfGame bytes kinds g one.row.shape) (sym one.game_is) (of_game bytes held kinds game actions one.row.shape is same one.pattern);
+    number_is = one.stands;
+  },
+)
 
 -- what a pass entered and marked for a game
 pub calls_of_game : {O : Type 0} (n : ℕ) (bytes : List ℕ) (held kinds : Kinds) (game : ℕ) (actions : Actions) (rowed : ℕ → Answer → Type 0) (marks : ℕ → ℕ → Type 0) (old new : Known O) →

@@ -136,10 +136,12 @@ last_as exponent table queue bytes kinds lent {given = given} {other = other} {c
 
 -- a part of its desk and of its pass went to one more worker
 abbrev pub HasLent : {O G : Type 0} → Crew O G → Crew O G → Type 0
-HasLent before after = after ≡ record before { own = record before.own {
-  desk = record before.own.desk { parts = before.own.desk.parts - 1 };
-  pass = record before.own.pass { stake = halved before.own.pass.stake };
-} }
+HasLent before after = after ≡ record before {
+  own = record before.own {
+    desk = record before.own.desk { parts = before.own.desk.parts - 1 };
+    pass = record before.own.pass { stake = halved before.own.pass.stake };
+  };
+}
 
 module _ {O G : Type 0} (exponent : O → ℕ) (table : Numbers O) (queue : TableId) (bytes : List ℕ) (kinds : Kinds) (given : List ℕ) (lent : ℕ) (before after : Crew O G)
     (h : IsCrew exponent table queue bytes kinds given lent before) (step : HasLent before after) (still : IsPassOf (2 ^ exponent before.own.table.now.order) before.own.table.now after.own.pass) where
@@ -170,7 +172,7 @@ module _ {O G : Type 0} (exponent : O → ℕ) (table : Numbers O) (queue : Tabl
     games = ap (λ (w : Crew O G). w.games.bytes) step ∙ h.games;
     none = ap (λ (w : Crew O G). w.games.report.games) step ∙ h.none;
     workers = (let w : after.own.workers ≡ before.own.workers = ap (λ (w : Crew O G). w.own.workers) step in
-    (subst (λ k. 1 ≤ k) (sym w) h.workers.0, subst (λ k. k ≤ 64) (sym w) h.workers.1));
+        (subst (λ k. 1 ≤ k) (sym w) h.workers.0, subst (λ k. k ≤ 64) (sym w) h.workers.1));
   }
 
   -- it was not: then fewer were started than were asked for

@@ -103,10 +103,12 @@ impl<'q, 'a, 't, O: ProbeOrder, G: Gate> Crew<'q, 'a, 't, O, G> {
         requires pass { IsPassOf (2 ^ O.exponent self.old.own.table.now.order)
             self.old.own.table.now self.old.own.pass }
         requires parts { 1 < self.old.own.desk.parts }
-        ensures same { self.new ≡ record self.old { own = record self.old.own {
-          desk = record self.old.own.desk { parts = self.old.own.desk.parts - 1 };
-          pass = record self.old.own.pass { stake = halved self.old.own.pass.stake };
-        } } }
+        ensures same { self.new ≡ record self.old {
+          own = record self.old.own {
+            desk = record self.old.own.desk { parts = self.old.own.desk.parts - 1 };
+            pass = record self.old.own.pass { stake = halved self.old.own.pass.stake };
+          };
+        } }
         ensures still { IsPassOf (2 ^ O.exponent self.old.own.table.now.order)
             self.old.own.table.now self.new.own.pass }
         ensures theirs { IsFresh O.exponent self.old.own.table.now self.old.own.desk.queue

@@ -110,9 +110,9 @@ pub record AgreesWithTable {O : Type 0} (exponent : O → ℕ) (table : Numbers 
 -- the thread that reads has taken back what some workers hand back, and these are left
 pub record HasTaken {O G : Type 0} (exponent : O → ℕ) (before : Worker O G) (all left : List (Returned O)) (own : Worker O G) (worked : List Worked) : Type 0 where
   pub own_is : own ≡ record before {
-      desk = record before.desk { parts = own.desk.parts; taken = own.desk.taken; ends_drawn = own.desk.ends_drawn };
-      pass = own.pass;
-    }
+    desk = record before.desk { parts = own.desk.parts; taken = own.desk.taken; ends_drawn = own.desk.ends_drawn };
+    pass = own.pass;
+  }
   pub keeps : Keeps (2 ^ exponent before.table.now.order) before.pass.seen own.pass.seen
   pub counted : AgreesWithTable exponent before.table.now before.desk.bytes before.kinds (calls_of before.pass) own.pass worked
   pub stake : own.pass.stake ++ stakes_back left ≡ before.pass.stake ++ stakes_back all

@@ -33,9 +33,9 @@ AreDealt high put worked = worked.refused ≡ None → IsOnceEach high (put ++ w
 -- what the thread that reads has come to, which had this desk and pass before
 pub record IsReadingOf {O G : Type 0} (exponent : O → ℕ) (bytes : List ℕ) (before : Worker O G) (reading : Reading O G) : Type 0 where
   pub own_is : reading.own ≡ record before {
-      desk = record before.desk { put = reading.own.desk.put; ends_put = reading.own.desk.ends_put };
-      pass = reading.own.pass;
-    }
+    desk = record before.desk { put = reading.own.desk.put; ends_put = reading.own.desk.ends_put };
+    pass = reading.own.pass;
+  }
   pub pass : IsPassOf (2 ^ exponent before.table.now.order) before.table.now reading.own.pass
   pub number : reading.worked.share.worker ≡ 0
   pub worked_is : IsWorkOf bytes before.kinds reading.worked

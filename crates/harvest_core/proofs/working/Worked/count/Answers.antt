@@ -96,9 +96,12 @@ returns-in-Err-clause-table g c calls h =
     let kept = subst (λ (a : Actions). IsKept n after.seen a old.share new) c.record.ensures.value c.in-Err.ensures.kept in
     let why = subst (λ k. IsAddFault n after.seen k job.actions old.share new found) c.game-2.ensures.number
     (subst (λ (a : Actions). IsAddFault n after.seen c.game-2.result a old.share new found) c.record.ensures.value c.in-Err.ensures.fault) in
-    let none : old.refused ≡ None = search rules in
-    (entered.made, entered.later, in_table_kept n job.game job.actions before.seen after.seen calls entered.made old (record { share = new; refused = Some found }) found entered.later.keeps none refl kept why
-    (subst (λ (a : Actions). AllByRecursion (IsCall (IsEntryOf old.share.kinds a (IsRowedAfter found new.rows)) (λ _ _. ⊥)) entered.made) c.record.ensures.value entered.only) h)
+    let none : old.refused ≡ None = search rules in (
+      entered.made,
+      entered.later,
+      in_table_kept n job.game job.actions before.seen after.seen calls entered.made old (record { share = new; refused = Some found }) found entered.later.keeps none refl kept why
+          (subst (λ (a : Actions). AllByRecursion (IsCall (IsEntryOf old.share.kinds a (IsRowedAfter found new.rows)) (λ _ _. ⊥)) entered.made) c.record.ensures.value entered.only) h,
+    )
 
 pub returns-in_default-clause-table : goal.returns-in_default-clause-table
 returns-in_default-clause-table g c calls h =
@@ -114,6 +117,9 @@ returns-in_default-clause-table g c calls h =
     let marked = subst (λ k. IsMarked n after.seen k job.actions old.share new) c.game-2.ensures.number
     (subst (λ (a : Actions). IsMarked n after.seen c.game-2.result a old.share new) c.record.ensures.value done.marked) in
     let made = subst (λ k. AllByRecursion (IsCall (IsEntryOf old.share.kinds job.actions (IsRowed new.rows)) (IsMarkOf n after.seen old.share.kinds job.actions new.rows k)) done.calls.made) c.game-2.ensures.number
-    (subst (λ (a : Actions). AllByRecursion (IsCall (IsEntryOf old.share.kinds a (IsRowed new.rows)) (IsMarkOf n after.seen old.share.kinds a new.rows c.game-2.result)) done.calls.made) c.record.ensures.value done.calls.only) in
-    (done.calls.made, done.calls.later, in_table_grown n job.game job.actions before.seen after.seen calls done.calls.made old (record { share = new; refused = old.refused }) done.calls.later.keeps
-    c.add.ensures.pass.legal none none grown marked made h)
+    (subst (λ (a : Actions). AllByRecursion (IsCall (IsEntryOf old.share.kinds a (IsRowed new.rows)) (IsMarkOf n after.seen old.share.kinds a new.rows c.game-2.result)) done.calls.made) c.record.ensures.value done.calls.only) in (
+      done.calls.made,
+      done.calls.later,
+      in_table_grown n job.game job.actions before.seen after.seen calls done.calls.made old (record { share = new; refused = old.refused }) done.calls.later.keeps
+          c.add.ensures.pass.legal none none grown marked made h,
+    )
