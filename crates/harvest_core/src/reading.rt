@@ -157,7 +157,8 @@ pub(crate) fn read_games<'q, 'a, 't, R: Wait, O: ProbeOrder, G: Gate>(
     requires pass { IsPassOf (2 ^ O.exponent own.table.now.order) own.table.now own.pass }
     requires step { IsInStep games own.desk }
     requires none { (games.report.games ≡ 0) × (own.desk.put ≡ []) }
-    ensures { IsReadingOf O.exponent games.entry.bytes own.entry result }
+    ensures reading { IsReadingOf O.exponent games.entry.bytes own.entry result }
+    ensures ends { result.own.desk.ends_put ≡ own.entry.desk.ends_put + workers }
 {
     let mut games = games;
     let mut own = own;

@@ -143,6 +143,7 @@ fn finish<'q, 'a, 't, R: Wait, O: ProbeOrder, G: Gate>(
     requires step { IsInStep games own.desk }
     requires none { (games.report.games ≡ 0) × (own.desk.put ≡ []) }
     ensures reading { IsReadingOf O.exponent games.entry.bytes own.entry result }
+    ensures ends { result.own.desk.ends_put ≡ own.entry.desk.ends_put + started }
     ensures asked { started ≢ own.entry.workers → result.fault ≡ Some fault.Memory }
 {
     if started == own.workers {
