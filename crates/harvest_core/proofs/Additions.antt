@@ -1,5 +1,5 @@
 -- Shares of games of an input, once one more game was added or refused.
-use Rattle.std.proofs.Common.{◌≡◌, ℕ, ◌<◌, ◌≤◌, ◌*◌, ◌^◌, ◌⊎◌, Option, Some, inl, inr, refl, List, [], ◌∷◌, ◌++◌, length, ap, sym, subst, ◌∙◌, arith, ⊎_elim, Contains}
+use Rattle.std.proofs.Common.{◌≡◌, ℕ, ◌<◌, ◌≤◌, ◌*◌, ◌^◌, ◌⊎◌, Option, inl, inr, refl, List, [], ◌∷◌, ◌++◌, length, ap, sym, subst, ◌∙◌, arith, ⊎_elim, Contains}
 use Rattle.std.proofs.lemmas.List.{map-append, get_or_default}
 use Rattle.std.proofs.lemmas.List.Elements.{All-push, Contains-append_cases, Contains-get_or}
 use Rattle.go_record.specs.Actions.{Actions}

@@ -1,5 +1,5 @@
 -- What a harvest's pass knows afterwards, and what that leaves of the faults.
-use Rattle.std.proofs.Common.{◌≡◌, ℕ, ◌^◌, ◌⊎◌, inl, inr, List, [], ◌∷◌, ◌++◌, Some, None, Option, Result, Ok, Err, IfErr, refl, ap, sym, subst, ◌∙◌, arith, ⊎_elim, All, Contains}
+use Rattle.std.proofs.Common.{◌≡◌, ℕ, ◌^◌, inl, inr, List, [], ◌∷◌, Some, None, Option, Result, Ok, Err, IfErr, refl, ap, sym, subst, ◌∙◌, arith, ⊎_elim, All, Contains}
 use Rattle.std.specs.List.{cons_option}
 use Rattle.std.proofs.lemmas.List.Elements.{All-weaker, All-contains, Contains-append_left}
 use Rattle.shape_core.specs.declared.words.Kinds.{Kinds}
@@ -7,8 +7,7 @@ use Rattle.probe_core.specs.declared.calls.Call.TheVariants as asked
 use Rattle.probe_core.specs.declared.calls.Answer.TheVariants as answer
 use Rattle.slot_table.specs.declared.entries.Happened.{Happened}
 use Rattle.slot_table.specs.declared.entries.Happened.TheVariants as call
-use Rattle.slot_table.specs.History.{IsLegal}
-use Rattle.slot_table.specs.Passes.{Numbers, Known, IsPassOf, IsLater, IsAlone, Met, calls_of}
+use Rattle.slot_table.specs.Passes.{Numbers, Known, IsPassOf, IsAlone, Met, calls_of}
 use Rattle.slot_table.proofs.Meetings.{met_calls}
 use Rattle.slot_table.proofs.Enters.{was_entered}
 use Rattle.slot_table.proofs.Histories.{begins_itself, begins_through}

@@ -1,7 +1,6 @@
 -- What threads have promised, and what they hand back.
-use Rattle.std.proofs.Common.{◌≡◌, ℕ, ◌+◌, ◌-◌, ◌^◌, ◌<◌, ◌≤◌, ◌⊎◌, inl, inr, Some, None, zero, suc, List, [], ◌∷◌, ◌++◌, length, refl, ap, ap₂, sym, subst, ◌∙◌, arith, append_assoc, append-nil, Contains, All}
+use Rattle.std.proofs.Common.{◌≡◌, ℕ, ◌+◌, ◌-◌, ◌^◌, ◌<◌, ◌≤◌, inl, inr, Some, zero, suc, List, [], ◌∷◌, ◌++◌, length, refl, ap, ap₂, sym, subst, ◌∙◌, arith, append_assoc, append-nil, All}
 use Rattle.std.specs.Prelude.{slice_index_or}
-use Rattle.std.specs.List.{AllByRecursion}
 use Rattle.std.specs.declared.thread.PromisedHandle.{PromisedHandle}
 use Rattle.atomic_table.specs.Seated.{TableId}
 use Rattle.shape_core.specs.declared.words.Kinds.{Kinds}
@@ -10,12 +9,11 @@ use Rattle.slot_table.specs.declared.entries.Happened.{Happened}
 use Rattle.std.proofs.lemmas.Bool.{cases_eq}
 use Rattle.slot_table.specs.Passes.{Numbers, Known, IsPassOf, calls_of}
 use Rattle.slot_table.specs.Stakes.{IsAsMuch, halved, half_of}
-use Rattle.job_core.specs.Rule.{worker, reader, all_parts}
+use Rattle.job_core.specs.Rule.{reader, all_parts}
 use Rattle.job_core.specs.declared.hands.Hand.{Hand}
 use Rattle.harvest_core.proofs.CallsIn.{calls_in_input, among_in_input}
 use Rattle.harvest_core.specs.declared.threads.BackTo.{BackTo}
 use Rattle.harvest_core.specs.declared.workers.Returned.{Returned}
-use Rattle.harvest_core.specs.declared.working.Worked.{Worked}
 use Rattle.harvest_core.specs.InTable.{IsInTable}
 use Rattle.harvest_core.specs.Working.{IsReturned, IsWorked, IsRefused, IsCallIn}
 use Rattle.harvest_core.specs.Inner.Crew.{IsFresh, IsCrew, IsHandleOf, IsBackOf, IsJoinable, stakes_of, promised_of, stakes_back, numbers_back}

@@ -1,12 +1,10 @@
 -- What workers hand back is taken up, one after another.
-use Rattle.std.proofs.Common.{◌≡◌, ℕ, ◌+◌, ◌^◌, ◌⊎◌, ◌<◌, ◌≤◌, false, inl, inr, IfNone, IfSome, List, [], ◌∷◌, ◌++◌, length, length-append, None, Some, Option, refl, ap, ap₂, sym, subst, ◌∙◌, arith, append_assoc, append-nil, ⊎_elim, All, Contains}
-use Rattle.std.specs.List.{AllByRecursion, filter_map, cons_option, flat_map}
+use Rattle.std.proofs.Common.{◌≡◌, ℕ, ◌+◌, ◌^◌, ◌<◌, ◌≤◌, false, inl, inr, IfNone, IfSome, List, [], ◌∷◌, ◌++◌, length, length-append, None, Some, Option, refl, ap, ap₂, sym, subst, ◌∙◌, arith, append_assoc, append-nil, ⊎_elim, All, Contains}
+use Rattle.std.specs.List.{AllByRecursion, cons_option}
 use Rattle.std.proofs.lemmas.List.{map-append}
-use Rattle.std.proofs.lemmas.List.Elements.{All-nil, All-push, All-weaker, All-contains, Contains-push, Contains-append_left, filter_map-append}
+use Rattle.std.proofs.lemmas.List.Elements.{All-nil, All-push, All-weaker, Contains-push, Contains-append_left, filter_map-append}
 use Rattle.shape_core.specs.declared.words.Kinds.{Kinds}
 use Rattle.slot_table.specs.declared.entries.Happened.{Happened}
-use Rattle.slot_table.specs.declared.entries.Happened.TheVariants as call
-use Rattle.slot_table.specs.History.{content_of, Keeps}
 use Rattle.slot_table.specs.Passes.{Numbers, Known, IsPassOf, Met, calls_of}
 use Rattle.slot_table.proofs.Meetings.{met_calls}
 use Rattle.job_core.specs.declared.hands.Hand.{Hand}
@@ -21,7 +19,7 @@ use Rattle.share_core.specs.declared.faults.HarvestFault.TheVariants as fault
 use Rattle.harvest_core.specs.declared.workers.Worker.{Worker}
 use Rattle.harvest_core.specs.declared.workers.Returned.{Returned}
 use Rattle.harvest_core.specs.declared.working.Worked.{Worked}
-use Rattle.harvest_core.specs.InTable.{IsInTable, StandsIn, HasItsRows}
+use Rattle.harvest_core.specs.InTable.{IsInTable}
 use Rattle.harvest_core.specs.Working.{IsCallIn}
 use Rattle.harvest_core.specs.Inner.Parted.{shares_of, refusals_of}
 use Rattle.harvest_core.specs.Inner.Crew.{StandsAmong, AgreesWithTable, IsBackOf, HasTaken, IsJoinable, IsCrop, workers_of, stakes_back, numbers_back}
@@ -31,7 +29,7 @@ use Rattle.harvest_core.specs.declared.taking.Crop.{Crop}
 use Rattle.harvest_core.proofs.CallsIn.{calls_in_input}
 use Rattle.harvest_core.specs.Inner.Working.{IsWorkOf}
 use Rattle.harvest_core.proofs.InTable.{still_in_table, call_in_kept}
-use Rattle.harvest_core.proofs.Dealt.{times_both, times_push}
+use Rattle.harvest_core.proofs.Dealt.{times_both}
 
 -- what stands in the rows of some stands in those of more
 pub among_more : (worked : List Worked) (one : Worked) (e : Happened) → StandsAmong worked e → StandsAmong (worked ++ one ∷ []) e

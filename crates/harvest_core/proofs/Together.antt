@@ -1,5 +1,5 @@
 -- The shares of all threads, their refusals and their calls, looked at together.
-use Rattle.std.proofs.Common.{◌≡◌, ℕ, zero, suc, ◌^◌, ◌<◌, ◌⊎◌, inl, inr, List, [], ◌∷◌, ◌++◌, length, get_or, Option, Some, None, refl, ap, sym, subst, ◌∙◌, arith, ⊎_elim, All, Contains}
+use Rattle.std.proofs.Common.{◌≡◌, ℕ, zero, suc, ◌^◌, ◌⊎◌, inl, inr, List, [], ◌∷◌, Option, Some, None, refl, ap, sym, subst, ◌∙◌, arith, ⊎_elim, All, Contains}
 use Rattle.std.specs.List.{cons_option}
 use Rattle.std.proofs.lemmas.List.{get_or_default}
 use Rattle.std.proofs.lemmas.List.Elements.{All-contains, Contains-append_left, Contains-append_right, Contains-append_cases, Contains-get_or}
@@ -8,7 +8,7 @@ use Rattle.probe_core.specs.declared.calls.Call.TheVariants as asked
 use Rattle.probe_core.specs.declared.calls.Answer.TheVariants as answer
 use Rattle.slot_table.specs.declared.entries.Happened.{Happened}
 use Rattle.slot_table.specs.declared.entries.Happened.TheVariants as call
-use Rattle.slot_table.specs.Passes.{Numbers, Known, calls_of}
+use Rattle.slot_table.specs.Passes.{Numbers, Known}
 use Rattle.share_core.specs.declared.rows.Row.{Row}
 use Rattle.share_core.specs.declared.faults.HarvestFault.{HarvestFault}
 use Rattle.share_core.specs.declared.faults.HarvestFault.TheVariants as fault
@@ -16,8 +16,8 @@ use Rattle.share_core.specs.Rows.{row_at, blank}
 use Rattle.share_core.specs.Making.{HasRow}
 use Rattle.share_core.specs.Checking.{all_rows}
 use Rattle.harvest_core.specs.declared.working.Worked.{Worked}
-use Rattle.harvest_core.specs.InTable.{HasGameBy, StandsIn, HasItsRows, IsInTable}
-use Rattle.harvest_core.specs.Working.{IsCallIn, IsRefusal, IsRefused}
+use Rattle.harvest_core.specs.InTable.{StandsIn, HasItsRows, IsInTable}
+use Rattle.harvest_core.specs.Working.{IsCallIn, IsRefused}
 use Rattle.harvest_core.specs.Harvest.{IsRead}
 use Rattle.harvest_core.specs.Inner.Parted.{shares_of, refusals_of}
 use Rattle.harvest_core.specs.Inner.Crew.{StandsAmong, AgreesWithTable}

@@ -1,6 +1,5 @@
 -- Which games a thread that reads has dealt out, and why an input was not read to its end.
 use Rattle.std.specs.Prelude.{◌≡◌, ℕ, ◌^◌, nat_lt, if◌then◌else◌, List, ◌++◌, None, IfNone, IfSome}
-use Rattle.shape_core.specs.declared.words.Kinds.{Kinds}
 use Rattle.tally_core.specs.Counted.{IsCountFault}
 use Rattle.tally_core.specs.declared.faults.HarvestFault.TheVariants as tally
 use Rattle.slot_table.specs.Passes.{IsPassOf}

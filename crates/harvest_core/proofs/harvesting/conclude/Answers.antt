@@ -1,4 +1,4 @@
-use Rattle.std.proofs.Common.{◌≡◌, ◌^◌, inl, inr, List, [], IfNone, IfErr, refl, ap, sym, subst, ◌∙◌, arith, All, Contains}
+use Rattle.std.proofs.Common.{◌≡◌, ◌^◌, inl, inr, List, [], IfNone, IfErr, refl, sym, subst, ◌∙◌, arith, All, Contains}
 use Rattle.std.proofs.lemmas.Bool.{false≢true}
 use Rattle.std.proofs.lemmas.List.Elements.{All-contains, All-weaker}
 use Rattle.std.proofs.lemmas.Result.{err_from_is_err_and}
@@ -13,7 +13,7 @@ use Rattle.slot_table.specs.Passes.{calls_of}
 use Rattle.harvest_core.specs.declared.working.Worked.{Worked}
 use Rattle.harvest_core.specs.Working.{IsWorked, IsRefused, IsRefusal}
 use Rattle.harvest_core.specs.Harvest.{IsRead}
-use Rattle.harvest_core.specs.Inner.Parted.{shares_of, refusals_of, IsWorst}
+use Rattle.harvest_core.specs.Inner.Parted.{refusals_of, IsWorst}
 use Rattle.harvest_core.specs.Inner.Reading.{IsOnceEach}
 use Rattle.harvest_core.specs.Inner.Harvest.{AreTogether, IsExplained}
 use Rattle.harvest_core.specs.Inner.Working.{IsWorkOf}

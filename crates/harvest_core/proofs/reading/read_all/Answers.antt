@@ -4,7 +4,6 @@ use Rattle.slot_table.proofs.Later.{later_self}
 use Rattle.share_core.specs.Checking.{Stand}
 use Rattle.job_core.specs.Rising.{past}
 use Rattle.job_core.specs.declared.jobs.Item.TheVariants.{Job}
-use Rattle.job_core.specs.declared.hands.Hand.{Hand}
 use Rattle.job_core.specs.Reading.{IsNextGame, HasNoGame}
 use Rattle.job_core.specs.Rule.{putting}
 use Rattle.job_core.specs.Inner.Rule.{IsInStep}

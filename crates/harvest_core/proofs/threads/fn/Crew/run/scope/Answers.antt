@@ -1,14 +1,14 @@
-use Rattle.std.proofs.Common.{◌≡◌, ◌^◌, ◌+◌, ◌++◌, ◌<◌, ℕ, List, [], ◌∷◌, length, refl, ap, sym, subst, ◌∙◌, arith}
+use Rattle.std.proofs.Common.{◌≡◌, ◌+◌, ◌++◌, ℕ, List, [], ◌∷◌, length, ap, sym, subst, ◌∙◌, arith}
 use Rattle.std.specs.Prelude.{All}
 use Rattle.std.proofs.lemmas.List.{length_push}
 use Rattle.std.proofs.lemmas.List.Elements.{All-push}
 use Rattle.std.specs.declared.thread.PromisedHandle.{PromisedHandle}
 use Rattle.slot_table.specs.Passes.{Known}
 use Rattle.job_core.specs.declared.hands.Hand.{Hand}
-use Rattle.slot_table.specs.Stakes.{IsAsMuch, halved, half_of}
+use Rattle.slot_table.specs.Stakes.{half_of}
 use Rattle.harvest_core.specs.declared.threads.BackTo.{BackTo}
 use Rattle.harvest_core.specs.declared.workers.Returned.{Returned}
-use Rattle.harvest_core.specs.Inner.Crew.{IsCrew, IsFresh, IsHandleOf, IsJoinable, stakes_of, promised_of}
+use Rattle.harvest_core.specs.Inner.Crew.{IsCrew, IsFresh, IsHandleOf, stakes_of, promised_of}
 use Rattle.harvest_core.proofs.Promised.{stakes_more, promised_more, crew_more, last_of, last_as, last_lost, joinable, handle_of, all_handles}
 use Rattle.harvest_core.proofs.threads.fn.Crew.run.scope.Goals as goal
 use Rattle.harvest_core.proofs.threads.fn.Crew.run.scope.Goals.{else-loop-test, then-loop-test+then-is_err, then-loop-test+else-is_err+in-Err}
