@@ -1,0 +1,89 @@
+//! The examples of the pages of `harvest_core`, `engine_core`, `listing_core`, `sheet_core` and
+//! `stream_core`.
+use engine_core::run_count;
+use harvest_core::{FreeGate, harvest};
+use listing_core::{Listed, run_listing};
+use shape_core::{Kind, Kinds};
+use shape_dict::Text;
+use sheet_core::{Asked, Form, Order, run_sheet};
+use std::io::Cursor;
+use std::test::Fail;
+use stream_core::Lines;
+use tally_core::Settings;
+
+#[test]
+fn harvest_core(rt: HostRuntime) -> Result<(), Fail> {
+    let alloc = rt.alloc();
+    let settings = Settings::new(2, 4)?.with(Kinds::Squares);
+    let games = b"(;SZ[1];B[aa])(;SZ[2:1];B[aa];W[ba])";
+    let counted = harvest(&rt, alloc, settings, games, &FreeGate)?;
+    assert_eq!(rt; counted.report.games, 2);
+    assert_eq!(rt; counted.dictionary.entries().len(), 3);
+    Ok(())
+}
+
+#[test]
+fn engine_core(rt: HostRuntime) -> Result<(), Fail> {
+    let alloc = rt.alloc();
+    let settings = Settings::new(2, 4)?.with(Kinds::Squares);
+    let mut games = Cursor::new(b"(;SZ[1];B[aa])");
+    let mut text = Vec::new(alloc);
+    let report = run_count(
+        &rt,
+        alloc,
+        settings,
+        Text::One,
+        &FreeGate,
+        &mut games,
+        &mut text,
+    )?;
+    assert_eq!(rt; report.games, 1);
+    let wanted = b"shapes 1 games 1 moves 1 patterns 1\n3fffffcffffff 1 1\n";
+    assert_eq!(rt; text.as_slice(), wanted.as_slice());
+    Ok(())
+}
+
+#[test]
+fn listing_core(rt: HostRuntime) -> Result<(), Fail> {
+    let alloc = rt.alloc();
+    let mut games = Cursor::new(b"(;SZ[1];B[aa])(;GM[2])");
+    let mut lines = Vec::new(alloc);
+    let listed = run_listing(alloc, &mut games, &mut lines)?;
+    assert!(rt; listed == Listed::Done);
+    let wanted = b"0 0 14 game 1x1 moves 1 occasions 1\n- 14 22 other\n";
+    assert_eq!(rt; lines.as_slice(), wanted.as_slice());
+    Ok(())
+}
+
+#[test]
+fn sheet_core(rt: HostRuntime) -> Result<(), Fail> {
+    let alloc = rt.alloc();
+    let mut one = Cursor::new(b"shapes 1 games 1 moves 1 patterns 1\n3fffffcffffff 1 1\n");
+    let mut sheet = Vec::new(alloc);
+    let asked = Asked {
+        order: Order::Urgency,
+        kind: Kind::Square,
+        least: 1,
+        most: 20,
+        form: Form::Plain,
+    };
+    run_sheet(alloc, asked, &mut one, &mut sheet)?;
+    let wanted = b"1 3fffffcffffff there 1 played 1 urgency 100.00%\n";
+    assert!(rt; sheet.as_slice().starts_with(wanted));
+    Ok(())
+}
+
+#[test]
+fn stream_core(rt: HostRuntime) -> Result<(), Fail> {
+    let one = Cursor::new(b"shapes 1 games 1 moves 1 patterns 1\n3fffffcffffff 1 1\n");
+    let mut lines = Lines::open(rt.alloc(), one)?;
+    let mut played = 0;
+    for _ in 0..u64::MAX {
+        let Some(entry) = lines.next_entry()? else {
+            break;
+        };
+        played += entry.played;
+    }
+    assert_eq!(rt; played, lines.header().moves);
+    Ok(())
+}

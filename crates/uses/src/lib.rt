@@ -1,0 +1,11 @@
+//! The examples of the crates' pages, each as it stands there, proved and run.
+#![tactic(auto)]
+
+#[cfg(test)]
+mod engines;
+#[cfg(test)]
+mod games;
+#[cfg(test)]
+mod patterns;
+#[cfg(test)]
+mod tables;
