@@ -1,0 +1,65 @@
+-- What a run comes to.
+use Rattle.std.proofs.Common.{◌≡◌, ◌≢◌, ℕ, zero, suc, ◌<◌, ◌≤◌, max, inl, inr, ⊎_elim, List, [], ◌∷◌, length, take, Option, Some, None, refl, ap, sym, subst, ◌∙◌, arith}
+use Rattle.std.specs.List.{flat_map}
+use Rattle.std.proofs.lemmas.List.{take-take}
+use Rattle.engine_core.specs.declared.boards.Outcome.{Outcome}
+use Rattle.engine_core.specs.declared.boards.Outcome.TheVariants as outcome
+use Rattle.hits_core.specs.declared.hits.Hit.{Hit}
+use Rattle.hits_core.specs.declared.searches.Search.{Search}
+use Rattle.hits_core.specs.Hits.{first_of, AreEnough}
+use Rattle.hits_core.specs.Lines.{line_text}
+use Rattle.hits_core.specs.Runs.{IsAnswer, IsHitsText}
+use Rattle.hits_core.specs.Inner.Finding.{IsFull}
+use Rattle.hits_core.specs.Inner.Runs.{limit_of, AreHitsIn}
+
+-- of those that are looked for the first are written
+first-limit : {A : Type 0} (most : Option ℕ) (xs : List A) → first_of most (first_of (limit_of most) xs) ≡ first_of most xs
+first-limit None xs = refl
+first-limit (Some n) xs = take-take n (max n 1) xs (omega arith)
+
+some-full : (hits : List Hit) (n : ℕ) → max n 1 ≤ length hits → hits ≢ []
+some-full [] n full none = absurd (omega arith)
+some-full (hit ∷ hits) n full none = absurd (cc)
+
+enough-full : (most : Option ℕ) (hits : List Hit) → IsFull (limit_of most) hits → AreEnough most hits
+enough-full None hits full = full
+enough-full (Some n) hits full = (omega arith, some-full hits n full)
+
+-- one hit is looked for at least, so none is found only where there is none
+none-found : (n : ℕ) (hits : List Hit) → 0 < n → take n hits ≡ [] → hits ≡ []
+none-found zero hits some none = absurd (omega arith)
+none-found (suc n) [] some none = refl
+none-found (suc n) (hit ∷ hits) some none = absurd (cc)
+
+take-none : {A : Type 0} (n : ℕ) → take {A = A} n [] ≡ []
+take-none zero = refl
+take-none (suc n) = refl
+
+answered : (most : Option ℕ) (found : Outcome) (hits all : List Hit) → hits ≡ first_of (limit_of most) all → IsAnswer found hits → IsAnswer found all
+answered None found hits all cut is = subst (IsAnswer found) cut is
+answered (Some n) outcome.NotFound hits all cut is = none-found (max n 1) all (omega arith) (sym cut ∙ is)
+answered (Some n) outcome.Done hits all cut is = λ none. is (cut ∙ ap (take (max n 1)) none ∙ take-none (max n 1))
+
+pub is-text : (search : Search) (words input text : List ℕ) (found : Outcome) (hits : List Hit) → AreHitsIn search words input hits →
+    text ≡ flat_map (line_text search.shown) (first_of search.most hits) → IsAnswer found hits → IsHitsText search words found input text
+is-text search words input text found hits are printed is =
+    let read = are.read in
+    let part = are.part in
+    record {
+      few = read.few;
+      trees = read.read.trees;
+      end = read.end;
+      games = are.games;
+      of_trees = read.read.of_trees;
+      no_more = read.no_more;
+      hits = part.found;
+      of_games = record {
+        front = part.front;
+        rest = part.rest;
+        all = part.all;
+        of_front = part.of_front;
+        enough = ⊎_elim (λ (none : part.rest ≡ []). inl none) (λ (full : IsFull (limit_of search.most) part.found). inr (enough-full search.most part.found full)) part.enough;
+      };
+      answered = answered search.most found hits part.found part.cut is;
+      printed = printed ∙ ap (flat_map (line_text search.shown)) (ap (first_of search.most) part.cut ∙ first-limit search.most part.found);
+    }

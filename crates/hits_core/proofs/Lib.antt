@@ -1,0 +1,12 @@
+pub mod Growing
+pub mod Turning
+pub mod Wanting
+pub mod Opening
+pub mod Moving
+pub mod Trees
+pub mod Joining
+pub mod Lines
+pub mod Sameness
+pub mod OnBoard
+pub mod Agreed
+pub mod Ending

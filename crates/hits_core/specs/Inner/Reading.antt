@@ -1,0 +1,29 @@
+-- Games that were read.
+use Rattle.std.specs.Prelude.{◌≡◌, ℕ, ◌<◌, ◌≤◌, List, length}
+use Rattle.sgf_core.specs.Tree.{GameTree}
+use Rattle.sgf_core.specs.Next.{IsNextTree, HasNoTree}
+use Rattle.sgf_core.specs.Limit.{most_bytes}
+use Rattle.tally_core.specs.Collection.{record_of_tree}
+use Rattle.hits_core.specs.declared.games.Game.{Game}
+use Rattle.hits_core.specs.declared.reading.Recorded.{Recorded}
+use Rattle.hits_core.specs.Hits.{AreGames}
+
+-- the tree that is next from a place on, with its record
+pub record IsRecorded (bytes : List ℕ) (from : ℕ) (read : Recorded) : Type 0 where
+  pub tree : GameTree
+  pub next : IsNextTree bytes from read.at read.end tree
+  pub recorded_so : read.recorded ≡ record_of_tree tree
+  pub forward : from < read.end
+  pub in_input : read.end ≤ length bytes
+
+-- these are the games of the trees up to a place
+pub record ReadsUpTo (bytes : List ℕ) (place : ℕ) (games : List Game) : Type 0 where
+  pub trees : List GameTree
+  pub of_trees : AreGames bytes 0 0 trees place games
+
+-- these are all games of an input
+pub record HasReadAll (bytes : List ℕ) (games : List Game) : Type 0 where
+  pub few : length bytes ≤ most_bytes
+  pub end : ℕ
+  pub read : ReadsUpTo bytes end games
+  pub no_more : HasNoTree bytes end

@@ -1,0 +1,9 @@
+pub mod Turns
+pub mod Wanted
+pub mod Hits
+pub mod Lines
+pub mod WordLists
+pub mod Agreement
+pub mod Runs
+pub mod Lists
+pub mod Inner

@@ -1,0 +1,40 @@
+-- The lines of hits.
+use Rattle.std.specs.Prelude.{ℕ, ◌+◌, ◌-◌, List, [], ◌∷◌, ◌++◌, nat_lt, min, codes, if◌then◌else◌}
+use Rattle.std.specs.Fmt.{decimal}
+use Rattle.go_board.specs.declared.points.Point.{Point}
+use Rattle.go_board.specs.declared.points.Colour.{Colour}
+use Rattle.go_board.specs.declared.points.Colour.TheVariants as colour
+use Rattle.shape_dict.specs.Text.{word_text, line_feed}
+use Rattle.hits_core.specs.declared.hits.Hit.{Hit}
+use Rattle.hits_core.specs.declared.searches.Shown.{Shown}
+use Rattle.hits_core.specs.declared.searches.Shown.TheVariants as shown
+
+-- the letter of a column or a row, as SGF has them: `a` to `z` for the first 26, then `A` to `Z` for 26 more, which is as many as
+-- a board may have
+abbrev pub letter_of : ℕ → ℕ
+letter_of side = if nat_lt side 26 then 97 + side else 65 + min (side - 26) 25
+
+-- a point: its column, then its row
+abbrev pub point_text : Point → List ℕ
+point_text point = letter_of point.column ∷ letter_of point.row ∷ []
+
+abbrev pub colour_text : Colour → List ℕ
+colour_text colour.Black = codes "black"
+colour_text colour.White = codes "white"
+
+-- the word that begins a line, where words are shown
+abbrev pub front_text : Shown → ℕ → List ℕ
+front_text shown.Places word = []
+front_text shown.WordsToo word = word_text word ++ codes " "
+
+-- the game and the number of the move
+abbrev pub turn_text : Hit → List ℕ
+turn_text hit = decimal hit.game ++ codes " " ++ decimal hit.number ++ codes " "
+
+-- the point, who was to move, and the place of the game's tree
+abbrev pub where_text : Hit → List ℕ
+where_text hit = point_text hit.at ++ codes " " ++ colour_text hit.mover ++ codes " " ++ decimal hit.place ++ line_feed
+
+-- the line of a hit
+abbrev pub line_text : Shown → Hit → List ℕ
+line_text which hit = front_text which hit.word ++ turn_text hit ++ where_text hit

@@ -1,0 +1,53 @@
+-- What a run writes, and why it doesn't.
+use Rattle.std.specs.Prelude.{◌≡◌, ◌≢◌, ℕ, ◌<◌, ◌≤◌, List, [], length}
+use Rattle.std.specs.List.{flat_map}
+use Rattle.sgf_core.specs.Tree.{GameTree}
+use Rattle.sgf_core.specs.Next.{HasNoTree}
+use Rattle.sgf_core.specs.Limit.{most_bytes}
+use Rattle.sgf_core.specs.declared.faults.SgfFault.TheVariants as sgf
+use Rattle.tally_core.specs.Counted.{HasFault}
+use Rattle.engine_core.specs.declared.boards.Outcome.{Outcome}
+use Rattle.engine_core.specs.declared.boards.Outcome.TheVariants as outcome
+use Rattle.engine_core.specs.declared.faults.RunFault.{RunFault}
+use Rattle.engine_core.specs.declared.faults.RunFault.TheVariants as fault
+use Rattle.hits_core.specs.declared.games.Game.{Game}
+use Rattle.hits_core.specs.declared.hits.Hit.{Hit}
+use Rattle.hits_core.specs.declared.searches.Search.{Search}
+use Rattle.hits_core.specs.Hits.{AreGames, AreFirstHits, first_of}
+use Rattle.hits_core.specs.Lines.{line_text}
+
+-- whether there is a hit
+abbrev pub IsAnswer : Outcome → List Hit → Type 0
+IsAnswer outcome.Done hits = hits ≢ []
+IsAnswer outcome.NotFound hits = hits ≡ []
+
+-- the text has the lines of the hits of these words in the input, of at most 2 ^ 28 bytes: the first of them, as many as are
+-- asked for. Once there are so many, the games after them do not matter.
+pub record IsHitsText (search : Search) (words : List ℕ) (found : Outcome) (input text : List ℕ) : Type 0 where
+  pub few : length input ≤ most_bytes
+  pub trees : List GameTree
+  pub end : ℕ
+  pub games : List Game
+  pub of_trees : AreGames input 0 0 trees end games
+  pub no_more : HasNoTree input end
+  pub hits : List Hit
+  pub of_games : AreFirstHits search.sought words search.most games hits
+  pub answered : IsAnswer found hits
+  pub printed : text ≡ flat_map (line_text search.shown) (first_of search.most hits)
+
+abbrev pub HasHitsText : Search → List ℕ → List ℕ → List ℕ → Type 0
+HasHitsText search words input text = (found : Outcome) × IsHitsText search words found input text
+
+-- the input is too large, which comes first, or has this fault of syntax, or memory was wanting
+abbrev pub IsHitsFault : List ℕ → RunFault → Type 0
+IsHitsFault input (fault.Sgf sgf.TooLarge) = most_bytes < length input
+IsHitsFault input (fault.Sgf found) = HasFault input found
+IsHitsFault input fault.Memory = Unit {0}
+IsHitsFault input (fault.Record found) = ⊥
+IsHitsFault input (fault.Board found) = ⊥
+IsHitsFault input (fault.Glyph found) = ⊥
+IsHitsFault input (fault.Harvest found) = ⊥
+IsHitsFault input (fault.Dict n found) = ⊥
+IsHitsFault input fault.Usage = ⊥
+IsHitsFault input fault.Read = ⊥
+IsHitsFault input (fault.Write written) = ⊥

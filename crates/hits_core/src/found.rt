@@ -1,0 +1,39 @@
+//! The hits that were found so far.
+ghost use Rattle.std.specs.Prelude.{◌≡◌, ◌∷◌, ◌<◌, [], IfErr, OnOk, MatchBool};
+ghost use Rattle.tally_core.specs.declared.faults.HarvestFault.TheVariants as fault;
+ghost use Rattle.hits_core.specs.Inner.Finding.{IsFull, GrowsBy};
+
+use crate::hits::Hit;
+use tally_core::HarvestFault;
+
+/// The first hits, no more than are asked for.
+#[derive(Drop)]
+pub(crate) struct Found {
+    pub(crate) hits: Vec<Hit>,
+    /// How many are asked for; None for all.
+    pub(crate) most: Option<u64>,
+}
+
+impl Found {
+    /// Whether there are as many as are asked for.
+    pub(crate) fn is_full(&self) -> bool
+        ensures { MatchBool result (IsFull self.now.most self.now.hits.items)
+            (IsFull self.now.most self.now.hits.items → ⊥) }
+    {
+        match self.most {
+            None => false,
+            Some(most) => self.hits.len() as u64 >= most,
+        }
+    }
+
+    /// Adds a hit, unless there are as many as are asked for.
+    pub(crate) fn push(&mut self, hit: Hit) -> Result<(), HarvestFault>
+        ensures grown { OnOk result (GrowsBy self.old self.new (hit ∷ [])) }
+        ensures fault { IfErr result (λ found. found ≡ fault.Memory) }
+    {
+        if !self.is_full() {
+            self.hits.push(hit)?;
+        }
+        Ok(())
+    }
+}

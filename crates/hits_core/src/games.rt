@@ -1,0 +1,13 @@
+//! A game of a collection, with its number and its place.
+use go_record::Record;
+
+/// A game, kept until its hits are found.
+#[derive(Drop)]
+pub struct Game {
+    /// Its number among the collection's games, from 0.
+    pub number: u64,
+    /// The place of the first parenthesis of its tree, a byte offset in the input, from 0.
+    pub place: usize,
+    /// Its record.
+    pub recorded: Record,
+}

@@ -1,0 +1,85 @@
+//! The patterns of a point that are looked for.
+ghost use Rattle.std.specs.Prelude.{◌≡◌, map, IfErr, OnOk};
+ghost use Rattle.go_board.specs.Point.{IsOn};
+ghost use Rattle.go_board.specs.Board.{position_of};
+ghost use Rattle.tally_core.specs.declared.faults.HarvestFault.TheVariants as fault;
+ghost use Rattle.hits_core.specs.Wanted.{wanted_at};
+ghost use Rattle.hits_core.specs.Inner.Finding.{patterns_in, hit_in, GrowsBy};
+
+use crate::found::Found;
+use crate::hits::Hit;
+use crate::wanted::Wanted;
+use go_board::{Board, Colour, Point};
+use shape_core::{Field, Kinds, Shape, around, canonical, diamond, kinds_stay};
+use tally_core::HarvestFault;
+
+/// Those of a point's patterns that are looked for.
+#[derive(Clone, Copy)]
+pub(crate) struct Sight {
+    pub(crate) square: Option<Shape>,
+    pub(crate) diamond: Option<Shape>,
+}
+
+/// An occasion: its game's number and place, the number of its move, and who moves.
+#[derive(Clone, Copy)]
+pub(crate) struct Moment {
+    pub(crate) game: u64,
+    pub(crate) place: usize,
+    pub(crate) number: u64,
+    pub(crate) mover: Colour,
+}
+
+/// What a point of a board has.
+pub(crate) fn see_board(board: &Board, wanted: &Wanted, mover: Colour, point: Point) -> Sight
+    requires { IsOn board.now.size point }
+    ensures { patterns_in result
+        ≡ wanted_at wanted.now board.now.size (position_of board.now) mover point }
+{
+    // A canonical word is of the kind that was looked at.
+    kinds_stay();
+    let square = wanted.pick(canonical(around(board, point), mover));
+    let diamond = match wanted.kinds() {
+        Kinds::Squares => None,
+        Kinds::Both => wanted.pick(canonical(diamond(board, point), mover)),
+    };
+    Sight { square, diamond }
+}
+
+/// Adds what a point has to the hits.
+pub(crate) fn push_sight(
+    found: &mut Found,
+    moment: Moment,
+    point: Point,
+    sight: Sight,
+) -> Result<(), HarvestFault>
+    ensures grown { OnOk result
+        (GrowsBy found.old found.new (map (hit_in moment point) (patterns_in sight))) }
+    ensures fault { IfErr result (λ found. found ≡ fault.Memory) }
+{
+    if let Some(word) = sight.square {
+        found.push(moment.hit(point, word))?;
+    }
+    if let Some(word) = sight.diamond {
+        found.push(moment.hit(point, word))?;
+    }
+    Ok(())
+}
+
+impl Moment {
+    ghost use Rattle.std.specs.Prelude.{◌≡◌};
+    ghost use Rattle.hits_core.specs.Inner.Finding.{hit_in};
+
+    /// The hit of a pattern at a point.
+    fn hit(self, at: Point, word: Shape) -> Hit
+        ensures { result ≡ hit_in self at word }
+    {
+        Hit {
+            game: self.game,
+            number: self.number,
+            at,
+            mover: self.mover,
+            place: self.place,
+            word,
+        }
+    }
+}

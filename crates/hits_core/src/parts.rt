@@ -1,0 +1,99 @@
+//! The hits of all games, which threads find.
+ghost use Rattle.std.specs.Prelude.{◌≡◌, ◌<◌, IsOk, All, IfOk, IfErr, OnOk};
+ghost use Rattle.std.specs.List.{flat_map};
+ghost use Rattle.tally_core.specs.declared.faults.HarvestFault.TheVariants as fault;
+ghost use Rattle.hits_core.specs.Inner.Finding.{GrowsBy};
+ghost use Rattle.hits_core.specs.Hits.{first_of};
+ghost use Rattle.hits_core.specs.Inner.Parts.{AreMade, IsPart, hits_made};
+
+use crate::finding::find_in;
+use crate::found::Found;
+use crate::games::Game;
+use crate::hits::Hit;
+use crate::searches::Sought;
+use crate::wanted::Wanted;
+use std::alloc::{AllocError, Global};
+use std::thread;
+use std::thread::Threads;
+use tally_core::HarvestFault;
+
+/// How many games a part has, where this many threads have all.
+fn part_length(games: usize, threads: usize) -> usize
+    ensures { 0 < result }
+{
+    games.div_ceil(threads.max(1)).max(1)
+}
+
+/// The first hits of each of some parts of the games, in order. At most this many threads find
+/// them, and each part may be refused memory.
+fn made_parts<T: Threads + Sync>(
+    rt: &T,
+    alloc: Global,
+    wanted: &Wanted,
+    sought: Sought,
+    most: Option<u64>,
+    games: &[Game],
+    threads: usize,
+) -> Result<Vec<Result<Vec<Hit>, HarvestFault>>, AllocError>
+    ensures made { IfOk result (λ made. AreMade sought wanted.now most games.now made.items) }
+    ensures fault { IfOk result (λ made.
+        All (λ part. IfErr part (λ found. found ≡ fault.Memory)) made.items) }
+{
+    thread::map_chunks(
+        rt,
+        alloc,
+        games,
+        part_length(games.len(), threads),
+        &|_, chunk: &[Game]| find_in(alloc, wanted, sought, most, chunk),
+    )
+}
+
+/// Adds hits, as far as they are asked for.
+fn push_all(found: &mut Found, hits: &[Hit]) -> Result<(), HarvestFault>
+    ensures grown { OnOk result (GrowsBy found.old found.new hits.now) }
+    ensures fault { IfErr result (λ found. found ≡ fault.Memory) }
+{
+    for hit in hits {
+        found.push(*hit)?;
+    }
+    Ok(())
+}
+
+/// The first hits of all parts, one part after another.
+fn joined(
+    alloc: Global,
+    most: Option<u64>,
+    made: Vec<Result<Vec<Hit>, HarvestFault>>,
+) -> Result<Vec<Hit>, HarvestFault>
+    ensures ok { IfOk result (λ hits. hits.items ≡ first_of most (flat_map hits_made made.items)) }
+    ensures all { OnOk result (All IsOk made.items) }
+    ensures fault { All (λ part. IfErr part (λ found. found ≡ fault.Memory)) made.items
+        → IfErr result (λ found. found ≡ fault.Memory) }
+{
+    let mut found = Found {
+        hits: Vec::new(alloc),
+        most,
+    };
+    for part in made {
+        push_all(&mut found, &part?)?;
+    }
+    Ok(found.hits)
+}
+
+/// The first hits of the games, as many as are asked for: at most this many threads find them. It
+/// takes memory for the hits, and for each thread for one game's board.
+pub(crate) fn find_all<T: Threads + Sync>(
+    rt: &T,
+    alloc: Global,
+    wanted: &Wanted,
+    sought: Sought,
+    most: Option<u64>,
+    games: &[Game],
+    threads: usize,
+) -> Result<Vec<Hit>, HarvestFault>
+    ensures part { IfOk result (λ hits. IsPart sought wanted.now most games.now hits.items) }
+    ensures fault { IfErr result (λ found. found ≡ fault.Memory) }
+{
+    let made = made_parts(rt, alloc, wanted, sought, most, games, threads)?;
+    joined(alloc, most, made)
+}

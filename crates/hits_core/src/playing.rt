@@ -1,0 +1,83 @@
+//! The hits of a game where patterns are looked for that were played: one look at each occasion.
+ghost use Rattle.std.specs.Prelude.{◌≡◌, ◌+◌, ◌<◌, ◌^◌, map, IfErr, OnOk};
+ghost use Rattle.std.specs.List.{flat_map};
+ghost use Rattle.go_board.specs.Board.{position_of};
+ghost use Rattle.go_record.specs.Actions.{IsActionOn};
+ghost use Rattle.tally_core.specs.Occasions.{occasion_of};
+ghost use Rattle.tally_core.specs.declared.faults.HarvestFault.TheVariants as fault;
+ghost use Rattle.hits_core.specs.Hits.{hits_of_turn};
+ghost use Rattle.hits_core.specs.Turns.{turn_of, number_after};
+ghost use Rattle.hits_core.specs.declared.searches.Sought.TheVariants as sought;
+ghost use Rattle.hits_core.specs.Inner.Finding.{GrowsBy, AddsGame};
+
+use crate::found::Found;
+use crate::games::Game;
+use crate::looking::{Moment, push_sight, see_board};
+use crate::wanted::Wanted;
+use go_board::{Board, Stone};
+use go_record::{Action, apply};
+use std::alloc::Global;
+use tally_core::HarvestFault;
+
+/// The number of the next move after an action, where it is `number` before it.
+pub(crate) fn number_after(number: u64, action: Action) -> u64
+    requires { number + 1 < 2 ^ 64 }
+    ensures { result ≡ number_after number action }
+{
+    match action {
+        Action::Set { .. } => number,
+        Action::Move { .. } | Action::Pass { .. } => number + 1,
+    }
+}
+
+/// Adds the hit of an action where it is an occasion at which a wanted pattern is played.
+fn look(
+    board: &Board,
+    wanted: &Wanted,
+    game: &Game,
+    number: u64,
+    action: Action,
+    found: &mut Found,
+) -> Result<(), HarvestFault>
+    requires on_board { IsActionOn board.now.size action }
+    requires size { board.now.size ≡ game.now.recorded.size }
+    ensures grown { OnOk result (GrowsBy found.old found.new
+        (flat_map (hits_of_turn sought.Played wanted.now game.now)
+        (map (turn_of number) (occasion_of (position_of board.now) action)))) }
+    ensures fault { IfErr result (λ found. found ≡ fault.Memory) }
+{
+    let Action::Move { colour, at } = action else {
+        return Ok(());
+    };
+    if board.cell(at) != Stone::Empty {
+        return Ok(());
+    }
+    let moment = Moment {
+        game: game.number,
+        place: game.place,
+        number,
+        mover: colour,
+    };
+    push_sight(found, moment, at, see_board(board, wanted, colour, at))
+}
+
+/// Replays a game, and adds its hits. It takes memory for a board.
+pub(crate) fn find_played(
+    alloc: Global,
+    wanted: &Wanted,
+    game: &Game,
+    found: &mut Found,
+) -> Result<(), HarvestFault>
+    ensures grown { OnOk result (AddsGame sought.Played wanted.now game.now found.old found.new) }
+    ensures fault { IfErr result (λ found. found ≡ fault.Memory) }
+{
+    let mut board = Board::new(alloc, game.recorded.size())?;
+    let actions = game.recorded.actions();
+    let mut number = 1;
+    for action in actions {
+        look(&board, wanted, game, number, *action, found)?;
+        apply(&mut board, *action);
+        number = number_after(number, *action);
+    }
+    Ok(())
+}

@@ -1,0 +1,129 @@
+//! From a reader to a writer: the hits of patterns in a collection.
+ghost use Rattle.std.specs.Prelude.{◌≡◌, ℕ, List, IfOk, IfErr};
+ghost use Rattle.tally_core.specs.Counted.{IsCountFault};
+ghost use Rattle.engine_core.specs.Runs.{HasRead, Wrote, IsRunFault};
+ghost use Rattle.hits_core.specs.Runs.{IsHitsText, HasHitsText, IsHitsFault, IsAnswer};
+ghost use Rattle.hits_core.specs.Inner.Runs.{limit_of, AreHitsIn};
+
+use crate::hits::Hit;
+use crate::parts::find_all;
+use crate::reading::read_games;
+use crate::searches::Search;
+use crate::wanted::Wanted;
+use crate::writing::text_of;
+use engine_core::{Outcome, RunFault, read_input, write_output};
+use std::alloc::Global;
+use std::io::{Read, Write};
+use std::thread::Threads;
+use tally_core::HarvestFault;
+
+/// The fault of a run that a fault of reading or finding is.
+fn run_fault(fault: HarvestFault) -> RunFault
+    ensures { (input : List ℕ) → IsCountFault input fault → IsHitsFault input result }
+{
+    match fault {
+        HarvestFault::Sgf(fault) => RunFault::Sgf(fault),
+        HarvestFault::Memory | HarvestFault::BadSettings | HarvestFault::Overflow => {
+            RunFault::Memory
+        }
+    }
+}
+
+/// How many hits are looked for, where so many are asked for: one at least, by which it is known
+/// whether there are any.
+fn limit_of(most: Option<u64>) -> Option<u64>
+    ensures { result ≡ limit_of most }
+{
+    match most {
+        None => None,
+        Some(most) => Some(most.max(1)),
+    }
+}
+
+/// Whether there is a hit.
+fn outcome_of(hits: &[Hit]) -> Outcome
+    ensures { IsAnswer result hits.now }
+{
+    if hits.is_empty() {
+        Outcome::NotFound
+    } else {
+        Outcome::Done
+    }
+}
+
+/// The first hits of an input.
+fn first_hits<T: Threads + Sync>(
+    rt: &T,
+    alloc: Global,
+    wanted: &Wanted,
+    search: Search,
+    workers: usize,
+    input: &[u8],
+) -> Result<Vec<Hit>, HarvestFault>
+    ensures hits { IfOk result (λ hits. AreHitsIn search wanted.now input.now hits.items) }
+    ensures fault { IfErr result (IsCountFault input.now) }
+{
+    let games = read_games(alloc, input)?;
+    let limit = limit_of(search.most);
+    find_all(rt, alloc, wanted, search.sought, limit, &games, workers)
+}
+
+/// The lines of the first hits of an input, and whether there is any.
+fn hits_text<T: Threads + Sync>(
+    rt: &T,
+    alloc: Global,
+    wanted: &Wanted,
+    search: Search,
+    workers: usize,
+    input: &[u8],
+) -> Result<(Vec<u8>, Outcome), RunFault>
+    ensures text { IfOk result (λ p. IsHitsText search wanted.now p.1 input.now p.0.items) }
+    ensures fault { IfErr result (IsHitsFault input.now) }
+{
+    let hits = match first_hits(rt, alloc, wanted, search, workers, input) {
+        Ok(hits) => hits,
+        Err(fault) => return Err(run_fault(fault)),
+    };
+    let text = text_of(alloc, search.shown, search.most, &hits)?;
+    Ok((text, outcome_of(&hits)))
+}
+
+/// Reads a collection and writes a line for each hit of the patterns that are looked for, in the
+/// order of games, moves and points (row by row from the top, each row from the left), at one point
+/// the square before the diamond: the game's number, the number of the move, the point, who was to
+/// move, and the place of the game's tree. The answer is `Done` where there is a hit, and
+/// `NotFound` where there is none; nothing is written then.
+///
+/// Where no more than some number of hits is asked for, the first of all are written. The whole
+/// input is judged all the same; once so many are found, and one at least, a thread replays no
+/// further game. Games are numbered and replayed as `count` does. At most as many threads as
+/// `workers` says replay them; the text is the same whatever their number.
+///
+/// It takes memory for the input, for the records of all games, for a tree at a time, for each
+/// thread for a board, for the hits, and for their lines.
+///
+/// # Errors
+///
+/// `Read` where the reader failed; `Memory` where memory was refused; else `Sgf` with S4 where the
+/// collection has more than 2^28 bytes, else with its first fault of syntax (S1 to S3). Nothing is
+/// written then. `Write` where the writer failed: exactly that number of bytes of the text is out.
+pub fn run_hits<T: Threads + Sync, R: Read, W: Write>(
+    rt: &T,
+    alloc: Global,
+    wanted: &Wanted,
+    search: Search,
+    workers: usize,
+    reader: &mut R,
+    writer: &mut W,
+) -> Result<Outcome, RunFault>
+    ensures read { HasRead result (R.remaining reader.old) (R.remaining reader.new) }
+    ensures done { IfOk result (λ found. Wrote (IsHitsText search wanted.now found)
+        (R.remaining reader.old) (W.contents writer.old) (W.contents writer.new)) }
+    ensures fault { IfErr result (IsRunFault (HasHitsText search wanted.now) IsHitsFault
+        (R.remaining reader.old) (W.contents writer.old) (W.contents writer.new)) }
+{
+    let input = read_input(alloc, reader)?;
+    let (text, outcome) = hits_text(rt, alloc, wanted, search, workers, &input)?;
+    write_output(writer, &text)?;
+    Ok(outcome)
+}

@@ -1,0 +1,30 @@
+//! What is asked for.
+
+/// Which times a pattern is listed.
+#[derive(Clone, Copy, Debug, PartialEq, Eq)]
+pub enum Sought {
+    /// Each time that it was played.
+    Played,
+    /// Each time that it was there.
+    There,
+}
+
+/// What the lines show.
+#[derive(Clone, Copy, Debug, PartialEq, Eq)]
+pub enum Shown {
+    /// The game, the move, the point, the colour and the place.
+    Places,
+    /// The word before these.
+    WordsToo,
+}
+
+/// What is asked for, beside the patterns.
+#[derive(Clone, Copy, Debug, PartialEq, Eq)]
+pub struct Search {
+    /// Which times a pattern is listed.
+    pub sought: Sought,
+    /// How many hits are listed at most, the first of all; None for all.
+    pub most: Option<u64>,
+    /// What the lines show.
+    pub shown: Shown,
+}

@@ -1,0 +1,119 @@
+//! The words that stand first in the lines of a list.
+ghost use Rattle.std.specs.Prelude.{◌≡◌, ◌≢◌, ◌<◌, ◌^◌, ◌++◌, ℕ, [], List, length, position, MatchBool, IfOk, IfErr, IfSome, IfNone, IsSomeAnd};
+ghost use Rattle.shape_dict.specs.Text.{hexadecimal_digit, word_text};
+ghost use Rattle.hits_core.specs.WordLists.{is_line_feed, first_line, other_lines, IsSkipped};
+ghost use Rattle.hits_core.specs.WordLists.{HasWord, AreWordsOf, IsBadLine};
+ghost use Rattle.hits_core.specs.Inner.WordLists.{IsListFault};
+
+use shape_core::{Shape, Word};
+use std::alloc::{AllocFailed, Global};
+
+/// Why a list of words was not read.
+#[derive(Clone, Copy)]
+pub(crate) enum ListFault {
+    /// The line of this number, from 1, does not begin with a word.
+    BadLine(u64),
+    /// Memory was refused.
+    Memory,
+}
+
+impl<T: Drop> From<AllocFailed<T>> for ListFault {
+    ghost use Rattle.hits_core.specs.declared.word_lists.ListFault.TheVariants as list_fault;
+
+    ghost from_gives = { λ _ fault. fault ≡ list_fault.Memory };
+
+    fn from(_: AllocFailed<T>) -> ListFault {
+        ListFault::Memory
+    }
+}
+
+/// The value of a hexadecimal digit in lower case.
+fn digit_value(byte: u8) -> Option<u8>
+    ensures found { IfSome result (λ digit. (digit < 16) × (hexadecimal_digit digit ≡ byte)) }
+    ensures only { (digit : ℕ) → digit < 16 → hexadecimal_digit digit ≡ byte
+        → IsSomeAnd result (λ value. value ≡ digit) }
+{
+    match byte {
+        b'0'..=b'9' => Some(byte - b'0'),
+        b'a'..=b'f' => Some(byte - b'a' + 10),
+        _ => None,
+    }
+}
+
+/// The number of 13 hexadecimal digits, and what follows them.
+fn word_bits(bytes: &[u8]) -> Option<(u64, &[u8])>
+    ensures found { IfSome result (λ p. (bytes.now ≡ word_text p.0 ++ p.1.now) × (p.0 < 2 ^ 52)) }
+    ensures only { (word : ℕ) → (left : List ℕ) → word < 2 ^ 52
+        → bytes.now ≡ word_text word ++ left
+        → IsSomeAnd result (λ p. (p.0 ≡ word) × (p.1.now ≡ left)) }
+{
+    if bytes.len() < 13 {
+        return None;
+    }
+    let mut bits: u64 = 0;
+    for place in 0..13 {
+        let digit = digit_value(bytes[place])?;
+        bits = 16 * bits + u64::from(digit);
+    }
+    Some((bits, &bytes[13..]))
+}
+
+/// Whether this may follow a word in its line.
+fn is_skipped(rest: &[u8]) -> bool
+    ensures { MatchBool result (IsSkipped rest.now) (IsSkipped rest.now → ⊥) }
+{
+    match rest {
+        [] => true,
+        [byte, ..] => *byte == b' ',
+    }
+}
+
+/// The word that a line begins with.
+fn word_of(line: &[u8]) -> Option<Shape>
+    ensures found { IfSome result (HasWord line.now) }
+    ensures only { IfNone result ((word : ℕ) → HasWord line.now word → ⊥) }
+{
+    let (bits, rest) = word_bits(line)?;
+    if !is_skipped(rest) {
+        return None;
+    }
+    Shape::of_word(Word::new(bits)?)
+}
+
+/// The first line, and the others.
+fn split_line(bytes: &[u8]) -> (&[u8], &[u8])
+    requires { bytes.now ≢ [] }
+    ensures line { result.0.now ≡ first_line bytes.now }
+    ensures others { result.1.now ≡ other_lines bytes.now }
+    ensures fewer { length result.1.now < length bytes.now }
+{
+    match line_end(bytes) {
+        Some(at) => (&bytes[..at], &bytes[at + 1..]),
+        None => (bytes, &bytes[bytes.len()..]),
+    }
+}
+
+/// The place of the first line feed.
+fn line_end(bytes: &[u8]) -> Option<usize>
+    ensures { result ≡ position is_line_feed bytes.now }
+{
+    bytes.iter().position(|byte| *byte == b'\n')
+}
+
+/// The words of the lines, in their order.
+pub(crate) fn words_of(alloc: Global, bytes: &[u8]) -> Result<Vec<Shape>, ListFault>
+    ensures words { IfOk result (λ words. AreWordsOf bytes.now words.items) }
+    ensures fault { IfErr result (IsListFault bytes.now) }
+{
+    let mut words = Vec::new(alloc);
+    let mut rest = bytes;
+    while !rest.is_empty() {
+        let (line, others) = split_line(rest);
+        let Some(word) = word_of(line) else {
+            return Err(ListFault::BadLine(words.len() as u64 + 1));
+        };
+        words.push(word)?;
+        rest = others;
+    }
+    Ok(words)
+}

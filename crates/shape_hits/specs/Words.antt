@@ -1,0 +1,166 @@
+-- What the words of the command line ask for.
+use Rattle.std.specs.Prelude.{◌≡◌, ◌≢◌, ◌⊎◌, ◌<◌, ◌^◌, ℕ, List, [], Option, Some, None, IfSome, codes, option_map}
+use Rattle.std.specs.Str.Parse.{IsNumeral, digits_value, without_leading_plus}
+use Rattle.clap.specs.Words.{Row, first_of, one_of, matches_of, fault_of, IsAmong}
+use Rattle.clap.specs.declared.error.kind.ErrorKind.{ErrorKind}
+use Rattle.clap.specs.declared.error.kind.ErrorKind.TheVariants as refusal
+use Rattle.shape_core.specs.declared.words.Kind.{Kind}
+use Rattle.shape_core.specs.declared.words.Kind.TheVariants as kind
+use Rattle.shape_core.specs.declared.spelling.GlyphFault.{GlyphFault}
+use Rattle.engine_core.specs.Patterns.{IsPatternOf, IsPatternFault}
+use Rattle.engine_core.specs.declared.faults.RunFault.{RunFault}
+use Rattle.engine_core.specs.declared.faults.RunFault.TheVariants as fault
+use Rattle.hits_core.specs.declared.searches.Search.{Search}
+use Rattle.hits_core.specs.declared.searches.Shown.{Shown}
+use Rattle.hits_core.specs.declared.searches.Shown.TheVariants as shown
+use Rattle.hits_core.specs.declared.searches.Sought.{Sought}
+use Rattle.hits_core.specs.declared.searches.Sought.TheVariants as sought
+use Rattle.shape_hits.specs.Commands.{program_app}
+use Rattle.shape_hits.specs.declared.words.Asked.{Asked}
+use Rattle.shape_hits.specs.declared.words.Task.{Task}
+use Rattle.shape_hits.specs.declared.words.Task.TheVariants as task
+
+-- what `clap` finds in the words: the values of each option, and the glyphs and the colour
+abbrev pub rows_for : List (List ℕ) → List Row
+rows_for words = matches_of program_app words
+
+-- the value of this option is this number, in decimal digits that may follow a `+`
+pub record IsNumberOf (id : List ℕ) (rows : List Row) (number : ℕ) : Type 0 where
+  pub text : List ℕ
+  pub given : one_of id rows ≡ Some text
+  pub digits : IsNumeral 10 (without_leading_plus text)
+  pub value : number ≡ digits_value 10 (without_leading_plus text)
+
+-- this many hits are asked for: all, where no number is given
+abbrev pub IsMostOf : List Row → Option ℕ → Type 0
+IsMostOf rows None = first_of (codes "most") rows ≡ None
+IsMostOf rows (Some most) = IsNumberOf (codes "most") rows most
+
+-- whether the flag was given says which kind the glyphs are of
+pub record IsKindOf (rows : List Row) (found : Kind) : Type 0 where
+  pub given : one_of (codes "diamond") rows ≡ Some (codes "true") → found ≡ kind.Diamond
+  pub denied : one_of (codes "diamond") rows ≡ Some (codes "false") → found ≡ kind.Square
+  pub absent : one_of (codes "diamond") rows ≡ None → found ≡ kind.Square
+
+-- whether the flag was given says which times are listed
+pub record IsSoughtOf (rows : List Row) (found : Sought) : Type 0 where
+  pub given : one_of (codes "there") rows ≡ Some (codes "true") → found ≡ sought.There
+  pub denied : one_of (codes "there") rows ≡ Some (codes "false") → found ≡ sought.Played
+  pub absent : one_of (codes "there") rows ≡ None → found ≡ sought.Played
+
+-- the glyphs and the colour spell this pattern
+pub record IsSpelled (rows : List Row) (shape : ℕ) : Type 0 where
+  pub kind_found : Kind
+  pub glyphs : List ℕ
+  pub mover : List ℕ
+  pub is_kind : IsKindOf rows kind_found
+  pub has_glyphs : first_of (codes "glyphs") rows ≡ Some glyphs
+  pub has_mover : first_of (codes "colour") rows ≡ Some mover
+  pub pattern : IsPatternOf kind_found glyphs mover shape
+
+-- no part of a pattern is spelled
+pub record IsAlone (rows : List Row) : Type 0 where
+  pub no_glyphs : first_of (codes "glyphs") rows ≡ None
+  pub no_mover : first_of (codes "colour") rows ≡ None
+  pub no_diamond : IsKindOf rows kind.Square
+
+-- the values ask for this pattern; or a file of words is named, and no pattern spelled beside it
+abbrev pub ArePatterns : List Row → Option ℕ → Type 0
+ArePatterns rows (Some shape) = (first_of (codes "words") rows ≡ None) × IsSpelled rows shape
+ArePatterns rows None = (first_of (codes "words") rows ≢ None) × IsAlone rows
+
+-- the words of a list are shown
+abbrev pub shown_for : Option ℕ → Shown
+shown_for (Some shape) = shown.Places
+shown_for None = shown.WordsToo
+
+-- the values ask for this search
+pub record IsAsked (rows : List Row) (asked : Asked) : Type 0 where
+  pub patterns : ArePatterns rows asked.shape
+  pub words : option_map (λ name. name.now) asked.words ≡ first_of (codes "words") rows
+  pub sought : IsSoughtOf rows asked.search.sought
+  pub most : IsMostOf rows asked.search.most
+  pub shown : asked.search.shown ≡ shown_for asked.shape
+  pub workers : IsNumberOf (codes "workers") rows asked.workers
+
+-- the option has no number below this limit as its value
+abbrev pub HasNoNumber : ℕ → List ℕ → List Row → Type 0
+HasNoNumber limit id rows = (number : ℕ) → IsNumberOf id rows number → number < limit → ⊥
+
+-- `--most` has a value that is no number below 2 ^ 64
+abbrev pub HasNoMost : List Row → Type 0
+HasNoMost rows = (most : Option ℕ) → IsMostOf rows most → IfSome most (λ n. n < 2 ^ 64) → ⊥
+
+-- the values ask for no patterns
+abbrev pub HasNoPatterns : List Row → Type 0
+HasNoPatterns rows = (shape : Option ℕ) → ArePatterns rows shape → ⊥
+
+-- the glyphs spell no pattern
+pub record IsBadPattern (rows : List Row) (found : GlyphFault) : Type 0 where
+  pub glyphs : List ℕ
+  pub mover : List ℕ
+  pub no_words : first_of (codes "words") rows ≡ None
+  pub has_glyphs : first_of (codes "glyphs") rows ≡ Some glyphs
+  pub has_mover : first_of (codes "colour") rows ≡ Some mover
+  pub wrong : IsPatternFault glyphs mover (fault.Glyph found)
+
+-- a file of words is named, and diamonds are asked for beside it
+abbrev pub HasDiamondWords : List Row → Type 0
+HasDiamondWords rows = (first_of (codes "words") rows ≢ None) × IsKindOf rows kind.Diamond
+
+-- why there are no patterns to look for
+abbrev pub IsPatternsFault : List Row → RunFault → Type 0
+IsPatternsFault rows fault.Usage = HasNoPatterns rows ⊎ HasDiamondWords rows
+IsPatternsFault rows (fault.Glyph found) = IsBadPattern rows found
+IsPatternsFault rows found = ⊥
+
+-- the values ask for no search: `most` is below 2 ^ 64, and `workers` below 2 ^ 8
+abbrev pub HasNoSearch : List Row → Type 0
+HasNoSearch rows = (asked : Asked) → IsAsked rows asked → IfSome asked.search.most (λ n. n < 2 ^ 64) → asked.workers < 2 ^ 8 → ⊥
+
+-- why there is nothing to do: the glyphs spell no pattern, or the values ask for no search otherwise
+abbrev pub IsSearchFault : List Row → RunFault → Type 0
+IsSearchFault rows fault.Usage = HasNoSearch rows ⊎ HasDiamondWords rows
+IsSearchFault rows (fault.Glyph found) = IsBadPattern rows found
+IsSearchFault rows found = ⊥
+
+-- the kinds of refusal by which `clap` answers these words; none where it takes them
+abbrev pub refusals_of : List (List ℕ) → List ErrorKind
+refusals_of words = fault_of program_app words
+
+-- `clap` answers that help or a version was asked for
+abbrev pub AsksForHelp : List (List ℕ) → Type 0
+AsksForHelp words = IsAmong refusal.DisplayHelp (refusals_of words) ⊎ IsAmong refusal.DisplayVersion (refusals_of words)
+
+-- the task is that of the words: help only where it was asked for, and a search only where `clap` refuses nothing
+abbrev pub IsAnswered : List (List ℕ) → Task → Type 0
+IsAnswered words (task.Help text) = AsksForHelp words
+IsAnswered words (task.Find asked) = (refusals_of words ≡ []) × IsAsked (rows_for words) asked
+
+-- the task is the search that these values ask for
+abbrev pub IsSearchOf : List Row → Task → Type 0
+IsSearchOf rows (task.Help text) = ⊥
+IsSearchOf rows (task.Find asked) = IsAsked rows asked
+
+abbrev pub IsHelp : Task → Type 0
+IsHelp (task.Find asked) = ⊥
+IsHelp (task.Help text) = Unit {0}
+
+-- it is the answer to who asked for help or a version
+abbrev pub IsHelpKind : ErrorKind → Type 0
+IsHelpKind found = (found ≡ refusal.DisplayHelp) ⊎ (found ≡ refusal.DisplayVersion)
+
+-- this is a refusal, and no answer to who asked for help or a version
+abbrev pub IsRefusal : ErrorKind → Type 0
+IsRefusal found = (found ≢ refusal.DisplayHelp) × (found ≢ refusal.DisplayVersion) × (found ≢ refusal.OutOfMemory)
+
+-- `clap` refuses the words
+abbrev pub AreRefused : List (List ℕ) → Type 0
+AreRefused words = (found : ErrorKind) × IsAmong found (refusals_of words) × IsRefusal found
+
+-- what can be wrong with the words: memory was wanting; or `clap` refuses them, or takes them and they ask for no search
+abbrev pub IsLineFault : List (List ℕ) → RunFault → Type 0
+IsLineFault words found =
+    (found ≡ fault.Memory)
+    ⊎ ((found ≡ fault.Usage) × AreRefused words)
+    ⊎ ((refusals_of words ≡ []) × IsSearchFault (rows_for words) found)

@@ -1,0 +1,84 @@
+//! Reads a collection of Go games, and lists in which of them patterns are, and where.
+#![tactic(auto)]
+
+mod commands;
+mod words;
+
+use engine_core::{Outcome, RunFault, own_words, status_of, write_output};
+use hits_core::{Wanted, WordsFault, read_wanted, run_hits, status_of as words_status};
+use std::fs::File;
+use std::io;
+use std::process::ExitCode;
+use std::thread::Threads;
+use words::{Asked, Task, read_words};
+
+/// Those of the list of words in the file of this name.
+fn listed(rt: &HostRuntime, name: &str) -> Result<Wanted, WordsFault> {
+    match File::open(rt, name) {
+        Ok(mut file) => read_wanted(rt.alloc(), &mut file),
+        Err(_) => Err(WordsFault::Unread),
+    }
+}
+
+/// The patterns that are looked for: the one that is spelled, else those of the list.
+fn wanted_of(rt: &HostRuntime, asked: &Asked<'_>) -> Result<Wanted, WordsFault> {
+    match asked.shape {
+        Some(shape) => Wanted::one(rt.alloc(), shape).map_err(|_| WordsFault::Memory),
+        None => listed(rt, asked.words.unwrap_or("")),
+    }
+}
+
+/// The status of a search.
+fn ended(outcome: Outcome) -> ExitCode {
+    match outcome {
+        Outcome::Done => ExitCode::SUCCESS,
+        Outcome::NotFound => ExitCode::from(1),
+    }
+}
+
+/// Writes the hits. The threads that find them are started through `threads`.
+fn find<T: Threads + Sync>(
+    rt: &HostRuntime,
+    threads: &T,
+    asked: &Asked<'_>,
+) -> Result<ExitCode, RunFault> {
+    let wanted = match wanted_of(rt, asked) {
+        Ok(wanted) => wanted,
+        Err(fault) => {
+            let _ = eprintln!(rt; "shape_hits: {fault}");
+            return Ok(ExitCode::from(words_status(&fault)));
+        }
+    };
+    Ok(ended(run_hits(
+        threads,
+        rt.alloc(),
+        &wanted,
+        asked.search,
+        usize::from(asked.workers),
+        &mut rt.stdin(),
+        &mut rt.stdout(),
+    )?))
+}
+
+/// Does what the words say.
+fn run<T: Threads + Sync>(rt: &HostRuntime, threads: &T) -> Result<ExitCode, RunFault> {
+    let words = own_words(rt)?;
+    match read_words(rt.alloc(), &words)? {
+        Task::Find(asked) => find(rt, threads, &asked),
+        Task::Help(text) => {
+            write_output(&mut rt.stdout(), text.as_bytes())?;
+            Ok(ExitCode::SUCCESS)
+        }
+    }
+}
+
+fn main(rt: HostRuntime) -> ExitCode {
+    match run(&rt, &rt) {
+        Ok(status) => status,
+        Err(fault) => {
+            // Where standard error takes nothing, the status still says what went wrong.
+            let _ = eprintln!(rt; "shape_hits: {fault}");
+            ExitCode::from(status_of(&fault))
+        }
+    }
+}
