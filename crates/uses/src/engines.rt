@@ -1,9 +1,10 @@
-//! The examples of the pages of `harvest_core`, `engine_core`, `listing_core`, `sheet_core` and
-//! `stream_core`.
-use engine_core::run_count;
+//! The examples of the pages of `harvest_core`, `engine_core`, `listing_core`, `hits_core`,
+//! `sheet_core` and `stream_core`.
+use engine_core::{Outcome, run_count};
 use harvest_core::{FreeGate, harvest};
+use hits_core::{Search, Shown, Sought, Wanted, run_hits};
 use listing_core::{Listed, run_listing};
-use shape_core::{Kind, Kinds};
+use shape_core::{Kind, Kinds, Shape, Word};
 use shape_dict::Text;
 use sheet_core::{Asked, Form, Order, run_sheet};
 use std::io::Cursor;
@@ -52,6 +53,25 @@ fn listing_core(rt: HostRuntime) -> Result<(), Fail> {
     assert!(rt; listed == Listed::Done);
     let wanted = b"0 0 14 game 1x1 moves 1 occasions 1\n- 14 22 other\n";
     assert_eq!(rt; lines.as_slice(), wanted.as_slice());
+    Ok(())
+}
+
+#[test]
+fn hits_core(rt: HostRuntime) -> Result<(), Fail> {
+    let alloc = rt.alloc();
+    let word = Word::new(0x3fffffcffffff).ok_or("a word")?;
+    let shape = Shape::of_word(word).ok_or("the least image")?;
+    let wanted = Wanted::one(alloc, shape)?;
+    let search = Search {
+        sought: Sought::Played,
+        most: None,
+        shown: Shown::Places,
+    };
+    let mut games = Cursor::new(b"(;SZ[1];B[aa])");
+    let mut lines = Vec::new(alloc);
+    let outcome = run_hits(&rt, alloc, &wanted, search, 4, &mut games, &mut lines)?;
+    assert!(rt; outcome == Outcome::Done);
+    assert_eq!(rt; lines.as_slice(), b"0 1 aa black 0\n".as_slice());
     Ok(())
 }
 
