@@ -33,7 +33,7 @@ rest_same x y xs ys equal h k same shape = elim (cases_lt x.shape shape) [
 ]
 
 -- two rising lists with the same entry for each shape are one
-entries_same : (low : ℕ) (xs ys : List Entry) → Climbs low xs → Climbs low ys → ((shape : ℕ) → entry_of shape xs ≡ entry_of shape ys) → xs ≡ ys
+pub entries_same : (low : ℕ) (xs ys : List Entry) → Climbs low xs → Climbs low ys → ((shape : ℕ) → entry_of shape xs ≡ entry_of shape ys) → xs ≡ ys
 entries_same low [] [] h k same = refl
 entries_same low [] (y ∷ ys) h k same = absurd (none_is_some y (same y.shape ∙ found_first y.shape y ys refl))
 entries_same low (x ∷ xs) [] h k same = absurd (none_is_some x (sym (same x.shape) ∙ found_first x.shape x xs refl))

@@ -11,3 +11,13 @@ pub mod Summed
 pub mod Totals
 pub mod Unmerged
 pub mod Written
+pub mod Regrouped
+pub mod Rising
+pub mod Paired
+pub mod Tallied
+pub mod Besides
+pub mod Within
+pub mod Surveyed
+pub mod Assembled
+pub mod Same
+pub mod Rounded

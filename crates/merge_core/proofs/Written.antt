@@ -18,12 +18,12 @@ use Rattle.merge_core.specs.Entries.{IsNext}
 use Rattle.merge_core.specs.Merge.{Took, written_of}
 use Rattle.merge_core.specs.Inner.Writing.{stopped, IsCutIn, WroteSome, HasPushed, IsOutSoFar, IsStopped}
 
-no_lines : (t : Text) → lines_of t [] ≡ []
+pub no_lines : (t : Text) → lines_of t [] ≡ []
 no_lines kind.One = refl
 no_lines kind.Two = refl
 no_lines kind.Three = refl
 
-lines_append : (t : Text) (xs ys : List Entry) → lines_of t (xs ++ ys) ≡ lines_of t xs ++ lines_of t ys
+pub lines_append : (t : Text) (xs ys : List Entry) → lines_of t (xs ++ ys) ≡ lines_of t xs ++ lines_of t ys
 lines_append kind.One xs ys = ap (flat_map (line_text kind.One)) (filter-append is_square xs ys) ∙ flat_map-append (line_text kind.One) (squares_of xs) (squares_of ys)
 lines_append kind.Two xs ys = flat_map-append (line_text kind.Two) xs ys
 lines_append kind.Three xs ys = flat_map-append (line_text kind.Three) xs ys
@@ -137,10 +137,10 @@ stopped_number written next_fault.Changed = refl
 stopped_number written next_fault.Memory = refl
 
 -- the writer failed in what is pending
-cut_length : (done pending : List ℕ) (written count : ℕ) → length done ≡ written → count < length pending → length (done ++ take count pending) ≡ written + count
+pub cut_length : (done pending : List ℕ) (written count : ℕ) → length done ≡ written → count < length pending → length (done ++ take count pending) ≡ written + count
 cut_length done pending written count is short = omega (arith, length-append done (take count pending), length-take count pending)
 
-cut_text : (done pending rest : List ℕ) (count : ℕ) → done ++ (pending ++ rest) ≡ (done ++ take count pending) ++ (drop count pending ++ rest)
+pub cut_text : (done pending rest : List ℕ) (count : ℕ) → done ++ (pending ++ rest) ≡ (done ++ take count pending) ++ (drop count pending ++ rest)
 cut_text done pending rest count =
     ap (λ (xs : List ℕ). done ++ (xs ++ rest)) (sym (take-append-drop count pending)) ∙ (ap (λ (xs : List ℕ). done ++ xs) (append_assoc (take count pending) (drop count pending) rest)
     ∙ sym (append_assoc done (take count pending) (drop count pending ++ rest)))

@@ -5,3 +5,8 @@ pub mod Leaves
 pub mod Counting
 pub mod Judging
 pub mod Writing
+pub mod Ranges
+pub mod Tallies
+pub mod Blocks
+pub mod Surveys
+pub mod Printing

@@ -2,6 +2,7 @@
 #![tactic(auto)]
 
 mod counting;
+mod cuts;
 mod entries;
 mod faults;
 mod growing;
@@ -9,9 +10,18 @@ mod heads;
 mod judged;
 mod judging;
 mod leaves;
+mod measuring;
+mod merging;
 mod output;
+mod pieces;
+mod planning;
+mod printing;
+mod ranges;
+mod rounds;
 mod runs;
 mod sources;
+mod surveying;
+mod tallies;
 mod trees;
 mod writing;
 

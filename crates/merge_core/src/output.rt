@@ -1,5 +1,5 @@
 //! Bytes, written block by block.
-ghost use Rattle.std.specs.Prelude.{◌≡◌, ◌<◌, [], length, take, OnOk, IfOk, IfErr};
+ghost use Rattle.std.specs.Prelude.{◌≡◌, ◌<◌, ◌+◌, [], length, take, OnOk, IfOk, IfErr};
 ghost use Rattle.std.specs.Io.KnownBytes.{Appends};
 ghost use Rattle.merge_core.specs.Inner.Writing.{IsCutIn, WroteSome};
 
@@ -26,6 +26,28 @@ fn write_bytes<W: Write>(writer: &mut W, bytes: &[u8]) -> Result<(), usize>
     Ok(())
 }
 
+/// Writes bytes after this number of others, and answers how many are out then.
+pub(crate) fn write_more<W: Write>(
+    writer: &mut W,
+    bytes: &[u8],
+    written: usize,
+) -> Result<usize, MergeFault>
+    ensures count { IfOk result (λ count. count ≡ written + length bytes.now) }
+    ensures out { OnOk result (Appends (W.contents writer.old) (W.contents writer.new) bytes.now) }
+    ensures err { IfErr result (IsCutIn written bytes.now
+        (W.contents writer.old) (W.contents writer.new)) }
+{
+    let Some(after) = written.checked_add(bytes.len()) else {
+        return Err(MergeFault::Write { written });
+    };
+    match write_bytes(writer, bytes) {
+        Ok(()) => Ok(after),
+        Err(count) => Err(MergeFault::Write {
+            written: written + count,
+        }),
+    }
+}
+
 /// Writes all that is pending after this number of bytes, and answers how many are out then.
 pub(crate) fn write_pending<W: Write>(
     writer: &mut W,
@@ -38,17 +60,12 @@ pub(crate) fn write_pending<W: Write>(
     ensures err { IfErr result (IsCutIn written pending.old.items
         (W.contents writer.old) (W.contents writer.new)) }
 {
-    let Some(after) = written.checked_add(pending.len()) else {
-        return Err(MergeFault::Write { written });
-    };
-    match write_bytes(writer, pending) {
-        Ok(()) => {
+    match write_more(writer, pending, written) {
+        Ok(after) => {
             pending.clear();
             Ok(after)
         }
-        Err(count) => Err(MergeFault::Write {
-            written: written + count,
-        }),
+        Err(fault) => Err(fault),
     }
 }
 

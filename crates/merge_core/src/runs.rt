@@ -1,31 +1,31 @@
 //! From sources to a writer: the join of their dictionaries.
-ghost use Rattle.std.specs.Prelude.{◌≡◌, ℕ, List, length, OnOk, IfErr};
+ghost use Rattle.std.specs.Prelude.{◌≡◌, ℕ, List, length, vec_len, OnOk, IfErr};
 ghost use Rattle.std.specs.Io.KnownBytes.{Appends};
 ghost use Rattle.merge_core.specs.Merge.{AreInputs, IsMergeText, IsMergeFault, Took, written_of};
+ghost use Rattle.merge_core.specs.Inner.Surveys.{IsSurveyed};
 
+use crate::counting::Counts;
+use crate::cuts::Plan;
 use crate::faults::MergeFault;
 use crate::growing::grow;
+use crate::judged::Totals;
 use crate::judging::judge_all;
+use crate::planning::plan_for;
+use crate::rounds::write_ranges;
 use crate::sources::Sources;
+use crate::surveying::survey;
 use crate::writing::{header_of, stopped, write_lines};
 use shape_dict::Text;
 use std::alloc::Global;
 use std::io::Write;
+use std::thread::{Threads, available_parallelism};
 
-/// Reads dictionaries, each a text of its own in any of the three texts and of any size, and writes
-/// a text of their join: the earlier ones are the left of each join. Each is read twice: to be
-/// judged while what the join has is counted, and to be written. It takes memory for two blocks of
-/// 65,536 bytes, and for one of each dictionary. Where there is a fault, they are judged again, one
-/// after another.
-///
-/// # Errors
-///
-/// `Empty` where there is no dictionary. `Dict` with the number of the first dictionary, from 1,
-/// that cannot be read (X1 to X5) or added to those before it (X7, X9), and its fault: nothing is
-/// written then. `Read` where a dictionary could not be opened or read, or gave other bytes than
-/// before; `Changed` where that is all that is known; `Memory` where memory was refused; `Write`
-/// where the writer failed. Each of these has the number of bytes of the text that are out.
-pub fn run_merge<S: Sources, W: Write>(
+/// No more threads are started at a time.
+const MOST_THREADS: usize = 16;
+
+/// Joins dictionaries line by line, in this thread alone: they are judged, in whatever order it
+/// takes to tell the first fault, and then written.
+fn merge_lines<S: Sources, W: Write>(
     alloc: Global,
     text: Text,
     sources: &S,
@@ -53,4 +53,79 @@ pub fn run_merge<S: Sources, W: Write>(
         return Err(MergeFault::Memory { written: 0 });
     };
     write_lines(tree, text, counts, header, writer)
+}
+
+/// Writes the join of dictionaries that were judged range by range.
+fn merge_ranges<T: Threads + Sync, S: Sources + Sync, W: Write>(
+    rt: &T,
+    alloc: Global,
+    text: Text,
+    sources: &S,
+    plan: &Plan,
+    joined: (Totals, Counts),
+    writer: &mut W,
+) -> Result<(), MergeFault>
+    requires all { vec_len plan.now.headers ≡ S.number sources.now }
+    requires many { length plan.now.headers.items ≡ S.number sources.now }
+    requires surveyed { IsSurveyed (S.bytes sources.now) plan.now joined.0 joined.1 }
+    ensures done { (inputs : List (List ℕ)) → AreInputs (S.bytes sources.now) 0 inputs
+        → length inputs ≡ S.number sources.now → OnOk result ((written : List ℕ)
+        × IsMergeText text inputs written
+        × Appends (W.contents writer.old) (W.contents writer.new) written) }
+    ensures fault { (inputs : List (List ℕ)) → AreInputs (S.bytes sources.now) 0 inputs
+        → length inputs ≡ S.number sources.now → IfErr result
+        (IsMergeFault text inputs (W.contents writer.old) (W.contents writer.new)) }
+    ensures took { IfErr result (λ found.
+        Took (W.contents writer.old) (W.contents writer.new) (written_of found)) }
+{
+    let (totals, counts) = joined;
+    let Ok(header) = header_of(alloc, text, totals, counts) else {
+        return Err(MergeFault::Memory { written: 0 });
+    };
+    write_ranges(rt, alloc, text, sources, plan, &header, writer)
+}
+
+/// Reads dictionaries, each a text of its own in any of the three texts and of any size, and writes
+/// a text of their join: the earlier ones are the left of each join. Each is read twice: to be
+/// judged while what the join has is counted, and to be written. Where they are large, as many
+/// threads as there are processors, 16 at most, do that side by side, each with a range of the
+/// words; it takes memory for a range of about half a megabyte for each. Where they are small, or
+/// something is odd, this thread reads them line by line, with a block of 65,536 bytes of each in
+/// memory, and one more; where there is a fault, they are judged again, one after another.
+///
+/// # Errors
+///
+/// `Empty` where there is no dictionary. `Dict` with the number of the first dictionary, from 1,
+/// that cannot be read (X1 to X5) or added to those before it (X7, X9), and its fault: nothing is
+/// written then. `Read` where a dictionary could not be opened or read, or gave other bytes than
+/// before; `Changed` where that is all that is known; `Memory` where memory was refused; `Write`
+/// where the writer failed. Each of these has the number of bytes of the text that are out.
+pub fn run_merge<T: Threads + Sync, S: Sources + Sync, W: Write>(
+    rt: &T,
+    alloc: Global,
+    text: Text,
+    sources: &S,
+    writer: &mut W,
+) -> Result<(), MergeFault>
+    ensures done { (inputs : List (List ℕ)) → AreInputs (S.bytes sources.now) 0 inputs
+        → length inputs ≡ S.number sources.now → OnOk result ((written : List ℕ)
+        × IsMergeText text inputs written
+        × Appends (W.contents writer.old) (W.contents writer.new) written) }
+    ensures fault { (inputs : List (List ℕ)) → AreInputs (S.bytes sources.now) 0 inputs
+        → length inputs ≡ S.number sources.now → IfErr result
+        (IsMergeFault text inputs (W.contents writer.old) (W.contents writer.new)) }
+    ensures took { IfErr result (λ found.
+        Took (W.contents writer.old) (W.contents writer.new) (written_of found)) }
+{
+    let threads = match available_parallelism(rt) {
+        Ok(count) => count.get().min(MOST_THREADS),
+        Err(_) => 1,
+    };
+    let Some(plan) = plan_for(rt, alloc, sources, threads) else {
+        return merge_lines(alloc, text, sources, writer);
+    };
+    match survey(rt, alloc, sources, &plan, threads) {
+        Some(joined) => merge_ranges(rt, alloc, text, sources, &plan, joined, writer),
+        None => merge_lines(alloc, text, sources, writer),
+    }
 }

@@ -47,7 +47,7 @@ pub(crate) fn header_of(
 }
 
 /// Appends the line that a text has of an entry, or none, and says whether it is a square.
-fn push_entry(out: &mut Vec<u8>, text: Text, entry: Entry) -> Result<bool, AllocError>
+pub(crate) fn push_entry(out: &mut Vec<u8>, text: Text, entry: Entry) -> Result<bool, AllocError>
     ensures line { OnOk result (out.new.items ≡ out.old.items ++ lines_of text (entry ∷ [])) }
     ensures square { IfOk result (λ square. square ≡ is_square entry) }
 {

@@ -7,6 +7,7 @@ use std::alloc::Global;
 use std::io;
 use std::io::Write;
 use std::process::Abort;
+use std::thread::Threads;
 
 /// Texts in memory, of each of which at most `most` bytes can be read.
 #[derive(Clone, Copy)]
@@ -31,6 +32,19 @@ impl<'a> Sources for Texts<'a> {
     fn open(&self, n: usize) -> io::Result<Drip<'a>> {
         Ok(Drip {
             left: self.texts[n],
+            step: 7,
+            most: self.most,
+        })
+    }
+
+    fn size(&self, n: usize) -> io::Result<usize> {
+        Ok(self.texts[n].len())
+    }
+
+    fn open_at(&self, n: usize, place: usize) -> io::Result<Drip<'a>> {
+        let text = self.texts[n];
+        Ok(Drip {
+            left: &text[place.min(text.len())..],
             step: 7,
             most: self.most,
         })
@@ -75,7 +89,8 @@ const MIXED: &[u8] = b"shapes 2 games 0 moves 0 squares 0 diamonds 0\n";
 
 /// What is written of the join, or its fault, where each text gives `read` bytes and the writer
 /// takes `written`.
-fn joined(
+fn joined<T: Threads + Sync>(
+    rt: &T,
     alloc: Global,
     text: Text,
     texts: &[&[u8]],
@@ -87,20 +102,32 @@ fn joined(
         got: Vec::new(alloc),
         most: written,
     };
-    let done = run_merge(alloc, text, &sources, &mut out);
+    let done = run_merge(rt, alloc, text, &sources, &mut out);
     (done, out.got)
 }
 
 /// The join of the texts is this one.
-fn assert_joined(rt: &impl Abort, alloc: Global, text: Text, texts: &[&[u8]], wanted: &[u8]) {
-    let (done, got) = joined(alloc, text, texts, 1000, 1000);
+fn assert_joined(
+    rt: &(impl Abort + Threads + Sync),
+    alloc: Global,
+    text: Text,
+    texts: &[&[u8]],
+    wanted: &[u8],
+) {
+    let (done, got) = joined(rt, alloc, text, texts, 1000, 1000);
     assert!(rt; done.is_ok());
     assert!(rt; got.as_slice() == wanted);
 }
 
 /// The texts have this fault, and nothing is written.
-fn assert_fault(rt: &impl Abort, alloc: Global, texts: &[&[u8]], n: usize, fault: DictFault) {
-    let (done, got) = joined(alloc, Text::One, texts, 1000, 1000);
+fn assert_fault(
+    rt: &(impl Abort + Threads + Sync),
+    alloc: Global,
+    texts: &[&[u8]],
+    n: usize,
+    fault: DictFault,
+) {
+    let (done, got) = joined(rt, alloc, Text::One, texts, 1000, 1000);
     assert!(rt; done == Err(MergeFault::Dict { n, fault }));
     assert!(rt; got.is_empty());
 }
@@ -121,17 +148,17 @@ fn first_faults(rt: HostRuntime) {
     assert_fault(&rt, alloc, &[LARGE, b"", ONE], 2, DictFault::BadHeader);
     assert_fault(&rt, alloc, &[LARGE, MIXED, ONE], 2, DictFault::MixedKinds);
     assert_fault(&rt, alloc, &[ONE, TWO, LARGE], 3, DictFault::Overflow);
-    let (done, _) = joined(alloc, Text::One, &[], 1000, 1000);
+    let (done, _) = joined(&rt, alloc, Text::One, &[], 1000, 1000);
     assert!(rt; done == Err(MergeFault::Empty));
 }
 
 #[test]
 fn reads_and_writes_fail(rt: HostRuntime) {
     let alloc = rt.alloc();
-    let (unread, nothing) = joined(alloc, Text::One, &[ONE, TWO], 50, 1000);
+    let (unread, nothing) = joined(&rt, alloc, Text::One, &[ONE, TWO], 50, 1000);
     assert!(rt; unread == Err(MergeFault::Read { n: 1, written: 0 }));
     assert!(rt; nothing.is_empty());
-    let (cut, front) = joined(alloc, Text::Three, &[ONE, TWO], 1000, 20);
+    let (cut, front) = joined(&rt, alloc, Text::Three, &[ONE, TWO], 1000, 20);
     assert!(rt; cut == Err(MergeFault::Write { written: 20 }));
     assert!(rt; front.as_slice() == b"shapes 3 games 4 mov".as_slice());
 }

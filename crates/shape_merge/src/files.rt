@@ -7,7 +7,7 @@ use crate::words::Asked;
 use merge_core::Sources;
 use std::alloc::AllocError;
 use std::fs::File;
-use std::io::Write;
+use std::io::{Seek, SeekFrom, Write};
 use std::os::unix::fs::MetadataExt;
 use std::{fs, io};
 
@@ -33,6 +33,17 @@ impl Sources for Dictionaries<'_> {
 
     fn open(&self, n: usize) -> io::Result<File> {
         File::open(self.rt, self.names[n])
+    }
+
+    fn size(&self, n: usize) -> io::Result<usize> {
+        let found = fs::metadata(self.rt, self.names[n])?;
+        Ok(usize::try_from(found.len()).unwrap_or(usize::MAX))
+    }
+
+    fn open_at(&self, n: usize, place: usize) -> io::Result<File> {
+        let mut file = File::open(self.rt, self.names[n])?;
+        file.seek(SeekFrom::Start(place as u64))?;
+        Ok(file)
     }
 }
 

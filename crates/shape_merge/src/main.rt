@@ -1,5 +1,5 @@
-//! Joins dictionaries of any number and size: it reads their files line by line, and holds a block
-//! of each in memory.
+//! Joins dictionaries of any number and size: it reads their files in pieces, and holds a few of
+//! them in memory.
 #![tactic(auto)]
 
 mod commands;
@@ -12,23 +12,42 @@ use files::{Dictionaries, look_at, new_target, which_is_barred};
 use merge_core::{MergeFault, run_merge};
 use std::io;
 use std::process::ExitCode;
+use std::thread::Threads;
 use telling::tell;
 use words::{Asked, Task, read_words};
 
 /// Writes the join of the files, to standard output or to a file that is made once all is judged.
-fn join(rt: &HostRuntime, asked: &Asked<'_>) -> Result<(), MergeFault> {
+/// The threads that join are started through `threads`.
+fn join<T: Threads + Sync>(
+    threads: &T,
+    rt: &HostRuntime,
+    asked: &Asked<'_>,
+) -> Result<(), MergeFault> {
+    let alloc = rt.alloc();
     let sources = Dictionaries {
         rt,
         names: &asked.names,
     };
     match asked.out {
-        Some(name) => run_merge(rt.alloc(), asked.text, &sources, &mut new_target(rt, name)),
-        None => run_merge(rt.alloc(), asked.text, &sources, &mut rt.stdout()),
+        Some(name) => {
+            run_merge(
+                threads,
+                alloc,
+                asked.text,
+                &sources,
+                &mut new_target(rt, name),
+            )
+        }
+        None => run_merge(threads, alloc, asked.text, &sources, &mut rt.stdout()),
     }
 }
 
 /// Judges the names, and joins the files. The answer is the exit status.
-fn join_files(rt: &HostRuntime, asked: &Asked<'_>) -> Result<u8, RunFault> {
+fn join_files<T: Threads + Sync>(
+    threads: &T,
+    rt: &HostRuntime,
+    asked: &Asked<'_>,
+) -> Result<u8, RunFault> {
     let sights = look_at(rt, asked)?;
     if let Some(name) = which_is_barred(asked, &sights) {
         let _ = eprintln!(rt;
@@ -36,17 +55,17 @@ fn join_files(rt: &HostRuntime, asked: &Asked<'_>) -> Result<u8, RunFault> {
         );
         return Ok(2);
     }
-    match join(rt, asked) {
+    match join(threads, rt, asked) {
         Ok(()) => Ok(0),
         Err(fault) => Ok(tell(rt, &asked.names, &fault)),
     }
 }
 
 /// Does what the words say. The answer is the exit status.
-fn run(rt: &HostRuntime) -> Result<u8, RunFault> {
+fn run<T: Threads + Sync>(rt: &HostRuntime, threads: &T) -> Result<u8, RunFault> {
     let words = own_words(rt)?;
     match read_words(rt.alloc(), &words)? {
-        Task::Join(asked) => join_files(rt, &asked),
+        Task::Join(asked) => join_files(threads, rt, &asked),
         Task::Help(text) => {
             write_output(&mut rt.stdout(), text.as_bytes())?;
             Ok(0)
@@ -55,7 +74,7 @@ fn run(rt: &HostRuntime) -> Result<u8, RunFault> {
 }
 
 fn main(rt: HostRuntime) -> ExitCode {
-    match run(&rt) {
+    match run(&rt, &rt) {
         Ok(status) => ExitCode::from(status),
         Err(fault) => {
             // Where standard error takes nothing, the status still says what went wrong.

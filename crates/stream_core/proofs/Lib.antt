@@ -2,3 +2,4 @@ pub mod Longest
 pub mod Held
 pub mod Sums
 pub mod Given
+pub mod Rowed

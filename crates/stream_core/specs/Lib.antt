@@ -1,4 +1,5 @@
 pub mod Faults
 pub mod Progress
+pub mod Rows
 pub mod Streams
 pub mod Inner

@@ -6,10 +6,12 @@ mod faults;
 mod lines;
 mod progress;
 mod quick;
+mod rows;
 mod standing;
 mod steps;
 
 pub use faults::StreamFault;
 pub use lines::Lines;
 pub use progress::Progress;
+pub use rows::read_rows;
 pub use standing::Standing;

@@ -176,7 +176,7 @@ fn may_stand(header: &Header, place: u64, last: Option<Shape>, word: Word) -> bo
 
 /// The line at the front of the bytes, or None where that is not said here.
 #[inline(always)]
-fn quick_entry<'a>(
+pub(crate) fn quick_entry<'a>(
     header: &Header,
     place: u64,
     last: Option<Shape>,

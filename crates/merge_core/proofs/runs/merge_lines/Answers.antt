@@ -4,7 +4,7 @@ use Rattle.shape_dict.specs.Inner.Parts.{lines_of}
 use Rattle.merge_core.specs.Inner.Leaves.{HasLeft}
 use Rattle.merge_core.specs.Inner.Trees.{Yields}
 use Rattle.merge_core.proofs.Finished.{took_none, sum_given, is_text, done_of, fault_of}
-use Rattle.merge_core.proofs.runs.run_merge.Goals as goal
+use Rattle.merge_core.proofs.runs.merge_lines.Goals as goal
 
 pub returns-in-Err-clause-took : goal.returns-in-Err-clause-took
 returns-in-Err-clause-took g c = took_none (g.W.Write.contents c.args.writer.now) _ c.in-Err.ensures.quiet

@@ -1,0 +1,211 @@
+//! How much is in ranges of words, counted in threads.
+ghost use Rattle.std.specs.Prelude.{◌≡◌, ◌≤◌, ◌<◌, ◌+◌, ◌*◌, ◌/◌, ◌%◌, ◌^◌, ℕ, List, Option, min, IfOk, length};
+ghost use Rattle.std.specs.Prelude.{vec_len};
+ghost use Rattle.std.specs.Thread.{IsSend, IsSync};
+ghost use Rattle.merge_core.specs.declared.cuts.Plan.{Plan as Cuts};
+ghost use Rattle.merge_core.specs.Inner.Ranges.{IsRanged};
+ghost use Rattle.merge_core.specs.Inner.Blocks.{AreBlocks};
+ghost use Rattle.merge_core.specs.Inner.Tallies.{sum_of, sums};
+
+use crate::cuts::Plan;
+use crate::entries::NextFault;
+use crate::ranges::join_at;
+use crate::sources::Sources;
+use crate::tallies::{Tally, both_tallies, each_tally, tally_of};
+use std::alloc::{AllocError, Global};
+use std::thread::{Threads, map_indices};
+
+/// How much is in a range: in the join, and in each dictionary by itself.
+#[derive(Drop)]
+pub(crate) struct Ranged {
+    pub(crate) joined: Tally,
+    pub(crate) each: Vec<Tally>,
+}
+
+/// How much is in the range from the cut of this number, from 0, up to the next one.
+fn count_one<S: Sources>(
+    alloc: Global,
+    sources: &S,
+    plan: &Plan,
+    n: usize,
+) -> Result<Ranged, NextFault>
+    requires all { vec_len plan.now.headers ≡ S.number sources.now }
+    requires few { n + 1 < 2 ^ 64 }
+    ensures { IfOk result (IsRanged (S.bytes sources.now) plan.now n (n + 1)) }
+{
+    let mut each = Vec::new(alloc);
+    let joined = match join_at(alloc, sources, plan, n, &mut each) {
+        Ok(joined) => joined,
+        Err(fault) => return Err(fault),
+    };
+    let Some(tally) = tally_of(&joined.entries) else {
+        return Err(NextFault::Overflow);
+    };
+    Ok(Ranged {
+        joined: tally,
+        each,
+    })
+}
+
+/// The same, in memory of its own.
+fn copied(alloc: Global, ranged: &Ranged) -> Result<Ranged, NextFault>
+    ensures joined { IfOk result (λ copy. copy.joined ≡ ranged.now.joined) }
+    ensures each { IfOk result (λ copy. copy.each.items ≡ ranged.now.each.items) }
+{
+    match ranged.each.as_slice().to_vec(alloc) {
+        Ok(each) => Ok(Ranged {
+            joined: ranged.joined,
+            each,
+        }),
+        Err(_) => Err(NextFault::Memory),
+    }
+}
+
+/// How much is in two ranges that follow one another.
+fn both_ranged(alloc: Global, left: &Ranged, right: &Ranged) -> Result<Ranged, NextFault>
+    ensures joined { IfOk result (λ both. both.joined ≡ sum_of left.now.joined right.now.joined) }
+    ensures each { IfOk result (λ both. both.each.items
+        ≡ sums left.now.each.items right.now.each.items) }
+{
+    let Some(joined) = both_tallies(left.joined, right.joined) else {
+        return Err(NextFault::Overflow);
+    };
+    match each_tally(alloc, &left.each, &right.each) {
+        Ok(each) => Ok(Ranged { joined, each }),
+        Err(fault) => Err(fault),
+    }
+}
+
+/// How much is in the ranges from the cut of one number, from 0, up to that of another.
+fn count_ranges<S: Sources>(
+    alloc: Global,
+    sources: &S,
+    plan: &Plan,
+    from: usize,
+    to: usize,
+) -> Result<Ranged, NextFault>
+    requires all { vec_len plan.now.headers ≡ S.number sources.now }
+    requires some { from < to }
+    ensures { IfOk result (IsRanged (S.bytes sources.now) plan.now from to) }
+{
+    let mut total = match count_one(alloc, sources, plan, from) {
+        Ok(first) => first,
+        Err(fault) => return Err(fault),
+    };
+    for n in from + 1..to {
+        let next = match count_one(alloc, sources, plan, n) {
+            Ok(next) => next,
+            Err(fault) => return Err(fault),
+        };
+        total = match both_ranged(alloc, &total, &next) {
+            Ok(both) => both,
+            Err(fault) => return Err(fault),
+        };
+    }
+    Ok(total)
+}
+
+/// How much is in the ranges of one block of so many; the last block has those that are left.
+fn count_block<S: Sources>(
+    alloc: Global,
+    sources: &S,
+    plan: &Plan,
+    block: usize,
+    size: usize,
+    last: usize,
+) -> Result<Ranged, NextFault>
+    requires all { vec_len plan.now.headers ≡ S.number sources.now }
+    requires some { block * size < last }
+    requires size { 0 < size }
+    requires few { size < 2 ^ 32 }
+    requires low { last < 2 ^ 32 }
+    ensures { IfOk result (IsRanged (S.bytes sources.now) plan.now (min last (block * size))
+        (min last ((block + 1) * size))) }
+{
+    let from = block * size;
+    count_ranges(alloc, sources, plan, from, last.min(from + size))
+}
+
+/// How much is in each block of so many ranges, up to the cut of a number, from 0: each counted in
+/// a thread of its own where one can be made.
+fn blocks_of<T: Threads + Sync, S: Sources + Sync>(
+    rt: &T,
+    alloc: Global,
+    sources: &S,
+    plan: &Plan,
+    size: usize,
+    last: usize,
+) -> Result<Vec<Result<Ranged, NextFault>>, AllocError>
+    requires all { vec_len plan.now.headers ≡ S.number sources.now }
+    requires size { 0 < size }
+    requires few { size < 2 ^ 32 }
+    requires low { last < 2 ^ 32 }
+    ensures len { IfOk result (λ blocks. length blocks.items ≡ last / size + min 1 (last % size)) }
+    ensures each { IfOk result (λ blocks. AreBlocks (S.bytes sources.now) plan.now
+        (λ i. min last (i * size)) blocks.items) }
+{
+    map_indices(
+        rt,
+        alloc,
+        last.div_ceil(size),
+        &|block: usize| -> Result<Ranged, NextFault>
+            requires { IsSync S.row × IsSend S.Reader.row
+                × (vec_len plan.now.headers ≡ S.number sources.now) × (0 < size)
+                × (size < 2 ^ 32) × (last < 2 ^ 32) × (block * size < last) }
+            ensures { IfOk result (IsRanged (S.bytes sources.entry.now) plan.entry.now
+                (min last (block * size)) (min last ((block + 1) * size))) }
+        { count_block(alloc, sources, plan, block, size, last) },
+    )
+}
+
+/// How much is in blocks of ranges that follow one another.
+fn sum_up(alloc: Global, blocks: &[Result<Ranged, NextFault>]) -> Result<Ranged, NextFault>
+    ensures { (bytes : ℕ → Option (List ℕ)) → (plan : Cuts) → (end : ℕ → ℕ)
+        → AreBlocks bytes plan end blocks.now
+        → IfOk result (IsRanged bytes plan (end 0) (end (length blocks.now))) }
+{
+    let count = blocks.len();
+    if count == 0 {
+        return Err(NextFault::Changed);
+    }
+    let mut total = match &blocks[0] {
+        Ok(first) => match copied(alloc, first) {
+            Ok(first) => first,
+            Err(fault) => return Err(fault),
+        },
+        Err(fault) => return Err(*fault),
+    };
+    for place in 1..count {
+        let next = match &blocks[place] {
+            Ok(next) => next,
+            Err(fault) => return Err(*fault),
+        };
+        total = match both_ranged(alloc, &total, next) {
+            Ok(both) => both,
+            Err(fault) => return Err(fault),
+        };
+    }
+    Ok(total)
+}
+
+/// How much is in all ranges of a plan up to the cut of a number, from 0, counted by about this
+/// many threads, where they can be made.
+pub(crate) fn count_all<T: Threads + Sync, S: Sources + Sync>(
+    rt: &T,
+    alloc: Global,
+    sources: &S,
+    plan: &Plan,
+    last: usize,
+    threads: usize,
+) -> Result<Ranged, NextFault>
+    requires all { vec_len plan.now.headers ≡ S.number sources.now }
+    requires some { 0 < last }
+    requires few { last < 2 ^ 32 }
+    ensures { IfOk result (IsRanged (S.bytes sources.now) plan.now 0 last) }
+{
+    let size = last.div_ceil(threads.max(1));
+    let Ok(blocks) = blocks_of(rt, alloc, sources, plan, size, last) else {
+        return Err(NextFault::Memory);
+    };
+    sum_up(alloc, &blocks)
+}

@@ -1,0 +1,114 @@
+//! The join of two lists of entries in memory.
+ghost use Rattle.std.specs.Prelude.{◌≡◌, ◌++◌, ◌∷◌, [], ◌+◌, map, OnOk, IfOk};
+ghost use Rattle.shape_dict.specs.Merging.{moved_entry, summed_entry};
+ghost use Rattle.shape_dict.specs.Inner.Merging.{merged};
+
+use crate::entries::NextFault;
+use shape_dict::Entry;
+use std::alloc::Global;
+
+/// An entry of the right alone, whose first game follows the left's games.
+#[inline(always)]
+fn moved(entry: Entry, games: u64) -> Result<Entry, NextFault>
+    ensures { IfOk result (λ moved. moved ≡ moved_entry games entry) }
+{
+    let first = match entry.first {
+        None => None,
+        Some(game) => Some(game.checked_add(games).ok_or(NextFault::Changed)?),
+    };
+    Ok(Entry { first, ..entry })
+}
+
+/// An entry of both.
+#[inline(always)]
+fn summed(left: Entry, right: Entry) -> Result<Entry, NextFault>
+    ensures { IfOk result (λ both. both ≡ summed_entry left right) }
+{
+    let there = left
+        .there
+        .checked_add(right.there)
+        .ok_or(NextFault::Overflow)?;
+    let played = left
+        .played
+        .checked_add(right.played)
+        .ok_or(NextFault::Overflow)?;
+    Ok(Entry {
+        there,
+        played,
+        ..left
+    })
+}
+
+/// Appends an entry.
+#[inline(always)]
+fn push(entries: &mut Vec<Entry>, entry: Entry) -> Result<(), NextFault>
+    ensures ok { OnOk result (entries.new.items ≡ entries.old.items ++ entry ∷ []) }
+{
+    match entries.push(entry) {
+        Ok(()) => Ok(()),
+        Err(_) => Err(NextFault::Memory),
+    }
+}
+
+/// Appends the entries of the left.
+fn push_kept(entries: &mut Vec<Entry>, left: &[Entry]) -> Result<(), NextFault>
+    ensures ok { OnOk result (entries.new.items ≡ entries.old.items ++ left.now) }
+{
+    for entry in left {
+        push(entries, *entry)?;
+    }
+    Ok(())
+}
+
+/// Appends the entries of the right alone.
+fn push_moved(entries: &mut Vec<Entry>, right: &[Entry], games: u64) -> Result<(), NextFault>
+    ensures ok { OnOk result (entries.new.items
+        ≡ entries.old.items ++ map (moved_entry games) right.now) }
+{
+    for entry in right {
+        push(entries, moved(*entry, games)?)?;
+    }
+    Ok(())
+}
+
+/// The join of two lists of entries whose words rise, where the left has this number of games.
+///
+/// # Errors
+///
+/// `Overflow` where a sum is over 2^64 - 1, `Changed` where a first game is, and `Memory` where
+/// memory was refused.
+pub(crate) fn merge(
+    alloc: Global,
+    games: u64,
+    left: &[Entry],
+    right: &[Entry],
+) -> Result<Vec<Entry>, NextFault>
+    ensures ok { IfOk result (λ both. both.items ≡ merged games left.now right.now) }
+{
+    let most = left.len().saturating_add(right.len());
+    let Ok(mut both) = Vec::with_capacity(alloc, most) else {
+        return Err(NextFault::Memory);
+    };
+    let mut of_left = 0;
+    let mut of_right = 0;
+    while of_left < left.len() && of_right < right.len() {
+        let mine = left[of_left];
+        let other = right[of_right];
+        let word = mine.shape.word().bits();
+        let other_word = other.shape.word().bits();
+        if word < other_word {
+            push(&mut both, mine)?;
+            of_left += 1;
+        } else if other_word < word {
+            push(&mut both, moved(other, games)?)?;
+            of_right += 1;
+        } else {
+            push(&mut both, summed(mine, other)?)?;
+            of_left += 1;
+            of_right += 1;
+        }
+    }
+    push_kept(&mut both, &left[of_left..])?;
+    push_moved(&mut both, &right[of_right..], games)?;
+    Ok(both)
+}

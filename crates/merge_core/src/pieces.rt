@@ -1,0 +1,111 @@
+//! The lines that one dictionary has in a range of words.
+ghost use Rattle.std.specs.Prelude.{◌≡◌, ◌≤◌, ◌<◌, ◌+◌, ◌^◌, ℕ, List, Some, IfOk, IsTrue, length};
+ghost use Rattle.std.specs.Io.KnownBytes.{Consumes};
+ghost use Rattle.merge_core.specs.Inner.Ranges.{IsWithin, IsPiece, Piece};
+
+use crate::cuts::{Cut, header_at, place_at};
+use crate::entries::NextFault;
+use crate::sources::Sources;
+use shape_dict::{Entry, Header};
+use std::alloc::Global;
+use std::io::Read;
+use stream_core::read_rows;
+
+/// Two cuts, and the headers of the dictionaries whose lines lie between them.
+#[derive(Clone, Copy)]
+pub(crate) struct Range<'a> {
+    pub(crate) headers: &'a [Header],
+    pub(crate) low: &'a Cut,
+    pub(crate) high: &'a Cut,
+}
+
+/// Fills bytes from a reader, and says whether they are full.
+fn fill<R: Read>(reader: &mut R, bytes: &mut Vec<u8>) -> bool
+    ensures size { length bytes.new.items ≡ length bytes.old.items }
+    ensures full { IsTrue result → Consumes (R.remaining reader.old) (R.remaining reader.new)
+        bytes.new.items }
+{
+    reader.read_exact(bytes).is_ok()
+}
+
+/// The bytes of the dictionary of this number, from 0, from one place up to another.
+pub(crate) fn read_bytes<S: Sources>(
+    alloc: Global,
+    sources: &S,
+    n: usize,
+    from: usize,
+    to: usize,
+) -> Result<Vec<u8>, NextFault>
+    requires few { n + 1 < 2 ^ 64 }
+    requires within { n < S.number sources.now }
+    ensures { IfOk result (λ bytes. (text : List ℕ) → S.bytes sources.now n ≡ Some text
+        → IsWithin text from to bytes.items) }
+{
+    if to < from {
+        return Err(NextFault::Changed);
+    }
+    let Ok(mut reader) = sources.open_at(n, from) else {
+        return Err(NextFault::Read(n + 1));
+    };
+    let Ok(mut bytes) = vec![in alloc; 0u8; to - from] else {
+        return Err(NextFault::Memory);
+    };
+    if !fill(&mut reader, &mut bytes) {
+        return Err(NextFault::Read(n + 1));
+    }
+    Ok(bytes)
+}
+
+/// Whether the dictionary of this number, from 0, has no byte from this place on.
+pub(crate) fn ends_at<S: Sources>(sources: &S, n: usize, place: usize) -> bool
+    requires within { n < S.number sources.now }
+    ensures { IsTrue result → (text : List ℕ) → S.bytes sources.now n ≡ Some text
+        → length text ≤ place }
+{
+    let Ok(mut reader) = sources.open_at(n, place) else {
+        return false;
+    };
+    let mut byte = [0u8; 1];
+    let Ok(count) = reader.read(&mut byte) else {
+        return false;
+    };
+    count == 0
+}
+
+/// What the dictionary of this number, from 0, has between two cuts.
+///
+/// # Errors
+///
+/// `Memory` where memory was refused, and `Read` where a read failed, or a line isn't one that is
+/// read here, or the cuts don't have this dictionary.
+pub(crate) fn piece_of<S: Sources>(
+    alloc: Global,
+    sources: &S,
+    range: Range<'_>,
+    n: usize,
+) -> Result<Vec<Entry>, NextFault>
+    requires few { n + 1 < 2 ^ 64 }
+    requires within { n < S.number sources.now }
+    ensures { IfOk result (λ entries. (p : Piece) × IsPiece (S.bytes sources.now)
+        range.entry.headers.now range.entry.low.now range.entry.high.now n p × (p.entries ≡ entries.items)) }
+{
+    let fault = NextFault::Read(n + 1);
+    let Some(header) = header_at(range.headers, n) else {
+        return Err(fault);
+    };
+    let Some(from) = place_at(range.low, n) else {
+        return Err(fault);
+    };
+    let Some(to) = place_at(range.high, n) else {
+        return Err(fault);
+    };
+    let bytes = match read_bytes(alloc, sources, n, from, to) {
+        Ok(bytes) => bytes,
+        Err(fault) => return Err(fault),
+    };
+    match read_rows(alloc, &header, range.low.word, range.high.word, &bytes) {
+        Ok(Some(entries)) => Ok(entries),
+        Ok(None) => Err(fault),
+        Err(_) => Err(NextFault::Memory),
+    }
+}

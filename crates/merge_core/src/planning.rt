@@ -1,0 +1,341 @@
+//! Where dictionaries are cut, so that ranges are about even. Nothing rests on it: what is between
+//! the cuts is judged.
+ghost use Rattle.std.specs.Prelude.{◌≤◌, ◌<◌, ◌+◌, ◌^◌, IfSome, length};
+
+use crate::cuts::{Cut, Plan};
+use crate::pieces::read_bytes;
+use crate::sources::Sources;
+use crate::surveying::read_front;
+use shape_dict::Header;
+use std::alloc::Global;
+use std::thread::{Threads, map_chunks};
+
+/// Dictionaries with fewer bytes together are joined without ranges.
+const LEAST: usize = 1 << 18;
+
+/// About how many bytes of all dictionaries together are in a range.
+const RANGE: usize = 1 << 19;
+
+/// How many words are looked at for each range.
+const SAMPLES: usize = 8;
+
+/// How many bytes are read to find the next line, which is shorter.
+const LINE: usize = 1 << 7;
+
+/// How many bytes are read at once where lines are looked at one after another.
+const BLOCK: usize = 1 << 12;
+
+/// How far the first step goes in the search for a line.
+const STEP: usize = 1 << 14;
+
+/// No search takes more steps.
+const MOST_STEPS: usize = 128;
+
+/// Room for words that are looked at, 16 MiB. The C library takes so much from the system and gives
+/// it back, and then keeps smaller pieces that are given back to it: the memory of a range, which
+/// the system would have to clear for each range anew.
+const ROOM: usize = 1 << 21;
+
+/// The words of diamonds begin here, and those of squares are below.
+const DIAMONDS: u64 = 1 << 50;
+
+/// All words are below.
+const END: u64 = 1 << 51;
+
+/// The word that bytes begin with.
+fn word_of(bytes: &[u8]) -> Option<u64> {
+    let digits = bytes.get(..13)?;
+    let mut word: u64 = 0;
+    for digit in digits {
+        let value = (*digit as char).to_digit(16)?;
+        word = word.wrapping_mul(16).wrapping_add(u64::from(value));
+    }
+    Some(word)
+}
+
+/// How far behind the beginning of bytes a line begins, after the first line feed.
+fn next_line(bytes: &[u8]) -> Option<usize>
+    ensures { IfSome result (λ start. start ≤ length bytes.now) }
+{
+    for place in 0..bytes.len() {
+        if bytes[place] == b'\n' {
+            return Some(place + 1);
+        }
+    }
+    None
+}
+
+/// The first line of a dictionary that begins behind a place, and its word; None where there is
+/// none before `end`.
+fn line_after<S: Sources>(
+    alloc: Global,
+    sources: &S,
+    n: usize,
+    place: usize,
+    end: usize,
+) -> Option<(usize, u64)>
+    requires few { n + 1 < 2 ^ 64 }
+    requires within { n < S.number sources.now }
+{
+    let to = end.min(place.saturating_add(LINE));
+    let bytes = read_bytes(alloc, sources, n, place, to).ok()?;
+    let start = next_line(&bytes)?;
+    let word = word_of(&bytes[start..])?;
+    Some((place.saturating_add(start), word))
+}
+
+/// The place of the first line from a place on whose word is not below this one, or the end. The
+/// lines up to there are in a block.
+fn place_in_block<S: Sources>(
+    alloc: Global,
+    sources: &S,
+    n: usize,
+    word: u64,
+    from: usize,
+    to: usize,
+) -> Option<usize>
+    requires few { n + 1 < 2 ^ 64 }
+    requires within { n < S.number sources.now }
+{
+    let bytes = read_bytes(alloc, sources, n, from, to).ok()?;
+    let mut start = 0;
+    for _ in 0..bytes.len() {
+        if start >= bytes.len() || word_of(&bytes[start..])? >= word {
+            return Some(from.saturating_add(start));
+        }
+        start = start.saturating_add(next_line(&bytes[start..])?);
+    }
+    Some(to)
+}
+
+/// The place of the first line from a line on whose word is not below this one, or the end. It is
+/// mostly near, so steps grow until it is passed, and only then are halved.
+fn place_of<S: Sources>(
+    alloc: Global,
+    sources: &S,
+    n: usize,
+    word: u64,
+    from: usize,
+    end: usize,
+) -> Option<usize>
+    requires few { n + 1 < 2 ^ 64 }
+    requires within { n < S.number sources.now }
+{
+    let mut low = from;
+    let mut high = end;
+    let mut step = STEP;
+    for _ in 0..MOST_STEPS {
+        if high <= low.saturating_add(BLOCK) {
+            break;
+        }
+        let middle = low.saturating_add(step.min((high - low) / 2));
+        let (place, found) = line_after(alloc, sources, n, middle, end)?;
+        if found < word {
+            low = place;
+            step = step.saturating_mul(2);
+        } else {
+            high = place;
+            step = usize::MAX;
+        }
+    }
+    place_in_block(alloc, sources, n, word, low, high)
+}
+
+/// A cut of dictionaries at a word, from the places of an earlier one up to the ends.
+fn cut_of<S: Sources>(
+    alloc: Global,
+    sources: &S,
+    word: u64,
+    before: &[usize],
+    ends: &[usize],
+) -> Option<Cut> {
+    let mut places = Vec::new(alloc);
+    for n in 0..sources.count() {
+        let from = *before.get(n)?;
+        let end = *ends.get(n)?;
+        places
+            .push(place_of(alloc, sources, n, word, from, end)?)
+            .ok()?;
+    }
+    Some(Cut { word, places })
+}
+
+/// The cuts at these words, which rise.
+fn cuts_of<S: Sources>(
+    alloc: Global,
+    sources: &S,
+    words: &[u64],
+    starts: &[usize],
+    ends: &[usize],
+) -> Option<Vec<Cut>> {
+    let mut cuts: Vec<Cut> = Vec::new(alloc);
+    for word in words {
+        let before = match cuts.last() {
+            Some(cut) => cut.places.as_slice(),
+            None => starts,
+        };
+        let cut = cut_of(alloc, sources, *word, before, ends)?;
+        cuts.push(cut).ok()?;
+    }
+    Some(cuts)
+}
+
+/// Dictionaries before they are cut: their headers, where their lines begin, and where they end.
+#[derive(Drop)]
+struct Fronts {
+    headers: Vec<Header>,
+    starts: Vec<usize>,
+    ends: Vec<usize>,
+}
+
+/// What all dictionaries begin with, and their sizes.
+fn fronts_of<S: Sources>(alloc: Global, sources: &S) -> Option<Fronts> {
+    let mut fronts = Fronts {
+        headers: Vec::new(alloc),
+        starts: Vec::new(alloc),
+        ends: Vec::new(alloc),
+    };
+    for n in 0..sources.count() {
+        let Ok((header, start)) = read_front(alloc, sources, n) else {
+            return None;
+        };
+        let size = sources.size(n).ok()?;
+        fronts.headers.push(header).ok()?;
+        fronts.starts.push(start).ok()?;
+        fronts.ends.push(size).ok()?;
+    }
+    Some(fronts)
+}
+
+/// Appends the words of a dictionary's lines, about `step` bytes apart, the first of them `skip`
+/// bytes after the beginning.
+fn push_words<S: Sources>(
+    alloc: Global,
+    sources: &S,
+    n: usize,
+    skip: usize,
+    step: usize,
+    end: usize,
+    words: &mut Vec<u64>,
+) -> Option<()>
+    requires few { n + 1 < 2 ^ 64 }
+    requires within { n < S.number sources.now }
+{
+    let mut place = skip;
+    for _ in 0..end {
+        if place >= end {
+            break;
+        }
+        if let Some((_, word)) = line_after(alloc, sources, n, place, end) {
+            words.push(word).ok()?;
+        }
+        place = place.saturating_add(step);
+    }
+    Some(())
+}
+
+/// Words that are spread over all dictionaries, rising: as if their bytes followed one another, one
+/// each `step` bytes.
+fn sample<S: Sources>(alloc: Global, sources: &S, ends: &[usize], step: usize) -> Option<Vec<u64>> {
+    let mut words = Vec::with_capacity(alloc, ROOM).ok()?;
+    let mut skip: usize = 0;
+    for n in 0..sources.count() {
+        let end = *ends.get(n)?;
+        push_words(alloc, sources, n, skip, step, end, &mut words)?;
+        let beyond = end.saturating_sub(skip).checked_rem(step)?;
+        skip = if end < skip {
+            skip - end
+        } else {
+            step.saturating_sub(beyond)
+        };
+    }
+    words.sort_unstable();
+    Some(words)
+}
+
+/// The words of the cuts between the first and the last: every eighth of these, and where the
+/// diamonds begin.
+fn cut_words(alloc: Global, samples: &[u64]) -> Option<Vec<u64>> {
+    let mut words = Vec::new(alloc);
+    words.push(DIAMONDS).ok()?;
+    for place in 0..samples.len() {
+        if place % SAMPLES == SAMPLES - 1 {
+            words.push(samples[place]).ok()?;
+        }
+    }
+    words.sort_unstable();
+    Some(words)
+}
+
+/// The cuts of dictionaries between the first and the last, found by that many threads.
+fn inner_cuts<T: Threads + Sync, S: Sources + Sync>(
+    rt: &T,
+    alloc: Global,
+    sources: &S,
+    fronts: &Fronts,
+    words: &[u64],
+    threads: usize,
+) -> Option<Vec<Cut>> {
+    let size = (words.len() / threads.max(1)).saturating_add(1);
+    let starts = fronts.starts.as_slice();
+    let ends = fronts.ends.as_slice();
+    let Ok(made) = map_chunks(
+        rt,
+        alloc,
+        words,
+        size,
+        &|_, part| { cuts_of(alloc, sources, part, starts, ends) },
+    ) else {
+        return None;
+    };
+    let mut cuts = Vec::new(alloc);
+    for part in made {
+        for cut in part? {
+            cuts.push(cut).ok()?;
+        }
+    }
+    Some(cuts)
+}
+
+/// A plan for dictionaries that are large enough for one, made by that many threads; None where
+/// there is none.
+pub(crate) fn plan_for<T: Threads + Sync, S: Sources + Sync>(
+    rt: &T,
+    alloc: Global,
+    sources: &S,
+    threads: usize,
+) -> Option<Plan> {
+    let fronts = fronts_of(alloc, sources)?;
+    let mut total: usize = 0;
+    for end in &fronts.ends {
+        total = total.saturating_add(*end);
+    }
+    if total < LEAST {
+        return None;
+    }
+    let ranges = (total / RANGE).max(SAMPLES);
+    let step = total / ranges / SAMPLES + 1;
+    let samples = sample(alloc, sources, &fronts.ends, step)?;
+    let words = cut_words(alloc, &samples)?;
+    let inner = inner_cuts(rt, alloc, sources, &fronts, &words, threads)?;
+    let Fronts {
+        headers,
+        starts,
+        ends,
+    } = fronts;
+    let mut cuts = Vec::new(alloc);
+    cuts.push(Cut {
+        word: 0,
+        places: starts,
+    })
+    .ok()?;
+    for cut in inner {
+        cuts.push(cut).ok()?;
+    }
+    cuts.push(Cut {
+        word: END,
+        places: ends,
+    })
+    .ok()?;
+    Some(Plan { headers, cuts })
+}

@@ -1,0 +1,114 @@
+//! The lines of the join of dictionaries, made range by range in threads.
+ghost use Rattle.std.specs.Prelude.{◌≡◌, ◌≤◌, ◌<◌, ◌+◌, ◌^◌, IfOk, length, vec_len};
+ghost use Rattle.std.specs.Thread.{IsSend, IsSync};
+ghost use Rattle.shape_dict.specs.Inner.Parts.{lines_of};
+ghost use Rattle.merge_core.specs.Inner.Printing.{ArePrinted, IsPrinted};
+
+use crate::cuts::Plan;
+use crate::entries::NextFault;
+use crate::ranges::join_at;
+use crate::sources::Sources;
+use crate::writing::push_entry;
+use shape_dict::{Entry, Text};
+use std::alloc::Global;
+use std::thread::{Threads, map_indices};
+
+/// About how many bytes a line has.
+const LINE: usize = 24;
+
+/// The lines that a text has of entries.
+fn lines_of(alloc: Global, text: Text, entries: &[Entry]) -> Result<Vec<u8>, NextFault>
+    ensures { IfOk result (λ lines. lines.items ≡ lines_of text entries.now) }
+{
+    let Ok(mut lines) = Vec::with_capacity(alloc, entries.len().saturating_mul(LINE)) else {
+        return Err(NextFault::Memory);
+    };
+    for entry in entries {
+        match push_entry(&mut lines, text, *entry) {
+            Ok(_) => {}
+            Err(_) => return Err(NextFault::Memory),
+        }
+    }
+    Ok(lines)
+}
+
+/// The lines of the join in the range from the cut of this number, from 0, up to the next one.
+fn print_one<S: Sources>(
+    alloc: Global,
+    sources: &S,
+    plan: &Plan,
+    text: Text,
+    n: usize,
+) -> Result<Vec<u8>, NextFault>
+    requires all { vec_len plan.now.headers ≡ S.number sources.now }
+    requires few { n + 1 < 2 ^ 64 }
+    ensures { IfOk result (λ lines. IsPrinted (S.bytes sources.now) plan.now text n lines.items) }
+{
+    let mut each = Vec::new(alloc);
+    match join_at(alloc, sources, plan, n, &mut each) {
+        Ok(joined) => lines_of(alloc, text, &joined.entries),
+        Err(fault) => Err(fault),
+    }
+}
+
+/// The lines of ranges that follow one another, from the one of a number on, from 0.
+#[derive(Drop)]
+pub(crate) struct Round {
+    pub(crate) from: usize,
+    pub(crate) made: Vec<Result<Vec<u8>, NextFault>>,
+}
+
+/// The lines of `count` ranges from the one of this number on, from 0, each made in a thread of its
+/// own where one can be made.
+pub(crate) fn print_round<T: Threads + Sync, S: Sources + Sync>(
+    rt: &T,
+    alloc: Global,
+    sources: &S,
+    plan: &Plan,
+    text: Text,
+    from: usize,
+    count: usize,
+) -> Result<Round, NextFault>
+    requires all { vec_len plan.now.headers ≡ S.number sources.now }
+    requires few { from + count < 2 ^ 64 }
+    ensures { IfOk result (ArePrinted (S.bytes sources.now) plan.now text) }
+{
+    let made = map_indices(
+        rt,
+        alloc,
+        count,
+        &|place: usize| -> Result<Vec<u8>, NextFault>
+            requires { IsSync S.row × IsSend S.Reader.row
+                × (vec_len plan.now.headers ≡ S.number sources.now)
+                × (from + place + 1 < 2 ^ 64) }
+            ensures { IfOk result (λ lines. IsPrinted (S.bytes sources.entry.now) plan.entry.now
+                text (from + place) lines.items) }
+        { print_one(alloc, sources, plan, text, from + place) },
+    );
+    match made {
+        Ok(made) => Ok(Round { from, made }),
+        Err(_) => Err(NextFault::Memory),
+    }
+}
+
+impl Round {
+    ghost use Rattle.std.specs.Prelude.{ℕ, List, Option, IfOk};
+    ghost use Rattle.shape_dict.specs.declared.entries.Text.{Text as Kind};
+    ghost use Rattle.merge_core.specs.declared.cuts.Plan.{Plan as Cuts};
+    ghost use Rattle.merge_core.specs.Inner.Printing.{ArePrinted, IsPrinted};
+
+    /// The lines of the range of this number, from 0.
+    pub(crate) fn lines_at(&self, n: usize) -> Result<&[u8], NextFault>
+        ensures { (bytes : ℕ → Option (List ℕ)) → (plan : Cuts) → (text : Kind)
+            → ArePrinted bytes plan text self.now
+            → IfOk result (λ lines. IsPrinted bytes plan text n lines.now) }
+    {
+        if n < self.from || n - self.from >= self.made.len() {
+            return Err(NextFault::Changed);
+        }
+        match &self.made[n - self.from] {
+            Ok(lines) => Ok(lines.as_slice()),
+            Err(fault) => Err(*fault),
+        }
+    }
+}

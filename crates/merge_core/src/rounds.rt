@@ -1,0 +1,87 @@
+//! The text of a join, written range by range.
+ghost use Rattle.std.specs.Prelude.{◌≡◌, ◌≤◌, ◌+◌, ◌++◌, ℕ, List, length, vec_len, IfErr, MatchResult};
+ghost use Rattle.std.specs.Io.KnownBytes.{Appends};
+ghost use Rattle.shape_dict.specs.declared.entries.Entry.{Entry as One};
+ghost use Rattle.shape_dict.specs.Inner.Parts.{lines_of};
+ghost use Rattle.merge_core.specs.Merge.{AreInputs, Took, written_of};
+ghost use Rattle.merge_core.specs.Inner.Ranges.{AreParts, all_of};
+ghost use Rattle.merge_core.specs.Inner.Writing.{IsStopped};
+
+use crate::cuts::Plan;
+use crate::faults::MergeFault;
+use crate::output::write_more;
+use crate::printing::{Round, print_round};
+use crate::sources::Sources;
+use crate::writing::stopped;
+use shape_dict::Text;
+use std::alloc::Global;
+use std::io::Write;
+use std::thread::{Threads, available_parallelism};
+
+/// No more ranges are made at a time.
+const MOST_THREADS: usize = 16;
+
+/// How many ranges are made at a time.
+fn ranges_at_once<T: Threads>(rt: &T) -> usize
+    ensures some { 1 ≤ result }
+    ensures few { result ≤ 16 }
+{
+    match available_parallelism(rt) {
+        Ok(count) => count.get().clamp(1, MOST_THREADS),
+        Err(_) => 1,
+    }
+}
+
+/// Writes the header of a join, and the lines of its ranges: those of a round are made at the same
+/// time, and written one after another.
+pub(crate) fn write_ranges<T: Threads + Sync, S: Sources + Sync, W: Write>(
+    rt: &T,
+    alloc: Global,
+    text: Text,
+    sources: &S,
+    plan: &Plan,
+    header: &[u8],
+    writer: &mut W,
+) -> Result<(), MergeFault>
+    requires all { vec_len plan.now.headers ≡ S.number sources.now }
+    ensures took { IfErr result (λ found.
+        Took (W.contents writer.old) (W.contents writer.new) (written_of found)) }
+    ensures known { (parts : List (List One)) → AreParts (S.bytes sources.now) plan.now 0 parts
+        → length parts + 1 ≡ length plan.now.cuts.items → (inputs : List (List ℕ))
+        → AreInputs (S.bytes sources.now) 0 inputs → length inputs ≡ length plan.now.headers.items
+        → MatchResult result
+        (λ _. Appends (W.contents writer.old) (W.contents writer.new)
+        (header.now ++ lines_of text (all_of parts)))
+        (IsStopped (W.contents writer.old) (W.contents writer.new)
+        (header.now ++ lines_of text (all_of parts))) }
+{
+    let threads = ranges_at_once(rt);
+    let cuts = plan.cuts.as_slice();
+    let last = cuts.len().saturating_sub(1);
+    let mut written = match write_more(writer, header, 0) {
+        Ok(count) => count,
+        Err(fault) => return Err(fault),
+    };
+    let mut round = Round {
+        from: 0,
+        made: Vec::new(alloc),
+    };
+    for n in 0..last {
+        if n % threads == 0 {
+            let count = threads.min(last - n);
+            round = match print_round(rt, alloc, sources, plan, text, n, count) {
+                Ok(next) => next,
+                Err(fault) => return Err(stopped(fault, written)),
+            };
+        }
+        let lines = match round.lines_at(n) {
+            Ok(lines) => lines,
+            Err(fault) => return Err(stopped(fault, written)),
+        };
+        written = match write_more(writer, lines, written) {
+            Ok(count) => count,
+            Err(fault) => return Err(fault),
+        };
+    }
+    Ok(())
+}

@@ -1,0 +1,197 @@
+//! Dictionaries judged range by range: it is known that all is good, or nothing.
+ghost use Rattle.std.specs.Prelude.{◌≡◌, ◌≤◌, ◌<◌, ◌+◌, ◌^◌, ℕ, List, Some, IfOk, IfSome, IsTrue};
+ghost use Rattle.std.specs.Prelude.{length, vec_len, slice_get};
+ghost use Rattle.merge_core.specs.declared.tallies.Tally.{Tally as Sums};
+ghost use Rattle.merge_core.specs.Inner.Surveys.{Fits, IsFront, IsWhole, IsTotalsOf, IsSurveyed};
+
+use crate::counting::Counts;
+use crate::cuts::{Cut, Plan, cut_at, header_at, place_at};
+use crate::entries::NextFault;
+use crate::judged::Totals;
+use crate::measuring::count_all;
+use crate::pieces::{ends_at, read_bytes};
+use crate::sources::Sources;
+use crate::tallies::Tally;
+use shape_dict::{Header, read_header};
+use std::alloc::Global;
+use std::thread::Threads;
+
+/// No plan has as many ranges.
+const MOST_RANGES: usize = 1 << 32;
+
+/// No header has more bytes.
+const LONGEST: usize = 1 << 7;
+
+/// The header of the dictionary of this number, from 0, and the place where its lines begin.
+pub(crate) fn read_front<S: Sources>(
+    alloc: Global,
+    sources: &S,
+    n: usize,
+) -> Result<(Header, usize), NextFault>
+    requires few { n + 1 < 2 ^ 64 }
+    requires within { n < S.number sources.now }
+    ensures { IfOk result (λ p. (text : List ℕ) → S.bytes sources.now n ≡ Some text
+        → IsFront text p.0 p.1) }
+{
+    let Ok(size) = sources.size(n) else {
+        return Err(NextFault::Read(n + 1));
+    };
+    let bytes = match read_bytes(alloc, sources, n, 0, size.min(LONGEST)) {
+        Ok(bytes) => bytes,
+        Err(fault) => return Err(fault),
+    };
+    let front = bytes.as_slice();
+    let Some((header, rest)) = read_header(front) else {
+        return Err(NextFault::Read(n + 1));
+    };
+    Ok((header, front.len() - rest.len()))
+}
+
+/// Whether the lines of a dictionary are as many, and were played as often, as its header says.
+fn fits(header: &Header, tally: Tally) -> bool
+    ensures { IsTrue result → Fits header.now tally }
+{
+    if header.games == 0 && header.moves != 0 {
+        return false;
+    }
+    if tally.squares != header.squares || tally.squares_played != header.moves {
+        return false;
+    }
+    match header.diamonds {
+        None => tally.diamonds == 0,
+        Some(diamonds) => { tally.diamonds == diamonds && tally.diamonds_played == header.moves }
+    }
+}
+
+/// Whether two headers say the same.
+fn is_same(one: &Header, other: &Header) -> bool
+    ensures { IsTrue result → one.now ≡ other.now }
+{
+    one == other
+}
+
+/// Whether the lines between the first cut and the last, which have this tally, are all that the
+/// dictionary of this number, from 0, has after its header, and are as many as that says.
+fn is_whole<S: Sources>(
+    alloc: Global,
+    sources: &S,
+    headers: &[Header],
+    low: &Cut,
+    high: &Cut,
+    tally: Tally,
+    n: usize,
+) -> bool
+    requires few { n + 1 < 2 ^ 64 }
+    requires within { n < S.number sources.now }
+    ensures { IsTrue result → IsWhole (S.bytes sources.now) headers.now low.now high.now n tally }
+{
+    let Some(header) = header_at(headers, n) else {
+        return false;
+    };
+    let Some(from) = place_at(low, n) else {
+        return false;
+    };
+    let Some(to) = place_at(high, n) else {
+        return false;
+    };
+    let Ok((found, place)) = read_front(alloc, sources, n) else {
+        return false;
+    };
+    if !is_same(&found, &header) || place != from || !fits(&header, tally) {
+        return false;
+    }
+    ends_at(sources, n, to)
+}
+
+/// The same of each dictionary.
+fn are_whole<S: Sources>(
+    alloc: Global,
+    sources: &S,
+    headers: &[Header],
+    low: &Cut,
+    high: &Cut,
+    each: &[Tally],
+) -> bool
+    requires all { length each.now ≤ S.number sources.now }
+    ensures { IsTrue result → (n : ℕ) → (tally : Sums) → slice_get each.now n ≡ Some tally
+        → IsWhole (S.bytes sources.now) headers.now low.now high.now n tally }
+{
+    for n in 0..each.len() {
+        if !is_whole(alloc, sources, headers, low, high, each[n], n) {
+            return false;
+        }
+    }
+    true
+}
+
+/// How many games and moves the headers say together; None where a sum is over 2^64 - 1, or where
+/// some count diamonds and others don't.
+fn totals_of(headers: &[Header]) -> Option<Totals>
+    ensures { IfSome result (IsTotalsOf headers.now) }
+{
+    let mut games: u64 = 0;
+    let mut moves: u64 = 0;
+    let mut counts_diamonds = None;
+    for header in headers {
+        let kinds = header.diamonds.is_some();
+        if counts_diamonds.unwrap_or(kinds) != kinds {
+            return None;
+        }
+        counts_diamonds = Some(kinds);
+        games = games.checked_add(header.games)?;
+        moves = moves.checked_add(header.moves)?;
+    }
+    Some(Totals {
+        games,
+        moves,
+        counts_diamonds: counts_diamonds?,
+    })
+}
+
+/// The totals and counts of the join of dictionaries that are cut by this plan, counted by about
+/// this many threads, where they can be made. None says nothing of the dictionaries.
+pub(crate) fn survey<T: Threads + Sync, S: Sources + Sync>(
+    rt: &T,
+    alloc: Global,
+    sources: &S,
+    plan: &Plan,
+    threads: usize,
+) -> Option<(Totals, Counts)>
+    ensures all { IfSome result (λ p. vec_len plan.now.headers ≡ S.number sources.now) }
+    ensures many { IfSome result (λ p. length plan.now.headers.items ≡ S.number sources.now) }
+    ensures surveyed { IfSome result (λ p. IsSurveyed (S.bytes sources.now) plan.now p.0 p.1) }
+{
+    let cuts = plan.cuts.as_slice();
+    if plan.headers.len() != sources.count() || cuts.len() < 2 {
+        return None;
+    }
+    let last = cuts.len() - 1;
+    if last >= MOST_RANGES {
+        return None;
+    }
+    let Ok(ranged) = count_all(rt, alloc, sources, plan, last, threads) else {
+        return None;
+    };
+    let Some(low) = cut_at(cuts, 0) else {
+        return None;
+    };
+    let Some(high) = cut_at(cuts, last) else {
+        return None;
+    };
+    let headers = plan.headers.as_slice();
+    let each = ranged.each.as_slice();
+    if each.len() != headers.len() {
+        return None;
+    }
+    if !are_whole(alloc, sources, headers, low, high, each) {
+        return None;
+    }
+    let Some(totals) = totals_of(headers) else {
+        return None;
+    };
+    let counts = Counts {
+        squares: ranged.joined.squares,
+        diamonds: ranged.joined.diamonds,
+    };
+    Some((totals, counts))
+}

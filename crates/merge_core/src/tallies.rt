@@ -1,0 +1,101 @@
+//! How many patterns there are, and how often they were played.
+ghost use Rattle.std.specs.Prelude.{◌≡◌, ◌+◌, ◌++◌, ◌∷◌, [], IfOk, IfSome, List, length};
+ghost use Rattle.shape_dict.specs.declared.entries.Entry.{Entry as One};
+ghost use Rattle.merge_core.specs.Entries.{IsSmallUse};
+ghost use Rattle.merge_core.specs.Inner.Ranges.{IsTally};
+ghost use Rattle.merge_core.specs.Inner.Tallies.{IsSum, sums};
+
+use crate::counting::is_square;
+use crate::entries::NextFault;
+use shape_dict::Entry;
+use std::alloc::Global;
+
+/// How many squares and diamonds there are, and how often they were played.
+#[derive(Clone, Copy)]
+pub(crate) struct Tally {
+    pub(crate) squares: u64,
+    pub(crate) diamonds: u64,
+    pub(crate) squares_played: u64,
+    pub(crate) diamonds_played: u64,
+}
+
+/// The tally of one entry more; None where a sum is over 2^64 - 1.
+#[inline(always)]
+fn with(tally: Tally, entry: Entry) -> Option<Tally>
+    ensures { IfSome result (λ next. (before : List One) → IsTally before tally
+        → IsTally (before ++ entry ∷ []) next) }
+{
+    if is_square(entry) {
+        return Some(Tally {
+            squares: tally.squares.checked_add(1)?,
+            squares_played: tally.squares_played.checked_add(entry.played)?,
+            ..tally
+        });
+    }
+    Some(Tally {
+        diamonds: tally.diamonds.checked_add(1)?,
+        diamonds_played: tally.diamonds_played.checked_add(entry.played)?,
+        ..tally
+    })
+}
+
+/// The tally of entries; None where a sum is over 2^64 - 1.
+pub(crate) fn tally_of(entries: &[Entry]) -> Option<Tally>
+    ensures { IfSome result (IsTally entries.now) }
+{
+    let mut tally = Tally {
+        squares: 0,
+        diamonds: 0,
+        squares_played: 0,
+        diamonds_played: 0,
+    };
+    for entry in entries {
+        tally = match with(tally, *entry) {
+            Some(next) => next,
+            None => return None,
+        };
+    }
+    Some(tally)
+}
+
+/// The tally of what two tallies are of; None where a sum is over 2^64 - 1.
+pub(crate) fn both_tallies(left: Tally, right: Tally) -> Option<Tally>
+    ensures { IfSome result (IsSum left right) }
+{
+    Some(Tally {
+        squares: left.squares.checked_add(right.squares)?,
+        diamonds: left.diamonds.checked_add(right.diamonds)?,
+        squares_played: left.squares_played.checked_add(right.squares_played)?,
+        diamonds_played: left.diamonds_played.checked_add(right.diamonds_played)?,
+    })
+}
+
+/// The tallies of each of several by itself.
+///
+/// # Errors
+///
+/// `Memory` where memory was refused, `Overflow` where a sum is over 2^64 - 1, and `Changed` where
+/// there are not as many on both sides.
+pub(crate) fn each_tally(
+    alloc: Global,
+    left: &[Tally],
+    right: &[Tally],
+) -> Result<Vec<Tally>, NextFault>
+    ensures len { IfOk result (λ both. length left.now ≡ length right.now) }
+    ensures sums { IfOk result (λ both. both.items ≡ sums left.now right.now) }
+{
+    if left.len() != right.len() {
+        return Err(NextFault::Changed);
+    }
+    let mut both = Vec::new(alloc);
+    for place in 0..left.len() {
+        let Some(sum) = both_tallies(left[place], right[place]) else {
+            return Err(NextFault::Overflow);
+        };
+        match both.push(sum) {
+            Ok(()) => {}
+            Err(_) => return Err(NextFault::Memory),
+        }
+    }
+    Ok(both)
+}
