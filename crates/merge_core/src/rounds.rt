@@ -21,8 +21,8 @@ use std::thread::{Threads, available_parallelism};
 /// No more ranges are made at a time.
 const MOST_THREADS: usize = 16;
 
-/// How many ranges are made at a time.
-fn ranges_at_once<T: Threads>(rt: &T) -> usize
+/// How many ranges are counted or made at a time: as many as there are processors, 16 at most.
+pub(crate) fn ranges_at_once<T: Threads>(rt: &T) -> usize
     ensures some { 1 ≤ result }
     ensures few { result ≤ 16 }
 {

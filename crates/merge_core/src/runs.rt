@@ -11,17 +11,14 @@ use crate::growing::grow;
 use crate::judged::Totals;
 use crate::judging::judge_all;
 use crate::planning::plan_for;
-use crate::rounds::write_ranges;
+use crate::rounds::{ranges_at_once, write_ranges};
 use crate::sources::Sources;
 use crate::surveying::survey;
 use crate::writing::{header_of, stopped, write_lines};
 use shape_dict::Text;
 use std::alloc::Global;
 use std::io::Write;
-use std::thread::{Threads, available_parallelism};
-
-/// No more threads are started at a time.
-const MOST_THREADS: usize = 16;
+use std::thread::Threads;
 
 /// Joins dictionaries line by line, in this thread alone: they are judged, in whatever order it
 /// takes to tell the first fault, and then written.
@@ -117,10 +114,7 @@ pub fn run_merge<T: Threads + Sync, S: Sources + Sync, W: Write>(
     ensures took { IfErr result (λ found.
         Took (W.contents writer.old) (W.contents writer.new) (written_of found)) }
 {
-    let threads = match available_parallelism(rt) {
-        Ok(count) => count.get().min(MOST_THREADS),
-        Err(_) => 1,
-    };
+    let threads = ranges_at_once(rt);
     let Some(plan) = plan_for(rt, alloc, sources, threads) else {
         return merge_lines(alloc, text, sources, writer);
     };
