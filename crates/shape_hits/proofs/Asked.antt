@@ -1,14 +1,13 @@
 -- What the values of options say.
-use Rattle.std.proofs.Common.{◌≡◌, ◌≢◌, ◌<◌, ◌^◌, ◌⊎◌, ℕ, List, [], Option, Some, None, Result, Ok, Err, IfOk, IfErr, IfSome, refl, sym, subst, ◌∙◌, inl, inr, ⊎_elim, true, false, codes}
+use Rattle.std.proofs.Common.{◌≡◌, ◌≢◌, ◌<◌, ◌^◌, ◌⊎◌, ℕ, List, [], Option, Some, None, Result, Ok, Err, IfOk, IfErr, refl, sym, subst, ◌∙◌, inl, inr, ⊎_elim, true, false, codes}
 use Rattle.std.specs.Str.Parse.{IsNumeral, digits_value, without_leading_plus}
 use Rattle.clap.specs.Words.{Row, first_of, one_of, IsAmong}
 use Rattle.clap.specs.declared.error.kind.ErrorKind.{ErrorKind}
 use Rattle.clap.specs.declared.error.kind.ErrorKind.TheVariants as refusal
-use Rattle.shape_core.specs.declared.spelling.GlyphFault.{GlyphFault}
 use Rattle.engine_core.specs.Patterns.{IsPatternFault}
 use Rattle.engine_core.specs.declared.faults.RunFault.{RunFault}
 use Rattle.engine_core.specs.declared.faults.RunFault.TheVariants as fault
-use Rattle.shape_hits.specs.Words.{IsNumberOf, IsMostOf, HasNoNumber, HasNoMost, IsAlone, ArePatterns, HasNoPatterns, IsBadPattern, IsPatternsFault, IsAsked, HasNoSearch, IsSearchOf, IsSearchFault, IsHelp, IsHelpKind, IsRefusal, IsAnswered, IsLineFault, refusals_of, rows_for}
+use Rattle.shape_hits.specs.Words.{IsNumberOf, HasNoNumber, HasNoMost, IsAlone, HasNoPatterns, IsPatternsFault, IsAsked, HasNoSearch, IsSearchOf, IsSearchFault, IsHelp, IsHelpKind, IsRefusal, IsAnswered, IsLineFault, refusals_of, rows_for}
 use Rattle.shape_hits.specs.declared.words.Task.{Task}
 use Rattle.shape_hits.specs.declared.words.Task.TheVariants as task
 

@@ -10,7 +10,6 @@ use Rattle.shape_core.specs.declared.spelling.GlyphFault.{GlyphFault}
 use Rattle.engine_core.specs.Patterns.{IsPatternOf, IsPatternFault}
 use Rattle.engine_core.specs.declared.faults.RunFault.{RunFault}
 use Rattle.engine_core.specs.declared.faults.RunFault.TheVariants as fault
-use Rattle.hits_core.specs.declared.searches.Search.{Search}
 use Rattle.hits_core.specs.declared.searches.Shown.{Shown}
 use Rattle.hits_core.specs.declared.searches.Shown.TheVariants as shown
 use Rattle.hits_core.specs.declared.searches.Sought.{Sought}

@@ -1,4 +1,4 @@
-use Rattle.std.proofs.Common.{◌≡◌, ◌⊎◌, [], ap, subst, map, List, ℕ, inl, inr}
+use Rattle.std.proofs.Common.{◌≡◌, ◌⊎◌, [], ap, subst, map}
 use Rattle.std.specs.Prelude.{string_bytes}
 use Rattle.clap.specs.Words.{App, IsAmong, fault_of, found_of, is_simple, is_simple_and_free, matches_of, rows_of}
 use Rattle.clap.specs.Values.{kind_of}
