@@ -8,6 +8,7 @@ ghost use Rattle.merge_core.specs.Inner.Ranges.{AreParts, all_of};
 ghost use Rattle.merge_core.specs.Inner.Writing.{IsStopped};
 
 use crate::cuts::Plan;
+use crate::entries::NextFault;
 use crate::faults::MergeFault;
 use crate::output::write_more;
 use crate::printing::{Round, print_round};
@@ -32,15 +33,28 @@ pub(crate) fn ranges_at_once<T: Threads>(rt: &T) -> usize
     }
 }
 
+/// The header of a join, and how many patterns it names.
+#[derive(Drop)]
+pub(crate) struct Front {
+    pub(crate) header: Vec<u8>,
+    pub(crate) patterns: u64,
+}
+
+/// How many lines there are.
+fn count_lines(lines: &[u8]) -> u64 {
+    lines.iter().filter(|byte| **byte == b'\n').count() as u64
+}
+
 /// Writes the header of a join, and the lines of its ranges: those of a round are made at the same
-/// time, and written one after another.
+/// time, and written one after another. Before the last are written, their number is compared with
+/// that of the header.
 pub(crate) fn write_ranges<T: Threads + Sync, S: Sources + Sync, W: Write>(
     rt: &T,
     alloc: Global,
     text: Text,
     sources: &S,
     plan: &Plan,
-    header: &[u8],
+    front: &Front,
     writer: &mut W,
 ) -> Result<(), MergeFault>
     requires all { vec_len plan.now.headers ≡ S.number sources.now }
@@ -51,14 +65,14 @@ pub(crate) fn write_ranges<T: Threads + Sync, S: Sources + Sync, W: Write>(
         → AreInputs (S.bytes sources.now) 0 inputs → length inputs ≡ length plan.now.headers.items
         → MatchResult result
         (λ _. Appends (W.contents writer.old) (W.contents writer.new)
-        (header.now ++ lines_of text (all_of parts)))
+        (front.now.header.items ++ lines_of text (all_of parts)))
         (IsStopped (W.contents writer.old) (W.contents writer.new)
-        (header.now ++ lines_of text (all_of parts))) }
+        (front.now.header.items ++ lines_of text (all_of parts))) }
 {
     let threads = ranges_at_once(rt);
     let cuts = plan.cuts.as_slice();
     let last = cuts.len().saturating_sub(1);
-    let mut written = match write_more(writer, header, 0) {
+    let mut written = match write_more(writer, &front.header, 0) {
         Ok(count) => count,
         Err(fault) => return Err(fault),
     };
@@ -66,6 +80,7 @@ pub(crate) fn write_ranges<T: Threads + Sync, S: Sources + Sync, W: Write>(
         from: 0,
         made: Vec::new(alloc),
     };
+    let mut patterns: u64 = 0;
     for n in 0..last {
         if n % threads == 0 {
             let count = threads.min(last - n);
@@ -78,6 +93,10 @@ pub(crate) fn write_ranges<T: Threads + Sync, S: Sources + Sync, W: Write>(
             Ok(lines) => lines,
             Err(fault) => return Err(stopped(fault, written)),
         };
+        patterns = patterns.saturating_add(count_lines(lines));
+        if n + 1 == last && patterns != front.patterns {
+            return Err(stopped(NextFault::Changed, written));
+        }
         written = match write_more(writer, lines, written) {
             Ok(count) => count,
             Err(fault) => return Err(fault),

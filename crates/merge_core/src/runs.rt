@@ -11,7 +11,7 @@ use crate::growing::grow;
 use crate::judged::Totals;
 use crate::judging::judge_all;
 use crate::planning::plan_for;
-use crate::rounds::{ranges_at_once, write_ranges};
+use crate::rounds::{Front, ranges_at_once, write_ranges};
 use crate::sources::Sources;
 use crate::surveying::survey;
 use crate::writing::{header_of, stopped, write_lines};
@@ -79,7 +79,12 @@ fn merge_ranges<T: Threads + Sync, S: Sources + Sync, W: Write>(
     let Ok(header) = header_of(alloc, text, totals, counts) else {
         return Err(MergeFault::Memory { written: 0 });
     };
-    write_ranges(rt, alloc, text, sources, plan, &header, writer)
+    let patterns = match text {
+        Text::One => counts.squares,
+        Text::Two | Text::Three => counts.squares.saturating_add(counts.diamonds),
+    };
+    let front = Front { header, patterns };
+    write_ranges(rt, alloc, text, sources, plan, &front, writer)
 }
 
 /// Reads dictionaries, each a text of its own in any of the three texts and of any size, and writes

@@ -18,8 +18,8 @@ returns-clause-done g c = λ inputs are number.
     let after = g.W.Write.contents c.write_ranges.new.writer in
     let header = c.in-Ok.header.items in
     let text = is_text bytes c.args.joined.0 c.args.joined.1 inputs c.args.text header h c.in-Ok.ensures in
-    let lines : c.deref.result.now ++ lines_of c.args.text (all_of s.parts) ≡ header ++ lines_of c.args.text h.summed.sum.entries =
-    ap (λ (xs : List ℕ). xs ++ lines_of c.args.text (all_of s.parts)) c.deref.ensures.value ∙ ap (λ (es : List Entry). header ++ lines_of c.args.text es) (sym j.1 ∙ sym h.summed.same) in
+    let lines : header ++ lines_of c.args.text (all_of s.parts) ≡ header ++ lines_of c.args.text h.summed.sum.entries =
+    ap (λ (es : List Entry). header ++ lines_of c.args.text es) (sym j.1 ∙ sym h.summed.same) in
     let known = c.write_ranges.ensures.known s.parts s.are_parts s.number inputs are all in
     done_of c.write_ranges.result c.args.text inputs before after (header ++ lines_of c.args.text h.summed.sum.entries) text
     (subst (λ (xs : List ℕ). MatchResult c.write_ranges.result (λ _. Appends before after xs) (IsStopped before after xs)) lines known)
@@ -35,8 +35,8 @@ returns-clause-fault g c = λ inputs are number.
     let after = g.W.Write.contents c.write_ranges.new.writer in
     let header = c.in-Ok.header.items in
     let text = is_text bytes c.args.joined.0 c.args.joined.1 inputs c.args.text header h c.in-Ok.ensures in
-    let lines : c.deref.result.now ++ lines_of c.args.text (all_of s.parts) ≡ header ++ lines_of c.args.text h.summed.sum.entries =
-    ap (λ (xs : List ℕ). xs ++ lines_of c.args.text (all_of s.parts)) c.deref.ensures.value ∙ ap (λ (es : List Entry). header ++ lines_of c.args.text es) (sym j.1 ∙ sym h.summed.same) in
+    let lines : header ++ lines_of c.args.text (all_of s.parts) ≡ header ++ lines_of c.args.text h.summed.sum.entries =
+    ap (λ (es : List Entry). header ++ lines_of c.args.text es) (sym j.1 ∙ sym h.summed.same) in
     let known = c.write_ranges.ensures.known s.parts s.are_parts s.number inputs are all in
     fault_of c.write_ranges.result c.args.text inputs before after (header ++ lines_of c.args.text h.summed.sum.entries) text
     (subst (λ (xs : List ℕ). MatchResult c.write_ranges.result (λ _. Appends before after xs) (IsStopped before after xs)) lines known)
