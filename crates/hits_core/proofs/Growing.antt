@@ -45,15 +45,15 @@ pub first-full : (most : Option ℕ) (xs ys : List Hit) → IsFull most xs → f
 first-full None xs ys full = absurd full
 first-full (Some n) xs ys full = take-full n xs ys full
 
--- what is cut off behind others is cut off with them
-take-behind : {A : Type 0} (n m : ℕ) (xs ys : List A) → n ≤ m → take n (xs ++ take m ys) ≡ take n (xs ++ ys)
-take-behind zero m xs ys less = refl
-take-behind (suc n) m [] ys less = take-take (suc n) m ys less
-take-behind (suc n) m (x ∷ xs) ys less = ap (λ zs. x ∷ zs) (take-behind n m xs ys (omega arith))
+-- what is cut off after others is cut off with them
+take-after : {A : Type 0} (n m : ℕ) (xs ys : List A) → n ≤ m → take n (xs ++ take m ys) ≡ take n (xs ++ ys)
+take-after zero m xs ys less = refl
+take-after (suc n) m [] ys less = take-take (suc n) m ys less
+take-after (suc n) m (x ∷ xs) ys less = ap (λ zs. x ∷ zs) (take-after n m xs ys (omega arith))
 
-pub first-behind : {A : Type 0} (most : Option ℕ) (xs ys : List A) → first_of most (xs ++ first_of most ys) ≡ first_of most (xs ++ ys)
-first-behind None xs ys = refl
-first-behind (Some n) xs ys = take-behind n n xs ys (omega arith)
+pub first-after : {A : Type 0} (most : Option ℕ) (xs ys : List A) → first_of most (xs ++ first_of most ys) ≡ first_of most (xs ++ ys)
+first-after None xs ys = refl
+first-after (Some n) xs ys = take-after n n xs ys (omega arith)
 
 pub full-more : (most : Option ℕ) (xs ys : List Hit) → IsFull most ys → IsFull most (xs ++ ys)
 full-more None xs ys full = full

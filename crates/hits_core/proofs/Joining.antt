@@ -16,7 +16,7 @@ use Rattle.hits_core.specs.Hits.{first_of, AreHitsOf, AreHits}
 use Rattle.hits_core.specs.declared.found.Found.{Found}
 use Rattle.hits_core.specs.Inner.Finding.{IsFull, IsWithin, AddsGame}
 use Rattle.hits_core.specs.Inner.Parts.{IsPart, hits_made, AreMade}
-use Rattle.hits_core.proofs.Growing.{first-append, first-first, first-nil, first-full, first-behind, full-first, full-more}
+use Rattle.hits_core.proofs.Growing.{first-append, first-first, first-nil, first-full, first-after, full-first, full-more}
 
 -- as many chunks as there are end past the last element
 chunks-cover : (count len size : ℕ) → 0 < size → count ≡ len / size + min 1 (len % size) → len ≤ count * size
@@ -72,7 +72,7 @@ module _ (what : Sought) (words : List ℕ) where
         enough = ⊎_elim (λ (none : k.rest ≡ []). inl none) (λ (full : IsFull most k.found). inr (full-more most h.found k.found full)) k.enough;
         cut = ap₂ (λ xs ys. first_of most (xs ++ ys)) h.cut k.cut
             ∙ first-append most h.found (first_of most k.found)
-            ∙ first-behind most h.found k.found;
+            ∙ first-after most h.found k.found;
       })
       (λ (full : IsFull most h.found).
       record {

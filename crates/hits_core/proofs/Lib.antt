@@ -7,6 +7,5 @@ pub mod Trees
 pub mod Joining
 pub mod Lines
 pub mod Sameness
-pub mod OnBoard
 pub mod Agreed
 pub mod Ending

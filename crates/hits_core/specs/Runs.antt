@@ -22,7 +22,7 @@ IsAnswer outcome.Done hits = hits ≢ []
 IsAnswer outcome.NotFound hits = hits ≡ []
 
 -- the text has the lines of the hits of these words in the input, of at most 2 ^ 28 bytes: the first of them, as many as are
--- asked for. Once there are so many, the games after them do not matter.
+-- asked for. Once that number is found, the games after them do not matter.
 pub record IsHitsText (search : Search) (words : List ℕ) (found : Outcome) (input text : List ℕ) : Type 0 where
   pub few : length input ≤ most_bytes
   pub trees : List GameTree

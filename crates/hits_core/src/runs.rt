@@ -29,7 +29,7 @@ fn run_fault(fault: HarvestFault) -> RunFault
     }
 }
 
-/// How many hits are looked for, where so many are asked for: one at least, by which it is known
+/// How many hits are looked for, where this number is asked for: one at least, by which it is known
 /// whether there are any.
 fn limit_of(most: Option<u64>) -> Option<u64>
     ensures { result ≡ limit_of most }
@@ -95,7 +95,7 @@ fn hits_text<T: Threads + Sync>(
 /// `NotFound` where there is none; nothing is written then.
 ///
 /// Where no more than some number of hits is asked for, the first of all are written. The whole
-/// input is judged all the same; once so many are found, and one at least, a thread replays no
+/// input is judged all the same; once that number is found, and one at least, a thread replays no
 /// further game. Games are numbered and replayed as `count` does. At most as many threads as
 /// `workers` says replay them; the text is the same whatever their number.
 ///

@@ -9,7 +9,7 @@ use Rattle.hits_core.specs.declared.searches.Sought.{Sought}
 use Rattle.hits_core.specs.Hits.{first_of, AreHits}
 use Rattle.hits_core.specs.Inner.Finding.{IsFull}
 
--- these are the first hits of games, as many as are asked for: of all games, unless the first of them have so many
+-- these are the first hits of games, as many as are asked for: of all games, unless the first of them have that number
 pub record IsPart (what : Sought) (words : List ℕ) (most : Option ℕ) (games : List Game) (hits : List Hit) : Type 0 where
   pub front : List Game
   pub rest : List Game
