@@ -19,7 +19,7 @@ use Rattle.merge_core.specs.Inner.Ranges.{IsWithin, Piece, Each, IsPiece, AreJoi
 use Rattle.merge_core.specs.Inner.Tallies.{sum_of, sums}
 use Rattle.merge_core.specs.Inner.Blocks.{AreBlocks}
 use Rattle.merge_core.specs.declared.entries.NextFault.{NextFault}
-use Rattle.merge_core.proofs.Rising.{rises_append, all_append, found_before, found_behind}
+use Rattle.merge_core.proofs.Rising.{rises_append, all_append, found_before, found_after}
 use Rattle.merge_core.proofs.Tallied.{tally_both, tallies_beside}
 
 -- bytes from a place to another, and from there on
@@ -28,10 +28,10 @@ within_both text from middle to xs ys h k =
     let one : to - from ≡ (middle - from) + (to - middle) = omega (arith, h.order, k.order) in
     let two : middle ≡ from + (middle - from) = omega (arith, h.order) in
     let parts = take-add (middle - from) (to - middle) (drop from text) in
-    let behind : drop (middle - from) (drop from text) ≡ drop middle text = drop-drop (middle - from) from text ∙ ap (λ (n : ℕ). drop n text) (sym two) in
+    let rest : drop (middle - from) (drop from text) ≡ drop middle text = drop-drop (middle - from) from text ∙ ap (λ (n : ℕ). drop n text) (sym two) in
     record {
       order = omega (arith, h.order, k.order);
-      same = ap (λ (zs : List ℕ). zs ++ ys) h.same ∙ (ap (λ (zs : List ℕ). take (middle - from) (drop from text) ++ zs) (k.same ∙ ap (take (to - middle)) (sym behind)) ∙ (sym parts ∙ ap (λ (n : ℕ). take n (drop from text)) (sym one)));
+      same = ap (λ (zs : List ℕ). zs ++ ys) h.same ∙ (ap (λ (zs : List ℕ). take (middle - from) (drop from text) ++ zs) (k.same ∙ ap (take (to - middle)) (sym rest)) ∙ (sym parts ∙ ap (λ (n : ℕ). take n (drop from text)) (sym one)));
     }
 
 same_some : {X : Type 0} (a b : X) (x : Option X) → x ≡ Some a → x ≡ Some b → a ≡ b
@@ -81,15 +81,15 @@ beside_before bytes headers middle high shape from (p ∷ ps) (q ∷ qs) same be
     ap (λ (x : Option Entry). joined_entry p.header.games x (found shape (beside ps qs))) (found_before shape middle.word high.word p.entries q.entries below k.0.rows.rises)
     ∙ ap (joined_entry p.header.games (entry_of shape p.entries)) (beside_before bytes headers middle high shape (from + 1) ps qs (omega arith) below k.1)
 
-beside_behind : (bytes : ℕ → Option (List ℕ)) (headers : List Header) (low middle high : Cut) (shape from : ℕ) (ps qs : List Piece) → length ps ≡ length qs → middle.word ≤ shape →
+beside_after : (bytes : ℕ → Option (List ℕ)) (headers : List Header) (low middle high : Cut) (shape from : ℕ) (ps qs : List Piece) → length ps ≡ length qs → middle.word ≤ shape →
     Each (IsPiece bytes headers low middle) from ps → Each (IsPiece bytes headers middle high) from qs → found shape (beside ps qs) ≡ found shape qs
-beside_behind bytes headers low middle high shape from [] [] same above h k = refl
-beside_behind bytes headers low middle high shape from [] (q ∷ qs) same above h k = absurd (omega arith)
-beside_behind bytes headers low middle high shape from (p ∷ ps) [] same above h k = absurd (omega arith)
-beside_behind bytes headers low middle high shape from (p ∷ ps) (q ∷ qs) same above h k =
+beside_after bytes headers low middle high shape from [] [] same above h k = refl
+beside_after bytes headers low middle high shape from [] (q ∷ qs) same above h k = absurd (omega arith)
+beside_after bytes headers low middle high shape from (p ∷ ps) [] same above h k = absurd (omega arith)
+beside_after bytes headers low middle high shape from (p ∷ ps) (q ∷ qs) same above h k =
     let one : p.header ≡ q.header = same_some p.header q.header (slice_get headers from) h.0.header k.0.header in
-    ap (λ (x : Option Entry). joined_entry p.header.games x (found shape (beside ps qs))) (found_behind shape low.word middle.word p.entries q.entries above h.0.rows.rises)
-    ∙ (ap (joined_entry p.header.games (entry_of shape q.entries)) (beside_behind bytes headers low middle high shape (from + 1) ps qs (omega arith) above h.1 k.1)
+    ap (λ (x : Option Entry). joined_entry p.header.games x (found shape (beside ps qs))) (found_after shape low.word middle.word p.entries q.entries above h.0.rows.rises)
+    ∙ (ap (joined_entry p.header.games (entry_of shape q.entries)) (beside_after bytes headers low middle high shape (from + 1) ps qs (omega arith) above h.1 k.1)
     ∙ ap (λ (x : Header). joined_entry x.games (entry_of shape q.entries) (found shape qs)) one)
 
 joined_beside : (bytes : ℕ → Option (List ℕ)) (headers : List Header) (low middle high : Cut) (ps qs : List Piece) (es fs : List Entry) → length ps ≡ length qs → Each (IsPiece bytes headers low middle) 0 ps →
@@ -98,7 +98,7 @@ joined_beside bytes headers low middle high ps qs es fs same h k a b = record {
   rises = rises_append low.word middle.word high.word es fs a.rises b.rises;
   same = λ shape. elim (cases_lt shape middle.word) [
     | inl below ↦ found_before shape middle.word high.word es fs below b.rises ∙ (a.same shape ∙ sym (beside_before bytes headers middle high shape 0 ps qs same below k))
-    | inr above ↦ found_behind shape low.word middle.word es fs above a.rises ∙ (b.same shape ∙ sym (beside_behind bytes headers low middle high shape 0 ps qs same above h k))
+    | inr above ↦ found_after shape low.word middle.word es fs above a.rises ∙ (b.same shape ∙ sym (beside_after bytes headers low middle high shape 0 ps qs same above h k))
   ];
 }
 

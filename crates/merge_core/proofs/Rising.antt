@@ -69,5 +69,5 @@ pub found_before : (shape middle high : ℕ) (es fs : List Entry) → shape < mi
 found_before shape middle high es fs h k =
     find-append _ es fs ∙ (ap (λ (x : Option Entry). option_or (entry_of shape es) x) (absent_under shape middle high fs h k) ∙ or_none (entry_of shape es))
 
-pub found_behind : (shape low middle : ℕ) (es fs : List Entry) → middle ≤ shape → Rises low middle es → entry_of shape (es ++ fs) ≡ entry_of shape fs
-found_behind shape low middle es fs h k = find-append _ es fs ∙ ap (λ (x : Option Entry). option_or x (entry_of shape fs)) (absent_above shape low middle es h k)
+pub found_after : (shape low middle : ℕ) (es fs : List Entry) → middle ≤ shape → Rises low middle es → entry_of shape (es ++ fs) ≡ entry_of shape fs
+found_after shape low middle es fs h k = find-append _ es fs ∙ ap (λ (x : Option Entry). option_or x (entry_of shape fs)) (absent_above shape low middle es h k)

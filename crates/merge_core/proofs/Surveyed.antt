@@ -92,10 +92,10 @@ text_of_rows text header low high from to es tally rows tallied fits front lines
     let climbs = climbs_of low high es rows.rises in
     let squares : length (squares_of es) ≡ header.squares = sym tallied.squares ∙ fits.squares in
     let diamonds : length (diamonds_of es) ≡ unwrap_or header.diamonds 0 = sym tallied.diamonds ∙ fits.diamonds in
-    let behind : take (to - from) (drop from text) ≡ drop from text = take_all (to - from) (drop from text) (omega (arith, length-drop from text, end)) in
-    let behind_it : drop from text ≡ flat_map (line_text header.text) es = sym behind ∙ sym lines.same in
+    let rest : take (to - from) (drop from text) ≡ drop from text = take_all (to - from) (drop from text) (omega (arith, length-drop from text, end)) in
+    let rest_is : drop from text ≡ flat_map (line_text header.text) es = sym rest ∙ sym lines.same in
     let both : text ≡ header_text header ++ flat_map (line_text header.text) es =
-    sym (take-append-drop from text) ∙ (ap (λ (xs : List ℕ). xs ++ drop from text) front.same ∙ ap (λ (xs : List ℕ). header_text header ++ xs) behind_it) in
+    sym (take-append-drop from text) ∙ (ap (λ (xs : List ℕ). xs ++ drop from text) front.same ∙ ap (λ (xs : List ℕ). header_text header ++ xs) rest_is) in
     let whole : text ≡ header_text header ++ flat_map (line_text header.text) es ++ [] = both ∙ sym (append-nil (header_text header ++ flat_map (line_text header.text) es)) in
     let begins : BeginsWith text header es [] = record {
       is_header = front.is_header;

@@ -105,7 +105,7 @@ fn count_ranges<S: Sources>(
     Ok(total)
 }
 
-/// How much is in the ranges of one block of so many; the last block has those that are left.
+/// How much is in one block of `size` ranges; the last block has those that are left.
 fn count_block<S: Sources>(
     alloc: Global,
     sources: &S,
@@ -126,8 +126,8 @@ fn count_block<S: Sources>(
     count_ranges(alloc, sources, plan, from, last.min(from + size))
 }
 
-/// How much is in each block of so many ranges, up to the cut of a number, from 0: each counted in
-/// a thread of its own where one can be made.
+/// How much is in each block of `size` ranges, up to the cut of this number, from 0: each counted
+/// in a thread of its own where one can be made.
 fn blocks_of<T: Threads + Sync, S: Sources + Sync>(
     rt: &T,
     alloc: Global,

@@ -53,7 +53,7 @@ fn word_of(bytes: &[u8]) -> Option<u64> {
     Some(word)
 }
 
-/// How far behind the beginning of bytes a line begins, after the first line feed.
+/// How far after the beginning of bytes a line begins, after the first line feed.
 fn next_line(bytes: &[u8]) -> Option<usize>
     ensures { IfSome result (λ start. start ≤ length bytes.now) }
 {
@@ -65,7 +65,7 @@ fn next_line(bytes: &[u8]) -> Option<usize>
     None
 }
 
-/// The first line of a dictionary that begins behind a place, and its word; None where there is
+/// The first line of a dictionary that begins after a place, and its word; None where there is
 /// none before `end`.
 fn line_after<S: Sources>(
     alloc: Global,
