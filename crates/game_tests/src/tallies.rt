@@ -5,7 +5,7 @@ use shape_core::Kinds;
 use shape_dict::{Dictionary, Entry, Text};
 use std::alloc::Global;
 use std::test::Fail;
-use tally_core::{HarvestFault, Report, Settings, count_plain, has_diamonds, tally_plain};
+use tally_core::{TallyFault, Report, Settings, count_plain, has_diamonds, tally_plain};
 
 /// Two stones, on a board of two points.
 pub(crate) const TWO_STONES: &[u8] = b"(;SZ[2:1];B[aa];W[ba])";
@@ -85,7 +85,7 @@ fn is_tally(
     kinds: Kinds,
     game: &Record,
     wanted: &[(u64, u64, u64)],
-) -> Result<bool, HarvestFault> {
+) -> Result<bool, TallyFault> {
     let tally = tally_plain(alloc, kinds, game)?;
     Ok(tally.moves() == 2 && are(tally.entries(), wanted))
 }
@@ -108,8 +108,8 @@ fn two_stones_on_two_points(rt: HostRuntime) -> Result<(), Fail> {
 }
 
 #[test]
-fn settings_have_limits(rt: HostRuntime) -> Result<(), HarvestFault> {
-    let bad = Err(HarvestFault::BadSettings);
+fn settings_have_limits(rt: HostRuntime) -> Result<(), TallyFault> {
+    let bad = Err(TallyFault::BadSettings);
     assert!(rt; Settings::new(0, 20) == bad);
     assert!(rt; Settings::new(65, 20) == bad);
     assert!(rt; Settings::new(4, 23) == bad);
@@ -196,7 +196,7 @@ fn faults_of_syntax(rt: HostRuntime) {
     ];
     for (input, wanted) in rows {
         let fault = count_plain(rt.alloc(), Kinds::Squares, input).err();
-        assert!(rt; fault == Some(HarvestFault::Sgf(wanted)));
+        assert!(rt; fault == Some(TallyFault::Sgf(wanted)));
     }
 }
 
@@ -209,10 +209,10 @@ fn kinds_say_whether_they_have_diamonds(rt: HostRuntime) {
 #[test]
 fn faults_have_texts(rt: HostRuntime) -> Result<(), Fail> {
     for (fault, text) in [
-        (HarvestFault::BadSettings, "F5 bad settings"),
-        (HarvestFault::Memory, "F6 no memory"),
-        (HarvestFault::Sgf(SgfFault::NoValue(4)), "S3 no value at 4"),
-        (HarvestFault::Overflow, "F8 count too large"),
+        (TallyFault::BadSettings, "F5 bad settings"),
+        (TallyFault::Memory, "F6 no memory"),
+        (TallyFault::Sgf(SgfFault::NoValue(4)), "S3 no value at 4"),
+        (TallyFault::Overflow, "F8 count too large"),
     ] {
         let said = format!(in rt.alloc(); "{fault}")?;
         assert_eq!(rt; said.as_str(), text);
@@ -221,13 +221,13 @@ fn faults_have_texts(rt: HostRuntime) -> Result<(), Fail> {
 }
 
 /// How many moves and patterns the tally of a game has.
-fn tallied(alloc: Global, game: &Record) -> Result<(u64, usize), HarvestFault> {
+fn tallied(alloc: Global, game: &Record) -> Result<(u64, usize), TallyFault> {
     let tally = tally_plain(alloc, Kinds::Both, game)?;
     Ok((tally.moves(), tally.entries().len()))
 }
 
 /// How many patterns an input has.
-fn patterns(alloc: Global, bytes: &[u8]) -> Result<usize, HarvestFault> {
+fn patterns(alloc: Global, bytes: &[u8]) -> Result<usize, TallyFault> {
     let counted = count_plain(alloc, Kinds::Both, bytes)?;
     Ok(counted.dictionary.entries().len())
 }
@@ -241,7 +241,7 @@ fn memory_is_found_or_named(rt: HostRuntime) {
         return;
     };
     let tally = tallied(alloc, &game);
-    assert!(rt; tally == Ok((2, 4)) || tally == Err(HarvestFault::Memory));
+    assert!(rt; tally == Ok((2, 4)) || tally == Err(TallyFault::Memory));
     let counted = patterns(alloc, b"(;SZ[1];B[aa])(;SZ[2:1];B[aa];W[ba])");
-    assert!(rt; counted == Ok(6) || counted == Err(HarvestFault::Memory));
+    assert!(rt; counted == Ok(6) || counted == Err(TallyFault::Memory));
 }

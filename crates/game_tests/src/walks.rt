@@ -9,7 +9,7 @@ use std::alloc::{AllocError, Global};
 use std::collections::BTreeMap;
 use std::process::Abort;
 use std::test::Fail;
-use tally_core::{HarvestFault, Meeting, Walk, tally_plain};
+use tally_core::{TallyFault, Meeting, Walk, tally_plain};
 
 /// Numbers that look as if thrown.
 #[derive(Clone, Copy)]
@@ -219,7 +219,7 @@ fn is_tallied(
     kinds: Kinds,
     game: &Record,
     plain: &Plain,
-) -> Result<bool, HarvestFault> {
+) -> Result<bool, TallyFault> {
     let tally = tally_plain(alloc, kinds, game)?;
     Ok(tally.moves() == plain.moves && are_entered(tally.entries(), plain))
 }
@@ -275,7 +275,7 @@ fn walks_count_as_the_plain_definition(rt: HostRuntime) -> Result<(), Fail> {
 }
 
 /// How many moves and meetings the walk of a game has.
-fn walked(walk: &mut Walk, game: &Record) -> Result<(u64, usize), HarvestFault> {
+fn walked(walk: &mut Walk, game: &Record) -> Result<(u64, usize), TallyFault> {
     let moves = walk.walk(game)?;
     Ok((moves, walk.meetings().len()))
 }
@@ -291,6 +291,6 @@ fn a_walk_finds_memory_or_says_so(rt: HostRuntime) {
     let mut walk = Walk::begin(alloc, Kinds::Both);
     for _ in 0..2 {
         let found = walked(&mut walk, &game);
-        assert!(rt; found == Ok((2, 4)) || found == Err(HarvestFault::Memory));
+        assert!(rt; found == Ok((2, 4)) || found == Err(TallyFault::Memory));
     }
 }

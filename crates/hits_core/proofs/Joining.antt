@@ -8,7 +8,7 @@ use Rattle.std.specs.Fork.{slice_chunk}
 use Rattle.std.proofs.lemmas.List.{append-nil, take_all, take_more}
 use Rattle.std.proofs.lemmas.List.Concat.{flat_map-append}
 use Rattle.std.proofs.lemmas.List.Elements.{All-get_or}
-use Rattle.tally_core.specs.declared.faults.HarvestFault.{HarvestFault}
+use Rattle.tally_core.specs.declared.faults.TallyFault.{TallyFault}
 use Rattle.hits_core.specs.declared.games.Game.{Game}
 use Rattle.hits_core.specs.declared.hits.Hit.{Hit}
 use Rattle.hits_core.specs.declared.searches.Sought.{Sought}
@@ -30,7 +30,7 @@ chunks-cover count len size some is =
     (λ h. let e : count ≡ q = omega arith in let w = ap (λ n. n * size) e in omega arith)
     (cases_lt 0 r)
 
-made-more : (made : List (Result (Vec Hit Global) HarvestFault)) (n : ℕ) (d : Result (Vec Hit Global) HarvestFault) → n < length made →
+made-more : (made : List (Result (Vec Hit Global) TallyFault)) (n : ℕ) (d : Result (Vec Hit Global) TallyFault) → n < length made →
     flat_map hits_made (take (suc n) made) ≡ flat_map hits_made (take n made) ++ hits_made (get_or made n d)
 made-more made n d inside =
     ap (λ k. flat_map hits_made (take k made)) (sym (add-one n))
@@ -89,7 +89,7 @@ module _ (what : Sought) (words : List ℕ) where
       h.enough
 
   -- the parts up to the end of one
-  so_far : (most : Option ℕ) (size : ℕ) (games : List Game) (made : List (Result (Vec Hit Global) HarvestFault)) (d : Result (Vec Hit Global) HarvestFault) →
+  so_far : (most : Option ℕ) (size : ℕ) (games : List Game) (made : List (Result (Vec Hit Global) TallyFault)) (d : Result (Vec Hit Global) TallyFault) →
       ((n : ℕ) → n < length made → IsPart what words most (slice_chunk games size n) (hits_made (get_or made n d))) →
       (n : ℕ) → n ≤ length made → IsPart what words most (take (n * size) games) (first_of most (flat_map hits_made (take n made)))
   so_far most size games made d each zero within =
@@ -106,7 +106,7 @@ module _ (what : Sought) (words : List ℕ) where
       (subst (IsPart what words most (take (n * size) games ++ slice_chunk games size n)) hits both)
 
   -- all parts
-  pub are-made : (most : Option ℕ) (size : ℕ) (games : List Game) (made : List (Result (Vec Hit Global) HarvestFault)) (d : Result (Vec Hit Global) HarvestFault) →
+  pub are-made : (most : Option ℕ) (size : ℕ) (games : List Game) (made : List (Result (Vec Hit Global) TallyFault)) (d : Result (Vec Hit Global) TallyFault) →
       0 < size → length made ≡ length games / size + min 1 (length games % size) →
       ((n : ℕ) → n < length made → IfOk (get_or made n d) (λ part. IsPart what words most (slice_chunk games size n) part.items)) →
       AreMade what words most games made
@@ -117,7 +117,7 @@ module _ (what : Sought) (words : List ℕ) where
       subst (λ gs. IsPart what words most gs (first_of most (flat_map hits_made made))) (take_all (length made * size) games (chunks-cover (length made) (length games) size some count))
       (subst (λ ms. IsPart what words most (take (length made * size) games) (first_of most (flat_map hits_made ms))) (take_all (length made) made (omega arith)) whole)
     where
-      of-ok : (part : Result (Vec Hit Global) HarvestFault) (chunk : List Game) → IsOk part → IfOk part (λ p. IsPart what words most chunk p.items) → IsPart what words most chunk (hits_made part)
+      of-ok : (part : Result (Vec Hit Global) TallyFault) (chunk : List Game) → IsOk part → IfOk part (λ p. IsPart what words most chunk p.items) → IsPart what words most chunk (hits_made part)
       of-ok (Ok part) chunk ok h = h
       of-ok (Err found) chunk ok h = absurd (cc)
 

@@ -10,8 +10,8 @@ use Rattle.go_record.specs.declared.faults.RecordFault.{RecordFault}
 use Rattle.tally_core.specs.Collection.{AreTrees, record_of_tree, games_among}
 use Rattle.tally_core.specs.Counted.{IsCountFault}
 use Rattle.tally_core.specs.Inner.Counting.{IsNextFault}
-use Rattle.tally_core.specs.declared.faults.HarvestFault.{HarvestFault}
-use Rattle.tally_core.specs.declared.faults.HarvestFault.TheVariants as fault
+use Rattle.tally_core.specs.declared.faults.TallyFault.{TallyFault}
+use Rattle.tally_core.specs.declared.faults.TallyFault.TheVariants as fault
 use Rattle.hits_core.specs.declared.games.Game.{Game}
 use Rattle.hits_core.specs.declared.reading.Recorded.{Recorded}
 use Rattle.hits_core.specs.Hits.{game_of, AreGames}
@@ -69,7 +69,7 @@ reads-on bytes from games new read reads is grown = record {
 }
 
 -- why there is no next tree is why the input was not read
-pub read-fault : (bytes : List ℕ) (from : ℕ) (games : List Game) (found : HarvestFault) → ReadsUpTo bytes from games → IsNextFault bytes from found → IsCountFault bytes found
+pub read-fault : (bytes : List ℕ) (from : ℕ) (games : List Game) (found : TallyFault) → ReadsUpTo bytes from games → IsNextFault bytes from found → IsCountFault bytes found
 read-fault bytes from games fault.Memory reads is = tt
 read-fault bytes from games fault.BadSettings reads is = absurd is
 read-fault bytes from games fault.Overflow reads is = absurd is

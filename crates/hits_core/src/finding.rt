@@ -1,6 +1,6 @@
 //! The hits of games, one game after another, up to as many as are asked for.
 ghost use Rattle.std.specs.Prelude.{◌≡◌, IfOk, IfErr, OnOk};
-ghost use Rattle.tally_core.specs.declared.faults.HarvestFault.TheVariants as fault;
+ghost use Rattle.tally_core.specs.declared.faults.TallyFault.TheVariants as fault;
 ghost use Rattle.hits_core.specs.Inner.Finding.{AddsGame};
 ghost use Rattle.hits_core.specs.Inner.Parts.{IsPart};
 
@@ -12,7 +12,7 @@ use crate::searches::Sought;
 use crate::wanted::Wanted;
 use crate::watching::find_there;
 use std::alloc::Global;
-use tally_core::HarvestFault;
+use tally_core::TallyFault;
 
 /// Replays a game, and adds its hits.
 fn find_one(
@@ -21,7 +21,7 @@ fn find_one(
     sought: Sought,
     game: &Game,
     found: &mut Found,
-) -> Result<(), HarvestFault>
+) -> Result<(), TallyFault>
     ensures grown { OnOk result (AddsGame sought wanted.now game.now found.old found.new) }
     ensures fault { IfErr result (λ found. found ≡ fault.Memory) }
 {
@@ -39,7 +39,7 @@ pub(crate) fn find_in(
     sought: Sought,
     most: Option<u64>,
     games: &[Game],
-) -> Result<Vec<Hit>, HarvestFault>
+) -> Result<Vec<Hit>, TallyFault>
     ensures part { IfOk result (λ hits. IsPart sought wanted.now most games.now hits.items) }
     ensures fault { IfErr result (λ found. found ≡ fault.Memory) }
 {

@@ -1,10 +1,10 @@
 //! The hits that were found so far.
 ghost use Rattle.std.specs.Prelude.{◌≡◌, ◌∷◌, ◌<◌, [], IfErr, OnOk, MatchBool};
-ghost use Rattle.tally_core.specs.declared.faults.HarvestFault.TheVariants as fault;
+ghost use Rattle.tally_core.specs.declared.faults.TallyFault.TheVariants as fault;
 ghost use Rattle.hits_core.specs.Inner.Finding.{IsFull, GrowsBy};
 
 use crate::hits::Hit;
-use tally_core::HarvestFault;
+use tally_core::TallyFault;
 
 /// The first hits, no more than are asked for.
 #[derive(Drop)]
@@ -27,7 +27,7 @@ impl Found {
     }
 
     /// Adds a hit, unless there are as many as are asked for.
-    pub(crate) fn push(&mut self, hit: Hit) -> Result<(), HarvestFault>
+    pub(crate) fn push(&mut self, hit: Hit) -> Result<(), TallyFault>
         ensures grown { OnOk result (GrowsBy self.old self.new (hit ∷ [])) }
         ensures fault { IfErr result (λ found. found ≡ fault.Memory) }
     {

@@ -2,7 +2,7 @@
 ghost use Rattle.std.specs.Prelude.{◌≡◌, map, IfErr, OnOk};
 ghost use Rattle.go_board.specs.Point.{IsOn};
 ghost use Rattle.go_board.specs.Board.{position_of};
-ghost use Rattle.tally_core.specs.declared.faults.HarvestFault.TheVariants as fault;
+ghost use Rattle.tally_core.specs.declared.faults.TallyFault.TheVariants as fault;
 ghost use Rattle.hits_core.specs.Wanted.{wanted_at};
 ghost use Rattle.hits_core.specs.Inner.Finding.{patterns_in, hit_in, GrowsBy};
 
@@ -11,7 +11,7 @@ use crate::hits::Hit;
 use crate::wanted::Wanted;
 use go_board::{Board, Colour, Point};
 use shape_core::{Field, Kinds, Shape, around, canonical, diamond, kinds_stay};
-use tally_core::HarvestFault;
+use tally_core::TallyFault;
 
 /// Those of a point's patterns that are looked for.
 #[derive(Clone, Copy)]
@@ -51,7 +51,7 @@ pub(crate) fn push_sight(
     moment: Moment,
     point: Point,
     sight: Sight,
-) -> Result<(), HarvestFault>
+) -> Result<(), TallyFault>
     ensures grown { OnOk result
         (GrowsBy found.old found.new (map (hit_in moment point) (patterns_in sight))) }
     ensures fault { IfErr result (λ found. found ≡ fault.Memory) }

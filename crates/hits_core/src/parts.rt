@@ -1,7 +1,7 @@
 //! The hits of all games, which threads find.
 ghost use Rattle.std.specs.Prelude.{◌≡◌, ◌<◌, IsOk, All, IfOk, IfErr, OnOk};
 ghost use Rattle.std.specs.List.{flat_map};
-ghost use Rattle.tally_core.specs.declared.faults.HarvestFault.TheVariants as fault;
+ghost use Rattle.tally_core.specs.declared.faults.TallyFault.TheVariants as fault;
 ghost use Rattle.hits_core.specs.Inner.Finding.{GrowsBy};
 ghost use Rattle.hits_core.specs.Hits.{first_of};
 ghost use Rattle.hits_core.specs.Inner.Parts.{AreMade, IsPart, hits_made};
@@ -15,7 +15,7 @@ use crate::wanted::Wanted;
 use std::alloc::{AllocError, Global};
 use std::thread;
 use std::thread::Threads;
-use tally_core::HarvestFault;
+use tally_core::TallyFault;
 
 /// How many games a part has, where this many threads have all.
 fn part_length(games: usize, threads: usize) -> usize
@@ -34,7 +34,7 @@ fn made_parts<T: Threads + Sync>(
     most: Option<u64>,
     games: &[Game],
     threads: usize,
-) -> Result<Vec<Result<Vec<Hit>, HarvestFault>>, AllocError>
+) -> Result<Vec<Result<Vec<Hit>, TallyFault>>, AllocError>
     ensures made { IfOk result (λ made. AreMade sought wanted.now most games.now made.items) }
     ensures fault { IfOk result (λ made.
         All (λ part. IfErr part (λ found. found ≡ fault.Memory)) made.items) }
@@ -49,7 +49,7 @@ fn made_parts<T: Threads + Sync>(
 }
 
 /// Adds hits, as far as they are asked for.
-fn push_all(found: &mut Found, hits: &[Hit]) -> Result<(), HarvestFault>
+fn push_all(found: &mut Found, hits: &[Hit]) -> Result<(), TallyFault>
     ensures grown { OnOk result (GrowsBy found.old found.new hits.now) }
     ensures fault { IfErr result (λ found. found ≡ fault.Memory) }
 {
@@ -63,8 +63,8 @@ fn push_all(found: &mut Found, hits: &[Hit]) -> Result<(), HarvestFault>
 fn joined(
     alloc: Global,
     most: Option<u64>,
-    made: Vec<Result<Vec<Hit>, HarvestFault>>,
-) -> Result<Vec<Hit>, HarvestFault>
+    made: Vec<Result<Vec<Hit>, TallyFault>>,
+) -> Result<Vec<Hit>, TallyFault>
     ensures ok { IfOk result (λ hits. hits.items ≡ first_of most (flat_map hits_made made.items)) }
     ensures all { OnOk result (All IsOk made.items) }
     ensures fault { All (λ part. IfErr part (λ found. found ≡ fault.Memory)) made.items
@@ -90,7 +90,7 @@ pub(crate) fn find_all<T: Threads + Sync>(
     most: Option<u64>,
     games: &[Game],
     threads: usize,
-) -> Result<Vec<Hit>, HarvestFault>
+) -> Result<Vec<Hit>, TallyFault>
     ensures part { IfOk result (λ hits. IsPart sought wanted.now most games.now hits.items) }
     ensures fault { IfErr result (λ found. found ≡ fault.Memory) }
 {

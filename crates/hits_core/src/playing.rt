@@ -4,7 +4,7 @@ ghost use Rattle.std.specs.List.{flat_map};
 ghost use Rattle.go_board.specs.Board.{position_of};
 ghost use Rattle.go_record.specs.Actions.{IsActionOn};
 ghost use Rattle.tally_core.specs.Occasions.{occasion_of};
-ghost use Rattle.tally_core.specs.declared.faults.HarvestFault.TheVariants as fault;
+ghost use Rattle.tally_core.specs.declared.faults.TallyFault.TheVariants as fault;
 ghost use Rattle.hits_core.specs.Hits.{hits_of_turn};
 ghost use Rattle.hits_core.specs.Turns.{turn_of, number_after};
 ghost use Rattle.hits_core.specs.declared.searches.Sought.TheVariants as sought;
@@ -17,7 +17,7 @@ use crate::wanted::Wanted;
 use go_board::{Board, Stone};
 use go_record::{Action, apply};
 use std::alloc::Global;
-use tally_core::HarvestFault;
+use tally_core::TallyFault;
 
 /// The number of the next move after an action, where it is `number` before it.
 pub(crate) fn number_after(number: u64, action: Action) -> u64
@@ -38,7 +38,7 @@ fn look(
     number: u64,
     action: Action,
     found: &mut Found,
-) -> Result<(), HarvestFault>
+) -> Result<(), TallyFault>
     requires on_board { IsActionOn board.now.size action }
     requires size { board.now.size ≡ game.now.recorded.size }
     ensures grown { OnOk result (GrowsBy found.old found.new
@@ -67,7 +67,7 @@ pub(crate) fn find_played(
     wanted: &Wanted,
     game: &Game,
     found: &mut Found,
-) -> Result<(), HarvestFault>
+) -> Result<(), TallyFault>
     ensures grown { OnOk result (AddsGame sought.Played wanted.now game.now found.old found.new) }
     ensures fault { IfErr result (λ found. found ≡ fault.Memory) }
 {

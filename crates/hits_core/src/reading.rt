@@ -7,7 +7,7 @@ ghost use Rattle.go_record.specs.declared.faults.RecordFault.TheVariants as reco
 ghost use Rattle.tally_core.specs.Collection.{games_among};
 ghost use Rattle.tally_core.specs.Counted.{IsCountFault};
 ghost use Rattle.tally_core.specs.Inner.Counting.{IsNextFault};
-ghost use Rattle.tally_core.specs.declared.faults.HarvestFault.TheVariants as fault;
+ghost use Rattle.tally_core.specs.declared.faults.TallyFault.TheVariants as fault;
 ghost use Rattle.hits_core.specs.Hits.{game_of};
 ghost use Rattle.hits_core.specs.Inner.Reading.{IsRecorded, ReadsUpTo, HasReadAll};
 
@@ -15,7 +15,7 @@ use crate::games::Game;
 use go_record::{Kind, RecordFault, read_record};
 use sgf_core::{SgfFault, Trees};
 use std::alloc::Global;
-use tally_core::HarvestFault;
+use tally_core::TallyFault;
 
 /// A tree that was read: its place, where it ends, and its record, or the fault of that.
 #[derive(Drop)]
@@ -28,20 +28,20 @@ pub(crate) struct Recorded {
 /// What was read of a tree's record; want of memory, and no other fault, is handed on.
 fn unless_memory(
     recorded: Result<Kind, RecordFault>,
-) -> Result<Result<Kind, RecordFault>, HarvestFault>
+) -> Result<Result<Kind, RecordFault>, TallyFault>
     ensures same { IfOk result (λ found. (found ≡ recorded)
         × (recorded ≢ Err record_fault.Memory)) }
     ensures memory { IfErr result (λ found. found ≡ fault.Memory) }
 {
     match recorded {
         Ok(kind) => Ok(Ok(kind)),
-        Err(RecordFault::Memory) => Err(HarvestFault::Memory),
+        Err(RecordFault::Memory) => Err(TallyFault::Memory),
         Err(fault) => Ok(Err(fault)),
     }
 }
 
 /// The next tree, or None where no tree is left.
-fn next_tree(alloc: Global, trees: &mut Trees<'_>) -> Result<Option<Recorded>, HarvestFault>
+fn next_tree(alloc: Global, trees: &mut Trees<'_>) -> Result<Option<Recorded>, TallyFault>
     ensures tree { IfOk result (λ found. IfSome found
         (IsRecorded trees.old.bytes trees.old.from)) }
     ensures after { IfOk result (λ found. IfSome found (λ read.
@@ -52,8 +52,8 @@ fn next_tree(alloc: Global, trees: &mut Trees<'_>) -> Result<Option<Recorded>, H
     let tree = match trees.next_tree(alloc) {
         Ok(Some(tree)) => tree,
         Ok(None) => return Ok(None),
-        Err(SgfFault::Memory) => return Err(HarvestFault::Memory),
-        Err(fault) => return Err(HarvestFault::Sgf(fault)),
+        Err(SgfFault::Memory) => return Err(TallyFault::Memory),
+        Err(fault) => return Err(TallyFault::Sgf(fault)),
     };
     let recorded = unless_memory(read_record(alloc, &tree))?;
     Ok(Some(Recorded {
@@ -68,7 +68,7 @@ fn push_game(
     games: &mut Vec<Game>,
     place: usize,
     recorded: Result<Kind, RecordFault>,
-) -> Result<(), HarvestFault>
+) -> Result<(), TallyFault>
     ensures games { OnOk result (games.new.items
         ≡ games.old.items ++ game_of recorded (length games.old.items) place) }
     ensures fault { IfErr result (λ found. found ≡ fault.Memory) }
@@ -93,11 +93,11 @@ fn push_game(
 ///
 /// `Sgf` with S4 where the input has more than 2^28 bytes, else with its first fault of syntax;
 /// `Memory` where memory was refused.
-pub(crate) fn read_games(alloc: Global, input: &[u8]) -> Result<Vec<Game>, HarvestFault>
+pub(crate) fn read_games(alloc: Global, input: &[u8]) -> Result<Vec<Game>, TallyFault>
     ensures games { IfOk result (λ games. HasReadAll input.now games.items) }
     ensures fault { IfErr result (IsCountFault input.now) }
 {
-    let mut trees = Trees::new(input).map_err(HarvestFault::Sgf)?;
+    let mut trees = Trees::new(input).map_err(TallyFault::Sgf)?;
     let mut games = Vec::new(alloc);
     while let Some(read) = next_tree(alloc, &mut trees)? {
         push_game(&mut games, read.at, read.recorded)?;

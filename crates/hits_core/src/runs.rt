@@ -15,15 +15,15 @@ use engine_core::{Outcome, RunFault, read_input, write_output};
 use std::alloc::Global;
 use std::io::{Read, Write};
 use std::thread::Threads;
-use tally_core::HarvestFault;
+use tally_core::TallyFault;
 
 /// The fault of a run that a fault of reading or finding is.
-fn run_fault(fault: HarvestFault) -> RunFault
+fn run_fault(fault: TallyFault) -> RunFault
     ensures { (input : List ℕ) → IsCountFault input fault → IsHitsFault input result }
 {
     match fault {
-        HarvestFault::Sgf(fault) => RunFault::Sgf(fault),
-        HarvestFault::Memory | HarvestFault::BadSettings | HarvestFault::Overflow => {
+        TallyFault::Sgf(fault) => RunFault::Sgf(fault),
+        TallyFault::Memory | TallyFault::BadSettings | TallyFault::Overflow => {
             RunFault::Memory
         }
     }
@@ -59,7 +59,7 @@ fn first_hits<T: Threads + Sync>(
     search: Search,
     workers: usize,
     input: &[u8],
-) -> Result<Vec<Hit>, HarvestFault>
+) -> Result<Vec<Hit>, TallyFault>
     ensures hits { IfOk result (λ hits. AreHitsIn search wanted.now input.now hits.items) }
     ensures fault { IfErr result (IsCountFault input.now) }
 {

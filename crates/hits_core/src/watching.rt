@@ -8,7 +8,7 @@ ghost use Rattle.go_record.specs.Actions.{IsActionOn};
 ghost use Rattle.go_record.specs.Replay.{Does};
 ghost use Rattle.tally_core.specs.Occasions.{occasion_of};
 ghost use Rattle.tally_core.specs.Counts.{row_of, points_of};
-ghost use Rattle.tally_core.specs.declared.faults.HarvestFault.TheVariants as fault;
+ghost use Rattle.tally_core.specs.declared.faults.TallyFault.TheVariants as fault;
 ghost use Rattle.hits_core.specs.Hits.{hits_of_turn};
 ghost use Rattle.hits_core.specs.Wanted.{wanted_at};
 ghost use Rattle.hits_core.specs.Turns.{turn_of};
@@ -26,7 +26,7 @@ use go_board::{Colour, Point, Stone};
 use go_record::{Action, apply};
 use shape_core::{Field, Kinds, kinds_stay};
 use std::alloc::Global;
-use tally_core::HarvestFault;
+use tally_core::TallyFault;
 
 /// A game that is being replayed, and for each colour the points that have to be looked at when it
 /// is to move: for each row a bit for each column. Each other point has no wanted pattern for it.
@@ -61,7 +61,7 @@ fn see_point(
     moment: Moment,
     point: Point,
     found: &mut Found,
-) -> Result<bool, HarvestFault>
+) -> Result<bool, TallyFault>
     requires on_board { IsOn field.now.board.size point }
     requires kinds { KeepsWanted field.now wanted.now }
     ensures grown { OnOk result (GrowsBy found.old found.new
@@ -87,7 +87,7 @@ fn see_bit(
     point: Point,
     bits: u64,
     found: &mut Found,
-) -> Result<u64, HarvestFault>
+) -> Result<u64, TallyFault>
     requires on_board { IsOn field.now.board.size point }
     requires small { point.column < 64 }
     requires kinds { KeepsWanted field.now wanted.now }
@@ -115,7 +115,7 @@ fn see_row(
     row: u8,
     bits: u64,
     found: &mut Found,
-) -> Result<u64, HarvestFault>
+) -> Result<u64, TallyFault>
     requires row { row < field.now.board.size.rows }
     requires kinds { KeepsWanted field.now wanted.now }
     requires open { IsOpenRow wanted.now field.now moment.mover row bits }
@@ -142,7 +142,7 @@ fn see(
     moment: Moment,
     open: &mut [u64],
     found: &mut Found,
-) -> Result<(), HarvestFault>
+) -> Result<(), TallyFault>
     requires kinds { KeepsWanted field.now wanted.now }
     requires open { AreOpen wanted.now field.now moment.mover open.old }
     ensures grown { OnOk result (GrowsBy found.old found.new
@@ -160,7 +160,7 @@ fn see(
 impl Watch {
     /// The empty board of a game, where every point has to be looked at. It takes memory for each
     /// point.
-    fn begin(alloc: Global, wanted: &Wanted, game: &Game) -> Result<Watch, HarvestFault>
+    fn begin(alloc: Global, wanted: &Wanted, game: &Game) -> Result<Watch, TallyFault>
         ensures watched { IfOk result (IsWatched wanted.now) }
         ensures begun { IfOk result (IsNewWatch game.now.recorded.size) }
         ensures fault { IfErr result (λ found. found ≡ fault.Memory) }
@@ -186,7 +186,7 @@ impl Watch {
         number: u64,
         action: Action,
         found: &mut Found,
-    ) -> Result<(), HarvestFault>
+    ) -> Result<(), TallyFault>
         requires on_board { IsActionOn self.old.field.board.size action }
         requires size { self.old.field.board.size ≡ game.now.recorded.size }
         requires watched { IsWatched wanted.now self.old }
@@ -237,7 +237,7 @@ pub(crate) fn find_there(
     wanted: &Wanted,
     game: &Game,
     found: &mut Found,
-) -> Result<(), HarvestFault>
+) -> Result<(), TallyFault>
     ensures grown { OnOk result (AddsGame sought.There wanted.now game.now found.old found.new) }
     ensures fault { IfErr result (λ found. found ≡ fault.Memory) }
 {

@@ -13,8 +13,8 @@ use Rattle.tally_core.specs.Collection.{record_of_tree, games_among, others_amon
 use Rattle.sgf_core.specs.declared.faults.SgfFault.TheVariants as sgf
 use Rattle.tally_core.specs.Counted.{IsReport, IsCountFault}
 use Rattle.tally_core.specs.Inner.Counting.{IsNextFault}
-use Rattle.tally_core.specs.declared.faults.HarvestFault.{HarvestFault}
-use Rattle.tally_core.specs.declared.faults.HarvestFault.TheVariants as fault
+use Rattle.tally_core.specs.declared.faults.TallyFault.{TallyFault}
+use Rattle.tally_core.specs.declared.faults.TallyFault.TheVariants as fault
 use Rattle.tally_core.specs.declared.reports.Report.{Report}
 use Rattle.tally_core.proofs.Trees.{trees_push, not_memory}
 use Rattle.job_core.specs.declared.games.Recorded.{Recorded}
@@ -96,7 +96,7 @@ pub moved : (P : List ℕ → ℕ → Type 0) (bytes other : List ℕ) (from pla
 moved P bytes other from place same here h = subst (λ b. P b from) same (subst (λ f. P other f) here h)
 
 -- why no next tree comes is why the input is not read
-pub stops : (bytes : List ℕ) (from : ℕ) (report : Report) (found : HarvestFault) → HasRead bytes from report → IsNextFault bytes from found → IsCountFault bytes found
+pub stops : (bytes : List ℕ) (from : ℕ) (report : Report) (found : TallyFault) → HasRead bytes from report → IsNextFault bytes from found → IsCountFault bytes found
 stops bytes from report fault.Memory h is = tt
 stops bytes from report fault.BadSettings h is = absurd is
 stops bytes from report fault.Overflow h is = absurd is

@@ -1,6 +1,6 @@
 -- What the reader of games has read, and what a step of it does.
 use Rattle.std.specs.Prelude.{◌≡◌, ℕ, ◌+◌, ◌≤◌, Bool, List, Option}
-use Rattle.tally_core.specs.declared.faults.HarvestFault.{HarvestFault}
+use Rattle.tally_core.specs.declared.faults.TallyFault.{TallyFault}
 use Rattle.tally_core.specs.declared.reports.Report.{Report}
 use Rattle.job_core.specs.Games.{WrittenGame, HasReadAll}
 use Rattle.sgf_core.specs.Limit.{most_bytes}
@@ -10,7 +10,7 @@ pub record Reading : Type 0 where
   pub bytes : List ℕ
   pub from : ℕ
   pub report : Report
-  pub fault : Option HarvestFault
+  pub fault : Option TallyFault
   pub ended : Bool
 
 -- the game that was next

@@ -8,7 +8,7 @@ ghost use Rattle.sgf_core.specs.declared.faults.SgfFault.TheVariants as sgf;
 ghost use Rattle.go_record.specs.declared.faults.RecordFault.TheVariants as record_fault;
 ghost use Rattle.tally_core.specs.Counted.{IsCountFault};
 ghost use Rattle.tally_core.specs.Inner.Counting.{IsNextFault, IsKept};
-ghost use Rattle.tally_core.specs.declared.faults.HarvestFault.TheVariants as fault;
+ghost use Rattle.tally_core.specs.declared.faults.TallyFault.TheVariants as fault;
 ghost use Rattle.job_core.specs.declared.games.Step.TheVariants as step;
 ghost use Rattle.job_core.specs.Games.{HasRead};
 ghost use Rattle.job_core.specs.Reading.{IsNextGame, HasNoGame};
@@ -20,7 +20,7 @@ use go_record::{Kind, Record, RecordFault, read_record};
 use sgf_core::{SgfFault, Tree, Trees};
 use std::alloc::Global;
 use std::marker::Model;
-use tally_core::{HarvestFault, Report};
+use tally_core::{TallyFault, Report};
 
 /// Whether a tree may come, or why none does.
 #[derive(Clone, Copy)]
@@ -30,7 +30,7 @@ enum Stage {
     /// No tree is left.
     End,
     /// This fault was met.
-    Fault(HarvestFault),
+    Fault(TallyFault),
 }
 
 /// What one tree gave.
@@ -89,7 +89,7 @@ impl<'a> Model for Games<'a> {
 
 /// The next tree, or None where none is left. A fault of syntax is the one that the reader keeps
 /// from then on.
-fn next_tree<'a>(alloc: Global, trees: &mut Trees<'a>) -> Result<Option<Tree<'a>>, HarvestFault>
+fn next_tree<'a>(alloc: Global, trees: &mut Trees<'a>) -> Result<Option<Tree<'a>>, TallyFault>
     ensures tree { IfOk result (λ found. IfSome found (λ read. (tree : GameTree)
         × IsNextTree trees.old.bytes trees.old.from read.at read.end tree
         × (read.marks ≡ marks_of tree))) }
@@ -104,15 +104,15 @@ fn next_tree<'a>(alloc: Global, trees: &mut Trees<'a>) -> Result<Option<Tree<'a>
 {
     match trees.next_tree(alloc) {
         Ok(found) => Ok(found),
-        Err(SgfFault::Memory) => Err(HarvestFault::Memory),
-        Err(fault) => Err(HarvestFault::Sgf(fault)),
+        Err(SgfFault::Memory) => Err(TallyFault::Memory),
+        Err(fault) => Err(TallyFault::Sgf(fault)),
     }
 }
 
 /// What was read of a tree's record; want of memory, and no other fault, is handed on.
 fn unless_memory(
     recorded: Result<Kind, RecordFault>,
-) -> Result<Result<Kind, RecordFault>, HarvestFault>
+) -> Result<Result<Kind, RecordFault>, TallyFault>
     ensures same { IfOk result (λ found. (found ≡ recorded)
         × (recorded ≢ Err record_fault.Memory)) }
     ensures memory { IfErr result
@@ -120,13 +120,13 @@ fn unless_memory(
 {
     match recorded {
         Ok(kind) => Ok(Ok(kind)),
-        Err(RecordFault::Memory) => Err(HarvestFault::Memory),
+        Err(RecordFault::Memory) => Err(TallyFault::Memory),
         Err(fault) => Ok(Err(fault)),
     }
 }
 
 /// The next tree's bounds and record, or None where no tree is left.
-fn next_record(alloc: Global, trees: &mut Trees<'_>) -> Result<Option<Recorded>, HarvestFault>
+fn next_record(alloc: Global, trees: &mut Trees<'_>) -> Result<Option<Recorded>, TallyFault>
     ensures record { IfOk result (λ found.
         IfSome found (IsNextRecord trees.old.bytes trees.old.from)) }
     ensures after { IfOk result (λ found. IfSome found (λ read. (trees.new.from ≡ read.end)
@@ -171,7 +171,7 @@ impl<'a> Games<'a> {
     /// # Errors
     ///
     /// `Sgf` with `SgfFault::TooLarge`, exactly where the input has more than 2^28 bytes.
-    pub fn new(bytes: &'a [u8]) -> Result<Games<'a>, HarvestFault>
+    pub fn new(bytes: &'a [u8]) -> Result<Games<'a>, TallyFault>
         ensures small { IsOk result ↔ (length bytes.now ≤ most_bytes) }
         ensures begins { IfOk result (λ games. games ≡ record {
           bytes = bytes.now;
@@ -183,7 +183,7 @@ impl<'a> Games<'a> {
         ensures large { IfErr result (λ found. found ≡ fault.Sgf sgf.TooLarge) }
         ensures fault { IfErr result (IsCountFault bytes.now) }
     {
-        let trees = Trees::new(bytes).map_err(HarvestFault::Sgf)?;
+        let trees = Trees::new(bytes).map_err(TallyFault::Sgf)?;
         let report = Report {
             games: 0,
             others: 0,
@@ -199,7 +199,7 @@ impl<'a> Games<'a> {
     }
 
     /// Reads one tree.
-    fn step(&mut self, alloc: Global) -> Result<Step<'a>, HarvestFault>
+    fn step(&mut self, alloc: Global) -> Result<Step<'a>, TallyFault>
         ensures bytes { self.new.bytes ≡ self.old.bytes }
         ensures step { IfOk result (IsStep self.old self.new) }
         ensures fault { IfErr result (IsCountFault self.old.bytes) }
@@ -247,7 +247,7 @@ impl<'a> Games<'a> {
     /// `Sgf` where the next tree has a fault of syntax; `Memory` where memory was refused. After a
     /// fault, want of memory too, each later call answers it again and changes nothing, so the
     /// report stays that of the trees that were read.
-    pub fn next_job(&mut self, alloc: Global) -> Result<Option<Job<'a>>, HarvestFault>
+    pub fn next_job(&mut self, alloc: Global) -> Result<Option<Job<'a>>, TallyFault>
         ensures bytes { self.new.bytes ≡ self.old.bytes }
         ensures job { IfOk result (λ found. IfSome found (IsNextGame self.old self.new)) }
         ensures none { IfOk result (λ found. IfNone found (HasNoGame self.old self.new)) }

@@ -2,7 +2,7 @@
 ghost use Rattle.std.specs.Prelude.{◌≡◌, ◌-◌, ◌<◌, ◌≤◌, ℕ, false, [], IfOk, IfErr};
 ghost use Rattle.std.specs.Prelude.{MatchOption, MatchResult};
 ghost use Rattle.crossbeam_queue.specs.Passes.{view, IsPassOf, IsSamePass, ruled_capacity};
-ghost use Rattle.tally_core.specs.declared.faults.HarvestFault.TheVariants as fault;
+ghost use Rattle.tally_core.specs.declared.faults.TallyFault.TheVariants as fault;
 ghost use Rattle.job_core.specs.Which.{id_of};
 ghost use Rattle.job_core.specs.Rule.{all_parts, blank, reader, spent, worker};
 ghost use Rattle.job_core.specs.Rule.{putting, drawing, taking_up, Draws, MayPut};
@@ -14,7 +14,7 @@ use crate::jobs::Item;
 use std::alloc::Global;
 use std::marker::{Brand, Model};
 use std::sync::Wait;
-use tally_core::HarvestFault;
+use tally_core::TallyFault;
 
 /// A new queue of that number of places, above 0, and its first pass. It takes memory for the
 /// places.
@@ -22,7 +22,7 @@ use tally_core::HarvestFault;
 /// # Errors
 ///
 /// `Memory` where memory was refused.
-pub fn new_queue<'a>(alloc: Global, places: usize) -> Result<(Jobs<'a>, Seat<'a>), HarvestFault>
+pub fn new_queue<'a>(alloc: Global, places: usize) -> Result<(Jobs<'a>, Seat<'a>), TallyFault>
     requires places { 0 < places }
     ensures pass { IfOk result (λ new. IsPassOf new.0 new.1 × (view new.1 ≡ blank)) }
     ensures places { IfOk result (λ new. ruled_capacity new.0 ≡ places) }

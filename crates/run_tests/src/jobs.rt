@@ -11,7 +11,7 @@ use std::sync::Wait;
 use std::test::Fail;
 use std::thread;
 use std::thread::Threads;
-use tally_core::{HarvestFault, Report};
+use tally_core::{TallyFault, Report};
 
 /// Two games, and between them a tree of another game and one with a board of no column.
 const MIXED: &[u8] = b"(;SZ[1];B[aa])(;GM[2])(;SZ[0])\n(;B[aa];W[bb])";
@@ -42,7 +42,7 @@ fn said(job: &Job<'_>) -> (u64, usize, usize, u8, usize) {
 fn next_said(
     alloc: Global,
     games: &mut Games<'_>,
-) -> Result<Option<(u64, usize, usize, u8, usize)>, HarvestFault> {
+) -> Result<Option<(u64, usize, usize, u8, usize)>, TallyFault> {
     match games.next_job(alloc)? {
         Some(job) => Ok(Some(said(&job))),
         None => Ok(None),
@@ -50,7 +50,7 @@ fn next_said(
 }
 
 #[test]
-fn games_are_numbered_in_their_order(rt: HostRuntime) -> Result<(), HarvestFault> {
+fn games_are_numbered_in_their_order(rt: HostRuntime) -> Result<(), TallyFault> {
     let alloc = rt.alloc();
     let mut games = Games::new(MIXED)?;
     assert!(rt; next_said(alloc, &mut games) == Ok(Some((0, 0, 14, 1, 1))));
@@ -67,7 +67,7 @@ fn games_are_numbered_in_their_order(rt: HostRuntime) -> Result<(), HarvestFault
 }
 
 /// Whether the next job borrows this input.
-fn borrows(alloc: Global, bytes: &[u8]) -> Result<bool, HarvestFault> {
+fn borrows(alloc: Global, bytes: &[u8]) -> Result<bool, TallyFault> {
     let mut games = Games::new(bytes)?;
     match games.next_job(alloc)? {
         Some(job) => Ok(job.bytes() == bytes),
@@ -76,15 +76,15 @@ fn borrows(alloc: Global, bytes: &[u8]) -> Result<bool, HarvestFault> {
 }
 
 #[test]
-fn a_job_has_the_whole_input(rt: HostRuntime) -> Result<(), HarvestFault> {
+fn a_job_has_the_whole_input(rt: HostRuntime) -> Result<(), TallyFault> {
     assert!(rt; borrows(rt.alloc(), MIXED)?);
     Ok(())
 }
 
 #[test]
-fn a_fault_comes_after_the_games_before_it(rt: HostRuntime) -> Result<(), HarvestFault> {
+fn a_fault_comes_after_the_games_before_it(rt: HostRuntime) -> Result<(), TallyFault> {
     let alloc = rt.alloc();
-    let truncated = Err(HarvestFault::Sgf(SgfFault::Truncated(8)));
+    let truncated = Err(TallyFault::Sgf(SgfFault::Truncated(8)));
     let mut games = Games::new(b"(;SZ[1])(;B[aa]")?;
     assert!(rt; next_said(alloc, &mut games) == Ok(Some((0, 0, 8, 1, 0))));
     assert!(rt; next_said(alloc, &mut games) == truncated);
@@ -99,7 +99,7 @@ pub(crate) fn put_until_full<'a, R: Wait>(
     alloc: Global,
     desk: &mut Desk<'_, 'a>,
     games: &mut Games<'a>,
-) -> Result<Option<Item<'a>>, HarvestFault>
+) -> Result<Option<Item<'a>>, TallyFault>
     requires { IsInStep games.old desk.old }
     ensures step { OnOk result (IsInStep games.new desk.new) }
     ensures same { OnOk result (desk.new ≡ record desk.old { put = desk.new.put }) }
@@ -179,7 +179,7 @@ fn fill_and_empty<'a, R: Abort + Wait>(
     alloc: Global,
     desk: &mut Desk<'_, 'a>,
     games: &mut Games<'a>,
-) -> Result<(), HarvestFault>
+) -> Result<(), TallyFault>
     requires step { IsInStep games.old desk.old }
     requires parts { 1 < desk.old.parts }
 {
@@ -193,7 +193,7 @@ fn fill_and_empty<'a, R: Abort + Wait>(
 }
 
 /// Opens a queue for the games of these bytes, and fills and empties it.
-fn open_and_fill<R: Abort + Wait>(rt: &R, alloc: Global, bytes: &[u8]) -> Result<(), HarvestFault> {
+fn open_and_fill<R: Abort + Wait>(rt: &R, alloc: Global, bytes: &[u8]) -> Result<(), TallyFault> {
     let mut games = Games::new(bytes)?;
     let (queue, pass) = new_queue(alloc, 128)?;
     let mut desk = Desk::open(&queue, pass, bytes);
@@ -212,7 +212,7 @@ fn draw_and_come_back<R: Abort + Wait>(
     rt: &R,
     alloc: Global,
     bytes: &[u8],
-) -> Result<(), HarvestFault> {
+) -> Result<(), TallyFault> {
     let mut games = Games::new(bytes)?;
     let (queue, pass) = new_queue(alloc, 2)?;
     let mut desk = Desk::open(&queue, pass, bytes);
@@ -257,7 +257,7 @@ fn put_all<'a, R: Wait>(
     alloc: Global,
     desk: &mut Desk<'_, 'a>,
     games: &mut Games<'a>,
-) -> Result<u64, HarvestFault>
+) -> Result<u64, TallyFault>
     requires { IsInStep games.old desk.old }
 {
     while let Some(job) = games.next_job(alloc)? {
@@ -273,7 +273,7 @@ fn draw_all<R: Wait>(
     rt: &R,
     alloc: Global,
     desk: &mut Desk<'_, '_>,
-) -> Result<Vec<u64>, HarvestFault> {
+) -> Result<Vec<u64>, TallyFault> {
     let mut drawn = Vec::new(alloc);
     for _ in rt.forever() {
         match desk.draw(rt) {
@@ -286,15 +286,15 @@ fn draw_all<R: Wait>(
 }
 
 /// One game more.
-fn keep(games: &mut Vec<u64>, game: u64) -> Result<(), HarvestFault> {
+fn keep(games: &mut Vec<u64>, game: u64) -> Result<(), TallyFault> {
     match games.push(game) {
         Ok(()) => Ok(()),
-        Err(_) => Err(HarvestFault::Memory),
+        Err(_) => Err(TallyFault::Memory),
     }
 }
 
 /// The games of both lists.
-fn all_of(mut left: Vec<u64>, right: &[u64]) -> Result<Vec<u64>, HarvestFault> {
+fn all_of(mut left: Vec<u64>, right: &[u64]) -> Result<Vec<u64>, TallyFault> {
     for game in right {
         keep(&mut left, *game)?;
     }
@@ -307,7 +307,7 @@ fn draw_by_two<R: Threads + Wait + Sync>(
     alloc: Global,
     mut one: Desk<'_, '_>,
     mut other: Desk<'_, '_>,
-) -> Result<Vec<u64>, HarvestFault> {
+) -> Result<Vec<u64>, TallyFault> {
     let (left, right) = thread::join(
         rt,
         move || draw_all(rt, alloc, &mut one),
@@ -318,9 +318,9 @@ fn draw_by_two<R: Threads + Wait + Sync>(
 
 /// Both answers, or the fault of one.
 fn both(
-    read: Result<u64, HarvestFault>,
-    drawn: Result<Vec<u64>, HarvestFault>,
-) -> Result<(u64, Vec<u64>), HarvestFault> {
+    read: Result<u64, TallyFault>,
+    drawn: Result<Vec<u64>, TallyFault>,
+) -> Result<(u64, Vec<u64>), TallyFault> {
     match (read, drawn) {
         (Ok(read), Ok(drawn)) => Ok((read, drawn)),
         (Err(fault), _) | (_, Err(fault)) => Err(fault),
@@ -333,7 +333,7 @@ fn put_and_draw<'a, R: Threads + Wait + Sync>(
     alloc: Global,
     mut desk: Desk<'_, 'a>,
     mut games: Games<'a>,
-) -> Result<(u64, Vec<u64>), HarvestFault>
+) -> Result<(u64, Vec<u64>), TallyFault>
     requires step { IsInStep games desk }
     requires parts { 2 < desk.parts }
 {
@@ -341,7 +341,7 @@ fn put_and_draw<'a, R: Threads + Wait + Sync>(
     let other = desk.another();
     let (read, drawn) = thread::join(
         rt,
-        move || -> Result<u64, HarvestFault>
+        move || -> Result<u64, TallyFault>
             requires { IsInStep games desk }
         { put_all(rt, alloc, &mut desk, &mut games) },
         move || draw_by_two(rt, alloc, one, other),
@@ -354,7 +354,7 @@ fn drawn_by_two<R: Threads + Wait + Sync>(
     rt: &R,
     alloc: Global,
     bytes: &[u8],
-) -> Result<(u64, Vec<u64>), HarvestFault> {
+) -> Result<(u64, Vec<u64>), TallyFault> {
     let games = Games::new(bytes)?;
     let (queue, pass) = new_queue(alloc, 128)?;
     put_and_draw(rt, alloc, Desk::open(&queue, pass, bytes), games)
@@ -382,7 +382,7 @@ fn two_workers_draw_each_game_once(rt: HostRuntime) -> Result<(), Fail> {
 }
 
 /// The number of the game of the next job.
-fn next_number(alloc: Global, games: &mut Games<'_>) -> Result<Option<u64>, HarvestFault> {
+fn next_number(alloc: Global, games: &mut Games<'_>) -> Result<Option<u64>, TallyFault> {
     match games.next_job(alloc)? {
         Some(job) => Ok(Some(job.game())),
         None => Ok(None),
@@ -392,18 +392,18 @@ fn next_number(alloc: Global, games: &mut Games<'_>) -> Result<Option<u64>, Harv
 /// With memory refused at any request the games come as they do, or want of memory is answered,
 /// then and later.
 #[test]
-fn memory_is_found_or_named(rt: HostRuntime) -> Result<(), HarvestFault> {
+fn memory_is_found_or_named(rt: HostRuntime) -> Result<(), TallyFault> {
     let alloc = rt.alloc();
     let mut games = Games::new(MIXED)?;
     for game in 0..2 {
         let next = next_number(alloc, &mut games);
-        if next == Err(HarvestFault::Memory) {
+        if next == Err(TallyFault::Memory) {
             assert!(rt; next_number(alloc, &mut games) == next);
             return Ok(());
         }
         assert!(rt; next == Ok(Some(game)));
     }
     let fault = new_queue(alloc, 128).err();
-    assert!(rt; fault.is_none() || fault == Some(HarvestFault::Memory));
+    assert!(rt; fault.is_none() || fault == Some(TallyFault::Memory));
     Ok(())
 }

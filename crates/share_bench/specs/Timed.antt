@@ -5,7 +5,7 @@ use Rattle.shape_core.specs.declared.words.Kinds.{Kinds}
 use Rattle.tally_core.specs.Occasions.{AreOccasions}
 use Rattle.tally_core.specs.declared.reports.Report.{Report}
 use Rattle.job_core.specs.Games.{WrittenGame, HasReadAll}
-use Rattle.tally_core.specs.declared.faults.HarvestFault.{HarvestFault as TallyFault}
+use Rattle.tally_core.specs.declared.faults.TallyFault.{TallyFault}
 use Rattle.tally_core.specs.Counted.{IsCountFault}
 use Rattle.share_core.specs.Shares.{Held, Added, IsShareOf}
 use Rattle.share_core.specs.Faults.{same_fault}

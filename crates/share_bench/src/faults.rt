@@ -9,7 +9,7 @@ use go_board::BoardFault;
 use share_core::HarvestFault;
 use std::alloc::AllocError;
 use std::{fmt, io};
-use tally_core::HarvestFault as TallyFault;
+use tally_core::TallyFault;
 
 /// What ends the program with status 2.
 #[derive(Debug, Drop)]

@@ -1,6 +1,6 @@
 -- Faults of counting on one thread, as they are named where shares are counted.
-use Rattle.tally_core.specs.declared.faults.HarvestFault.{HarvestFault as TallyFault}
-use Rattle.tally_core.specs.declared.faults.HarvestFault.TheVariants as tally
+use Rattle.tally_core.specs.declared.faults.TallyFault.{TallyFault}
+use Rattle.tally_core.specs.declared.faults.TallyFault.TheVariants as tally
 use Rattle.share_core.specs.declared.faults.HarvestFault.{HarvestFault}
 use Rattle.share_core.specs.declared.faults.HarvestFault.TheVariants as fault
 

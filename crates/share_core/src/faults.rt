@@ -6,7 +6,7 @@ use sgf_core::SgfFault;
 use shape_core::Word;
 use slot_table::SlotFault;
 use std::alloc::{AllocError, AllocFailed};
-use tally_core::HarvestFault as TallyFault;
+use tally_core::TallyFault;
 use thiserror::Error;
 
 /// Why no dictionary was made.

@@ -17,8 +17,8 @@ use Rattle.go_record.specs.Adding.{IsRecordOrMemory}
 use Rattle.shape_core.specs.declared.words.Kinds.{Kinds}
 use Rattle.tally_core.specs.declared.counting.Counter.{Counter}
 use Rattle.tally_core.specs.declared.reports.Report.{Report}
-use Rattle.tally_core.specs.declared.faults.HarvestFault.{HarvestFault}
-use Rattle.tally_core.specs.declared.faults.HarvestFault.TheVariants as fault
+use Rattle.tally_core.specs.declared.faults.TallyFault.{TallyFault}
+use Rattle.tally_core.specs.declared.faults.TallyFault.TheVariants as fault
 use Rattle.tally_core.specs.Counts.{Replayed}
 use Rattle.tally_core.specs.Occasions.{AreOccasions}
 use Rattle.tally_core.specs.Collection.{record_of_tree, games_among, others_among, refused_among, AreReplayed, AreTrees}
@@ -191,7 +191,7 @@ pub record CountsUpTo (kinds : Kinds) (bytes : List ℕ) (from : ℕ) (counter :
   pub written : AreTrees bytes 0 trees from
   pub counted : CountsTrees kinds trees counter
 
-pub next_fault : (kinds : Kinds) (bytes : List ℕ) (from : ℕ) (counter : Counter) (found : HarvestFault) → CountsUpTo kinds bytes from counter →
+pub next_fault : (kinds : Kinds) (bytes : List ℕ) (from : ℕ) (counter : Counter) (found : TallyFault) → CountsUpTo kinds bytes from counter →
     IsNextFault bytes from found → IsCountFault bytes found
 next_fault kinds bytes from counter fault.Memory h is = tt
 next_fault kinds bytes from counter fault.BadSettings h is = absurd is

@@ -6,8 +6,8 @@ use Rattle.std.specs.BTreeMap.{is_at}
 use Rattle.std.proofs.lemmas.Bool.Decides.{nat_tests}
 use Rattle.std.proofs.lemmas.List.Sums.{sum_by-append}
 use Rattle.tally_core.specs.declared.counters.Count.{Count}
-use Rattle.tally_core.specs.declared.faults.HarvestFault.{HarvestFault}
-use Rattle.tally_core.specs.declared.faults.HarvestFault.TheVariants as fault
+use Rattle.tally_core.specs.declared.faults.TallyFault.{TallyFault}
+use Rattle.tally_core.specs.declared.faults.TallyFault.TheVariants as fault
 use Rattle.tally_core.specs.Inner.Counter.{first_used, used_again, used, uses_at, times_in, one_pattern, AreAmong, AreCounts, IsCountingFault}
 
 first_used-some : (game there played : ℕ) → 0 < there + played → first_used game there played ≡ Some (record { there = there; played = played; first = game })
@@ -50,7 +50,7 @@ passed_up (Ok x) e P is p = tt
 passed_up (Err y) e P is p = subst P (sym is) p
 
 -- a fault of some counts is one of greater counts
-pub fault-later : (found : HarvestFault) (few most : ℕ) (a b : ℕ → Option Count) → ((shape : ℕ) → uses_at (a shape) + few ≤ uses_at (b shape) + most) →
+pub fault-later : (found : TallyFault) (few most : ℕ) (a b : ℕ → Option Count) → ((shape : ℕ) → uses_at (a shape) + few ≤ uses_at (b shape) + most) →
     IsCountingFault few a found → IsCountingFault most b found
 fault-later fault.Memory few most a b h k = k
 fault-later fault.Overflow few most a b h k = (k.0, omega (arith, h k.0, k.1))

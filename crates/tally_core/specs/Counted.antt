@@ -12,8 +12,8 @@ use Rattle.tally_core.specs.Games.{IsDictionaryOf}
 use Rattle.tally_core.specs.Collection.{AreTrees, record_of_tree, games_among, others_among, refused_among, AreReplayed}
 use Rattle.tally_core.specs.declared.collections.Counted.{Counted}
 use Rattle.tally_core.specs.declared.reports.Report.{Report}
-use Rattle.tally_core.specs.declared.faults.HarvestFault.{HarvestFault}
-use Rattle.tally_core.specs.declared.faults.HarvestFault.TheVariants as fault
+use Rattle.tally_core.specs.declared.faults.TallyFault.{TallyFault}
+use Rattle.tally_core.specs.declared.faults.TallyFault.TheVariants as fault
 use Rattle.sgf_core.specs.Limit.{most_bytes}
 
 -- how many of these trees are of each sort
@@ -43,7 +43,7 @@ pub record HasFault (bytes : List ℕ) (found : SgfFault) : Type 0 where
 
 -- why a collection was not counted: its size or its syntax, or memory was wanting. No count of an input that is not too
 -- large passes 2 ^ 64 - 1.
-abbrev pub IsCountFault : List ℕ → HarvestFault → Type 0
+abbrev pub IsCountFault : List ℕ → TallyFault → Type 0
 IsCountFault bytes fault.BadSettings = ⊥
 IsCountFault bytes fault.Memory = Unit {0}
 IsCountFault bytes (fault.Sgf sgf.TooLarge) = most_bytes < length bytes

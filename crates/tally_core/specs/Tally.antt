@@ -6,8 +6,8 @@ use Rattle.shape_core.specs.declared.words.Kinds.{Kinds}
 use Rattle.shape_dict.specs.declared.entries.Entry.{Entry}
 use Rattle.shape_dict.specs.Contents.{entry_of}
 use Rattle.go_record.specs.Actions.{Actions}
-use Rattle.tally_core.specs.declared.faults.HarvestFault.{HarvestFault}
-use Rattle.tally_core.specs.declared.faults.HarvestFault.TheVariants as fault
+use Rattle.tally_core.specs.declared.faults.TallyFault.{TallyFault}
+use Rattle.tally_core.specs.declared.faults.TallyFault.TheVariants as fault
 use Rattle.tally_core.specs.Occasions.{Occasion, AreOccasions}
 use Rattle.tally_core.specs.Counts.{Replayed, kinds_of, there_in, played_in}
 use Rattle.tally_core.specs.Entries.{IsShape}
@@ -40,7 +40,7 @@ pub record IsSomeTally (tally : Tallied) : Type 0 where
 
 -- why a game has no tally: memory was wanting, or it has more actions than any input. An occasion is counted at most
 -- twice for each of the 52 * 52 points, and twice more for the move.
-abbrev pub IsTallyFault : Actions → HarvestFault → Type 0
+abbrev pub IsTallyFault : Actions → TallyFault → Type 0
 IsTallyFault game fault.Memory = Unit {0}
 IsTallyFault game fault.Overflow = 2 ^ 64 ≤ 5410 * length game.actions
 IsTallyFault game found = ⊥

@@ -2,9 +2,9 @@
 ghost use Rattle.std.specs.Prelude.{◌≡◌, IfOk, IfErr};
 ghost use Rattle.tally_core.specs.Inner.Blank.{IsBlank};
 ghost use Rattle.shape_core.specs.declared.words.Kinds.{Kinds};
-ghost use Rattle.tally_core.specs.declared.faults.HarvestFault.TheVariants as fault;
+ghost use Rattle.tally_core.specs.declared.faults.TallyFault.TheVariants as fault;
 
-use crate::faults::HarvestFault;
+use crate::faults::TallyFault;
 use go_board::Size;
 use shape_core::{Field, Kinds};
 use std::alloc::Global;
@@ -52,7 +52,7 @@ impl Blank {
 
     /// An empty field of this size. It takes memory for each point of the board, twice where the
     /// size is another than before.
-    pub fn field(&mut self, size: Size) -> Result<Field, HarvestFault>
+    pub fn field(&mut self, size: Size) -> Result<Field, TallyFault>
         ensures kinds { self.new ≡ self.old }
         ensures blank { IfOk result (IsBlank self.old) }
         ensures size { IfOk result (λ field. field.board.size ≡ size) }

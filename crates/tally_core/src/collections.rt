@@ -2,11 +2,11 @@
 ghost use Rattle.std.specs.Prelude.{◌≡◌, ◌^◌, ◌<◌, length, IfOk, IfErr};
 ghost use Rattle.sgf_core.specs.declared.faults.SgfFault.TheVariants as sgf;
 ghost use Rattle.tally_core.specs.Counted.{IsCounted, IsCountFault};
-ghost use Rattle.tally_core.specs.declared.faults.HarvestFault.TheVariants as fault;
+ghost use Rattle.tally_core.specs.declared.faults.TallyFault.TheVariants as fault;
 ghost use Rattle.sgf_core.specs.Limit.{most_bytes};
 
 use crate::counting::{Counter, count_trees};
-use crate::faults::HarvestFault;
+use crate::faults::TallyFault;
 use crate::gathering::dictionary_of;
 use crate::reports::Report;
 use crate::walks::Walk;
@@ -31,16 +31,16 @@ pub struct Counted {
 ///
 /// # Errors
 ///
-/// `HarvestFault::Sgf` with S4 where there are more than 2^28 bytes, else with the first fault of
-/// syntax in the input; `HarvestFault::Memory` where memory was refused. `HarvestFault::Overflow`
+/// `TallyFault::Sgf` with S4 where there are more than 2^28 bytes, else with the first fault of
+/// syntax in the input; `TallyFault::Memory` where memory was refused. `TallyFault::Overflow`
 /// does not come: no count of an input that is not too large passes 2^64 - 1.
-pub fn count_plain(alloc: Global, kinds: Kinds, bytes: &[u8]) -> Result<Counted, HarvestFault>
+pub fn count_plain(alloc: Global, kinds: Kinds, bytes: &[u8]) -> Result<Counted, TallyFault>
     ensures counted { IfOk result (IsCounted kinds bytes.now) }
     ensures fault { IfErr result (IsCountFault bytes.now) }
     ensures large { most_bytes < length bytes.now
         → IfErr result (λ found. found ≡ fault.Sgf sgf.TooLarge) }
 {
-    let mut trees = Trees::new(bytes).map_err(HarvestFault::Sgf)?;
+    let mut trees = Trees::new(bytes).map_err(TallyFault::Sgf)?;
     let mut counter = Counter::new(alloc);
     let mut walk = Walk::begin(alloc, kinds);
     count_trees(alloc, &mut walk, &mut counter, &mut trees)?;

@@ -2,7 +2,7 @@
 ghost use Rattle.std.specs.Prelude.{OnOk, IfErr};
 ghost use Rattle.tally_core.specs.Inner.Counter.{count_in, one_pattern, used, AreCounts, IsCountingFault};
 
-use crate::faults::HarvestFault;
+use crate::faults::TallyFault;
 use shape_core::Shape;
 use std::alloc::Global;
 use std::collections::BTreeMap;
@@ -40,7 +40,7 @@ pub(crate) fn add(
     there: u64,
     played: u64,
     game: u64,
-) -> Result<(), HarvestFault>
+) -> Result<(), TallyFault>
     ensures ok { OnOk result (AreCounts (used game (one_pattern shape there)
         (one_pattern shape played) (count_in counts.old)) (count_in counts.new)) }
     ensures fault { IfErr result (IsCountingFault 0 (used game (one_pattern shape there)
@@ -51,7 +51,7 @@ pub(crate) fn add(
     }
     if let Some(count) = counts.get_mut(&shape) {
         let Some(raised) = count.raised(there, played) else {
-            return Err(HarvestFault::Overflow);
+            return Err(TallyFault::Overflow);
         };
         *count = raised;
         return Ok(());

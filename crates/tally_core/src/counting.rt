@@ -11,11 +11,11 @@ ghost use Rattle.tally_core.specs.Collection.{record_of_tree};
 ghost use Rattle.tally_core.specs.Inner.Counting.{CountsTrees, IsWithin, IsSmallTree, CountsAll};
 ghost use Rattle.tally_core.specs.Inner.Counting.{IsNextFault, IsKept, actions_in, TakesMemory};
 ghost use Rattle.tally_core.specs.Counted.{IsCountFault};
-ghost use Rattle.tally_core.specs.declared.faults.HarvestFault.TheVariants as harvest_fault;
+ghost use Rattle.tally_core.specs.declared.faults.TallyFault.TheVariants as harvest_fault;
 ghost use Rattle.sgf_core.specs.Limit.{most_bytes};
 
 use crate::counters::Count;
-use crate::faults::HarvestFault;
+use crate::faults::TallyFault;
 use crate::replays::count_game;
 use crate::reports::Report;
 use crate::walks::Walk;
@@ -61,7 +61,7 @@ fn count_record(
     walk: &mut Walk,
     counter: &mut Counter,
     game_record: &Record,
-) -> Result<(), HarvestFault>
+) -> Result<(), TallyFault>
     requires { (place : ℕ) × IsWithin place counter.old
         × (place + length game_record.now.actions < most_bytes) }
     ensures counted { (before : List GameTree) (game : GameTree)
@@ -81,13 +81,13 @@ fn count_record(
 }
 
 /// Passes over a fault of the record; want of memory, and no other fault, is handed on.
-fn unless_memory(fault: RecordFault) -> Result<(), HarvestFault>
+fn unless_memory(fault: RecordFault) -> Result<(), TallyFault>
     ensures other { OnOk result (fault ≢ record_fault.Memory) }
     ensures memory { IfErr result
         (λ found. (found ≡ harvest_fault.Memory) × (fault ≡ record_fault.Memory)) }
 {
     match fault {
-        RecordFault::Memory => Err(HarvestFault::Memory),
+        RecordFault::Memory => Err(TallyFault::Memory),
         RecordFault::BadSize(_) | RecordFault::BadPoint(_) | RecordFault::OffBoard(_) => Ok(()),
     }
 }
@@ -97,7 +97,7 @@ fn count_recorded(
     walk: &mut Walk,
     counter: &mut Counter,
     recorded: Result<Kind, RecordFault>,
-) -> Result<(), HarvestFault>
+) -> Result<(), TallyFault>
     requires { (place : ℕ) × IsWithin place counter.old
         × (place + actions_in recorded < most_bytes) }
     ensures counted { (before : List GameTree) (game : GameTree)
@@ -127,7 +127,7 @@ fn count_tree(
     walk: &mut Walk,
     counter: &mut Counter,
     tree: &Tree<'_>,
-) -> Result<(), HarvestFault>
+) -> Result<(), TallyFault>
     requires small { (game : GameTree) × IsSmallTree tree.now game }
     requires within { IsWithin tree.now.at counter.old }
     ensures counted { (before : List GameTree) (game : GameTree) → tree.now.marks ≡ marks_of game
@@ -144,7 +144,7 @@ fn count_tree(
 
 /// The next tree, or None where none is left. A fault of syntax is the one that the reader keeps
 /// from then on.
-fn next<'a>(alloc: Global, trees: &mut Trees<'a>) -> Result<Option<Tree<'a>>, HarvestFault>
+fn next<'a>(alloc: Global, trees: &mut Trees<'a>) -> Result<Option<Tree<'a>>, TallyFault>
     ensures tree { IfOk result (λ found. IfSome found (λ read. (tree : GameTree)
         × IsNextTree trees.old.bytes trees.old.from read.at read.end tree
         × (read.marks ≡ marks_of tree))) }
@@ -159,8 +159,8 @@ fn next<'a>(alloc: Global, trees: &mut Trees<'a>) -> Result<Option<Tree<'a>>, Ha
 {
     match trees.next_tree(alloc) {
         Ok(found) => Ok(found),
-        Err(SgfFault::Memory) => Err(HarvestFault::Memory),
-        Err(fault) => Err(HarvestFault::Sgf(fault)),
+        Err(SgfFault::Memory) => Err(TallyFault::Memory),
+        Err(fault) => Err(TallyFault::Sgf(fault)),
     }
 }
 
@@ -171,7 +171,7 @@ pub(crate) fn count_trees(
     walk: &mut Walk,
     counter: &mut Counter,
     trees: &mut Trees<'_>,
-) -> Result<(), HarvestFault>
+) -> Result<(), TallyFault>
     requires small { length trees.old.bytes ≤ most_bytes }
     requires begins { trees.old.from ≡ 0 }
     requires no_fault { trees.old.fault ≡ None }

@@ -1,6 +1,6 @@
 //! What can go wrong in counting.
 ghost use Rattle.std.specs.Prelude.{◌≡◌};
-ghost use Rattle.tally_core.specs.declared.faults.HarvestFault.TheVariants.{Memory};
+ghost use Rattle.tally_core.specs.declared.faults.TallyFault.TheVariants.{Memory};
 
 use go_board::BoardFault;
 use sgf_core::SgfFault;
@@ -9,7 +9,7 @@ use thiserror::Error;
 
 /// Why no dictionary was made.
 #[derive(Clone, Copy, Debug, PartialEq, Eq, Error)]
-pub enum HarvestFault {
+pub enum TallyFault {
     /// The numbers of workers or of slots are outside their limits.
     #[error("F5 bad settings")]
     BadSettings,
@@ -24,28 +24,28 @@ pub enum HarvestFault {
     Overflow,
 }
 
-impl From<AllocError> for HarvestFault {
+impl From<AllocError> for TallyFault {
     ghost from_gives = { λ _ fault. fault ≡ Memory };
 
-    fn from(_: AllocError) -> HarvestFault {
-        HarvestFault::Memory
+    fn from(_: AllocError) -> TallyFault {
+        TallyFault::Memory
     }
 }
 
-impl<T: Drop> From<AllocFailed<T>> for HarvestFault {
+impl<T: Drop> From<AllocFailed<T>> for TallyFault {
     ghost from_gives = { λ _ fault. fault ≡ Memory };
 
-    fn from(_: AllocFailed<T>) -> HarvestFault {
-        HarvestFault::Memory
+    fn from(_: AllocFailed<T>) -> TallyFault {
+        TallyFault::Memory
     }
 }
 
-impl From<BoardFault> for HarvestFault {
+impl From<BoardFault> for TallyFault {
     ghost from_gives = { λ _ fault. fault ≡ Memory };
 
-    fn from(fault: BoardFault) -> HarvestFault {
+    fn from(fault: BoardFault) -> TallyFault {
         match fault {
-            BoardFault::Memory => HarvestFault::Memory,
+            BoardFault::Memory => TallyFault::Memory,
         }
     }
 }

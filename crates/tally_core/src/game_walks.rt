@@ -7,9 +7,9 @@ ghost use Rattle.tally_core.specs.Walk.{shapes_of, there_among};
 ghost use Rattle.tally_core.specs.Inner.Standing.{there_both, AreSides, HaveRoom, IsNewSide};
 ghost use Rattle.tally_core.specs.Inner.Standing.{KeepsCounts};
 ghost use Rattle.tally_core.specs.Inner.Sight.{Fit, PlayedStays, CountsAction};
-ghost use Rattle.tally_core.specs.declared.faults.HarvestFault.TheVariants as fault;
+ghost use Rattle.tally_core.specs.declared.faults.TallyFault.TheVariants as fault;
 
-use crate::faults::HarvestFault;
+use crate::faults::TallyFault;
 use crate::meetings::Meetings;
 use crate::sides::Side;
 use go_board::{Colour, Stone};
@@ -35,7 +35,7 @@ impl GameWalk {
     /// # Errors
     ///
     /// `Memory` where memory was refused.
-    pub fn begin(alloc: Global, field: Field, meetings: Meetings) -> Result<GameWalk, HarvestFault>
+    pub fn begin(alloc: Global, field: Field, meetings: Meetings) -> Result<GameWalk, TallyFault>
         ensures field { IfOk result (λ walk. walk.field ≡ field) }
         ensures meetings { IfOk result (λ walk. walk.meetings ≡ meetings) }
         ensures black { IfOk result (λ walk. IsNewSide walk.field.board.size walk.black) }
@@ -58,7 +58,7 @@ impl GameWalk {
     /// # Errors
     ///
     /// `Memory` where memory was refused; the walk has no meaning then.
-    pub fn count(&mut self, action: Action) -> Result<u64, HarvestFault>
+    pub fn count(&mut self, action: Action) -> Result<u64, TallyFault>
         requires on_board { IsActionOn self.old.field.board.size action }
         requires sides { AreSides self.old }
         requires room { HaveRoom self.old }

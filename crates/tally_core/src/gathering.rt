@@ -3,11 +3,11 @@ ghost use Rattle.std.specs.Prelude.{◌≡◌, List, length, IfOk, IfErr};
 ghost use Rattle.tally_core.specs.Counts.{Replayed};
 ghost use Rattle.tally_core.specs.Inner.Counter.{count_in, CountsGames};
 ghost use Rattle.tally_core.specs.Games.{counts_diamonds, IsDictionaryOf};
-ghost use Rattle.tally_core.specs.declared.faults.HarvestFault.TheVariants as fault;
+ghost use Rattle.tally_core.specs.declared.faults.TallyFault.TheVariants as fault;
 
 use crate::counters::Count;
 use crate::dictionaries::{FirstGames, entries_of};
-use crate::faults::HarvestFault;
+use crate::faults::TallyFault;
 use shape_core::{Kinds, Shape, kinds_stay};
 use shape_dict::Dictionary;
 use std::alloc::Global;
@@ -24,14 +24,14 @@ pub fn has_diamonds(kinds: Kinds) -> bool
 }
 
 /// The dictionary of the games whose counts a map has: `games` of them, with `moves` moves. It
-/// takes memory for an entry of each pattern; `HarvestFault::Memory` comes where that was refused.
+/// takes memory for an entry of each pattern; `TallyFault::Memory` comes where that was refused.
 pub(crate) fn dictionary_of(
     alloc: Global,
     kinds: Kinds,
     games: u64,
     moves: u64,
     counts: &BTreeMap<Shape, Count>,
-) -> Result<Dictionary, HarvestFault>
+) -> Result<Dictionary, TallyFault>
     requires counted { (replayed : List Replayed) × (length replayed ≡ games)
         × CountsGames kinds replayed (count_in counts.now) moves }
     ensures ok { IfOk result (λ d. (replayed : List Replayed) → length replayed ≡ games

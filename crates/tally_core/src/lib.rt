@@ -21,7 +21,7 @@ mod tallies;
 mod walks;
 
 pub use collections::{Counted, count_plain};
-pub use faults::HarvestFault;
+pub use faults::TallyFault;
 pub use gathering::has_diamonds;
 pub use laws::dictionaries_join;
 pub use meetings::Meeting;

@@ -5,9 +5,9 @@ ghost use Rattle.tally_core.specs.Walk.{shapes_of, there_among, played_among};
 ghost use Rattle.tally_core.specs.Inner.Meeting.{Meets, CountsStay, IsMet};
 ghost use Rattle.tally_core.specs.Inner.Counter.{one_pattern};
 ghost use Rattle.tally_core.specs.Inner.Place.{IsPlaceOf};
-ghost use Rattle.tally_core.specs.declared.faults.HarvestFault.TheVariants as fault;
+ghost use Rattle.tally_core.specs.declared.faults.TallyFault.TheVariants as fault;
 
-use crate::faults::HarvestFault;
+use crate::faults::TallyFault;
 use shape_core::Shape;
 use std::alloc::{AllocError, Global};
 use std::marker::Model;
@@ -74,7 +74,7 @@ impl Meetings {
 
     /// Forgets all meetings. The index is half as long where few of its places were taken, so that
     /// one long game does not burden all that follow. It takes memory for the first index.
-    pub fn clear(&mut self) -> Result<(), HarvestFault>
+    pub fn clear(&mut self) -> Result<(), TallyFault>
         ensures empty { self.new ≡ [] }
         ensures fault { IfErr result (λ found. found ≡ fault.Memory) }
     {

@@ -4,7 +4,7 @@ ghost use Rattle.tally_core.specs.Inner.Counter.{count_in, CountsGame, CountsMee
 ghost use Rattle.tally_core.specs.Inner.Counter.{GrowsBy, IsCountingFault};
 
 use crate::counters::{Count, add};
-use crate::faults::HarvestFault;
+use crate::faults::TallyFault;
 use crate::meetings::Meeting;
 use crate::walks::Walk;
 use go_record::Record;
@@ -16,7 +16,7 @@ fn count_meetings(
     counts: &mut BTreeMap<Shape, Count>,
     meetings: &[Meeting],
     game: u64,
-) -> Result<(), HarvestFault>
+) -> Result<(), TallyFault>
     ensures ok { OnOk result
         (CountsMeetings game meetings.now (count_in counts.old) (count_in counts.new)) }
     ensures fault { IfErr result (IsMeetingsFault game meetings.now (count_in counts.old)) }
@@ -33,7 +33,7 @@ pub(crate) fn count_game(
     walk: &mut Walk,
     game_record: &Record,
     game: u64,
-) -> Result<u64, HarvestFault>
+) -> Result<u64, TallyFault>
     ensures counts { IfOk result
         (CountsGame walk.old.kinds game_record.now game (count_in counts.old) (count_in counts.new)) }
     ensures few { IfOk result (λ moves. moves ≤ length game_record.now.actions) }

@@ -1,6 +1,6 @@
 //! How a collection is counted: by how many workers, in how large a table, and which kinds of
 //! pattern.
-use crate::faults::HarvestFault;
+use crate::faults::TallyFault;
 use shape_core::Kinds;
 use std::marker::Model;
 
@@ -33,14 +33,14 @@ impl Settings {
     ghost use Rattle.std.specs.Prelude.{◌≡◌, ◌↔◌, IsOk, IfOk, IfErr};
     ghost use Rattle.shape_core.specs.declared.words.Kinds.TheVariants as kinds;
     ghost use Rattle.tally_core.specs.Limits.{AreLimits};
-    ghost use Rattle.tally_core.specs.declared.faults.HarvestFault.TheVariants as fault;
+    ghost use Rattle.tally_core.specs.declared.faults.TallyFault.TheVariants as fault;
 
     /// Settings that count squares.
     ///
     /// # Errors
     ///
-    /// `HarvestFault::BadSettings` where the workers are outside 1 to 64, or k is over 22.
-    pub fn new(workers: u8, k: u8) -> Result<Settings, HarvestFault>
+    /// `TallyFault::BadSettings` where the workers are outside 1 to 64, or k is over 22.
+    pub fn new(workers: u8, k: u8) -> Result<Settings, TallyFault>
         ensures ok { IsOk result ↔ AreLimits (record {
           workers = workers;
           k = k;
@@ -51,7 +51,7 @@ impl Settings {
         ensures fault { IfErr result (λ found. found ≡ fault.BadSettings) }
     {
         if workers < 1 || workers > 64 || k > 22 {
-            return Err(HarvestFault::BadSettings);
+            return Err(TallyFault::BadSettings);
         }
         Ok(Settings {
             workers,

@@ -3,9 +3,9 @@ ghost use Rattle.std.specs.Prelude.{◌≡◌, ◌<◌, ◌^◌, ℕ, length, Al
 ghost use Rattle.tally_core.specs.Walk.{shapes_of, there_among};
 ghost use Rattle.tally_core.specs.Inner.Sight.{Fit, PlayedStays};
 ghost use Rattle.tally_core.specs.Inner.Standing.{AreStays, there_with, IsNewSide};
-ghost use Rattle.tally_core.specs.declared.faults.HarvestFault.TheVariants as fault;
+ghost use Rattle.tally_core.specs.declared.faults.TallyFault.TheVariants as fault;
 
-use crate::faults::HarvestFault;
+use crate::faults::TallyFault;
 use crate::meetings::Meetings;
 use crate::stays::{Stays, settle_point};
 use go_board::Size;
@@ -29,7 +29,7 @@ pub struct Side {
 impl Side {
     /// A side before the first action: nothing stays, and every point is in the set. It takes
     /// memory for each point.
-    pub fn begin(alloc: Global, size: Size) -> Result<Side, HarvestFault>
+    pub fn begin(alloc: Global, size: Size) -> Result<Side, TallyFault>
         ensures side { IfOk result (IsNewSide size) }
         ensures fault { IfErr result (λ found. found ≡ fault.Memory) }
     {

@@ -10,10 +10,10 @@ ghost use Rattle.tally_core.specs.Inner.Standing.{AreStays, there_with, patterns
 ghost use Rattle.tally_core.specs.Inner.Sight.{Fit, there_at, PlayedStays, StaysAt, HasLooked};
 ghost use Rattle.tally_core.specs.Inner.Sight.{AllFilled, points_in, changed_in, here_on, seen_on, played_on};
 ghost use Rattle.tally_core.specs.Inner.Sight.{IsSideOn, IsSeenOn, AddsThere, AddsPlayed};
-ghost use Rattle.tally_core.specs.declared.faults.HarvestFault.TheVariants as fault;
+ghost use Rattle.tally_core.specs.declared.faults.TallyFault.TheVariants as fault;
 ghost use Rattle.go_board.specs.declared.points.Stone.TheVariants as stone;
 
-use crate::faults::HarvestFault;
+use crate::faults::TallyFault;
 use crate::meetings::Meetings;
 use crate::sides::Side;
 use crate::stays::{Stays, begin, play, settle_point};
@@ -29,7 +29,7 @@ fn see_point(
     mover: Colour,
     point: Point,
     occasions: u64,
-) -> Result<(), HarvestFault>
+) -> Result<(), TallyFault>
     requires on_board { IsOn field.now.board.size point }
     requires empty { position_of field.now.board point ≡ stone.Empty }
     requires stays { AreStays (length (shapes_of meetings.old)) occasions stays.old }
@@ -99,7 +99,7 @@ impl Side {
         field: &Field,
         mover: Colour,
         row: u8,
-    ) -> Result<(), HarvestFault>
+    ) -> Result<(), TallyFault>
         requires row { row < field.now.board.size.rows }
         requires standing { AreStanding field.now.board.size (length (shapes_of meetings.old))
             self.old }
@@ -146,7 +146,7 @@ impl Side {
         field: &Field,
         mover: Colour,
         at: Point,
-    ) -> Result<(), HarvestFault>
+    ) -> Result<(), TallyFault>
         requires on_board { IsOn field.now.board.size at }
         requires empty { position_of field.now.board at ≡ stone.Empty }
         requires side { IsSideOn field.now mover meetings.old self.old }

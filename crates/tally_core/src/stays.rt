@@ -6,9 +6,9 @@ ghost use Rattle.tally_core.specs.Walk.{shapes_of, there_among, played_among};
 ghost use Rattle.tally_core.specs.Inner.Meeting.{Meets, CountsStay};
 ghost use Rattle.tally_core.specs.Inner.Standing.{IsStay, patterns_of, waits, AreStays};
 ghost use Rattle.tally_core.specs.Inner.Sight.{Fit, there_at, PlayedStays};
-ghost use Rattle.tally_core.specs.declared.faults.HarvestFault.TheVariants as fault;
+ghost use Rattle.tally_core.specs.declared.faults.TallyFault.TheVariants as fault;
 
-use crate::faults::HarvestFault;
+use crate::faults::TallyFault;
 use crate::meetings::Meetings;
 use shape_core::Shape;
 
@@ -80,7 +80,7 @@ pub(crate) fn begin(
     meetings: &mut Meetings,
     shape: Shape,
     occasions: u64,
-) -> Result<Option<Stay>, HarvestFault>
+) -> Result<Option<Stay>, TallyFault>
     ensures stay { IfOk result (IsStay (length (shapes_of meetings.new)) occasions) }
     ensures pattern { IfOk result (λ stay. patterns_of (shapes_of meetings.new) stay ≡ shape ∷ []) }
     ensures waits { IfOk result (λ stay. (other : ℕ) →

@@ -3,7 +3,7 @@ ghost use Rattle.std.specs.Prelude.{IfOk, IfErr};
 ghost use Rattle.tally_core.specs.Tally.{IsTally, IsTallyFault};
 
 use crate::dictionaries::{FirstGames, entries_of};
-use crate::faults::HarvestFault;
+use crate::faults::TallyFault;
 use crate::replays::count_game;
 use crate::walks::Walk;
 use go_record::Record;
@@ -60,10 +60,10 @@ impl Tally {
 ///
 /// # Errors
 ///
-/// `HarvestFault::Memory` where memory for the board or the counts was refused.
-/// `HarvestFault::Overflow` where the game has at least 2^64 / 5410 actions, which no input has:
+/// `TallyFault::Memory` where memory for the board or the counts was refused.
+/// `TallyFault::Overflow` where the game has at least 2^64 / 5410 actions, which no input has:
 /// with fewer, no count passes 2^64 - 1.
-pub fn tally_plain(alloc: Global, kinds: Kinds, game_record: &Record) -> Result<Tally, HarvestFault>
+pub fn tally_plain(alloc: Global, kinds: Kinds, game_record: &Record) -> Result<Tally, TallyFault>
     ensures tally { IfOk result (IsTally kinds game_record.now) }
     ensures fault { IfErr result (IsTallyFault game_record.now) }
 {

@@ -4,7 +4,7 @@ ghost use Rattle.tally_core.specs.Tally.{IsTallyFault};
 ghost use Rattle.tally_core.specs.Walk.{IsWalk, IsAmong, IsSmall};
 
 use crate::blanks::Blank;
-use crate::faults::HarvestFault;
+use crate::faults::TallyFault;
 use crate::game_walks::GameWalk;
 use crate::meetings::{Meeting, Meetings};
 use go_record::Record;
@@ -53,10 +53,10 @@ impl Walk {
     ///
     /// # Errors
     ///
-    /// `HarvestFault::Memory` where memory was refused, and `HarvestFault::Overflow` only where the
+    /// `TallyFault::Memory` where memory was refused, and `TallyFault::Overflow` only where the
     /// game has more actions than any input. After a fault nothing is known of the meetings, and
     /// the walk can be used as before.
-    pub fn walk(&mut self, game_record: &Record) -> Result<u64, HarvestFault>
+    pub fn walk(&mut self, game_record: &Record) -> Result<u64, TallyFault>
         ensures walked { IfOk result (IsWalk self.old.kinds game_record.now self.new.meetings) }
         ensures among { OnOk result (IsAmong self.new.meetings) }
         ensures small { OnOk result (IsSmall (5410 * length game_record.now.actions)
@@ -67,7 +67,7 @@ impl Walk {
     {
         let actions = game_record.actions();
         if actions.len() >= MOST_ACTIONS {
-            return Err(HarvestFault::Overflow);
+            return Err(TallyFault::Overflow);
         }
         self.meetings.clear()?;
         let field = self.blank.field(game_record.size())?;

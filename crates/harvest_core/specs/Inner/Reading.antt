@@ -1,7 +1,7 @@
 -- Which games a thread that reads has dealt out, and why an input was not read to its end.
 use Rattle.std.specs.Prelude.{◌≡◌, ℕ, ◌^◌, nat_lt, if◌then◌else◌, List, ◌++◌, None, IfNone, IfSome}
 use Rattle.tally_core.specs.Counted.{IsCountFault}
-use Rattle.tally_core.specs.declared.faults.HarvestFault.TheVariants as tally
+use Rattle.tally_core.specs.declared.faults.TallyFault.TheVariants as tally
 use Rattle.slot_table.specs.Passes.{IsPassOf}
 use Rattle.job_core.specs.Games.{HasReadAll}
 use Rattle.share_core.specs.Covering.{times_of}

@@ -9,7 +9,7 @@ use Rattle.go_record.specs.declared.faults.RecordFault.{RecordFault}
 use Rattle.tally_core.specs.Collection.{record_of_tree}
 use Rattle.sgf_core.specs.declared.faults.SgfFault.{SgfFault}
 use Rattle.tally_core.specs.Counted.{IsCountFault}
-use Rattle.tally_core.specs.declared.faults.HarvestFault.{HarvestFault}
+use Rattle.tally_core.specs.declared.faults.TallyFault.{TallyFault}
 use Rattle.tally_core.specs.Inner.Counting.{IsKept}
 use Rattle.tally_core.specs.declared.reports.Report.{Report}
 use Rattle.job_core.specs.declared.games.Stage.{Stage}
@@ -26,7 +26,7 @@ IsStage bytes from place kept stage.End = HasNoTree bytes from
 IsStage bytes from place kept (stage.Fault found) = IsKept found kept × IsCountFault bytes found
 
 -- the fault that was met
-abbrev pub fault_of : Stage → Option HarvestFault
+abbrev pub fault_of : Stage → Option TallyFault
 fault_of stage.Trees = None
 fault_of stage.End = None
 fault_of (stage.Fault found) = Some found

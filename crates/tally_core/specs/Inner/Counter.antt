@@ -11,8 +11,8 @@ use Rattle.tally_core.specs.Walk.{there_among, played_among}
 use Rattle.tally_core.specs.declared.meetings.Meeting.{Meeting}
 use Rattle.tally_core.specs.Games.{there_sum, played_sum}
 use Rattle.tally_core.specs.declared.counters.Count.{Count}
-use Rattle.tally_core.specs.declared.faults.HarvestFault.{HarvestFault}
-use Rattle.tally_core.specs.declared.faults.HarvestFault.TheVariants as fault
+use Rattle.tally_core.specs.declared.faults.TallyFault.{TallyFault}
+use Rattle.tally_core.specs.declared.faults.TallyFault.TheVariants as fault
 
 -- the count of a pattern that a map has, if it has one
 abbrev pub count_in : BTreeMap ℕ Count → ℕ → Option Count
@@ -28,7 +28,7 @@ abbrev pub GrowsBy : ℕ → (ℕ → Option Count) → (ℕ → Option Count) �
 GrowsBy most before after = (shape : ℕ) → uses_at (after shape) ≤ uses_at (before shape) + most
 
 -- memory was wanting, or some pattern was counted so often that these counts more would pass 2 ^ 64 - 1
-abbrev pub IsCountingFault : ℕ → (ℕ → Option Count) → HarvestFault → Type 0
+abbrev pub IsCountingFault : ℕ → (ℕ → Option Count) → TallyFault → Type 0
 IsCountingFault most before fault.Memory = Unit {0}
 IsCountingFault most before fault.Overflow = (shape : ℕ) × (2 ^ 64 ≤ uses_at (before shape) + most)
 IsCountingFault most before found = ⊥
@@ -69,7 +69,7 @@ abbrev pub CountsMeetings : ℕ → List Meeting → (ℕ → Option Count) → 
 CountsMeetings game meetings before after = AreCounts (used game (there_among meetings) (played_among meetings) before) after
 
 -- memory was wanting, or some pattern's count passes 2 ^ 64 - 1 with these meetings
-abbrev pub IsMeetingsFault : ℕ → List Meeting → (ℕ → Option Count) → HarvestFault → Type 0
+abbrev pub IsMeetingsFault : ℕ → List Meeting → (ℕ → Option Count) → TallyFault → Type 0
 IsMeetingsFault game meetings before found =
     IsCountingFault 0 (used game (there_among meetings) (played_among meetings) before) found
 

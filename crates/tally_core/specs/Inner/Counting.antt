@@ -17,8 +17,8 @@ use Rattle.tally_core.specs.Collection.{AreTrees, record_of_tree, games_among, A
 use Rattle.tally_core.specs.Inner.Counter.{CountsGames, count_in, uses_at}
 use Rattle.tally_core.specs.Counted.{IsReport}
 use Rattle.tally_core.specs.declared.counting.Counter.{Counter}
-use Rattle.tally_core.specs.declared.faults.HarvestFault.{HarvestFault}
-use Rattle.tally_core.specs.declared.faults.HarvestFault.TheVariants as fault
+use Rattle.tally_core.specs.declared.faults.TallyFault.{TallyFault}
+use Rattle.tally_core.specs.declared.faults.TallyFault.TheVariants as fault
 use Rattle.sgf_core.specs.Limit.{most_bytes}
 
 -- these trees were counted
@@ -51,13 +51,13 @@ pub record CountsAll (kinds : Kinds) (bytes : List ℕ) (counter : Counter) : Ty
   pub counted : CountsTrees kinds trees counter
 
 -- why there is no next tree from a place on: a fault of syntax, or memory was wanting
-abbrev pub IsNextFault : List ℕ → ℕ → HarvestFault → Type 0
+abbrev pub IsNextFault : List ℕ → ℕ → TallyFault → Type 0
 IsNextFault bytes from fault.Memory = Unit {0}
 IsNextFault bytes from (fault.Sgf found) = IsFaultAt bytes from found
 IsNextFault bytes from found = ⊥
 
 -- what the reader of trees keeps where this fault comes: the fault of syntax itself, and none where memory was wanting
-abbrev pub IsKept : HarvestFault → Option SgfFault → Type 0
+abbrev pub IsKept : TallyFault → Option SgfFault → Type 0
 IsKept fault.Memory kept = kept ≡ None
 IsKept (fault.Sgf found) kept = kept ≡ Some found
 IsKept found kept = ⊥

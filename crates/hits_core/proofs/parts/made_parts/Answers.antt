@@ -1,6 +1,6 @@
 use Rattle.std.proofs.Common.{rules, get_or, subst, List, Err, IfOk}
 use Rattle.shape_dict.proofs.Chunked.{if_ok_both}
-use Rattle.tally_core.specs.declared.faults.HarvestFault.TheVariants as fault
+use Rattle.tally_core.specs.declared.faults.TallyFault.TheVariants as fault
 use Rattle.hits_core.specs.declared.games.Game.{Game}
 use Rattle.hits_core.specs.Inner.Parts.{IsPart}
 use Rattle.hits_core.proofs.Joining.{are-made}
