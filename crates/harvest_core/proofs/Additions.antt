@@ -12,7 +12,7 @@ use Rattle.share_core.specs.Rows.{row_at, blank}
 use Rattle.share_core.specs.Raising.{Numbered, numbered_of}
 use Rattle.share_core.specs.Shares.{Held, Added, IsPatternOf}
 use Rattle.share_core.specs.Adding.{IsAdded, HasGrown, IsKept, AreFresh, IsAddFault, IsTooLarge, IsEntryOf, IsMarkOf}
-use Rattle.share_core.specs.Confirming.{HasShape}
+use Rattle.gather_core.specs.Confirming.{HasShape}
 use Rattle.share_core.specs.Entering.{CallsOnly}
 use Rattle.probe_core.specs.declared.calls.Answer.{Answer}
 use Rattle.slot_table.specs.Passes.{Known}

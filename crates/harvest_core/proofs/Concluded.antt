@@ -20,15 +20,15 @@ use Rattle.job_core.specs.Games.{HasReadAll}
 use Rattle.share_core.specs.declared.rows.Row.{Row}
 use Rattle.share_core.specs.declared.faults.HarvestFault.{HarvestFault}
 use Rattle.share_core.specs.declared.faults.HarvestFault.TheVariants as fault
-use Rattle.share_core.specs.Agreeing.{agreeing_firsts, IsMarksFault}
-use Rattle.share_core.specs.Checking.{all_rows, is_shape, is_stranger, shape_at, IsStranger}
-use Rattle.share_core.specs.Confirming.{HasShape, HasShapeAt, IsUnknown, IsUnconfirmed, IsConfirmation}
-use Rattle.share_core.specs.Covering.{all_games, times_of}
-use Rattle.share_core.specs.GatherFaults.{IsGatherFault}
+use Rattle.gather_core.specs.Agreeing.{agreeing_firsts, IsMarksFault}
+use Rattle.gather_core.specs.Checking.{all_rows, is_shape, is_stranger, shape_at, IsStranger}
+use Rattle.gather_core.specs.Confirming.{HasShape, HasShapeAt, IsUnknown, IsUnconfirmed, IsConfirmation}
+use Rattle.gather_core.specs.Covering.{all_games, times_of}
+use Rattle.gather_core.specs.GatherFaults.{IsGatherFault}
 use Rattle.share_core.specs.Making.{HasRow}
 use Rattle.share_core.specs.Rows.{first_at}
 use Rattle.share_core.specs.Shares.{Held}
-use Rattle.share_core.proofs.Confirmed.{more_patterns}
+use Rattle.gather_core.proofs.Confirmed.{more_patterns}
 use Rattle.harvest_core.specs.declared.taking.Crop.{Crop}
 use Rattle.harvest_core.specs.InTable.{HasGameBy}
 use Rattle.harvest_core.specs.Inner.Parted.{shares_of, refusals_of}

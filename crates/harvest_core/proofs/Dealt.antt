@@ -9,7 +9,7 @@ use Rattle.job_core.specs.declared.hands.Hand.{Hand}
 use Rattle.job_core.specs.declared.jobs.Item.TheVariants.{Job}
 use Rattle.job_core.specs.Games.{WrittenGame}
 use Rattle.job_core.specs.Rule.{putting}
-use Rattle.share_core.specs.Covering.{times_of}
+use Rattle.gather_core.specs.Covering.{times_of}
 use Rattle.share_core.specs.declared.faults.HarvestFault.{HarvestFault}
 use Rattle.harvest_core.specs.declared.working.Worked.{Worked}
 use Rattle.harvest_core.specs.Working.{IsCounted}

@@ -15,7 +15,7 @@ use Rattle.slot_table.specs.History.{Keeps}
 use Rattle.slot_table.specs.Passes.{Known}
 use Rattle.share_core.specs.declared.rows.Row.{Row}
 use Rattle.share_core.specs.declared.faults.HarvestFault.{HarvestFault}
-use Rattle.share_core.specs.Confirming.{HasShape}
+use Rattle.gather_core.specs.Confirming.{HasShape}
 use Rattle.share_core.specs.Entering.{CallsOnly}
 use Rattle.harvest_core.specs.declared.working.Worked.{Worked}
 use Rattle.harvest_core.specs.Working.{IsPatternOfGame, IsPatternAmong, IsMarkIn, CallsOfGame, CallsAmong, AreOfGame, IsRefusedGame, IsCounted, HasDrawn}

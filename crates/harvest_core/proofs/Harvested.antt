@@ -34,13 +34,13 @@ use Rattle.job_core.specs.Games.{HasReadAll}
 use Rattle.job_core.proofs.OneGame.{games_of, one_game}
 use Rattle.share_core.specs.declared.rows.Row.{Row}
 use Rattle.share_core.specs.Rows.{there_of, played_of, first_of}
-use Rattle.share_core.specs.Checking.{all_rows, Stand}
+use Rattle.gather_core.specs.Checking.{all_rows, Stand}
 use Rattle.share_core.specs.Shares.{Held, Added, replayed_of, IsShareOf}
-use Rattle.share_core.specs.Covering.{Covers, all_games, times_of}
-use Rattle.share_core.specs.Gathering.{AreWithin, HaveGames, IsGathered, gathered_entry, all_added, replayed_at, replayed_games}
-use Rattle.share_core.proofs.Numbered.{numbers_of}
-use Rattle.share_core.proofs.Ordered.{there_some}
-use Rattle.share_core.proofs.Gathered.{dictionary_of_shares}
+use Rattle.gather_core.specs.Covering.{Covers, all_games, times_of}
+use Rattle.gather_core.specs.Gathering.{AreWithin, HaveGames, IsGathered, gathered_entry, all_added, replayed_at, replayed_games}
+use Rattle.gather_core.proofs.Numbered.{numbers_of}
+use Rattle.gather_core.proofs.Ordered.{there_some}
+use Rattle.gather_core.proofs.Gathered.{dictionary_of_shares}
 use Rattle.harvest_core.specs.Working.{IsGame, IsWorked}
 
 -- ---- the games that were added are those of the input

@@ -28,11 +28,11 @@ use Rattle.share_core.specs.Rows.{row_at, blank, first_of, first_at, earlier}
 use Rattle.share_core.specs.Raising.{Numbered, numbered_of}
 use Rattle.share_core.specs.Entering.{IsCall}
 use Rattle.share_core.specs.Making.{HasRow}
-use Rattle.share_core.specs.Checking.{Stand}
+use Rattle.gather_core.specs.Checking.{Stand}
 use Rattle.share_core.specs.Shares.{Held, game_of}
 use Rattle.share_core.specs.Adding.{IsAdded, HasGrown, IsKept, AreFresh, IsAddFault, IsMarked, IsRowed, IsRowedAfter, IsEntryOf, IsMarkOf}
 use Rattle.share_core.proofs.Raised.{same_shape, same_number, same_length}
-use Rattle.share_core.proofs.Standings.{stand_grown, stand_kept}
+use Rattle.gather_core.proofs.Standings.{stand_grown, stand_kept}
 use Rattle.harvest_core.specs.declared.working.Worked.{Worked}
 use Rattle.harvest_core.specs.InTable.{AreFirstsMarked, HasGameBy, StandsIn, HasItsRows, IsFullOf, IsInTable, IsInTableSince, GoesOnInTable}
 use Rattle.harvest_core.specs.Working.{IsCallIn}

@@ -22,13 +22,13 @@ use Rattle.tally_core.specs.declared.reports.Report.{Report}
 use Rattle.tally_core.proofs.Bounded.{there-few, played-few}
 use Rattle.share_core.specs.declared.faults.HarvestFault.TheVariants as fault
 use Rattle.share_core.specs.Rows.{there_of, played_of}
-use Rattle.share_core.specs.Checking.{all_rows}
-use Rattle.share_core.specs.Covering.{Covers, all_games}
-use Rattle.share_core.specs.Gathering.{all_moves, all_added, replayed_games, IsLargeSum}
+use Rattle.gather_core.specs.Checking.{all_rows}
+use Rattle.gather_core.specs.Covering.{Covers, all_games}
+use Rattle.gather_core.specs.Gathering.{all_moves, all_added, replayed_games, IsLargeSum}
 use Rattle.share_core.specs.Shares.{Held, Added}
 use Rattle.share_core.specs.Adding.{IsTooLarge}
-use Rattle.share_core.proofs.Numbered.{numbers_of}
-use Rattle.share_core.proofs.Gathered.{there_gathered, played_gathered, moves_gathered}
+use Rattle.gather_core.proofs.Numbered.{numbers_of}
+use Rattle.gather_core.proofs.Gathered.{there_gathered, played_gathered, moves_gathered}
 use Rattle.job_core.specs.Games.{HasReadAll}
 use Rattle.job_core.specs.Rising.{Rising, past}
 use Rattle.job_core.proofs.Orders.{rising_down}

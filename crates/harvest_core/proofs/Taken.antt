@@ -13,7 +13,7 @@ use Rattle.job_core.specs.Games.{HasReadAll}
 use Rattle.slot_table.specs.Stakes.{IsAsMuch}
 use Rattle.tally_core.specs.declared.reports.Report.{Report}
 use Rattle.share_core.specs.Shares.{Held}
-use Rattle.share_core.specs.Covering.{times_of, all_games}
+use Rattle.gather_core.specs.Covering.{times_of, all_games}
 use Rattle.share_core.specs.declared.faults.HarvestFault.{HarvestFault}
 use Rattle.share_core.specs.declared.faults.HarvestFault.TheVariants as fault
 use Rattle.harvest_core.specs.declared.workers.Worker.{Worker}

@@ -14,7 +14,7 @@ use Rattle.share_core.specs.declared.faults.HarvestFault.{HarvestFault}
 use Rattle.share_core.specs.declared.faults.HarvestFault.TheVariants as fault
 use Rattle.share_core.specs.Rows.{row_at, blank}
 use Rattle.share_core.specs.Making.{HasRow}
-use Rattle.share_core.specs.Checking.{all_rows}
+use Rattle.gather_core.specs.Checking.{all_rows}
 use Rattle.harvest_core.specs.declared.working.Worked.{Worked}
 use Rattle.harvest_core.specs.InTable.{StandsIn, HasItsRows, IsInTable}
 use Rattle.harvest_core.specs.Working.{IsCallIn, IsRefused}

@@ -11,7 +11,7 @@ use Rattle.share_core.specs.declared.rows.Row.{Row}
 use Rattle.share_core.specs.declared.faults.HarvestFault.{HarvestFault}
 use Rattle.share_core.specs.declared.faults.HarvestFault.TheVariants as fault
 use Rattle.share_core.specs.Making.{HasRow}
-use Rattle.share_core.specs.Checking.{Stand}
+use Rattle.gather_core.specs.Checking.{Stand}
 use Rattle.harvest_core.specs.declared.working.Worked.{Worked}
 
 -- the first game of each row is marked at its number, or an earlier one is

@@ -10,7 +10,7 @@ use Rattle.share_core.specs.declared.faults.HarvestFault.{HarvestFault}
 use Rattle.share_core.specs.declared.faults.HarvestFault.TheVariants as fault
 use Rattle.share_core.specs.Shares.{Held, Added, IsShareOf, IsPatternOf}
 use Rattle.share_core.specs.Adding.{IsTooLarge, IsKept, IsAddFault}
-use Rattle.share_core.specs.Confirming.{HasShape}
+use Rattle.gather_core.specs.Confirming.{HasShape}
 use Rattle.share_core.specs.Entering.{IsCall, CallsOnly}
 use Rattle.probe_core.specs.Sequential.{IsNumber}
 use Rattle.slot_table.specs.declared.entries.Happened.{Happened}

@@ -9,7 +9,7 @@ ghost use Rattle.job_core.specs.Rising.{past};
 ghost use Rattle.job_core.specs.Rule.{MayPut, putting};
 ghost use Rattle.job_core.specs.Inner.Rule.{IsInStep};
 ghost use Rattle.slot_table.specs.Passes.{IsPassOf};
-ghost use Rattle.share_core.specs.Checking.{Stand};
+ghost use Rattle.gather_core.specs.Checking.{Stand};
 ghost use Rattle.share_core.specs.declared.faults.HarvestFault.TheVariants as fault;
 ghost use Rattle.harvest_core.specs.InTable.{IsInTableSince, GoesOnInTable};
 ghost use Rattle.harvest_core.specs.Working.{IsWorked, IsRefused, IsCounted, CallsIn};

@@ -1,6 +1,7 @@
 -- Rows that are found by their number.
-use Rattle.std.proofs.Common.{◌≡◌, ℕ, ◌<◌, ◌==◌, true, false, cond, zero, suc, List, [], ◌∷◌, length, Some, None, refl, ap, sym, ◌∙◌, arith}
+use Rattle.std.proofs.Common.{◌≡◌, ℕ, ◌<◌, ◌==◌, true, false, cond, zero, suc, List, [], ◌∷◌, length, ◌++◌, Some, None, refl, ap, sym, ◌∙◌, arith, Contains}
 use Rattle.std.proofs.lemmas.Bool.Decides.{nat_tests}
+use Rattle.std.proofs.lemmas.List.Elements.{Contains-append_right}
 use Rattle.share_core.specs.declared.rows.Row.{Row}
 use Rattle.share_core.specs.Rows.{row_at, row_of, AreOfNumbers}
 use Rattle.share_core.specs.Inner.Rows.{HasNoRow}
@@ -33,3 +34,12 @@ found_row (row ∷ rows) number (suc place) h low same =
     let differ : row.number ≡ number → ⊥ = λ equal. apart (same ∙ sym equal) in
     let test : (row.number == number) ≡ false = Prim.grind (arith, nat_tests) in
     ap (λ b. cond b (Some row) (row_of rows number)) test ∙ found_row rows number place (tail_numbers row rows h) (omega arith) same
+
+-- a row that is found is among the rows
+pub row_among : (rows : List Row) (number : ℕ) (row : Row) → row_of rows number ≡ Some row → Contains rows row
+row_among [] number row is = absurd cc
+row_among (first ∷ rows) number row is =
+    elim (first.number == number) as (λ b. cond b (Some first) (row_of rows number) ≡ Some row → Contains (first ∷ rows) row) [
+      | true ↦ λ here. (0, (let l : 0 < length (first ∷ rows) = omega arith in l), (let same : first ≡ row = cc in same))
+      | false ↦ λ there. Contains-append_right (first ∷ []) rows row (row_among rows number row there)
+    ] is

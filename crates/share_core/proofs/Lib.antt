@@ -6,31 +6,7 @@ pub mod Entered
 mod Prepared
 pub mod Added
 mod Outcomes
-mod Covered
-mod Found
+pub mod Found
 mod Few
 mod Rising
 mod RowsLeft
-mod Strangers
-mod Beyond
-mod Stood
-mod Firsts
-mod FirstGames
-pub mod Gathered
-mod Listed
-pub mod Numbered
-pub mod Ordered
-mod Summed
-mod Totalled
-mod OfNumber
-mod Blocked
-mod Dealt
-mod Evened
-mod Pieced
-mod Visits
-mod Listings
-pub mod Confirmed
-mod SoughtRows
-mod Agreed
-mod Parted
-pub mod Standings

@@ -5,7 +5,7 @@ use Rattle.std.proofs.lemmas.List.{get_or_default}
 use Rattle.share_core.specs.declared.rows.Row.{Row}
 use Rattle.share_core.specs.Rows.{row_at, blank, AreOfNumbers}
 use Rattle.share_core.specs.Inner.Rows.{HasNoRow, IsIndexed}
-use Rattle.share_core.specs.Checking.{IsLeastFrom}
+use Rattle.share_core.specs.ShareRows.{IsLeastFrom}
 use Rattle.share_core.proofs.Found.{found_row}
 use Rattle.share_core.proofs.Indexed.{below_buckets}
 use Rattle.share_core.proofs.Few.{bucket_within}

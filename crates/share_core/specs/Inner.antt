@@ -1,23 +1,9 @@
 -- What serves the contracts of private functions, and invariants: nothing here has to be believed.
 pub mod Adding
-pub mod Blocks
-pub mod Checking
-pub mod Confirming
-pub mod Covering
-pub mod Dealing
 pub mod Entering
-pub mod Gathering
-pub mod Leasts
 pub mod Ledgers
-pub mod Listing
 pub mod Making
-pub mod Numbers
-pub mod Pieces
 pub mod Preparing
 pub mod Raising
-pub mod Rounds
 pub mod Rows
 pub mod Small
-pub mod Sorting
-pub mod Totals
-pub mod Visiting

@@ -1,15 +1,10 @@
 pub mod Rows
+pub mod Totals
 pub mod Raising
 pub mod Making
 pub mod Entering
 pub mod Shares
 pub mod Adding
-pub mod Covering
-pub mod Checking
 pub mod ShareRows
-pub mod Agreeing
 pub mod Faults
-pub mod Gathering
-pub mod Confirming
-pub mod GatherFaults
 pub mod Inner

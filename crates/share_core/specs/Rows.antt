@@ -1,6 +1,6 @@
 -- The rows of a share: for each number of the table that it met, the number's pattern, how often that was there and was
 -- played, and the least game in which it was there.
-use Rattle.std.specs.Prelude.{◌≡◌, ℕ, ◌<◌, ◌≤◌, ◌==◌, if◌then◌else◌, min, List, [], ◌∷◌, length, sum_by, find, Option, Some, None, slice_index_or}
+use Rattle.std.specs.Prelude.{◌≡◌, ℕ, ◌<◌, ◌≤◌, ◌==◌, if◌then◌else◌, min, List, [], ◌∷◌, length, sum_by, find, Option, Some, None, slice_index_or, Contains}
 use Rattle.share_core.specs.declared.rows.Row.{Row}
 
 -- how often a pattern was there, all its rows together
@@ -47,3 +47,7 @@ AreOfNumbers rows = (one other : ℕ) → one < length rows → other < length r
 -- the first row of a number, or none
 abbrev pub row_of : List Row → ℕ → Option Row
 row_of rows number = find (λ row. row.number == number) rows
+
+-- all rows are of numbers below this one
+abbrev pub AreBelow : ℕ → List Row → Type 0
+AreBelow slots rows = (row : Row) → Contains rows row → row.number < slots

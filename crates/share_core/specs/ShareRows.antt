@@ -1,8 +1,14 @@
 -- The rows of a share, one after another, numbers rising.
-use Rattle.std.specs.Prelude.{◌≡◌, ℕ, ◌+◌, nat_le, List, count_by, Option, Some, None}
+use Rattle.std.specs.Prelude.{◌≡◌, ℕ, ◌+◌, ◌<◌, ◌≤◌, nat_le, List, count_by, Option, Some, None, Contains}
 use Rattle.std.specs.Iterator.{Count, at_most}
 use Rattle.share_core.specs.declared.rows.Row.{Row}
-use Rattle.share_core.specs.Checking.{IsLeastFrom}
+use Rattle.share_core.specs.Rows.{row_of}
+
+-- the first row of the least number from this one on, or none
+abbrev pub IsLeastFrom : ℕ → List Row → Option Row → Type 0
+IsLeastFrom slots rows None = (row : Row) → Contains rows row → row.number < slots
+IsLeastFrom slots rows (Some least) = (slots ≤ least.number) × (row_of rows least.number ≡ Some least)
+    × ((row : Row) → Contains rows row → slots ≤ row.number → least.number ≤ row.number)
 
 -- rows, and the number from which on they are still to come
 pub record RowsFrom : Type 0 where

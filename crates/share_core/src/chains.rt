@@ -2,7 +2,7 @@
 ghost use Rattle.std.specs.Prelude.{◌≡◌, ◌<◌, length, IfSome, IfNone};
 ghost use Rattle.share_core.specs.Rows.{row_at};
 ghost use Rattle.share_core.specs.Inner.Rows.{place_in, IsIndexed, HasNoRow};
-ghost use Rattle.share_core.specs.Inner.Checking.{AreBelow};
+ghost use Rattle.share_core.specs.Rows.{AreBelow};
 
 use crate::kept_rows::KeptRow;
 use crate::small::SmallOption;

@@ -62,7 +62,7 @@ impl HarvestFault {
 
     /// A share's row of a number has this word, and the number has another one in the table, or
     /// none.
-    pub(crate) fn stranger(number: usize, held: Word, of_table: Option<Word>) -> HarvestFault
+    pub fn stranger(number: usize, held: Word, of_table: Option<Word>) -> HarvestFault
         ensures { result ≡ fault.Stranger number (Some held) of_table }
     {
         HarvestFault::Stranger {

@@ -11,7 +11,7 @@ use tally_core::Meeting;
 
 /// A row in 32 bytes, where `Row` takes 48. Contracts see the row.
 #[derive(Clone, Copy)]
-pub(crate) struct KeptRow {
+pub struct KeptRow {
     shape: Shape,
     there: u64,
     played: u64,
@@ -56,7 +56,7 @@ impl KeptRow {
     ghost use Rattle.std.specs.Prelude.{◌≡◌, ◌+◌, ◌^◌, ◌<◌, Some, IfSome, IfNone};
     ghost use Rattle.share_core.specs.Rows.{blank};
     ghost use Rattle.share_core.specs.Inner.Raising.{raised};
-    ghost use Rattle.share_core.specs.Inner.Totals.{with_row, IsTooMuch};
+    ghost use Rattle.share_core.specs.Totals.{with_row, IsTooMuch};
 
     /// A row that counts nothing.
     pub fn blank(number: usize, shape: Shape) -> KeptRow

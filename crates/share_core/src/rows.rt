@@ -96,7 +96,7 @@ impl Rows {
     ghost use Rattle.std.specs.Prelude.{IfSome, IfNone, IfOk, IfErr, OnErr, slice_set};
     ghost use Rattle.share_core.specs.Rows.{row_at, blank, AreOfNumbers};
     ghost use Rattle.share_core.specs.Inner.Rows.{HasNoRow, IsIndexed};
-    ghost use Rattle.share_core.specs.Checking.{IsLeastFrom};
+    ghost use Rattle.share_core.specs.ShareRows.{IsLeastFrom};
     ghost use Rattle.share_core.specs.Inner.Making.{IsMade, IsRowFault};
     ghost use Rattle.share_core.specs.Inner.Raising.{raised};
 

@@ -67,7 +67,7 @@ impl Model for Share {
 impl Share {
     ghost use Rattle.std.specs.Prelude.{◌≡◌, ◌^◌, ◌<◌, [], length, OnOk, OnErr, IfErr};
     ghost use Rattle.slot_table.specs.Passes.{IsPassOf};
-    ghost use Rattle.share_core.specs.Rows.{row_of, AreOfNumbers};
+    ghost use Rattle.share_core.specs.Rows.{row_of, AreOfNumbers, AreBelow};
     ghost use Rattle.share_core.specs.Inner.Rows.{IsIndexed};
     ghost use Rattle.share_core.specs.Shares.{IsShare};
     ghost use Rattle.share_core.specs.Adding.{IsAdded, HasGrown, IsMarked, IsKept, IsAddFault};
@@ -138,8 +138,8 @@ impl Share {
         }
     }
 
-    /// The same as it is kept.
-    pub(crate) fn kept_at(&self, number: usize) -> Option<KeptRow>
+    /// The same as it is kept. It takes no memory.
+    pub fn kept_at(&self, number: usize) -> Option<KeptRow>
         ensures row { result ≡ row_of self.now.rows number }
         ensures numbers { AreOfNumbers self.now.rows }
     {
@@ -150,8 +150,8 @@ impl Share {
         }
     }
 
-    /// The chains of the rows, by buckets of numbers. It takes no memory.
-    pub(crate) fn chains(&self) -> Chains<'_>
+    /// The chains of the rows, by buckets of numbers.
+    fn chains(&self) -> Chains<'_>
         ensures rows { result.rows.now ≡ self.now.rows }
         ensures indexed { IsIndexed result.shift result.index.now result.older.now
             self.now.rows }
@@ -160,15 +160,22 @@ impl Share {
     }
 
     /// The rows, in their order. It takes no memory.
-    pub(crate) fn made_rows(&self) -> &[KeptRow]
+    pub fn made_rows(&self) -> &[KeptRow]
         ensures rows { result.now ≡ self.now.rows }
         ensures numbers { AreOfNumbers self.now.rows }
     {
         self.ledger.rows().as_slice()
     }
 
-    /// The same, of which there are few.
-    pub(crate) fn small_rows(&self) -> &[KeptRow]
+    /// A number above those of all rows. It reads no row.
+    pub fn end(&self) -> usize
+        ensures { AreBelow result self.now.rows }
+    {
+        self.chains().end()
+    }
+
+    /// The rows in their order, of which there are few. It takes no memory.
+    pub fn small_rows(&self) -> &[KeptRow]
         ensures rows { result.now ≡ self.now.rows }
         ensures few { length result.now < 2 ^ 32 }
     {

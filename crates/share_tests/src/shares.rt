@@ -7,12 +7,13 @@ use crate::testing::{
     ALONE, EMPTY, ONE_POINT, TAKEN, TWO_POINTS, entry_of, first_share, order_of, record_of,
     refusal_of, shape_of, share_of, word_of,
 };
+use gather_core::{confirm_full, gather};
 use go_record::Record;
 use probe_core::{Key, ProbeOrder};
 use sgf_core::SgfFault;
 use shape_core::{Kinds, Shape, Word};
 use shape_dict::Dictionary;
-use share_core::{HarvestFault, Row, Share, confirm_full, gather};
+use share_core::{HarvestFault, Row, Share};
 use slot_table::{Pass, SlotTable};
 use std::alloc::Global;
 use std::process::Abort;

@@ -6,9 +6,9 @@ use Rattle.share_core.specs.declared.rows.Row.{Row}
 use Rattle.share_core.specs.declared.faults.HarvestFault.{HarvestFault}
 use Rattle.share_core.specs.declared.faults.HarvestFault.TheVariants as fault
 use Rattle.share_core.specs.Shares.{Held}
-use Rattle.share_core.specs.Checking.{all_rows, Stand}
-use Rattle.share_core.specs.Confirming.{IsConfirmation}
-use Rattle.share_core.specs.GatherFaults.{IsGatherFault}
+use Rattle.gather_core.specs.Checking.{all_rows, Stand}
+use Rattle.gather_core.specs.Confirming.{IsConfirmation}
+use Rattle.gather_core.specs.GatherFaults.{IsGatherFault}
 use Rattle.harvest_core.specs.declared.working.Worked.{Worked}
 use Rattle.harvest_core.specs.declared.taking.Crop.{Crop}
 use Rattle.harvest_core.specs.InTable.{AreFirstsMarked, StandsIn}

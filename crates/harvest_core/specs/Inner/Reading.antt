@@ -4,7 +4,7 @@ use Rattle.tally_core.specs.Counted.{IsCountFault}
 use Rattle.tally_core.specs.declared.faults.TallyFault.TheVariants as tally
 use Rattle.slot_table.specs.Passes.{IsPassOf}
 use Rattle.job_core.specs.Games.{HasReadAll}
-use Rattle.share_core.specs.Covering.{times_of}
+use Rattle.gather_core.specs.Covering.{times_of}
 use Rattle.share_core.specs.declared.faults.HarvestFault.{HarvestFault}
 use Rattle.share_core.specs.declared.faults.HarvestFault.TheVariants as fault
 use Rattle.harvest_core.specs.declared.reading.Reading.{Reading}

@@ -5,9 +5,9 @@ use Rattle.std.proofs.lemmas.Result.{err_from_is_err_and}
 use Rattle.job_core.specs.Games.{HasReadAll}
 use Rattle.share_core.specs.declared.faults.HarvestFault.{HarvestFault}
 use Rattle.share_core.specs.declared.faults.HarvestFault.TheVariants as fault
-use Rattle.share_core.specs.Checking.{all_rows}
-use Rattle.share_core.specs.Covering.{all_games}
-use Rattle.share_core.specs.GatherFaults.{IsGatherFault}
+use Rattle.gather_core.specs.Checking.{all_rows}
+use Rattle.gather_core.specs.Covering.{all_games}
+use Rattle.gather_core.specs.GatherFaults.{IsGatherFault}
 use Rattle.share_core.specs.Shares.{Held}
 use Rattle.slot_table.specs.Passes.{calls_of}
 use Rattle.harvest_core.specs.declared.working.Worked.{Worked}

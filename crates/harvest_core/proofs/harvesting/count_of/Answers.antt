@@ -1,6 +1,6 @@
 use Rattle.std.proofs.Common.{◌^◌, refl}
 use Rattle.std.proofs.lemmas.Result.{err_from_is_err_and}
-use Rattle.share_core.specs.Checking.{all_rows}
+use Rattle.gather_core.specs.Checking.{all_rows}
 use Rattle.harvest_core.proofs.Concluded.{ungathered}
 use Rattle.harvest_core.proofs.Harvested.{games_within, harvested, numbered}
 use Rattle.harvest_core.proofs.harvesting.count_of.Goals as goal

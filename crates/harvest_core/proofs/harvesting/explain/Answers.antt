@@ -1,5 +1,5 @@
 use Rattle.std.proofs.Common.{◌^◌, Some, ap, refl, subst}
-use Rattle.share_core.specs.Checking.{all_rows}
+use Rattle.gather_core.specs.Checking.{all_rows}
 use Rattle.harvest_core.specs.Working.{IsRefusal}
 use Rattle.harvest_core.proofs.Concluded.{explained, refused_for}
 use Rattle.harvest_core.proofs.harvesting.explain.Goals as goal

@@ -2,7 +2,7 @@ use Rattle.std.proofs.Common.{rules, ◌≡◌, ◌^◌, Some, None, refl, subst
 use Rattle.std.specs.List.{AllByRecursion}
 use Rattle.go_record.specs.Actions.{Actions}
 use Rattle.share_core.specs.Adding.{IsAdded, HasGrown, IsKept, IsAddFault, IsMarked, IsRowed, IsRowedAfter, IsEntryOf, IsMarkOf}
-use Rattle.share_core.proofs.Standings.{stand_kept, no_stranger}
+use Rattle.gather_core.proofs.Standings.{stand_kept, no_stranger}
 use Rattle.share_core.specs.Entering.{IsCall, CallsOnly, EntersOnly}
 use Rattle.harvest_core.specs.Working.{IsGame}
 use Rattle.harvest_core.proofs.InTable.{in_table_kept, in_table_grown}

@@ -3,7 +3,7 @@ use Rattle.std.proofs.lemmas.List.{get_or_default}
 use Rattle.share_core.specs.declared.rows.Row.{Row}
 use Rattle.share_core.specs.Rows.{row_at, blank, AreOfNumbers}
 use Rattle.share_core.specs.Inner.Rows.{IsIndexed}
-use Rattle.share_core.specs.Checking.{IsLeastFrom}
+use Rattle.share_core.specs.ShareRows.{IsLeastFrom}
 use Rattle.share_core.proofs.Indexed.{shifted}
 use Rattle.share_core.proofs.Rising.{AreBeyond, step_beyond, first_row, no_row}
 use Rattle.share_core.proofs.rows.Rows.first_from.Goals as goal

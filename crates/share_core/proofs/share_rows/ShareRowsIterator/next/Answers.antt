@@ -1,7 +1,7 @@
 use Rattle.std.proofs.Common.{◌+◌, ◌<◌, Some, None, refl, ap, sym, subst}
-use Rattle.share_core.specs.Checking.{IsLeastFrom}
+use Rattle.share_core.specs.ShareRows.{IsLeastFrom}
 use Rattle.share_core.specs.ShareRows.{RowsFrom, IsNextRow}
-use Rattle.share_core.proofs.Confirmed.{row_among}
+use Rattle.share_core.proofs.Found.{row_among}
 use Rattle.share_core.proofs.RowsLeft.{count_from, fewer_past}
 use Rattle.share_core.proofs.share_rows.ShareRowsIterator.next.Goals as goal
 

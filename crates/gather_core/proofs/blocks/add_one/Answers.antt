@@ -1,0 +1,44 @@
+use Rattle.std.proofs.Common.{◌≡◌, ◌+◌, ◌-◌, ◌<◌, ◌∷◌, [], ◌++◌, ℕ, true, false, List, length, get_or, Option, Some, None, IfSome, sym, subst, ◌∙◌, arith}
+use Rattle.std.specs.Prelude.{slice_set}
+use Rattle.std.proofs.lemmas.List.{length-set, get_or_default}
+use Rattle.std.specs.Option.{is_some}
+use Rattle.share_core.specs.declared.rows.Row.{Row}
+use Rattle.share_core.specs.Totals.{with_row}
+use Rattle.gather_core.specs.Inner.Blocks.{IsLike, AreEven}
+use Rattle.gather_core.proofs.Evened.{evens_other, evens_with}
+use Rattle.gather_core.proofs.blocks.add_one.Goals as goal
+use Rattle.gather_core.proofs.blocks.add_one.Goals.{then-is_some, else-is_some, then-number-from-via-then-number-from, then-number-from-via-else-number-from+then-number-from-2}
+
+pub returns-then-number-from-clause-added : goal.returns-then-number-from-clause-added
+returns-then-number-from-clause-added c is_so rows h =
+    evens_other rows c.args.from c.args.totals.now c.args.row
+    (λ place low same. elim c.then-number-from.branch [
+      | then-number-from-via-then-number-from w ↦ let under = w.if-number-from.true in let is = c.number-number.ensures in omega arith
+      | then-number-from-via-else-number-from+then-number-from-2 w ↦ let over = w.if-number-from-2.true in let is = c.number-number.ensures in omega arith
+    ]) h
+
+-- the total that was written
+with_both : (both : Option Row) (total : Option Row) (row : Row) (rows : List Row) (from at : ℕ) (totals : List (Option Row)) → is_some both ≡ true →
+    IfSome both (λ b. (b ≡ with_row total row) × IsLike total row) → row.number ≡ from + at → at < length totals → total ≡ get_or totals at None →
+    AreEven rows from totals → AreEven (rows ++ row ∷ []) from (slice_set totals at both)
+with_both None total row rows from at totals some h same inside is even place low = absurd cc
+with_both (Some both) total row rows from at totals some h same inside is even place low =
+    let long = length-set totals at (Some both) in
+    evens_with rows from at totals row total both same inside is h.0 h.1 even place (omega arith)
+
+pub returns-clause-added : goal.returns-clause-added
+returns-clause-added c is_so rows h =
+    let totals = c.args.totals.now in
+    let from = c.args.from in
+    let at = c.number-number.result - from in
+    let low = c.if-number-from.false in
+    let inside : at < length totals = (let l = c.if-number-from-2.false in omega arith) in
+    let some : is_some c.with_like-both.result ≡ true = sym c.is_some-2.ensures ∙ is_so in
+    let same : c.args.row.number ≡ from + at = (let is = c.number-number.ensures in omega arith) in
+    let read : c.index-totals-number.result ≡ get_or totals at None = c.index-totals-number.is ∙ get_or_default totals at c.index-totals-number.result None inside in
+    elim c.if-is_some.branch [
+      | then-is_some w ↦
+          subst (AreEven (rows ++ c.args.row ∷ []) from) (sym w.totals-is)
+          (with_both c.with_like-both.result c.index-totals-number.result c.args.row rows from at totals some c.with_like-both.ensures same inside read h)
+      | else-is_some w ↦ let clash : true ≡ false = sym some ∙ sym c.is_some.ensures ∙ w.if-is_some.false in absurd cc
+    ]

@@ -1,0 +1,10 @@
+use Rattle.std.proofs.Common.{◌≡◌, take, length, IsTrue}
+use Rattle.gather_core.specs.Inner.Blocks.{AreEven}
+use Rattle.gather_core.proofs.blocks.add_up_rows.Given as goal
+
+-- the totals of the rows so far
+abbrev pub invariant-loop-row : goal.invariant-loop-row
+invariant-loop-row l = record {
+  long : length l.totals ≡ length l.fn.totals;
+  even : IsTrue l.goes → AreEven (take l.row-index l.rows) l.from l.totals;
+}

@@ -1,0 +1,28 @@
+use Rattle.std.proofs.Common.{◌≡◌, ◌+◌, ◌-◌, length, take, drop, length-append, length-take, length-drop, subst, arith}
+use Rattle.gather_core.specs.Checking.{all_rows}
+use Rattle.gather_core.specs.Inner.Pieces.{IsPiece}
+use Rattle.gather_core.proofs.pieces.piece_of.Goals as goal
+
+pub loop-low-preserved : goal.loop-low-preserved
+loop-low-preserved c =
+    let low = c.loop-low.low in
+    let next = c.block_end-next.result in
+    let totals = c.loop-low.totals in
+    let before = c.loop-low.invariant in
+    let after = before.after in
+    let room = before.room in
+    let up = c.block_end-next.ensures.after in
+    let within = c.block_end-next.ensures.within in
+    let few = c.block_end-next.ensures.few in
+    let taken = length-take (next - low) totals in
+    let end : low + length (take (next - low) totals) ≡ next = omega arith in
+    record {
+      after = omega arith;
+      within = within;
+      room =
+          let long = c.in_ok-add_block.ensures.long in
+          let joined = length-append c.add_block.new.totals (drop (next - low) totals) in
+          let left = length-drop (next - low) totals in
+          omega arith;
+      made = subst (λ k. IsPiece (all_rows c.args.shares.now) c.args.from k c.add_block.new.piece) end (c.in_ok-add_block.ensures.added c.args.from after before.made);
+    }

@@ -1,0 +1,28 @@
+-- What the definitions of `Checking` serve inside the crate.
+use Rattle.std.specs.Prelude.{◌≡◌, ℕ, ◌≤◌, if◌then◌else◌, List, Option, Some, None, IfSome, Contains}
+use Rattle.probe_core.specs.Sequential.{IsNumber}
+use Rattle.slot_table.specs.declared.entries.Happened.{Happened}
+use Rattle.slot_table.specs.History.{content_of}
+use Rattle.share_core.specs.declared.rows.Row.{Row}
+use Rattle.share_core.specs.declared.faults.HarvestFault.{HarvestFault}
+use Rattle.share_core.specs.declared.faults.HarvestFault.TheVariants as fault
+use Rattle.gather_core.specs.Checking.{is_shape, stranger_in, IsStranger}
+
+-- the pattern that was found at a number, if one was, is the number's, as it then is for ever after
+abbrev pub IsFound : ℕ → List Happened → ℕ → Option ℕ → Type 0
+IsFound n seen number found = IfSome found (λ shape. IsNumber (content_of n seen) shape number)
+
+-- why rows are not those of a table
+abbrev pub IsStandFault : ℕ → List Happened → List Row → HarvestFault → Type 0
+IsStandFault n seen rows (fault.Stranger number of_share of_table) = IsStranger n seen rows number of_share of_table
+IsStandFault n seen rows found = ⊥
+
+-- the pattern of a row, if it is another one than this
+abbrev pub unlike_of : Row → Option ℕ → Option ℕ
+unlike_of row found = if is_shape found row.shape then None else Some row.shape
+
+-- a row is of a number that a table of n does not have, and no other one is of a lesser such number
+abbrev pub IsBeyondFault : ℕ → List Row → HarvestFault → Type 0
+IsBeyondFault slots rows (fault.Stranger number of_share None) = (slots ≤ number) × (of_share ≡ stranger_in rows number None)
+    × ((word : ℕ) × (of_share ≡ Some word)) × ((row : Row) → Contains rows row → slots ≤ row.number → number ≤ row.number)
+IsBeyondFault slots rows found = ⊥

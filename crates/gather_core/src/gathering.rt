@@ -1,0 +1,87 @@
+//! Shares put together to a dictionary.
+ghost use Rattle.std.specs.Prelude.{◌≡◌, ◌<◌, ◌^◌, All, None, OnOk, IfOk, IfErr, false};
+ghost use Rattle.slot_table.specs.Passes.{IsPassOf};
+ghost use Rattle.gather_core.specs.Agreeing.{AskedAll};
+ghost use Rattle.gather_core.specs.Checking.{all_rows, Stand};
+ghost use Rattle.gather_core.specs.Covering.{all_games, Covers};
+ghost use Rattle.share_core.specs.Entering.{AsksOnly};
+ghost use Rattle.gather_core.specs.Gathering.{IsGathered};
+ghost use Rattle.gather_core.specs.GatherFaults.{IsGatherFault};
+ghost use Rattle.gather_core.specs.Inner.Visiting.{IsNumbersFault};
+
+use crate::adding_up::add_up;
+use crate::agreeing::{Differs, marks_fault};
+use crate::covering::check_games;
+use crate::rounds::visit_all;
+use crate::standing::check_beyond;
+use probe_core::ProbeOrder;
+use shape_core::Kinds;
+use shape_dict::Dictionary;
+use share_core::{HarvestFault, Share};
+use slot_table::{Pass, SlotTable};
+use std::alloc::Global;
+use std::thread::Threads;
+
+/// What is wrong with the numbers where each row is of the table's pattern: a mark that differs
+/// comes before a sum too large.
+fn check_numbers(differs: Option<Differs>, is_large: bool) -> Result<(), HarvestFault>
+    ensures ok { OnOk result ((differs ≡ None) × (is_large ≡ false)) }
+    ensures fault { IfErr result (IsNumbersFault differs is_large) }
+{
+    if let Some(differs) = differs {
+        return Err(marks_fault(differs));
+    }
+    if is_large {
+        return Err(HarvestFault::Overflow);
+    }
+    Ok(())
+}
+
+/// The dictionary of shares that have each number below `games` as a game once together: for each
+/// pattern the sums of all rows, and the least game. A pattern that was never there is left out.
+///
+/// Each number is asked once, in rising order, until one differs; what is marked after that is not
+/// judged. Nothing is entered or marked here. Where there are many patterns, threads add rows up,
+/// one fewer than there are shares and two at least, while this one asks and one more lists the
+/// entries. Then threads sort the dictionary: as many as there are shares, rounded up to a power of
+/// two, 64 at most. The answer is the same.
+///
+/// The pass must be of the table, each share of these kinds, and each of its games below `games`.
+///
+/// # Errors
+///
+/// In this order: `Twice` with the least game that is in the shares twice; `Missing` with the least
+/// that is in none; `Stranger` with the least number at which a share has a row and the table
+/// another pattern than the row's, or none; `Marks` with the least number whose least marked game
+/// is not the least of its rows; `Overflow` where a sum passes 2^64 - 1. `Memory` where memory was
+/// refused. After each the table's numbers and marks are as they were.
+#[tactic(auto, using(share_core::proofs::Entered::calls_self))]
+pub fn gather<R: Threads + Sync, O: ProbeOrder>(
+    rt: &R,
+    alloc: Global,
+    table: &SlotTable<O>,
+    pass: &mut Pass<O>,
+    kinds: Kinds,
+    games: u64,
+    shares: &[Share],
+) -> Result<Dictionary, HarvestFault>
+    requires pass { IsPassOf (2 ^ O.exponent table.now.order) table.now pass.old }
+    requires kinds { All (λ share. share.kinds ≡ kinds) shares.now }
+    requires games { All (λ share. All (λ game. game < games) share.games) shares.now }
+    ensures pass { IsPassOf (2 ^ O.exponent table.now.order) table.now pass.new }
+    ensures later { AsksOnly (2 ^ O.exponent table.now.order) pass.old pass.new }
+    ensures gathered { IfOk result (IsGathered kinds games shares.now) }
+    ensures covers { OnOk result (Covers games (all_games shares.now)) }
+    ensures stand { OnOk result (Stand (2 ^ O.exponent table.now.order) pass.new.seen
+        (all_rows shares.now)) }
+    ensures asked { OnOk result (AskedAll (2 ^ O.exponent table.now.order) (all_rows shares.now)
+        pass.old pass.new) }
+    ensures fault { IfErr result (IsGatherFault (2 ^ O.exponent table.now.order) games shares.now
+        pass.old pass.new) }
+{
+    check_games(alloc, games, shares)?;
+    let visited = visit_all(rt, alloc, table, pass, shares)?;
+    check_beyond(shares, table.capacity().slots())?;
+    check_numbers(visited.differs, visited.listed.is_large)?;
+    add_up(rt, kinds, games, visited.listed, shares)
+}

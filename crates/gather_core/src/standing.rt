@@ -1,0 +1,65 @@
+//! Rows of another pattern than the table has at their number, and rows of numbers that it does not
+//! have.
+ghost use Rattle.std.specs.Prelude.{◌≡◌, ◌^◌, ◌<◌, IfSome, OnOk, IfErr, IsTrue};
+ghost use Rattle.gather_core.specs.Checking.{all_rows};
+ghost use Rattle.gather_core.specs.Inner.Checking.{IsBeyondFault};
+ghost use Rattle.share_core.specs.Rows.{AreBelow};
+
+use crate::leasts::{Sought, least_of};
+use probe_core::Key;
+use shape_core::Word;
+use share_core::{HarvestFault, Share};
+
+/// The bits of a key.
+pub(crate) fn bits_of(key: Option<Key>) -> Option<u64>
+    ensures bits { result ≡ key }
+    ensures small { IfSome result (λ bits. bits < 2 ^ 51) }
+{
+    match key {
+        Some(key) => Some(key.bits()),
+        None => None,
+    }
+}
+
+/// The word of these bits.
+pub(crate) fn word_of(bits: Option<u64>) -> Option<Word>
+    requires { IfSome bits (λ bits. bits < 2 ^ 51) }
+    ensures { result ≡ bits }
+{
+    match bits {
+        Some(bits) => Word::new(bits),
+        None => None,
+    }
+}
+
+/// Whether no share's rows go beyond a table of this many slots: then no row does. It reads no
+/// row.
+fn are_within(shares: &[Share], slots: usize) -> bool
+    ensures { IsTrue result → AreBelow slots (all_rows shares.now) }
+{
+    for share in shares {
+        if share.end() > slots {
+            return false;
+        }
+    }
+    true
+}
+
+/// Rows of a number that is none of the table's are of no pattern there. Rows are looked at only
+/// where an index goes beyond the table, as that of a share of a larger one.
+pub(crate) fn check_beyond(shares: &[Share], slots: usize) -> Result<(), HarvestFault>
+    ensures ok { OnOk result (AreBelow slots (all_rows shares.now)) }
+    ensures fault { IfErr result (IsBeyondFault slots (all_rows shares.now)) }
+{
+    if are_within(shares, slots) {
+        return Ok(());
+    }
+    match least_of(shares, Sought::From(slots)) {
+        None => Ok(()),
+        Some(row) => Err(HarvestFault::Stranger {
+            number: row.number,
+            of_share: Some(row.shape.word()),
+            of_table: None,
+        }),
+    }
+}

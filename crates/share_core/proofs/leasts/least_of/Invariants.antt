@@ -1,8 +1,0 @@
-use Rattle.std.proofs.Common.{take}
-use Rattle.share_core.specs.Checking.{all_rows}
-use Rattle.share_core.specs.Inner.Leasts.{IsLeastSought}
-use Rattle.share_core.proofs.leasts.least_of.Given as goal
-
--- the least of the rows of the shares so far
-abbrev pub invariant-loop-share : goal.invariant-loop-share
-invariant-loop-share l = IsLeastSought l.sought (all_rows (take l.share-index l.shares)) l.found

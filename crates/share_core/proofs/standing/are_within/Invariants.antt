@@ -1,8 +1,0 @@
-use Rattle.std.proofs.Common.{take}
-use Rattle.share_core.specs.Checking.{all_rows}
-use Rattle.share_core.specs.Inner.Checking.{AreBelow}
-use Rattle.share_core.proofs.standing.are_within.Given as goal
-
--- the rows of the shares so far are of the table's numbers
-abbrev pub invariant-loop-share : goal.invariant-loop-share
-invariant-loop-share l = AreBelow l.slots (all_rows (take l.share-index l.shares))
