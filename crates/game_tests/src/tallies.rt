@@ -5,7 +5,7 @@ use shape_core::Kinds;
 use shape_dict::{Dictionary, Entry, Text};
 use std::alloc::Global;
 use std::test::Fail;
-use tally_core::{TallyFault, Report, Settings, count_plain, has_diamonds, tally_plain};
+use tally_core::{Report, Settings, TallyFault, count_plain, has_diamonds, tally_plain};
 
 /// Two stones, on a board of two points.
 pub(crate) const TWO_STONES: &[u8] = b"(;SZ[2:1];B[aa];W[ba])";

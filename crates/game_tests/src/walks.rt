@@ -9,7 +9,7 @@ use std::alloc::{AllocError, Global};
 use std::collections::BTreeMap;
 use std::process::Abort;
 use std::test::Fail;
-use tally_core::{TallyFault, Meeting, Walk, tally_plain};
+use tally_core::{Meeting, TallyFault, Walk, tally_plain};
 
 /// Numbers that look as if thrown.
 #[derive(Clone, Copy)]

@@ -20,7 +20,7 @@ use go_record::{Kind, Record, RecordFault, read_record};
 use sgf_core::{SgfFault, Tree, Trees};
 use std::alloc::Global;
 use std::marker::Model;
-use tally_core::{TallyFault, Report};
+use tally_core::{Report, TallyFault};
 
 /// Whether a tree may come, or why none does.
 #[derive(Clone, Copy)]

@@ -11,7 +11,7 @@ use std::sync::Wait;
 use std::test::Fail;
 use std::thread;
 use std::thread::Threads;
-use tally_core::{TallyFault, Report};
+use tally_core::{Report, TallyFault};
 
 /// Two games, and between them a tree of another game and one with a board of no column.
 const MIXED: &[u8] = b"(;SZ[1];B[aa])(;GM[2])(;SZ[0])\n(;B[aa];W[bb])";
