@@ -1,21 +1,21 @@
 -- Games of trees, one tree after another.
-use Rattle.std.proofs.Common.{◌≡◌, ℕ, ◌+◌, List, [], ◌∷◌, ◌++◌, length, Result, Ok, Err, refl, ap, ap₂, sym, subst, ◌∙◌, arith, append_assoc, length-append}
+use Rattle.std.proofs.Common.{◌≡◌, ℕ, ◌+◌, ◌≤◌, List, [], ◌∷◌, ◌++◌, length, Result, Ok, Err, refl, ap, ap₂, sym, subst, ◌∙◌, arith, append_assoc, length-append}
 use Rattle.std.proofs.lemmas.List.{append-nil}
 use Rattle.sgf_core.specs.Tree.{GameTree}
 use Rattle.sgf_core.specs.Next.{IsNextTree}
+use Rattle.sgf_core.specs.Limit.{most_bytes}
 use Rattle.sgf_core.specs.declared.faults.SgfFault.TheVariants as sgf
 use Rattle.go_record.specs.declared.records.Kind.{Kind}
 use Rattle.go_record.specs.declared.records.Kind.TheVariants as kind
 use Rattle.go_record.specs.declared.faults.RecordFault.{RecordFault}
 use Rattle.tally_core.specs.Collection.{AreTrees, record_of_tree, games_among}
-use Rattle.tally_core.specs.Counted.{IsCountFault}
 use Rattle.tally_core.specs.Inner.Counting.{IsNextFault}
 use Rattle.tally_core.specs.declared.faults.TallyFault.{TallyFault}
 use Rattle.tally_core.specs.declared.faults.TallyFault.TheVariants as fault
 use Rattle.hits_core.specs.declared.games.Game.{Game}
 use Rattle.hits_core.specs.declared.reading.Recorded.{Recorded}
 use Rattle.hits_core.specs.Hits.{game_of, AreGames}
-use Rattle.hits_core.specs.Inner.Reading.{IsRecorded, ReadsUpTo}
+use Rattle.hits_core.specs.Inner.Reading.{IsRecorded, ReadsUpTo, IsReadFault}
 
 -- a tree is as many games either way
 pub one-game : (recorded : Result Kind RecordFault) (number at : ℕ) → length (game_of recorded number at) ≡ length (games_among (recorded ∷ []))
@@ -69,15 +69,16 @@ reads-on bytes from games new read reads is grown = record {
 }
 
 -- why there is no next tree is why the input was not read
-pub read-fault : (bytes : List ℕ) (from : ℕ) (games : List Game) (found : TallyFault) → ReadsUpTo bytes from games → IsNextFault bytes from found → IsCountFault bytes found
-read-fault bytes from games fault.Memory reads is = tt
-read-fault bytes from games fault.BadSettings reads is = absurd is
-read-fault bytes from games fault.Overflow reads is = absurd is
-read-fault bytes from games (fault.Sgf (sgf.Truncated at)) reads is =
-    record { trees = reads.trees; end = from; written = games-are-of-trees bytes 0 0 reads.trees from games reads.of_trees; fault = is }
-read-fault bytes from games (fault.Sgf (sgf.BadByte at)) reads is =
-    record { trees = reads.trees; end = from; written = games-are-of-trees bytes 0 0 reads.trees from games reads.of_trees; fault = is }
-read-fault bytes from games (fault.Sgf (sgf.NoValue at)) reads is =
-    record { trees = reads.trees; end = from; written = games-are-of-trees bytes 0 0 reads.trees from games reads.of_trees; fault = is }
-read-fault bytes from games (fault.Sgf sgf.TooLarge) reads is = absurd is
-read-fault bytes from games (fault.Sgf sgf.Memory) reads is = absurd is
+pub read-fault : (bytes : List ℕ) (from : ℕ) (games : List Game) (found : TallyFault) → length bytes ≤ most_bytes → ReadsUpTo bytes from games →
+    IsNextFault bytes from found → IsReadFault bytes found
+read-fault bytes from games fault.Memory few reads is = tt
+read-fault bytes from games fault.BadSettings few reads is = absurd is
+read-fault bytes from games fault.Overflow few reads is = absurd is
+read-fault bytes from games (fault.Sgf (sgf.Truncated at)) few reads is =
+    (few, record { trees = reads.trees; end = from; written = games-are-of-trees bytes 0 0 reads.trees from games reads.of_trees; fault = is })
+read-fault bytes from games (fault.Sgf (sgf.BadByte at)) few reads is =
+    (few, record { trees = reads.trees; end = from; written = games-are-of-trees bytes 0 0 reads.trees from games reads.of_trees; fault = is })
+read-fault bytes from games (fault.Sgf (sgf.NoValue at)) few reads is =
+    (few, record { trees = reads.trees; end = from; written = games-are-of-trees bytes 0 0 reads.trees from games reads.of_trees; fault = is })
+read-fault bytes from games (fault.Sgf sgf.TooLarge) few reads is = absurd is
+read-fault bytes from games (fault.Sgf sgf.Memory) few reads is = absurd is

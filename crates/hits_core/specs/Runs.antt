@@ -41,7 +41,7 @@ HasHitsText search words input text = (found : Outcome) × IsHitsText search wor
 -- the input is too large, which comes first, or has this fault of syntax, or memory was wanting
 abbrev pub IsHitsFault : List ℕ → RunFault → Type 0
 IsHitsFault input (fault.Sgf sgf.TooLarge) = most_bytes < length input
-IsHitsFault input (fault.Sgf found) = HasFault input found
+IsHitsFault input (fault.Sgf found) = (length input ≤ most_bytes) × HasFault input found
 IsHitsFault input fault.Memory = Unit {0}
 IsHitsFault input (fault.Record found) = ⊥
 IsHitsFault input (fault.Board found) = ⊥

@@ -5,11 +5,10 @@ ghost use Rattle.sgf_core.specs.Next.{IsNextTree, HasNoTree};
 ghost use Rattle.sgf_core.specs.Limit.{most_bytes};
 ghost use Rattle.go_record.specs.declared.faults.RecordFault.TheVariants as record_fault;
 ghost use Rattle.tally_core.specs.Collection.{games_among};
-ghost use Rattle.tally_core.specs.Counted.{IsCountFault};
 ghost use Rattle.tally_core.specs.Inner.Counting.{IsNextFault};
 ghost use Rattle.tally_core.specs.declared.faults.TallyFault.TheVariants as fault;
 ghost use Rattle.hits_core.specs.Hits.{game_of};
-ghost use Rattle.hits_core.specs.Inner.Reading.{IsRecorded, ReadsUpTo, HasReadAll};
+ghost use Rattle.hits_core.specs.Inner.Reading.{IsRecorded, ReadsUpTo, HasReadAll, IsReadFault};
 
 use crate::games::Game;
 use go_record::{Kind, RecordFault, read_record};
@@ -95,7 +94,7 @@ fn push_game(
 /// `Memory` where memory was refused.
 pub(crate) fn read_games(alloc: Global, input: &[u8]) -> Result<Vec<Game>, TallyFault>
     ensures games { IfOk result (λ games. HasReadAll input.now games.items) }
-    ensures fault { IfErr result (IsCountFault input.now) }
+    ensures fault { IfErr result (IsReadFault input.now) }
 {
     let mut trees = Trees::new(input).map_err(TallyFault::Sgf)?;
     let mut games = Vec::new(alloc);

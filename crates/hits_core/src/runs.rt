@@ -1,8 +1,8 @@
 //! From a reader to a writer: the hits of patterns in a collection.
 ghost use Rattle.std.specs.Prelude.{◌≡◌, ℕ, List, IfOk, IfErr};
-ghost use Rattle.tally_core.specs.Counted.{IsCountFault};
 ghost use Rattle.engine_core.specs.Runs.{HasRead, Wrote, IsRunFault};
 ghost use Rattle.hits_core.specs.Runs.{IsHitsText, HasHitsText, IsHitsFault, IsAnswer};
+ghost use Rattle.hits_core.specs.Inner.Reading.{IsReadFault};
 ghost use Rattle.hits_core.specs.Inner.Runs.{limit_of, AreHitsIn};
 
 use crate::hits::Hit;
@@ -19,13 +19,11 @@ use tally_core::TallyFault;
 
 /// The fault of a run that a fault of reading or finding is.
 fn run_fault(fault: TallyFault) -> RunFault
-    ensures { (input : List ℕ) → IsCountFault input fault → IsHitsFault input result }
+    ensures { (input : List ℕ) → IsReadFault input fault → IsHitsFault input result }
 {
     match fault {
         TallyFault::Sgf(fault) => RunFault::Sgf(fault),
-        TallyFault::Memory | TallyFault::BadSettings | TallyFault::Overflow => {
-            RunFault::Memory
-        }
+        TallyFault::Memory | TallyFault::BadSettings | TallyFault::Overflow => { RunFault::Memory }
     }
 }
 
@@ -61,7 +59,7 @@ fn first_hits<T: Threads + Sync>(
     input: &[u8],
 ) -> Result<Vec<Hit>, TallyFault>
     ensures hits { IfOk result (λ hits. AreHitsIn search wanted.now input.now hits.items) }
-    ensures fault { IfErr result (IsCountFault input.now) }
+    ensures fault { IfErr result (IsReadFault input.now) }
 {
     let games = read_games(alloc, input)?;
     let limit = limit_of(search.most);

@@ -1,6 +1,7 @@
 //! What wanted memory, and the fault of a run that it is.
 ghost use Rattle.std.specs.Prelude.{◌≡◌};
 ghost use Rattle.listing_core.specs.Inner.Wants.{fault_of};
+ghost use Rattle.listing_core.specs.declared.wants.Want.TheVariants.{Board, Text};
 
 use engine_core::RunFault;
 use go_board::BoardFault;
@@ -19,7 +20,7 @@ pub(crate) enum Want {
 }
 
 impl From<AllocError> for Want {
-    ghost from_gives = { λ _ want. Unit {0} };
+    ghost from_gives = { λ _ want. want ≡ Text };
 
     fn from(_: AllocError) -> Want {
         Want::Text
@@ -27,7 +28,7 @@ impl From<AllocError> for Want {
 }
 
 impl<T: Drop> From<AllocFailed<T>> for Want {
-    ghost from_gives = { λ _ want. Unit {0} };
+    ghost from_gives = { λ _ want. want ≡ Text };
 
     fn from(_: AllocFailed<T>) -> Want {
         Want::Text
@@ -35,7 +36,7 @@ impl<T: Drop> From<AllocFailed<T>> for Want {
 }
 
 impl From<BoardFault> for Want {
-    ghost from_gives = { λ _ want. Unit {0} };
+    ghost from_gives = { λ _ want. want ≡ Board };
 
     fn from(_: BoardFault) -> Want {
         Want::Board

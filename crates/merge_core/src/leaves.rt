@@ -1,8 +1,11 @@
 //! The lines of one dictionary, which was judged before.
-ghost use Rattle.std.specs.Prelude.{◌≡◌, ◌<◌, ◌+◌, ◌^◌, ℕ, [], List, Some, MatchResult, IfOk};
+ghost use Rattle.std.specs.Prelude.{◌≡◌, ◌<◌, ◌+◌, ◌^◌, ◌⊎◌, ℕ, [], List, Some, MatchResult, IfOk};
+ghost use Rattle.std.specs.Prelude.{IfErr};
+ghost use Rattle.shape_dict.specs.declared.entries.Entry.{Entry as One};
 ghost use Rattle.shape_dict.specs.Contents.{Contents};
 ghost use Rattle.shape_dict.specs.Reading.{IsTextOf};
-ghost use Rattle.merge_core.specs.Entries.{IsNextFault};
+ghost use Rattle.merge_core.specs.Entries.{IsNext, IsNextFault, WasNext};
+ghost use Rattle.merge_core.specs.declared.entries.NextFault.TheVariants as fault;
 ghost use Rattle.stream_core.specs.Streams.{HasGiven};
 ghost use Rattle.merge_core.specs.Inner.Leaves.{HasLeft, HasCome};
 ghost use Rattle.merge_core.specs.Inner.Judging.{IsTotalIn};
@@ -27,7 +30,13 @@ impl<R: Read + Drop> Entries for Leaf<R> {
 
     ghost came = { λ leaf entries. HasCome leaf.lines entries };
 
-    fn next_entry(&mut self) -> Result<Option<Entry>, NextFault> {
+    fn next_entry(&mut self) -> Result<Option<Entry>, NextFault>
+        ensures next { (entries : List One) → HasLeft self.old.lines entries
+            → MatchResult result (IsNext (HasLeft self.new.lines) entries) (IsNextFault entries) }
+        ensures came { IfOk result (WasNext (HasCome self.old.lines) (HasCome self.new.lines)) }
+        ensures number { self.new.number ≡ self.old.number }
+        ensures fault { IfErr result (λ found. found ≡ fault.Read self.old.number) }
+    {
         match self.lines.next_entry() {
             Ok(next) => Ok(next),
             Err(_) => Err(NextFault::Read(self.number)),
@@ -49,6 +58,8 @@ pub(crate) fn open_leaf<S: Sources>(
     ensures given { IfOk result (λ p. (text : List ℕ) → S.bytes sources.now n ≡ Some text
         → HasGiven p.0.lines text []) }
     ensures totals { IfOk result (λ p. IsTotalIn p.1 p.0.lines.header) }
+    ensures number { IfOk result (λ p. p.0.number ≡ n + 1) }
+    ensures fault { IfErr result (λ found. (found ≡ fault.Read (n + 1)) ⊎ (found ≡ fault.Memory)) }
 {
     let Ok(reader) = sources.open(n) else {
         return Err(NextFault::Read(n + 1));

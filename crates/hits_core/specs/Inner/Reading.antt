@@ -3,7 +3,11 @@ use Rattle.std.specs.Prelude.{◌≡◌, ℕ, ◌<◌, ◌≤◌, List, length}
 use Rattle.sgf_core.specs.Tree.{GameTree}
 use Rattle.sgf_core.specs.Next.{IsNextTree, HasNoTree}
 use Rattle.sgf_core.specs.Limit.{most_bytes}
+use Rattle.sgf_core.specs.declared.faults.SgfFault.TheVariants as sgf
 use Rattle.tally_core.specs.Collection.{record_of_tree}
+use Rattle.tally_core.specs.Counted.{HasFault}
+use Rattle.tally_core.specs.declared.faults.TallyFault.{TallyFault}
+use Rattle.tally_core.specs.declared.faults.TallyFault.TheVariants as fault
 use Rattle.hits_core.specs.declared.games.Game.{Game}
 use Rattle.hits_core.specs.declared.reading.Recorded.{Recorded}
 use Rattle.hits_core.specs.Hits.{AreGames}
@@ -27,3 +31,12 @@ pub record HasReadAll (bytes : List ℕ) (games : List Game) : Type 0 where
   pub end : ℕ
   pub read : ReadsUpTo bytes end games
   pub no_more : HasNoTree bytes end
+
+-- why the games of an input were not read: it is too large, which comes first, or has this fault of syntax, or memory was
+-- wanting
+abbrev pub IsReadFault : List ℕ → TallyFault → Type 0
+IsReadFault bytes fault.BadSettings = ⊥
+IsReadFault bytes fault.Memory = Unit {0}
+IsReadFault bytes (fault.Sgf sgf.TooLarge) = most_bytes < length bytes
+IsReadFault bytes (fault.Sgf found) = (length bytes ≤ most_bytes) × HasFault bytes found
+IsReadFault bytes fault.Overflow = ⊥

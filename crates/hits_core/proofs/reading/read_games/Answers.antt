@@ -1,9 +1,9 @@
-use Rattle.std.proofs.Common.{◌≡◌, ◌∙◌, IfSome, ap, sym, subst, arith, length}
+use Rattle.std.proofs.Common.{◌≡◌, ◌≤◌, ◌∙◌, IfSome, ap, sym, subst, arith, length, rules}
+use Rattle.sgf_core.specs.Limit.{most_bytes}
 use Rattle.sgf_core.specs.Reading.{Reading}
-use Rattle.tally_core.specs.Counted.{IsCountFault}
 use Rattle.tally_core.proofs.Used.{passed_up}
 use Rattle.tally_core.specs.Inner.Counting.{IsNextFault}
-use Rattle.hits_core.specs.Inner.Reading.{IsRecorded, ReadsUpTo}
+use Rattle.hits_core.specs.Inner.Reading.{IsRecorded, ReadsUpTo, IsReadFault}
 use Rattle.hits_core.proofs.Trees.{reads-on, read-fault}
 use Rattle.hits_core.proofs.reading.read_games.Goals as goal
 
@@ -27,5 +27,6 @@ pub returns-in_err-read-clause-fault : goal.returns-in_err-read-clause-fault
 returns-in_err-read-clause-fault c =
     let found = c.in_err-read.field-0.0 in
     let is = c.loop-games.invariant in
-    passed_up c.from_residual-in_err-read.result found (IsCountFault c.args.input.now) c.from_residual-in_err-read.ensures.1
-    (read-fault c.args.input.now c.loop-games.trees.from c.loop-games.games.items found is.reads (subst (λ bytes. IsNextFault bytes c.loop-games.trees.from found) is.bytes c.in_err-read.ensures.fault))
+    let few : length c.args.input.now ≤ most_bytes = search rules in
+    passed_up c.from_residual-in_err-read.result found (IsReadFault c.args.input.now) c.from_residual-in_err-read.ensures.1
+    (read-fault c.args.input.now c.loop-games.trees.from c.loop-games.games.items found few is.reads (subst (λ bytes. IsNextFault bytes c.loop-games.trees.from found) is.bytes c.in_err-read.ensures.fault))
