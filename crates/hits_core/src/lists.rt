@@ -14,13 +14,13 @@ use thiserror::Error;
 #[derive(Clone, Copy, Debug, PartialEq, Eq, Error)]
 pub enum WordsFault {
     /// The line of this number, from 1, does not begin with a canonical word.
-    #[error("W1 no word in line {0}")]
+    #[error("L1 no word in line {0}")]
     BadLine(u64),
     /// The list has more than 2^28 bytes.
-    #[error("W2 words too large")]
+    #[error("L2 words too large")]
     TooLarge,
     /// A read of the list failed, or it could not be opened.
-    #[error("W3 words not read")]
+    #[error("L3 words not read")]
     Unread,
     /// Memory was refused.
     #[error("M1 no memory")]
