@@ -20,24 +20,22 @@ use std::process::Abort;
 use std::test::Fail;
 use std::thread::Threads;
 
-/// Gathers two shares, of this game under one number and under another.
+/// Gathers two shares, of this game as game 0 and under another number.
 fn gather_two<R: Threads + Sync, O: ProbeOrder>(
     rt: &R,
     alloc: Global,
     table: &SlotTable<O>,
     pass: &mut Pass<O>,
     record: &Record,
-    one: u64,
     other: u64,
     games: u64,
 ) -> Result<Dictionary, HarvestFault>
     requires pass { IsPassOf (2 ^ O.exponent table.now.order) table.now pass.old }
     requires games { games ≤ most_bytes }
-    requires one { one < games }
     requires other { other < games }
     ensures { IsPassOf (2 ^ O.exponent table.now.order) table.now pass.new }
 {
-    let one = share_of(alloc, table, pass, one, record)?;
+    let one = share_of(alloc, table, pass, 0, record)?;
     let other = share_of(alloc, table, pass, other, record)?;
     gather(rt, alloc, table, pass, Kinds::Squares, games, &[one, other])
 }
@@ -52,11 +50,11 @@ fn each_game_is_in_one_share(rt: HostRuntime) -> Result<(), Fail> {
     let alloc = rt.alloc();
     let record = record_of(alloc, ONE_POINT).ok_or("no record")?;
     let (table, mut pass) = SlotTable::new(alloc, order_of(&rt, 0))?;
-    let twice = gather_two(&rt, alloc, &table, &mut pass, &record, 0, 0, 3).err();
-    let missing = gather_two(&rt, alloc, &table, &mut pass, &record, 0, 2, 3).err();
+    let twice = gather_two(&rt, alloc, &table, &mut pass, &record, 0, 3).err();
+    let missing = gather_two(&rt, alloc, &table, &mut pass, &record, 2, 3).err();
     assert!(rt; twice == Some(HarvestFault::Twice(0)));
     assert!(rt; missing == Some(HarvestFault::Missing(1)));
-    let both = gather_two(&rt, alloc, &table, &mut pass, &record, 0, 1, 2)?;
+    let both = gather_two(&rt, alloc, &table, &mut pass, &record, 1, 2)?;
     let wanted = [entry_of(&rt, ALONE, 2, 2, 0)];
     assert!(rt; is_of(&both, 2, 2) && both.entries() == wanted.as_slice());
     assert!(rt; !both.counts_diamonds());
