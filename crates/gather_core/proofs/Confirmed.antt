@@ -1,5 +1,5 @@
 -- Whether a full table is one of patterns of rows, number by number.
-use Rattle.std.proofs.Common.{◌≡◌, ◌≢◌, ℕ, ◌+◌, ◌<◌, ◌≤◌, ◌==◌, ◌⊎◌, inl, inr, true, false, cond, zero, suc, List, [], ◌∷◌, ◌++◌, length, get_or, eqb, AllPairs, Option, Some, None, refl, ap, sym, subst, ◌∙◌, arith, Contains, ⊎_elim}
+use Rattle.std.proofs.Common.{◌≡◌, ◌≢◌, ℕ, ◌+◌, ◌<◌, ◌≤◌, ◌⊎◌, inl, inr, true, false, zero, suc, List, [], ◌∷◌, ◌++◌, length, get_or, eqb, AllPairs, Option, Some, None, refl, ap, sym, subst, ◌∙◌, arith, Contains, ⊎_elim}
 use Rattle.std.specs.Bool.{OnTrue}
 use Rattle.std.specs.List.{All}
 use Rattle.std.proofs.lemmas.Bool.{cases_lt}
@@ -12,7 +12,6 @@ use Rattle.slot_table.proofs.Histories.{length-content}
 use Rattle.slot_table.proofs.Contents.{key_is_numbered, keys_differ, full_keys, number_below, one_key}
 use Rattle.share_core.specs.declared.rows.Row.{Row}
 use Rattle.share_core.specs.declared.faults.HarvestFault.TheVariants as fault
-use Rattle.share_core.specs.Rows.{row_of}
 use Rattle.share_core.specs.Shares.{Held}
 use Rattle.gather_core.specs.Checking.{all_rows, shape_at}
 use Rattle.gather_core.specs.Confirming.{HasShape, HasShapeAt, IsKnown, IsUnknown, first_shape, IsUnconfirmed, IsConfirmation}

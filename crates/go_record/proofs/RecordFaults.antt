@@ -1,5 +1,5 @@
 -- The fault of a main line's actions is that of its record.
-use Rattle.std.proofs.Common.{◌≡◌, true, List, Result, Ok, Err, codes, ap, sym, ◌∙◌}
+use Rattle.std.proofs.Common.{◌≡◌, true, List, Ok, Err, codes, ap, sym}
 use Rattle.std.specs.List.{flat_map}
 use Rattle.sgf_core.specs.Tree.{Node}
 use Rattle.go_board.specs.Extent.{Extent}

@@ -12,7 +12,7 @@ use Rattle.sgf_core.specs.Next.{BeginsTree, IsFirstBegin, EndsWithIdentifier}
 use Rattle.sgf_core.specs.Marks.{marks_of}
 use Rattle.sgf_core.specs.Inner.Turns.{IsTurn}
 use Rattle.sgf_core.specs.declared.parse.Turn.TheVariants as turn
-use Rattle.sgf_core.specs.Reading.{IsFaultAt, IsFaultOrMemory}
+use Rattle.sgf_core.specs.Reading.{IsFaultAt}
 use Rattle.sgf_core.specs.Inner.Pieces.{Wrote, mark_parts, parts_of, IsAllowed, is_fitting, IsWhole, ReadsMark, EndsInMark, IsMisfit, IsNameAlone, MarkFault, IsKept}
 use Rattle.sgf_core.specs.declared.marks.Mark.{Mark}
 use Rattle.sgf_core.specs.declared.marks.Mark.TheVariants as mark

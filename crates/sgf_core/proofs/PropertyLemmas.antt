@@ -1,9 +1,8 @@
 -- An identifier, its values so far, and what comes of them.
 use Rattle.std.proofs.Common.{◌≡◌, ◌≢◌, ℕ, ◌+◌, ◌<◌, ◌≤◌, Bool, true, false, IsTrue, List, [], ◌∷◌, ◌++◌, length, drop, map, refl, sym, ap, ◌∙◌, subst, arith, append_assoc}
-use Rattle.std.specs.Prelude.{slice_range, slice_index, ◌==◌}
+use Rattle.std.specs.Prelude.{slice_range, slice_index}
 use Rattle.std.specs.List.{list_all}
-use Rattle.std.proofs.lemmas.List.{append-nil, map_push, drop_more, drop_all, nil_from_length}
-use Rattle.std.proofs.lemmas.Bool.Decides.{Decides-eqb}
+use Rattle.std.proofs.lemmas.List.{append-nil, map_push, drop_more, drop_all}
 use Rattle.std.proofs.lemmas.List.Edits.{between_more}
 use Rattle.sgf_core.specs.Bytes.{is_white, is_letter, open_bracket, close_bracket}
 use Rattle.sgf_core.specs.Tree.{PropertyValue}

@@ -1,11 +1,10 @@
 -- Marks of points, and their places in lists of a board's points.
-use Rattle.std.proofs.Common.{◌≡◌, ◌≢◌, ℕ, ◌+◌, ◌-◌, ◌*◌, ◌^◌, max, pow-add, ◌<◌, ◌≤◌, List, length, slice_index, slice_set, bit_or, sym, ap, ap₂, ◌∙◌, arith, ⊎_elim, ◌⊎◌, inl, inr, length-set, get_or-set_same, get_or-set_other}
-use Rattle.std.proofs.Common.{Option, Some, None, MatchOption, subst, w64, bit_and, ◌%◌}
-use Rattle.std.specs.Int.{bit_at, bit_not, trailing_zeros}
+use Rattle.std.proofs.Common.{◌≡◌, ℕ, ◌+◌, ◌-◌, ◌*◌, ◌^◌, max, pow-add, ◌<◌, ◌≤◌, List, length, slice_index, slice_set, bit_or, sym, ap, ap₂, ◌∙◌, arith, ⊎_elim, ◌⊎◌, inl, inr, length-set, get_or-set_same, get_or-set_other}
+use Rattle.std.proofs.Common.{◌%◌}
+use Rattle.std.specs.Int.{bit_at}
 use Rattle.std.proofs.lemmas.Bool.{cases_eq, cases_lt}
-use Rattle.std.proofs.lemmas.Nat.{or_lt, and_le_l, pow_below, pow_pos, same_from_place}
-use Rattle.std.proofs.lemmas.List.{get_or_past}
-use Rattle.std.proofs.lemmas.Nat.Bits.{bit_at_or, bit_at-lt, bit_at_ones, bit_at_cat_low, bit_at_cat_high, bit_at-trailing_zeros, bit_at_clear_same, bit_at_clear_other, bit_at_above, bit_at-zero}
+use Rattle.std.proofs.lemmas.Nat.{or_lt, pow_below, pow_pos, same_from_place}
+use Rattle.std.proofs.lemmas.Nat.Bits.{bit_at_or, bit_at-lt, bit_at_ones, bit_at_cat_low, bit_at_cat_high, bit_at_above, bit_at-zero}
 use Rattle.std.proofs.lemmas.List.Elements.{All-set, All-get_or, All-from_get_or}
 use Rattle.go_board.specs.Extent.{Extent}
 use Rattle.go_board.specs.Point.{IsOn, index_of}

@@ -5,7 +5,7 @@ use Rattle.shape_dict.specs.declared.entries.Entry.{Entry}
 use Rattle.shape_dict.specs.Contents.{Contents, IsDictionary, entry_of}
 use Rattle.shape_dict.specs.Merging.{moved_entry, summed_entry}
 use Rattle.shape_dict.specs.Inner.Merging.{merged}
-use Rattle.shape_dict.specs.Join.{joined_entry, IsJoin, IsJoinOf, IsOverflow, HasLargeEntry}
+use Rattle.shape_dict.specs.Join.{joined_entry, IsJoin, IsJoinOf, IsOverflow}
 use Rattle.shape_dict.proofs.Joined.{join_of}
 
 -- a first game that follows the games of two is one that follows the games of both

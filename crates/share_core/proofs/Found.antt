@@ -1,5 +1,5 @@
 -- Rows that are found by their number.
-use Rattle.std.proofs.Common.{◌≡◌, ℕ, ◌<◌, ◌==◌, true, false, cond, zero, suc, List, [], ◌∷◌, length, ◌++◌, Some, None, refl, ap, sym, ◌∙◌, arith, Contains}
+use Rattle.std.proofs.Common.{◌≡◌, ℕ, ◌<◌, ◌==◌, true, false, cond, zero, suc, List, [], ◌∷◌, length, Some, None, refl, ap, sym, ◌∙◌, arith, Contains}
 use Rattle.std.proofs.lemmas.Bool.Decides.{nat_tests}
 use Rattle.std.proofs.lemmas.List.Elements.{Contains-append_right}
 use Rattle.share_core.specs.declared.rows.Row.{Row}

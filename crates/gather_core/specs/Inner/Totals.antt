@@ -1,9 +1,9 @@
 -- The rows of one number, those of all shares together, and the entries of a dictionary that they give.
-use Rattle.std.specs.Prelude.{◌≡◌, ℕ, ◌+◌, ◌^◌, ◌<◌, ◌≤◌, ◌==◌, ◌⊎◌, nat_lt, if◌then◌else◌, List, [], ◌∷◌, map, sum_by, count_by, Option, Some, None, All, Contains}
+use Rattle.std.specs.Prelude.{◌≡◌, ℕ, ◌^◌, ◌<◌, ◌≤◌, ◌==◌, ◌⊎◌, nat_lt, if◌then◌else◌, List, [], ◌∷◌, map, sum_by, count_by, Option, Some, None, All, Contains}
 use Rattle.shape_dict.specs.declared.entries.Entry.{Entry}
 use Rattle.tally_core.specs.Entries.{IsShape}
 use Rattle.share_core.specs.declared.rows.Row.{Row}
-use Rattle.share_core.specs.Rows.{row_of, first_at, there_of, earlier}
+use Rattle.share_core.specs.Rows.{row_of, first_at, there_of}
 use Rattle.gather_core.specs.Gathering.{gathered_entry}
 
 -- ---- one number

@@ -1,5 +1,5 @@
 -- What the definitions of `Lawful` serve inside the crate.
-use Rattle.std.specs.Prelude.{◌≡◌, ℕ, ◌-◌, ◌^◌, ◌<◌, ◌≤◌, Some, slice_get}
+use Rattle.std.specs.Prelude.{◌≡◌, ℕ, ◌^◌, ◌<◌, ◌≤◌, Some, slice_get}
 use Rattle.probe_core.specs.Placing.{IsOrderly}
 use Rattle.probe_core.specs.Showing.{table_of}
 use Rattle.probe_core.specs.Way.{IsOnWay}

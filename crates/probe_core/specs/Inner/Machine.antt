@@ -1,5 +1,5 @@
 -- What the definitions of `Machine` serve inside the crate.
-use Rattle.std.specs.Prelude.{ℕ, ◌-◌, ◌==◌, if◌then◌else◌, List, slice_index_or, slice_set}
+use Rattle.std.specs.Prelude.{ℕ, ◌==◌, if◌then◌else◌, List, slice_index_or, slice_set}
 use Rattle.probe_core.specs.declared.calls.Want.{Want}
 use Rattle.probe_core.specs.declared.calls.Want.TheVariants as want
 

@@ -1,10 +1,9 @@
-use Rattle.std.proofs.Common.{arith, map, drop, ap, Ok, ◌∙◌, sym}
+use Rattle.std.proofs.Common.{arith, ap, Ok, ◌∙◌, sym}
 use Rattle.std.proofs.lemmas.Grind.{common_steps}
 use Rattle.std.proofs.lemmas.Result.{err_from_is_err_and}
 use Rattle.sgf_core.specs.Values.{value_of}
 use Rattle.sgf_core.specs.declared.marks.Value.{Value}
 use Rattle.go_record.specs.Inner.Adding.{action_of}
-use Rattle.go_record.specs.Record.{collected}
 use Rattle.go_record.proofs.Collected.{some_at}
 use Rattle.go_record.proofs.adding.add_values.Goals as goal
 

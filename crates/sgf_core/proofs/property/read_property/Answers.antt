@@ -1,4 +1,4 @@
-use Rattle.std.proofs.Common.{◌≡◌, ◌≢◌, ◌+◌, ◌<◌, ◌++◌, ◌∷◌, true, false, List, [], length, arith, refl, sym, ap, ◌∙◌, subst}
+use Rattle.std.proofs.Common.{◌≡◌, ◌≢◌, ◌+◌, ◌<◌, ◌++◌, ◌∷◌, List, [], length, arith, refl, ap, ◌∙◌, subst}
 use Rattle.std.specs.Prelude.{slice_index, slice_range}
 use Rattle.sgf_core.specs.Bytes.{open_bracket}
 use Rattle.sgf_core.specs.Tree.{Property, PropertyValue}
