@@ -22,13 +22,14 @@ use std::thread::{Threads, available_parallelism};
 /// No more ranges are made at a time.
 const MOST_THREADS: usize = 16;
 
-/// How many ranges are counted or made at a time: as many as there are processors, 16 at most.
+/// How many ranges are counted or made at a time: twice as many as there are processors, so that
+/// none of these waits for the longest range, and 16 at most.
 pub(crate) fn ranges_at_once<T: Threads>(rt: &T) -> usize
     ensures some { 1 ≤ result }
     ensures few { result ≤ 16 }
 {
     match available_parallelism(rt) {
-        Ok(count) => count.get().clamp(1, MOST_THREADS),
+        Ok(count) => count.get().saturating_mul(2).clamp(1, MOST_THREADS),
         Err(_) => 1,
     }
 }

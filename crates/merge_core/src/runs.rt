@@ -89,11 +89,11 @@ fn merge_ranges<T: Threads + Sync, S: Sources + Sync, W: Write>(
 
 /// Reads dictionaries, each a text of its own in any of the three texts and of any size, and writes
 /// a text of their join: the earlier ones are the left of each join. Each is read twice: to be
-/// judged while what the join has is counted, and to be written. Where they are large, as many
-/// threads as there are processors, 16 at most, do that side by side, each with a range of the
-/// words; it takes memory for a range of about half a megabyte for each. Where they are small, or
-/// something is odd, this thread reads them line by line, with a block of 65,536 bytes of each in
-/// memory, and one more; where there is a fault, they are judged again, one after another.
+/// judged while what the join has is counted, and to be written. Where they are large, twice as
+/// many threads as there are processors, 16 at most, do that side by side, each with a range of
+/// the words; it takes memory for a range of about half a megabyte for each. Where they are small,
+/// or something is odd, this thread reads them line by line, with a block of 65,536 bytes of each
+/// in memory, and one more; where there is a fault, they are judged again, one after another.
 ///
 /// # Errors
 ///
