@@ -140,19 +140,19 @@ fn see(
     field: &Field,
     wanted: &Wanted,
     moment: Moment,
-    open: &mut [u64],
+    open_rows: &mut [u64],
     found: &mut Found,
 ) -> Result<(), TallyFault>
     requires kinds { KeepsWanted field.now wanted.now }
-    requires open { AreOpen wanted.now field.now moment.mover open.old }
+    requires open { AreOpen wanted.now field.now moment.mover open_rows.old }
     ensures grown { OnOk result (GrowsBy found.old found.new
         (hits_over wanted.now field.now moment (points_of field.now.board.size))) }
-    ensures open { OnOk result (AreOpen wanted.now field.now moment.mover open.new) }
+    ensures open { OnOk result (AreOpen wanted.now field.now moment.mover open_rows.new) }
     ensures fault { IfErr result (λ found. found ≡ fault.Memory) }
 {
     for row in 0..field.size().rows() {
         let at = usize::from(row);
-        open[at] = see_row(field, wanted, moment, row, open[at], found)?;
+        open_rows[at] = see_row(field, wanted, moment, row, open_rows[at], found)?;
     }
     Ok(())
 }

@@ -17,7 +17,7 @@ pub struct Job<'a> {
     game: u64,
     at: usize,
     end: usize,
-    record: Record,
+    actions: Record,
 }
 
 impl<'a> Model for Job<'a> {
@@ -32,10 +32,10 @@ impl<'a> Model for Job<'a> {
       game = job.game;
       at = job.at;
       end = job.end;
-      actions = job.record;
+      actions = job.actions;
     } };
 
-    ghost invariant = { λ job. IsGameOf job.bytes.now job.game job.at job.end job.record
+    ghost invariant = { λ job. IsGameOf job.bytes.now job.game job.at job.end job.actions
         × (job.game < most_bytes) };
 }
 
@@ -52,7 +52,7 @@ impl<'a> Job<'a> {
             game,
             at,
             end,
-            record: actions,
+            actions,
         }
     }
 
@@ -92,7 +92,7 @@ impl<'a> Job<'a> {
             self.now.bytes self.now.game self.now.at self.now.end self.now.actions }
         ensures few { self.now.game < most_bytes }
     {
-        &self.record
+        &self.actions
     }
 }
 

@@ -215,35 +215,31 @@ impl Share {
         table: &SlotTable<O>,
         pass: &mut Pass<O>,
         game: u64,
-        record: &Record,
+        game_record: &Record,
     ) -> Result<(), HarvestFault>
         requires pass { IsPassOf (2 ^ O.exponent table.now.order) table.now pass.old }
         requires game { game < most_bytes }
         ensures pass { IsPassOf (2 ^ O.exponent table.now.order) table.now pass.new }
-        ensures added { OnOk result (IsAdded game record.now self.old self.new) }
+        ensures added { OnOk result (IsAdded game game_record.now self.old self.new) }
         ensures grown { OnOk result (HasGrown (2 ^ O.exponent table.now.order) pass.new.seen
-            record.now
-            self.old self.new) }
+            game_record.now self.old self.new) }
         ensures marked { OnOk result (IsMarked (2 ^ O.exponent table.now.order) pass.new.seen game
-            record.now
-            self.old self.new) }
+            game_record.now self.old self.new) }
         ensures calls { OnOk result (CallsOnly (2 ^ O.exponent table.now.order)
-            (IsEntryOf self.old.kinds record.now (IsRowed self.new.rows))
-            (IsMarkOf (2 ^ O.exponent table.now.order) pass.new.seen self.old.kinds record.now
+            (IsEntryOf self.old.kinds game_record.now (IsRowed self.new.rows))
+            (IsMarkOf (2 ^ O.exponent table.now.order) pass.new.seen self.old.kinds game_record.now
             self.new.rows game) pass.old pass.new) }
         ensures kept { OnErr result (IsKept (2 ^ O.exponent table.now.order) pass.new.seen
-            record.now
-            self.old self.new) }
+            game_record.now self.old self.new) }
         ensures enters { IfErr result (λ found. EntersOnly (2 ^ O.exponent table.now.order)
-            (IsEntryOf self.old.kinds record.now (IsRowedAfter found self.new.rows))
+            (IsEntryOf self.old.kinds game_record.now (IsRowedAfter found self.new.rows))
             pass.old pass.new) }
-        ensures fault { IfErr result (IsAddFault (2 ^ O.exponent table.now.order) pass.new.seen
-            game record.now
-            self.old self.new) }
+        ensures fault { IfErr result (IsAddFault (2 ^ O.exponent table.now.order) pass.new.seen game
+            game_record.now self.old self.new) }
     {
         let moves = self
             .workings
-            .prepare(&mut self.ledger, table, pass, game, record)?;
+            .prepare(&mut self.ledger, table, pass, game, game_record)?;
         let meetings = self.workings.walk.meetings();
         let entered = self.workings.entered.as_slice();
         let places = self.workings.places.as_slice();

@@ -61,29 +61,26 @@ impl Workings {
         table: &SlotTable<O>,
         pass: &mut Pass<O>,
         game: u64,
-        record: &Record,
+        game_record: &Record,
     ) -> Result<u64, HarvestFault>
         requires { IsPassOf (2 ^ O.exponent table.now.order) table.now pass.old }
         ensures pass { IsPassOf (2 ^ O.exponent table.now.order) table.now pass.new }
         ensures rowed { OnOk result (EntersOnly (2 ^ O.exponent table.now.order)
-            (IsEntryOf self.old.walk.kinds record.now (IsRowed ledger.new.rows))
+            (IsEntryOf self.old.walk.kinds game_record.now (IsRowed ledger.new.rows))
             pass.old pass.new) }
         ensures enters { IfErr result (λ found. EntersOnly (2 ^ O.exponent table.now.order)
-            (IsEntryOf self.old.walk.kinds record.now (IsRowedAfter found ledger.new.rows))
+            (IsEntryOf self.old.walk.kinds game_record.now (IsRowedAfter found ledger.new.rows))
             pass.old pass.new) }
         ensures kinds { self.new.walk.kinds ≡ self.old.walk.kinds }
         ensures ledger { ledger.new ≡ record ledger.old { rows = ledger.new.rows } }
         ensures fresh { HasFresh (2 ^ O.exponent table.now.order) pass.new.seen self.old.walk.kinds
-            record.now
-            ledger.old.rows ledger.new.rows }
+            game_record.now ledger.old.rows ledger.new.rows }
         ensures ok { IfOk result (IsPrepared (2 ^ O.exponent table.now.order) pass.new.seen game
-            record.now
-            self.new ledger.new.rows) }
+            game_record.now self.new ledger.new.rows) }
         ensures fault { IfErr result (IsPrepareFault (2 ^ O.exponent table.now.order) pass.new.seen
-            game
-            self.old.walk.kinds record.now ledger.new.rows) }
+            game self.old.walk.kinds game_record.now ledger.new.rows) }
     {
-        let moves = self.walk.walk(record)?;
+        let moves = self.walk.walk(game_record)?;
         let meetings = self.walk.meetings();
         let refused = enter_all(table, pass, &mut self.entered, meetings, game)?;
         let entered = self.entered.as_slice();

@@ -36,9 +36,9 @@ loop-row-preserved c =
     record {
       up = adds-on c.args.found.now c.loop-row.found c.see_row.new.found all (hits_over words field moment (row_of size row))
           (hits_over words field moment (flat_map (row_of size) (count_from (row + 1) (last - (row + 1)))))
-          (subst (AddsUpTo c.args.found.now c.loop-row.found all) (rows-first words field moment row last c.loop-row-test.true) is.up) c.in_ok-open.ensures.grown;
-      rows = subst (λ k. AreOpen words field moment.mover (set c.loop-row.open k c.in_ok-open.field-0)) (sym c.from-at.ensures)
-          (open-set words field moment.mover c.loop-row.open row c.in_ok-open.field-0 inside is.rows c.in_ok-open.ensures.open);
+          (subst (AddsUpTo c.args.found.now c.loop-row.found all) (rows-first words field moment row last c.loop-row-test.true) is.up) c.in_ok-open_rows.ensures.grown;
+      rows = subst (λ k. AreOpen words field moment.mover (set c.loop-row.open_rows k c.in_ok-open_rows.field-0)) (sym c.from-at.ensures)
+          (open-set words field moment.mover c.loop-row.open_rows row c.in_ok-open_rows.field-0 inside is.rows c.in_ok-open_rows.ensures.open);
     }
 
 pub returns-clause-grown : goal.returns-clause-grown

@@ -12,5 +12,5 @@ invariant-loop-row l =
     let hits = hits_over l.wanted l.field l.moment in
     let size = l.field.board.size in record {
       up : AddsUpTo l.fn.found l.found (hits (points_of size)) (hits (flat_map (row_of size) (count_from l.row (l.row-end - l.row))));
-      rows : AreOpen l.wanted l.field l.moment.mover l.open;
+      rows : AreOpen l.wanted l.field l.moment.mover l.open_rows;
     }

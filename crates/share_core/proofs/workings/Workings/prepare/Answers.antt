@@ -20,7 +20,7 @@ returns-in_err-make_rows-clause-fresh g c =
     let n = 2 ^ g.O.ProbeOrder.exponent c.args.table.now.order in
     let seen = c.enter_all.new.pass.seen in
     let kinds = c.args.self.now.walk.kinds in
-    let actions = c.args.record.now in
+    let actions = c.args.game_record.now in
     let meetings = c.meetings-meetings.result.now in
     let entered = c.as_slice-entered.result.now in
     let value = c.as_slice-entered.ensures.value in
@@ -34,7 +34,7 @@ returns-in_err-make_rows-clause-fault g c =
     let n = 2 ^ g.O.ProbeOrder.exponent c.args.table.now.order in
     let seen = c.enter_all.new.pass.seen in
     let kinds = c.args.self.now.walk.kinds in
-    let actions = c.args.record.now in
+    let actions = c.args.game_record.now in
     let meetings = c.meetings-meetings.result.now in
     let entered = c.as_slice-entered.result.now in
     let value = c.as_slice-entered.ensures.value in
@@ -49,7 +49,7 @@ returns-in-Some-clause-fresh g c =
     let n = 2 ^ g.O.ProbeOrder.exponent c.args.table.now.order in
     let seen = c.enter_all.new.pass.seen in
     let kinds = c.args.self.now.walk.kinds in
-    let actions = c.args.record.now in
+    let actions = c.args.game_record.now in
     let meetings = c.meetings-meetings.result.now in
     let entered = c.as_slice-entered.result.now in
     let value = c.as_slice-entered.ensures.value in
@@ -63,7 +63,7 @@ returns-in-Some-clause-fault g c =
     let n = 2 ^ g.O.ProbeOrder.exponent c.args.table.now.order in
     let seen = c.enter_all.new.pass.seen in
     let kinds = c.args.self.now.walk.kinds in
-    let actions = c.args.record.now in
+    let actions = c.args.game_record.now in
     let rows = c.make_rows.new.self.rows in
     let meetings = c.meetings-meetings.result.now in
     let walked = subst (λ (ms : List Meeting). IsWalk kinds actions ms c.in_ok-moves.moves) (sym c.meetings-meetings.ensures) c.in_ok-moves.ensures.walked in
@@ -80,7 +80,7 @@ returns-in-None-clause-fresh g c =
     let n = 2 ^ g.O.ProbeOrder.exponent c.args.table.now.order in
     let seen = c.enter_all.new.pass.seen in
     let kinds = c.args.self.now.walk.kinds in
-    let actions = c.args.record.now in
+    let actions = c.args.game_record.now in
     let meetings = c.meetings-meetings.result.now in
     let entered = c.as_slice-entered.result.now in
     let value = c.as_slice-entered.ensures.value in
@@ -103,7 +103,7 @@ returns-in-None-clause-ok g c =
     let all : length c.enter_all.new.entered.items ≡ length meetings = subst (λ o. IfNone o (length c.enter_all.new.entered.items ≡ length meetings)) c.in-None.is c.in_ok-refused.ensures.all in
     let whole : take (length entered) meetings ≡ meetings = ap (λ k. take k meetings) (ap length value ∙ all) ∙ take-length meetings in
     record {
-      walked = subst (λ k. IsWalk k c.args.record.now c.walk.new.self.meetings c.in_ok-moves.moves) (sym c.in_ok-moves.ensures.kinds) c.in_ok-moves.ensures.walked;
+      walked = subst (λ k. IsWalk k c.args.game_record.now c.walk.new.self.meetings c.in_ok-moves.moves) (sym c.in_ok-moves.ensures.kinds) c.in_ok-moves.ensures.walked;
       among = c.in_ok-moves.ensures.among;
       entered = subst (λ (ms : List Meeting). AreEntered n seen game ms c.enter_all.new.entered.items) same c.enter_all.ensures.each;
       all = all ∙ ap length same;
@@ -115,7 +115,7 @@ pub returns-in_err-refused-clause-enters : goal.returns-in_err-refused-clause-en
 returns-in_err-refused-clause-enters g c =
     let n = 2 ^ g.O.ProbeOrder.exponent c.args.table.now.order in
     let kinds = c.args.self.now.walk.kinds in
-    let actions = c.args.record.now in
+    let actions = c.args.game_record.now in
     let rows = c.args.ledger.now.rows in
     let meetings = c.meetings-meetings.result.now in
     let walked = subst (λ (ms : List Meeting). IsWalk kinds actions ms c.in_ok-moves.moves) (sym c.meetings-meetings.ensures) c.in_ok-moves.ensures.walked in
@@ -127,7 +127,7 @@ pub returns-in_err-make_rows-clause-enters : goal.returns-in_err-make_rows-claus
 returns-in_err-make_rows-clause-enters g c =
     let n = 2 ^ g.O.ProbeOrder.exponent c.args.table.now.order in
     let kinds = c.args.self.now.walk.kinds in
-    let actions = c.args.record.now in
+    let actions = c.args.game_record.now in
     let meetings = c.meetings-meetings.result.now in
     let walked = subst (λ (ms : List Meeting). IsWalk kinds actions ms c.in_ok-moves.moves) (sym c.meetings-meetings.ensures) c.in_ok-moves.ensures.walked in
     let noted = subst (λ (es : List Entered). EntersOnly n (IsNoted meetings es) c.args.pass.now c.enter_all.new.pass) (sym c.as_slice-entered.ensures.value) c.in_ok-refused.ensures.noted in
@@ -139,7 +139,7 @@ pub returns-in-Some-clause-enters : goal.returns-in-Some-clause-enters
 returns-in-Some-clause-enters g c =
     let n = 2 ^ g.O.ProbeOrder.exponent c.args.table.now.order in
     let kinds = c.args.self.now.walk.kinds in
-    let actions = c.args.record.now in
+    let actions = c.args.game_record.now in
     let rows = c.make_rows.new.self.rows in
     let meetings = c.meetings-meetings.result.now in
     let entered = c.as_slice-entered.result.now in
@@ -155,7 +155,7 @@ pub returns-in-None-clause-rowed : goal.returns-in-None-clause-rowed
 returns-in-None-clause-rowed g c =
     let n = 2 ^ g.O.ProbeOrder.exponent c.args.table.now.order in
     let kinds = c.args.self.now.walk.kinds in
-    let actions = c.args.record.now in
+    let actions = c.args.game_record.now in
     let meetings = c.meetings-meetings.result.now in
     let entered = c.as_slice-entered.result.now in
     let walked = subst (λ (ms : List Meeting). IsWalk kinds actions ms c.in_ok-moves.moves) (sym c.meetings-meetings.ensures) c.in_ok-moves.ensures.walked in
@@ -169,7 +169,7 @@ pub returns-in_err-moves-clause-enters : goal.returns-in_err-moves-clause-enters
 returns-in_err-moves-clause-enters g c =
     let n = 2 ^ g.O.ProbeOrder.exponent c.args.table.now.order in
     let p = err_from_is_err_and c.from_residual.result c.from_residual.ensures.1 in
-    rw p.1 (calls_self n (IsEntryOf c.args.self.now.walk.kinds c.args.record.now (IsRowedAfter p.0 c.args.ledger.now.rows)) (λ _ _. ⊥) c.args.pass.now)
+    rw p.1 (calls_self n (IsEntryOf c.args.self.now.walk.kinds c.args.game_record.now (IsRowedAfter p.0 c.args.ledger.now.rows)) (λ _ _. ⊥) c.args.pass.now)
 
 pub make_rows-requires-clause-numbers : goal.make_rows-requires-clause-numbers
 make_rows-requires-clause-numbers g c =
