@@ -154,12 +154,7 @@ fn first_faults(rt: HostRuntime) {
 
 /// The number of the dictionary whose reading failed, where each text gives `read` bytes and
 /// nothing is written.
-fn unread<T: Threads + Sync>(
-    rt: &T,
-    alloc: Global,
-    texts: &[&[u8]],
-    read: usize,
-) -> Option<usize> {
+fn unread<T: Threads + Sync>(rt: &T, alloc: Global, texts: &[&[u8]], read: usize) -> Option<usize> {
     let (done, got) = joined(rt, alloc, Text::One, texts, read, 1000);
     let is_empty = got.is_empty();
     match done {
