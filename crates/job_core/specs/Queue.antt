@@ -28,7 +28,7 @@ ends_in [] = 0
 ends_in (Job job ∷ items) = ends_in items
 ends_in (End ∷ items) = ends_in items + 1
 
--- no job stands behind an end
+-- no job comes after an end
 abbrev pub JobsFirst : List Item → Type 0
 JobsFirst [] = Unit {0}
 JobsFirst (Job job ∷ items) = JobsFirst items

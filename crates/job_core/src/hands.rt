@@ -41,7 +41,7 @@ pub struct Hand {
 /// The rule of the queue: all passes name the same input, each queued job holds it, the queued
 /// games rise, each is above every game that was drawn, and none is above the last that was put.
 /// Nothing is lost: what was put was drawn or is queued, by the parts of all passes together, and
-/// no job stands behind an end.
+/// no job comes after an end.
 pub struct InTurn;
 
 impl<'a> Protocol<Item<'a>, Hand> for InTurn {

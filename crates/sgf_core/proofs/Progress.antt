@@ -328,6 +328,6 @@ mark_closes mark.Node is = absurd cc
 mark_closes (mark.Prop property) is = absurd cc
 mark_closes mark.End is = refl
 
--- behind the first parenthesis
+-- after the first parenthesis
 pub front_begun : (bytes : List ℕ) (at : ℕ) → at < length bytes → IsFrontAt bytes at (at + 1) (mark.Begin ∷ []) expects.Node 0
 front_begun bytes at within = search (rules, within)

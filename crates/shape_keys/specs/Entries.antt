@@ -8,7 +8,7 @@ use Rattle.shape_keys.specs.declared.entries.ShapesEntry.{ShapesEntry}
 use Rattle.shape_keys.specs.declared.entries.ShapesHeader.{ShapesHeader}
 
 -- a number, or 2 ^ 64 - 1 where it is not known: no game has that number, since there are fewer than 2 ^ 64 of them
--- and the first is 0, and no text has so many lines
+-- and the first is 0, and no text has that number of lines
 abbrev pub or_unknown : Option ℕ → ℕ
 or_unknown number = unwrap_or number (2 ^ 64 - 1)
 

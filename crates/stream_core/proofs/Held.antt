@@ -36,7 +36,7 @@ behind bytes room post tail end len long fits size =
     let parts : front ++ (room ++ post) ++ tail ≡ (front ++ room) ++ (post ++ tail) = simp append_assoc in
     ap (take len) parts ∙ take_at (front ++ room) (post ++ tail) len both
 
--- the bytes at hand, after a read was put behind them
+-- the bytes at hand, after a read was put after them
 pub at_hand : (bytes room : List ℕ) (end count : ℕ) → end ≤ length bytes → take (end + count) (take end bytes ++ room) ≡ take end bytes ++ take count room
 at_hand bytes room end count fits =
     let front : List ℕ = take end bytes in
