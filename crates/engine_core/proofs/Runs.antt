@@ -1,6 +1,5 @@
 -- A run that ends: its whole text is out, or a front of it.
-use Rattle.std.proofs.Common.{◌≡◌, ◌<◌, ◌≤◌, ◌⊎◌, ⊎_elim, inl, inr, ℕ, List, length, Option, Some, None, IfSome, subst, sym}
-use Rattle.std.proofs.lemmas.Bool.{cases_lt}
+use Rattle.std.proofs.Common.{◌≡◌, ◌≤◌, ℕ, List, length, Option, Some, None, IfSome, subst, sym}
 use Rattle.std.specs.Io.KnownBytes.{Appends}
 use Rattle.sgf_core.specs.Reading.{Reading, IsFaultOrMemory}
 use Rattle.sgf_core.specs.declared.faults.SgfFault.{SgfFault}
@@ -8,10 +7,7 @@ use Rattle.sgf_core.specs.declared.faults.SgfFault.TheVariants as sgf
 use Rattle.engine_core.specs.declared.faults.RunFault.{RunFault}
 use Rattle.engine_core.specs.declared.faults.RunFault.TheVariants as fault
 use Rattle.sgf_core.specs.Limit.{most_bytes}
-use Rattle.share_core.specs.declared.faults.HarvestFault.{HarvestFault}
-use Rattle.share_core.specs.declared.faults.HarvestFault.TheVariants as harvest_fault
 use Rattle.engine_core.specs.Boards.{IsBoardFault}
-use Rattle.engine_core.specs.Counts.{ComesFirst}
 use Rattle.engine_core.specs.Output.{WroteFront}
 use Rattle.engine_core.specs.Runs.{input_of, Wrote, IsRunFault}
 
@@ -35,14 +31,3 @@ sgf_cause input trees (sgf.BadByte at) few same h = (few, subst (λ (r : Reading
 sgf_cause input trees (sgf.NoValue at) few same h = (few, subst (λ (r : Reading). IsFaultOrMemory r.bytes r.from (sgf.NoValue at)) same h)
 sgf_cause input trees sgf.TooLarge few same h = absurd h
 sgf_cause input trees sgf.Memory few same h = (few, subst (λ (r : Reading). IsFaultOrMemory r.bytes r.from sgf.Memory) same h)
-
--- a fault that an input of more than 2 ^ 28 bytes has is this one, or want of memory
-pub comes_first : (input : List ℕ) (found : HarvestFault) → (most_bytes < length input → (found ≡ harvest_fault.Memory) ⊎ (found ≡ harvest_fault.Sgf sgf.TooLarge)) → ComesFirst input found
-comes_first input found large =
-    ⊎_elim
-    (λ (more : most_bytes < length input). ⊎_elim
-    (λ (memory : found ≡ harvest_fault.Memory). inr (inr memory))
-    (λ (over : found ≡ harvest_fault.Sgf sgf.TooLarge). inr (inl over))
-    (large more))
-    (λ (few : length input ≤ most_bytes). inl few)
-    (cases_lt most_bytes (length input))

@@ -2,7 +2,6 @@ pub mod Output
 pub mod Boards
 pub mod Runs
 pub mod Status
-pub mod Counts
 pub mod Finds
 pub mod Joins
 pub mod Patterns

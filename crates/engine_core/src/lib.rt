@@ -1,10 +1,9 @@
-//! The four engines of `shapes`: each reads its input whole, makes one text of it, and writes that
-//! text.
+//! What the engines of all programs read, write and answer by, and three of the four of `shapes`:
+//! each reads its input whole, makes one text of it, and writes that text.
 #![tactic(auto)]
 
 // the engines, and the pattern that `find` is asked for
 mod boards;
-mod counts;
 mod finds;
 mod joins;
 mod patterns;
@@ -23,7 +22,6 @@ mod output;
 
 pub use args::own_words;
 pub use boards::{Outcome, run_board};
-pub use counts::run_count;
 pub use faults::{RunFault, status_of};
 pub use finds::run_find;
 pub use input::read_input;

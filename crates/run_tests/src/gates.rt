@@ -2,7 +2,7 @@
 //! one that notes what it is told.
 use crate::harvests::{collection, text_of};
 use crate::sheets::{Bytes, Full};
-use engine_core::run_count;
+use count_core::run_count;
 use harvest_core::{Gate, harvest};
 use shape_core::Kinds;
 use shape_dict::Text;

@@ -4,7 +4,7 @@ use Rattle.std.specs.Option.{IsSome}
 use Rattle.std.specs.Io.KnownBytes.{Appends, Keeps}
 use Rattle.engine_core.specs.Runs.{HasRead, Wrote, IsRunFault, input_of}
 use Rattle.engine_core.specs.Boards.{IsBoardText, HasNoBoard, IsBoardFault}
-use Rattle.engine_core.specs.Counts.{IsCountText, HasCountText, IsCountRunFault}
+use Rattle.count_core.specs.Counts.{IsCountText, HasCountText, IsCountRunFault}
 use Rattle.engine_core.specs.Finds.{IsFoundText, IsAbsentText, IsFindText, IsFindFault}
 use Rattle.engine_core.specs.Joins.{IsJoinText, IsJoinRunFault}
 use Rattle.engine_core.specs.Output.{WroteFront}

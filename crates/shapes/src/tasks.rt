@@ -3,9 +3,8 @@ ghost use Rattle.std.specs.Prelude.{◌≡◌, IfOk, IfErr};
 ghost use Rattle.shapes.specs.Tasks.{Reads, Does, IsTaskFault, status_after};
 
 use crate::words::Task;
-use engine_core::{
-    Outcome, RunFault, run_board, run_count, run_find, run_join, status_of, write_output,
-};
+use count_core::run_count;
+use engine_core::{Outcome, RunFault, run_board, run_find, run_join, status_of, write_output};
 use harvest_core::FreeGate;
 use std::alloc::Global;
 use std::io::{Read, Write};

@@ -1,8 +1,8 @@
 use Rattle.std.proofs.Common.{◌^◌, subst}
 use Rattle.std.proofs.lemmas.Result.{err_from_is_err_and}
-use Rattle.engine_core.specs.Counts.{HasCountText, IsCountRunFault}
+use Rattle.count_core.specs.Counts.{HasCountText, IsCountRunFault}
 use Rattle.engine_core.proofs.Causes.{run_cause}
-use Rattle.engine_core.proofs.counts.run_count.Goals as goal
+use Rattle.count_core.proofs.counts.run_count.Goals as goal
 
 pub returns-in_err-written-clause-fault : goal.returns-in_err-written-clause-fault
 returns-in_err-written-clause-fault g c =

@@ -1,12 +1,10 @@
 //! `count`: from the bytes of a collection to a text of the dictionary of its games.
 ghost use Rattle.std.specs.Prelude.{◌≡◌, ◌^◌, IfOk, IfErr};
 ghost use Rattle.shape_dict.specs.Parts.{joined};
-ghost use Rattle.engine_core.specs.Counts.{IsCountText, HasCountText, IsCountRunFault};
+ghost use Rattle.count_core.specs.Counts.{IsCountText, HasCountText, IsCountRunFault};
 ghost use Rattle.engine_core.specs.Runs.{HasRead, Wrote, IsRunFault};
 
-use crate::faults::RunFault;
-use crate::input::read_input;
-use crate::output::write_parts;
+use engine_core::{RunFault, read_input, write_parts};
 use harvest_core::{Gate, harvest};
 use shape_dict::Text;
 use std::alloc::Global;
@@ -20,7 +18,7 @@ const MOST_THREADS: usize = 16;
 
 /// The text of the dictionary of the input's games, in parts, and how many trees it has of each
 /// sort.
-#[tactic(auto, using(crate::proofs::Runs::comes_first))]
+#[tactic(auto, using(crate::proofs::Order::comes_first))]
 fn counted_text<T: Threads + Wait + Sync, G: Gate>(
     rt: &T,
     alloc: Global,
