@@ -1,5 +1,5 @@
 //! Dictionaries read, asked, joined and written, from outside.
-use shape_dict::{DictFault, Dictionary, Text, push_line, push_number, push_word};
+use shape_dict::{DictFault, Dictionary, Text, push_line, push_number, push_word, word_bits};
 use std::alloc::Global;
 use std::process::Abort;
 use std::test::Fail;
@@ -283,4 +283,12 @@ fn parts_are_appended(rt: HostRuntime) -> Result<(), Fail> {
         b"3fff3fcffffff 2 1\n3fffbfcffffff 1 1\n7ffcffcffffff 2 1\n7ffeffcffffff 1 1\n3fff3fcffffff 2 1 0\n";
     assert!(rt; out.as_slice() == lines.as_slice());
     Ok(())
+}
+
+#[test]
+fn words_are_read(rt: HostRuntime) {
+    let rest: &[u8] = b" 100 48";
+    assert!(rt; word_bits(b"0000000009000 100 48") == Some((0x9000, rest)));
+    assert!(rt; word_bits(b"000000000900A 100 48").is_none());
+    assert!(rt; word_bits(b"000000000900").is_none());
 }

@@ -40,7 +40,7 @@ sum_past first (suc n) k v low =
     ∙ ap (λ b. cond b v 0 + sum_by (λ g. cond (k == g) v 0) (count_from (suc first) n)) differ
     ∙ zero-add (sum_by (λ g. cond (k == g) v 0) (count_from (suc first) n)) ∙ sum_past (suc first) n k v (omega arith)
 
-sum_once : (first n k v : ℕ) → first ≤ k → k < first + n → sum_by (λ g. cond (k == g) v 0) (count_from first n) ≡ v
+pub sum_once : (first n k v : ℕ) → first ≤ k → k < first + n → sum_by (λ g. cond (k == g) v 0) (count_from first n) ≡ v
 sum_once first zero k v low high = absurd (omega arith)
 sum_once first (suc n) k v low high =
     let parts = sum_by-cons (λ g. cond (k == g) v 0) first (count_from (suc first) n) in

@@ -1,11 +1,11 @@
 -- Sums over a list, key by key: two lists whose sums are alike at each key have the same sum.
-use Rattle.std.proofs.Common.{◌≡◌, ℕ, ◌+◌, ◌<◌, ◌≤◌, ◌==◌, true, false, cond, zero, suc, List, [], ◌∷◌, refl, ap, sym, ◌∙◌, arith, zero-add, add-zero}
+use Rattle.std.proofs.Common.{◌≡◌, ℕ, ◌+◌, ◌<◌, ◌≤◌, ◌==◌, cond, suc, List, [], ◌∷◌, refl, ap, sym, ◌∙◌, arith}
 use Rattle.std.specs.Prelude.{sum_by}
 use Rattle.std.specs.List.{AllByRecursion}
-use Rattle.std.proofs.lemmas.Bool.Decides.{nat_tests}
 use Rattle.std.proofs.lemmas.List.Sums.{sum_by-cons}
 use Rattle.shape_core.specs.Word.{count_from}
 use Rattle.tally_core.proofs.DoubleCounting.{sum-none, sum-same}
+use Rattle.gather_core.proofs.Numbered.{sum_once}
 
 -- ---- sums
 pub sum_both : {X : Type 0} (f g : X → ℕ) (xs : List X) → sum_by (λ x. f x + g x) xs ≡ sum_by f xs + sum_by g xs
@@ -19,31 +19,6 @@ sum_both f g (x ∷ xs) =
 sum_less : {X : Type 0} (f g : X → ℕ) (xs : List X) → ((x : X) → f x ≤ g x) → sum_by f xs ≤ sum_by g xs
 sum_less f g [] less = omega arith
 sum_less f g (x ∷ xs) less = omega (arith, sum_by-cons f x xs, sum_by-cons g x xs, less x, sum_less f g xs less)
-
--- one key adds its value once, among the numbers of which it is one
-sum_past : (first n k v : ℕ) → k < first → sum_by (λ g. cond (k == g) v 0) (count_from first n) ≡ 0
-sum_past first zero k v low = refl
-sum_past first (suc n) k v low =
-    let differ : (k == first) ≡ false = Prim.grind (arith, nat_tests) in
-    sum_by-cons (λ g. cond (k == g) v 0) first (count_from (suc first) n)
-    ∙ ap (λ b. cond b v 0 + sum_by (λ g. cond (k == g) v 0) (count_from (suc first) n)) differ
-    ∙ zero-add (sum_by (λ g. cond (k == g) v 0) (count_from (suc first) n)) ∙ sum_past (suc first) n k v (omega arith)
-
-sum_once : (first n k v : ℕ) → first ≤ k → k < first + n → sum_by (λ g. cond (k == g) v 0) (count_from first n) ≡ v
-sum_once first zero k v low high = absurd (omega arith)
-sum_once first (suc n) k v low high =
-    let parts = sum_by-cons (λ g. cond (k == g) v 0) first (count_from (suc first) n) in
-    elim (k == first) as (λ b. (k == first) ≡ b → sum_by (λ g. cond (k == g) v 0) (count_from first (suc n)) ≡ v) [
-      | true ↦ λ same.
-          let equal : k ≡ first = Prim.grind (arith, nat_tests) in
-          parts ∙ ap (λ b. cond b v 0 + sum_by (λ g. cond (k == g) v 0) (count_from (suc first) n)) same
-          ∙ ap (λ s. v + s) (sum_past (suc first) n k v (omega arith)) ∙ add-zero v
-      | false ↦ λ other.
-          let differ : (k ≡ first) → ⊥ = λ e. Prim.grind (arith, nat_tests) in
-          parts ∙ ap (λ b. cond b v 0 + sum_by (λ g. cond (k == g) v 0) (count_from (suc first) n)) other
-          ∙ zero-add (sum_by (λ g. cond (k == g) v 0) (count_from (suc first) n))
-          ∙ sum_once (suc first) n k v (omega arith) (omega arith)
-    ] refl
 
 -- ---- what the members of a key add
 abbrev pub at_key : {X : Type 0} → (X → ℕ) → (X → ℕ) → List X → ℕ → ℕ

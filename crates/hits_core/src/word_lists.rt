@@ -6,6 +6,7 @@ ghost use Rattle.hits_core.specs.WordLists.{HasWord, AreWordsOf, IsBadLine};
 ghost use Rattle.hits_core.specs.Inner.WordLists.{IsListFault};
 
 use shape_core::{Shape, Word};
+use shape_dict::word_bits;
 use std::alloc::{AllocFailed, Global};
 
 /// Why a list of words was not read.
@@ -25,37 +26,6 @@ impl<T: Drop> From<AllocFailed<T>> for ListFault {
     fn from(_: AllocFailed<T>) -> ListFault {
         ListFault::Memory
     }
-}
-
-/// The value of a hexadecimal digit in lower case.
-fn digit_value(byte: u8) -> Option<u8>
-    ensures found { IfSome result (λ digit. (digit < 16) × (hexadecimal_digit digit ≡ byte)) }
-    ensures only { (digit : ℕ) → digit < 16 → hexadecimal_digit digit ≡ byte
-        → IsSomeAnd result (λ value. value ≡ digit) }
-{
-    match byte {
-        b'0'..=b'9' => Some(byte - b'0'),
-        b'a'..=b'f' => Some(byte - b'a' + 10),
-        _ => None,
-    }
-}
-
-/// The number of 13 hexadecimal digits, and what follows them.
-fn word_bits(bytes: &[u8]) -> Option<(u64, &[u8])>
-    ensures found { IfSome result (λ p. (bytes.now ≡ word_text p.0 ++ p.1.now) × (p.0 < 2 ^ 52)) }
-    ensures only { (word : ℕ) → (left : List ℕ) → word < 2 ^ 52
-        → bytes.now ≡ word_text word ++ left
-        → IsSomeAnd result (λ p. (p.0 ≡ word) × (p.1.now ≡ left)) }
-{
-    if bytes.len() < 13 {
-        return None;
-    }
-    let mut bits: u64 = 0;
-    for place in 0..13 {
-        let digit = digit_value(bytes[place])?;
-        bits = 16 * bits + u64::from(digit);
-    }
-    Some((bits, &bytes[13..]))
 }
 
 /// Whether this may follow a word in its line.

@@ -26,7 +26,7 @@ use Rattle.merge_core.specs.Inner.Surveys.{IsWhole, IsTotalsOf, IsSurveyed}
 use Rattle.merge_core.proofs.Alone.{entries_same}
 use Rattle.merge_core.proofs.Folded.{folds_exist, sum_has_kinds, sum_is_dictionary}
 use Rattle.merge_core.proofs.Grown.{offers_are}
-use Rattle.merge_core.proofs.Regrouped.{entries_regroup}
+use Rattle.shape_dict.proofs.Regrouped.{entries_regroup}
 use Rattle.merge_core.proofs.Rising.{climbs_of}
 use Rattle.merge_core.proofs.Surveyed.{text_of_piece}
 

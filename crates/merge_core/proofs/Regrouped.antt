@@ -3,35 +3,10 @@ use Rattle.std.proofs.Common.{◌≡◌, ℕ, ◌+◌, List, [], ◌∷◌, ◌+
 use Rattle.std.specs.Option.{option_map}
 use Rattle.shape_dict.specs.declared.entries.Entry.{Entry}
 use Rattle.shape_dict.specs.Contents.{entry_of}
-use Rattle.shape_dict.specs.Merging.{summed_entry}
 use Rattle.shape_dict.specs.Join.{joined_entry}
+use Rattle.shape_dict.proofs.Regrouped.{entries_regroup}
 use Rattle.merge_core.specs.declared.tallies.Tally.{Tally}
 use Rattle.merge_core.specs.Inner.Ranges.{Piece, Each, AreTallies, found, games_in}
-
--- a first game that follows the games of two is one that follows the games of both
-moved_twice : (m n : ℕ) (first : Option ℕ) → option_map (λ game. game + m) (option_map (λ game. game + n) first) ≡ option_map (λ game. game + (m + n)) first
-moved_twice m n None = refl
-moved_twice m n (Some game) = ap Some (omega arith)
-
-abbrev with_counts : Entry → ℕ → ℕ → Entry
-with_counts entry there played = record entry { there = there; played = played }
-
-summed_thrice : (a b c : Entry) → summed_entry a (summed_entry b c) ≡ summed_entry (summed_entry a b) c
-summed_thrice a b c =
-    let there : a.there + (b.there + c.there) ≡ a.there + b.there + c.there = omega arith in
-    let played : a.played + (b.played + c.played) ≡ a.played + b.played + c.played = omega arith in
-    ap (λ (x : ℕ). with_counts a x (a.played + (b.played + c.played))) there ∙ ap (λ (x : ℕ). with_counts a (a.there + b.there + c.there) x) played
-
--- what the first has of a pattern, and what the others have of it together
-pub entries_regroup : (m n : ℕ) (a b c : Option Entry) → joined_entry m a (joined_entry n b c) ≡ joined_entry (m + n) (joined_entry m a b) c
-entries_regroup m n None None None = refl
-entries_regroup m n None None (Some c) = ap (λ (first : Option ℕ). Some (record c { first = first })) (moved_twice m n c.first)
-entries_regroup m n None (Some b) None = refl
-entries_regroup m n None (Some b) (Some c) = refl
-entries_regroup m n (Some a) None None = refl
-entries_regroup m n (Some a) None (Some c) = refl
-entries_regroup m n (Some a) (Some b) None = refl
-entries_regroup m n (Some a) (Some b) (Some c) = ap Some (summed_thrice a b c)
 
 not_moved : (first : Option ℕ) → option_map (λ game. game + 0) first ≡ first
 not_moved None = refl

@@ -23,7 +23,7 @@ summed_thrice a b c =
     ap (λ (x : ℕ). with_counts a x (a.played + (b.played + c.played))) there ∙ ap (λ (x : ℕ). with_counts a (a.there + b.there + c.there) x) played
 
 -- what the first says of a pattern, and what the others say of it together
-entries_regroup : (m n : ℕ) (a b c : Option Entry) → joined_entry m a (joined_entry n b c) ≡ joined_entry (m + n) (joined_entry m a b) c
+pub entries_regroup : (m n : ℕ) (a b c : Option Entry) → joined_entry m a (joined_entry n b c) ≡ joined_entry (m + n) (joined_entry m a b) c
 entries_regroup m n None None None = refl
 entries_regroup m n None None (Some c) = ap (λ (first : Option ℕ). Some (record c { first = first })) (moved_twice m n c.first)
 entries_regroup m n None (Some b) None = refl

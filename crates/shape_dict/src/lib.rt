@@ -24,6 +24,7 @@ pub use entries::{Entry, Text};
 pub use entry_lines::read_entry;
 pub use faults::DictFault;
 pub use headers::{Header, count_lines, read_header};
+pub use hexadecimals::word_bits;
 pub use laws::{texts_are_distinct, texts_have_one_fault};
 pub use texts::push_header;
 pub use writing::{push_line, push_number, push_word};
