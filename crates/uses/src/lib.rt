@@ -2,10 +2,14 @@
 #![tactic(auto)]
 
 #[cfg(test)]
+mod counts;
+#[cfg(test)]
 mod engines;
 #[cfg(test)]
 mod games;
 #[cfg(test)]
 mod patterns;
+#[cfg(test)]
+mod shares;
 #[cfg(test)]
 mod tables;

@@ -1,11 +1,10 @@
 //! The examples of the pages of `harvest_core`, `engine_core`, `listing_core`, `hits_core`,
 //! `sheet_core` and `stream_core`.
-use engine_core::{Outcome, run_count};
+use engine_core::{Outcome, run_board};
 use harvest_core::{FreeGate, harvest};
 use hits_core::{Search, Shown, Sought, Wanted, run_hits};
 use listing_core::{Listed, run_listing};
 use shape_core::{Kind, Kinds, Shape, Word};
-use shape_dict::Text;
 use sheet_core::{Asked, Form, Order, run_sheet};
 use std::io::Cursor;
 use std::test::Fail;
@@ -26,21 +25,11 @@ fn harvest_core(rt: HostRuntime) -> Result<(), Fail> {
 #[test]
 fn engine_core(rt: HostRuntime) -> Result<(), Fail> {
     let alloc = rt.alloc();
-    let settings = Settings::new(2, 4)?.with(Kinds::Squares);
-    let mut games = Cursor::new(b"(;SZ[1];B[aa])");
+    let mut games = Cursor::new(b"(;SZ[2];B[aa];W[bb])");
     let mut text = Vec::new(alloc);
-    let report = run_count(
-        &rt,
-        alloc,
-        settings,
-        Text::One,
-        &FreeGate,
-        &mut games,
-        &mut text,
-    );
-    assert!(rt; report.is_ok());
-    let wanted = b"shapes 1 games 1 moves 1 patterns 1\n3fffffcffffff 1 1\n";
-    assert_eq!(rt; text.as_slice(), wanted.as_slice());
+    let outcome = run_board(alloc, &mut games, &mut text);
+    assert!(rt; outcome == Ok(Outcome::Done));
+    assert_eq!(rt; text.as_slice(), b"X.\n.O\n".as_slice());
     Ok(())
 }
 

@@ -1,10 +1,11 @@
 //! The examples of the pages of `sgf_core`, `go_board`, `go_record` and `tally_core`.
 use go_board::{Board, Colour, Point, Size, Stone};
-use go_record::{Kind, read_record, replay};
+use go_record::{Kind, Record, read_record, replay};
 use sgf_core::Trees;
 use shape_core::Kinds;
+use std::alloc::Global;
 use std::test::Fail;
-use tally_core::{Walk, count_plain};
+use tally_core::{TallyFault, Walk, count_plain};
 
 #[test]
 fn sgf_core(rt: HostRuntime) -> Result<(), Fail> {
@@ -48,18 +49,21 @@ fn go_record(rt: HostRuntime) -> Result<(), Fail> {
     Ok(())
 }
 
+/// The moves of a game, and how many patterns it has.
+fn walk(alloc: Global, record: &Record) -> Result<(u64, usize), TallyFault> {
+    let mut walk = Walk::begin(alloc, Kinds::Both);
+    let moves = walk.walk(record)?;
+    Ok((moves, walk.meetings().len()))
+}
+
 #[test]
 fn tally_core(rt: HostRuntime) -> Result<(), Fail> {
     let alloc = rt.alloc();
     let input = b"(;SZ[1];B[aa])(;SZ[2:1];B[aa];W[ba])";
-    let counted = count_plain(alloc, Kinds::Squares, input)?;
-    assert_eq!(rt; counted.report.games, 2);
-    let mut trees = Trees::new(input)?;
-    let tree = trees.next_tree(alloc)?.ok_or("no tree")?;
+    assert_eq!(rt; count_plain(alloc, Kinds::Squares, input)?.report.games, 2);
+    let tree = Trees::new(input)?.next_tree(alloc)?.ok_or("no tree")?;
     if let Kind::Go(record) = read_record(alloc, &tree)? {
-        let mut walk = Walk::begin(alloc, Kinds::Both);
-        let moves = walk.walk(&record)?;
-        assert_eq!(rt; (moves, walk.meetings().len()), (1, 2));
+        assert!(rt; walk(alloc, &record) == Ok((1, 2)));
     }
     Ok(())
 }
