@@ -16,8 +16,8 @@ fn digit_value(byte: u8) -> Option<u8>
 }
 
 /// The number that bytes begin with as the texts of a dictionary write words, in 13 hexadecimal
-/// digits of lower case, and what follows it; None where they begin with no such digits. It is below
-/// 2^52, and need not be a word. It takes no memory. This project's own.
+/// digits of lower case, and what follows it; None where they begin with no such digits. It is
+/// below 2^52, and need not be a word. It takes no memory. This project's own.
 pub fn word_bits(bytes: &[u8]) -> Option<(u64, &[u8])>
     ensures found { IfSome result (λ p. (bytes.now ≡ word_text p.0 ++ p.1.now) × (p.0 < 2 ^ 52)) }
     ensures only { (word : ℕ) → (left : List ℕ) → word < 2 ^ 52
