@@ -26,6 +26,7 @@ use Rattle.tally_core.proofs.Skipped.{meets-all}
 use Rattle.tally_core.proofs.Summed.{seen-sum}
 use Rattle.tally_core.proofs.Taken.{rows-first}
 use Rattle.tally_core.proofs.sides.Side.count.Goals as goal
+use Rattle.tally_core.proofs.sides.Side.count.Goals.{After-index-stays, After-loop-row}
 
 is-set : (n : ℕ) → n ≡ 1 → (n == 1) ≡ true
 is-set n h = Prim.grind (arith, nat_tests)
@@ -97,54 +98,47 @@ seen-on field mover before side after new row last is end rows looked =
           (subst (λ points. Meets (shapes_of before) (flat_map (here_on field mover) points) (shapes_of after)) seen looked.meets),
     )
 
-pub play-requires-clause-stay : goal.play-requires-clause-stay
-play-requires-clause-stay c =
-    let field = c.args.field.now in
-    let size = field.board.size in
-    let looked = c.loop-row.invariant.looked in
-    let met = c.loop-row.meetings in
-    let side = c.loop-row.self in
-    let seen = seen-on field c.args.mover c.args.meetings.now c.args.self.now met side c.loop-row.row c.rows-row-end.result c.requires.side c.loop-row-test.false
-    (c.rows-row-end.ensures.value ∙ ap (λ (s : Extent). s.rows) c.size.ensures.value) looked in
+-- that is so after the loop
+seen-all : (c : After-loop-row) → IsSeenOn c.args.field.now c.args.mover c.loop-row.meetings c.loop-row.self
+    × Meets (shapes_of c.args.meetings.now) (seen_on c.args.field.now c.args.mover) (shapes_of c.loop-row.meetings)
+seen-all c =
+    seen-on c.args.field.now c.args.mover c.args.meetings.now c.args.self.now c.loop-row.meetings c.loop-row.self c.loop-row.row c.rows-row-end.result c.requires.side c.loop-row-test.false
+    (c.rows-row-end.ensures.value ∙ ap (λ (s : Extent). s.rows) c.size.ensures.value) c.loop-row.invariant.looked
+
+-- the place of the move's point is one of the side's
+at-place : (c : After-index-stays) → (c.index.result ≡ index_of c.args.field.now.board.size c.args.at) × (c.index.result < length c.loop-row.self.points.items)
+at-place c =
+    let place : c.index.result ≡ index_of c.args.field.now.board.size c.args.at = c.index.ensures.value ∙ ap (λ (s : Extent). index_of s c.args.at) c.size-2.ensures.value in
+    (place, omega (arith, index-inside c.args.field.now.board.size c.args.at c.requires.on_board, c.loop-row.invariant.looked.standing.room, place))
+
+-- what stays there was met
+stays-there : (c : After-index-stays) → AreStays (length (shapes_of c.loop-row.meetings)) c.loop-row.self.occasions c.index-stays.result.now
+stays-there c =
     let stays = c.index-stays.result.now in
-    let standing = looked.standing in
-    let place : c.index.result ≡ index_of size c.args.at = c.index.ensures.value ∙ ap (λ (s : Extent). index_of s c.args.at) c.size-2.ensures.value in
-    let inside : c.index.result < length side.points.items = omega (arith, index-inside size c.args.at c.requires.on_board, standing.room, place) in
-    let good : AreStays (length (shapes_of met)) side.occasions stays =
-    subst (AreStays (length (shapes_of met)) side.occasions) (sym c.index-stays.ensures) (standing.stays c.index.result stays inside) in
-    (side.occasions, good.square)
+    subst (AreStays (length (shapes_of c.loop-row.meetings)) c.loop-row.self.occasions) (sym c.index-stays.ensures)
+    (c.loop-row.invariant.looked.standing.stays c.index.result stays (at-place c).1)
+
+pub play-requires-clause-stay : goal.play-requires-clause-stay
+play-requires-clause-stay c = (c.loop-row.self.occasions, (stays-there (goal.at.play-requires-clause-stay c).After-index-stays).square)
 
 pub play-requires-2-clause-stay : goal.play-requires-2-clause-stay
 play-requires-2-clause-stay c =
-    let field = c.args.field.now in
-    let size = field.board.size in
-    let looked = c.loop-row.invariant.looked in
-    let met = c.loop-row.meetings in
-    let side = c.loop-row.self in
-    let seen = seen-on field c.args.mover c.args.meetings.now c.args.self.now met side c.loop-row.row c.rows-row-end.result c.requires.side c.loop-row-test.false
-    (c.rows-row-end.ensures.value ∙ ap (λ (s : Extent). s.rows) c.size.ensures.value) looked in
     let stays = c.index-stays.result.now in
-    let standing = looked.standing in
-    let place : c.index.result ≡ index_of size c.args.at = c.index.ensures.value ∙ ap (λ (s : Extent). index_of s c.args.at) c.size-2.ensures.value in
-    let inside : c.index.result < length side.points.items = omega (arith, index-inside size c.args.at c.requires.on_board, standing.room, place) in
-    let good : AreStays (length (shapes_of met)) side.occasions stays =
-    subst (AreStays (length (shapes_of met)) side.occasions) (sym c.index-stays.ensures) (standing.stays c.index.result stays inside) in
-    let still : AreStays (length (shapes_of c.play.new.meetings)) side.occasions stays = subst (λ shapes. AreStays (length shapes) side.occasions stays) (sym c.play.ensures.shapes) good in
-    (side.occasions, still.diamond)
+    let good = stays-there (goal.at.play-requires-2-clause-stay c).After-index-stays in
+    let still : AreStays (length (shapes_of c.play.new.meetings)) c.loop-row.self.occasions stays =
+    subst (λ shapes. AreStays (length shapes) c.loop-row.self.occasions stays) (sym c.play.ensures.shapes) good in
+    (c.loop-row.self.occasions, still.diamond)
 
 pub returns-clause-seen : goal.returns-clause-seen
 returns-clause-seen c =
     let field = c.args.field.now in
-    let size = field.board.size in
     let looked = c.loop-row.invariant.looked in
-    let met = c.loop-row.meetings in
     let side = c.loop-row.self in
-    let seen = seen-on field c.args.mover c.args.meetings.now c.args.self.now met side c.loop-row.row c.rows-row-end.result c.requires.side c.loop-row-test.false
-    (c.rows-row-end.ensures.value ∙ ap (λ (s : Extent). s.rows) c.size.ensures.value) looked in
-    let shapes = shapes_of met in
+    let seen = seen-all (goal.at.returns-clause-seen c).After-loop-row in
+    let shapes = shapes_of c.loop-row.meetings in
     let same : shapes_of c.play-2.new.meetings ≡ shapes = c.play-2.ensures.shapes ∙ c.play.ensures.shapes in
     let now : Side = record side { occasions = side.occasions + 1 } in
-    subst (λ all. IsSeen field.kinds size (position_of field.board) c.args.mover all now) (sym same)
+    subst (λ all. IsSeen field.kinds field.board.size (position_of field.board) c.args.mover all now) (sym same)
     (record {
       standing = record {
         room = looked.standing.room;
@@ -159,23 +153,15 @@ returns-clause-seen c =
 pub returns-clause-played : goal.returns-clause-played
 returns-clause-played c shape =
     let field = c.args.field.now in
-    let size = field.board.size in
-    let looked = c.loop-row.invariant.looked in
-    let met = c.loop-row.meetings in
     let side = c.loop-row.self in
-    let seen = seen-on field c.args.mover c.args.meetings.now c.args.self.now met side c.loop-row.row c.rows-row-end.result c.requires.side c.loop-row-test.false
-    (c.rows-row-end.ensures.value ∙ ap (λ (s : Extent). s.rows) c.size.ensures.value) looked in
+    let seen = seen-all (goal.at.returns-clause-played c).After-loop-row in
+    let place = at-place (goal.at.returns-clause-played c).After-index-stays in
     let stays = c.index-stays.result.now in
-    let standing = looked.standing in
-    let place : c.index.result ≡ index_of size c.args.at = c.index.ensures.value ∙ ap (λ (s : Extent). index_of s c.args.at) c.size-2.ensures.value in
-    let inside : c.index.result < length side.points.items = omega (arith, index-inside size c.args.at c.requires.on_board, standing.room, place) in
-    let good : AreStays (length (shapes_of met)) side.occasions stays =
-    subst (AreStays (length (shapes_of met)) side.occasions) (sym c.index-stays.ensures) (standing.stays c.index.result stays inside) in
-    let shapes = shapes_of met in
+    let shapes = shapes_of c.loop-row.meetings in
     let patterns : patterns_staying shapes stays ≡ played_on field c.args.mover c.args.at =
-    ap (patterns_staying shapes) (c.index-stays.ensures ∙ get_or_default side.points.items c.index.result stays no_stays inside ∙ ap (λ i. slice_index_or side.points.items i no_stays) place)
+    ap (patterns_staying shapes) (c.index-stays.ensures ∙ get_or_default side.points.items c.index.result stays no_stays place.1 ∙ ap (λ i. slice_index_or side.points.items i no_stays) place.0)
     ∙ seen.0.pending c.args.at c.requires.on_board
-    ∙ here-empty field.kinds size (position_of field.board) c.args.mover c.args.at c.requires.empty in
+    ∙ here-empty field.kinds field.board.size (position_of field.board) c.args.mover c.args.at c.requires.empty in
     omega (
       arith,
       c.play-2.ensures.played shape,
@@ -183,30 +169,20 @@ returns-clause-played c shape =
       ap (λ all. times_in (patterns_of all stays.diamond) shape) c.play.ensures.shapes,
       times-append shape (patterns_of shapes stays.square) (patterns_of shapes stays.diamond),
       ap (λ all. times_in all shape) patterns,
-      looked.played shape,
+      c.loop-row.invariant.looked.played shape,
     )
 
 pub returns-clause-meets : goal.returns-clause-meets
 returns-clause-meets c =
-    let field = c.args.field.now in
-    let size = field.board.size in
-    let looked = c.loop-row.invariant.looked in
-    let met = c.loop-row.meetings in
-    let side = c.loop-row.self in
-    let seen = seen-on field c.args.mover c.args.meetings.now c.args.self.now met side c.loop-row.row c.rows-row-end.result c.requires.side c.loop-row-test.false
-    (c.rows-row-end.ensures.value ∙ ap (λ (s : Extent). s.rows) c.size.ensures.value) looked in
-    subst (Meets (shapes_of c.args.meetings.now) (seen_on field c.args.mover)) (sym (c.play-2.ensures.shapes ∙ c.play.ensures.shapes)) seen.1
+    subst (Meets (shapes_of c.args.meetings.now) (seen_on c.args.field.now c.args.mover)) (sym (c.play-2.ensures.shapes ∙ c.play.ensures.shapes))
+    (seen-all (goal.at.returns-clause-meets c).After-loop-row).1
 
 pub returns-clause-there : goal.returns-clause-there
 returns-clause-there c shape =
     let field = c.args.field.now in
-    let size = field.board.size in
-    let looked = c.loop-row.invariant.looked in
-    let met = c.loop-row.meetings in
     let side = c.loop-row.self in
-    let seen = seen-on field c.args.mover c.args.meetings.now c.args.self.now met side c.loop-row.row c.rows-row-end.result c.requires.side c.loop-row-test.false
-    (c.rows-row-end.ensures.value ∙ ap (λ (s : Extent). s.rows) c.size.ensures.value) looked in
-    let shapes = shapes_of met in
+    let seen = seen-all (goal.at.returns-clause-there c).After-loop-row in
+    let shapes = shapes_of c.loop-row.meetings in
     let points = side.points.items in
     let same : shapes_of c.play-2.new.meetings ≡ shapes = c.play-2.ensures.shapes ∙ c.play.ensures.shapes in
     omega (
@@ -214,7 +190,7 @@ returns-clause-there c shape =
       ap (λ shapes. waiting shapes (side.occasions + 1) points shape) same,
       c.play-2.ensures.there shape,
       c.play.ensures.there shape,
-      waiting-longer shapes (length shapes) side.occasions points shape looked.standing.stays,
-      seen-sum field.kinds size (position_of field.board) c.args.mover shapes side shape seen.0,
-      looked.there shape,
+      waiting-longer shapes (length shapes) side.occasions points shape c.loop-row.invariant.looked.standing.stays,
+      seen-sum field.kinds field.board.size (position_of field.board) c.args.mover shapes side shape seen.0,
+      c.loop-row.invariant.looked.there shape,
     )
