@@ -10,53 +10,60 @@ use Rattle.share_core.specs.Inner.Raising.{AreRowsOf}
 use Rattle.share_core.specs.Inner.Making.{AreBelow, AreNumbered}
 use Rattle.share_core.specs.Entering.{EntersOnly}
 use Rattle.share_core.specs.Inner.Entering.{AreEntered, IsRefused, IsNoted}
+use Rattle.share_core.specs.Inner.Adding.{HasFresh}
 use Rattle.share_core.specs.Adding.{IsPrepareFault, IsEntryOf, IsRowedAfter}
 use Rattle.share_core.proofs.Entered.{calls_self}
 use Rattle.share_core.proofs.Prepared.{fresh_of, stranger_of, full_of, entries_met, entries_unrowed, entries_rowed}
 use Rattle.share_core.proofs.workings.Workings.prepare.Goals as goal
+use Rattle.share_core.proofs.workings.Workings.prepare.Goals.{After-as_slice-entered, After-make_rows}
+
+-- the walk of the game listed these meetings
+walked-by : (g : _) (c : After-as_slice-entered g) → IsWalk c.args.self.now.walk.kinds c.args.game_record.now c.meetings-meetings.result.now c.in_ok-moves.moves
+walked-by g c = subst (λ (ms : List Meeting). IsWalk c.args.self.now.walk.kinds c.args.game_record.now ms c.in_ok-moves.moves) (sym c.meetings-meetings.ensures) c.in_ok-moves.ensures.walked
+
+-- of these meetings, the first were entered
+few-of : (g : _) (c : After-as_slice-entered g) → length c.as_slice-entered.result.now ≤ length c.meetings-meetings.result.now
+few-of g c = subst (λ (es : List Entered). length es ≤ length c.meetings-meetings.result.now) (sym c.as_slice-entered.ensures.value) c.enter_all.ensures.few
+
+each-of : (g : _) (c : After-as_slice-entered g) →
+    AreEntered (2 ^ g.O.ProbeOrder.exponent c.args.table.now.order) c.enter_all.new.pass.seen c.args.game c.meetings-meetings.result.now c.as_slice-entered.result.now
+each-of g c =
+    subst (λ (es : List Entered). AreEntered (2 ^ g.O.ProbeOrder.exponent c.args.table.now.order) c.enter_all.new.pass.seen c.args.game c.meetings-meetings.result.now es)
+    (sym c.as_slice-entered.ensures.value) c.enter_all.ensures.each
+
+-- the pass entered these and nothing else
+noted-of : (g : _) (c : After-as_slice-entered g) →
+    EntersOnly (2 ^ g.O.ProbeOrder.exponent c.args.table.now.order) (IsNoted c.meetings-meetings.result.now c.as_slice-entered.result.now) c.args.pass.now c.enter_all.new.pass
+noted-of g c =
+    subst (λ (es : List Entered). EntersOnly (2 ^ g.O.ProbeOrder.exponent c.args.table.now.order) (IsNoted c.meetings-meetings.result.now es) c.args.pass.now c.enter_all.new.pass)
+    (sym c.as_slice-entered.ensures.value) c.in_ok-refused.ensures.noted
+
+-- the rows that came are of patterns of the game
+rows-came : (g : _) (c : After-make_rows g) → IsWalk c.args.self.now.walk.kinds c.args.game_record.now c.meetings-meetings.result.now c.in_ok-moves.moves →
+    length c.as_slice-entered.result.now ≤ length c.meetings-meetings.result.now →
+    AreEntered (2 ^ g.O.ProbeOrder.exponent c.args.table.now.order) c.enter_all.new.pass.seen c.args.game c.meetings-meetings.result.now c.as_slice-entered.result.now →
+    HasFresh (2 ^ g.O.ProbeOrder.exponent c.args.table.now.order) c.enter_all.new.pass.seen c.args.self.now.walk.kinds c.args.game_record.now c.args.ledger.now.rows c.make_rows.new.self.rows
+rows-came g c walked few each =
+    fresh_of (2 ^ g.O.ProbeOrder.exponent c.args.table.now.order) c.args.game c.enter_all.new.pass.seen c.args.self.now.walk.kinds c.args.game_record.now c.meetings-meetings.result.now
+    c.as_slice-entered.result.now c.in_ok-moves.moves c.args.ledger.now.rows c.make_rows.new.self.rows walked few each c.make_rows.ensures.gained
 
 pub returns-in_err-make_rows-clause-fresh : goal.returns-in_err-make_rows-clause-fresh
 returns-in_err-make_rows-clause-fresh g c =
-    let n = 2 ^ g.O.ProbeOrder.exponent c.args.table.now.order in
-    let seen = c.enter_all.new.pass.seen in
-    let kinds = c.args.self.now.walk.kinds in
-    let actions = c.args.game_record.now in
-    let meetings = c.meetings-meetings.result.now in
-    let entered = c.as_slice-entered.result.now in
-    let value = c.as_slice-entered.ensures.value in
-    let walked = subst (λ (ms : List Meeting). IsWalk kinds actions ms c.in_ok-moves.moves) (sym c.meetings-meetings.ensures) c.in_ok-moves.ensures.walked in
-    let few = subst (λ (es : List Entered). length es ≤ length meetings) (sym value) c.enter_all.ensures.few in
-    let each = subst (λ (es : List Entered). AreEntered n seen c.args.game meetings es) (sym value) c.enter_all.ensures.each in
-    fresh_of n c.args.game seen kinds actions meetings entered c.in_ok-moves.moves c.args.ledger.now.rows c.make_rows.new.self.rows walked few each c.make_rows.ensures.gained
+    let before = (goal.at.returns-in_err-make_rows-clause-fresh g c).After-as_slice-entered in
+    rows-came g (goal.at.returns-in_err-make_rows-clause-fresh g c).After-make_rows (walked-by g before) (few-of g before) (each-of g before)
 
 pub returns-in_err-make_rows-clause-fault : goal.returns-in_err-make_rows-clause-fault
 returns-in_err-make_rows-clause-fault g c =
-    let n = 2 ^ g.O.ProbeOrder.exponent c.args.table.now.order in
-    let seen = c.enter_all.new.pass.seen in
-    let kinds = c.args.self.now.walk.kinds in
-    let actions = c.args.game_record.now in
-    let meetings = c.meetings-meetings.result.now in
-    let entered = c.as_slice-entered.result.now in
-    let value = c.as_slice-entered.ensures.value in
-    let walked = subst (λ (ms : List Meeting). IsWalk kinds actions ms c.in_ok-moves.moves) (sym c.meetings-meetings.ensures) c.in_ok-moves.ensures.walked in
-    let few = subst (λ (es : List Entered). length es ≤ length meetings) (sym value) c.enter_all.ensures.few in
-    let each = subst (λ (es : List Entered). AreEntered n seen c.args.game meetings es) (sym value) c.enter_all.ensures.each in
+    let before = (goal.at.returns-in_err-make_rows-clause-fault g c).After-as_slice-entered in
     let p = err_from_is_err_and c.from_residual-in_err-make_rows.result c.from_residual-in_err-make_rows.ensures.1 in
-    rw (p.1, p.2) (stranger_of n c.args.game seen kinds actions meetings entered c.in_ok-moves.moves c.make_rows.new.self.rows c.in_err-make_rows.field-0.0 walked few each c.in_err-make_rows.ensures.fault)
+    rw (p.1, p.2) (stranger_of (2 ^ g.O.ProbeOrder.exponent c.args.table.now.order) c.args.game c.enter_all.new.pass.seen c.args.self.now.walk.kinds c.args.game_record.now
+    c.meetings-meetings.result.now c.as_slice-entered.result.now c.in_ok-moves.moves c.make_rows.new.self.rows c.in_err-make_rows.field-0.0
+    (walked-by g before) (few-of g before) (each-of g before) c.in_err-make_rows.ensures.fault)
 
 pub returns-in-Some-clause-fresh : goal.returns-in-Some-clause-fresh
 returns-in-Some-clause-fresh g c =
-    let n = 2 ^ g.O.ProbeOrder.exponent c.args.table.now.order in
-    let seen = c.enter_all.new.pass.seen in
-    let kinds = c.args.self.now.walk.kinds in
-    let actions = c.args.game_record.now in
-    let meetings = c.meetings-meetings.result.now in
-    let entered = c.as_slice-entered.result.now in
-    let value = c.as_slice-entered.ensures.value in
-    let walked = subst (λ (ms : List Meeting). IsWalk kinds actions ms c.in_ok-moves.moves) (sym c.meetings-meetings.ensures) c.in_ok-moves.ensures.walked in
-    let few = subst (λ (es : List Entered). length es ≤ length meetings) (sym value) c.enter_all.ensures.few in
-    let each = subst (λ (es : List Entered). AreEntered n seen c.args.game meetings es) (sym value) c.enter_all.ensures.each in
-    fresh_of n c.args.game seen kinds actions meetings entered c.in_ok-moves.moves c.args.ledger.now.rows c.make_rows.new.self.rows walked few each c.make_rows.ensures.gained
+    let before = (goal.at.returns-in-Some-clause-fresh g c).After-as_slice-entered in
+    rows-came g (goal.at.returns-in-Some-clause-fresh g c).After-make_rows (walked-by g before) (few-of g before) (each-of g before)
 
 pub returns-in-Some-clause-fault : goal.returns-in-Some-clause-fault
 returns-in-Some-clause-fault g c =
@@ -66,7 +73,8 @@ returns-in-Some-clause-fault g c =
     let actions = c.args.game_record.now in
     let rows = c.make_rows.new.self.rows in
     let meetings = c.meetings-meetings.result.now in
-    let walked = subst (λ (ms : List Meeting). IsWalk kinds actions ms c.in_ok-moves.moves) (sym c.meetings-meetings.ensures) c.in_ok-moves.ensures.walked in
+    let before = (goal.at.returns-in-Some-clause-fault g c).After-as_slice-entered in
+    let walked = walked-by g before in
     let entered = c.enter_all.new.entered.items in
     let value = c.as_slice-entered.ensures.value in
     let refused : IsRefused n seen meetings entered c.in-Some.shape = subst (λ o. IfSome o (IsRefused n seen meetings entered)) c.in-Some.is c.in_ok-refused.ensures.refused in
@@ -77,17 +85,8 @@ returns-in-Some-clause-fault g c =
 
 pub returns-in-None-clause-fresh : goal.returns-in-None-clause-fresh
 returns-in-None-clause-fresh g c =
-    let n = 2 ^ g.O.ProbeOrder.exponent c.args.table.now.order in
-    let seen = c.enter_all.new.pass.seen in
-    let kinds = c.args.self.now.walk.kinds in
-    let actions = c.args.game_record.now in
-    let meetings = c.meetings-meetings.result.now in
-    let entered = c.as_slice-entered.result.now in
-    let value = c.as_slice-entered.ensures.value in
-    let walked = subst (λ (ms : List Meeting). IsWalk kinds actions ms c.in_ok-moves.moves) (sym c.meetings-meetings.ensures) c.in_ok-moves.ensures.walked in
-    let few = subst (λ (es : List Entered). length es ≤ length meetings) (sym value) c.enter_all.ensures.few in
-    let each = subst (λ (es : List Entered). AreEntered n seen c.args.game meetings es) (sym value) c.enter_all.ensures.each in
-    fresh_of n c.args.game seen kinds actions meetings entered c.in_ok-moves.moves c.args.ledger.now.rows c.make_rows.new.self.rows walked few each c.make_rows.ensures.gained
+    let before = (goal.at.returns-in-None-clause-fresh g c).After-as_slice-entered in
+    rows-came g (goal.at.returns-in-None-clause-fresh g c).After-make_rows (walked-by g before) (few-of g before) (each-of g before)
 
 pub returns-in-None-clause-ok : goal.returns-in-None-clause-ok
 returns-in-None-clause-ok g c =
@@ -129,8 +128,9 @@ returns-in_err-make_rows-clause-enters g c =
     let kinds = c.args.self.now.walk.kinds in
     let actions = c.args.game_record.now in
     let meetings = c.meetings-meetings.result.now in
-    let walked = subst (λ (ms : List Meeting). IsWalk kinds actions ms c.in_ok-moves.moves) (sym c.meetings-meetings.ensures) c.in_ok-moves.ensures.walked in
-    let noted = subst (λ (es : List Entered). EntersOnly n (IsNoted meetings es) c.args.pass.now c.enter_all.new.pass) (sym c.as_slice-entered.ensures.value) c.in_ok-refused.ensures.noted in
+    let before = (goal.at.returns-in_err-make_rows-clause-enters g c).After-as_slice-entered in
+    let walked = walked-by g before in
+    let noted = noted-of g before in
     let p = err_from_is_err_and c.from_residual-in_err-make_rows.result c.from_residual-in_err-make_rows.ensures.1 in
     rw (p.1, p.2) (entries_unrowed n kinds actions meetings c.as_slice-entered.result.now c.in_ok-moves.moves c.make_rows.new.self.rows c.in_err-make_rows.field-0.0 c.args.pass.now c.enter_all.new.pass
     walked c.in_err-make_rows.ensures.fault noted)
@@ -143,10 +143,10 @@ returns-in-Some-clause-enters g c =
     let rows = c.make_rows.new.self.rows in
     let meetings = c.meetings-meetings.result.now in
     let entered = c.as_slice-entered.result.now in
-    let walked = subst (λ (ms : List Meeting). IsWalk kinds actions ms c.in_ok-moves.moves) (sym c.meetings-meetings.ensures) c.in_ok-moves.ensures.walked in
-    let value = c.as_slice-entered.ensures.value in
-    let few = subst (λ (es : List Entered). length es ≤ length meetings) (sym value) c.enter_all.ensures.few in
-    let noted = subst (λ (es : List Entered). EntersOnly n (IsNoted meetings es) c.args.pass.now c.enter_all.new.pass) (sym value) c.in_ok-refused.ensures.noted in
+    let before = (goal.at.returns-in-Some-clause-enters g c).After-as_slice-entered in
+    let walked = walked-by g before in
+    let few = few-of g before in
+    let noted = noted-of g before in
     subst (λ found. EntersOnly n (IsEntryOf kinds actions (IsRowedAfter found rows)) c.args.pass.now c.enter_all.new.pass) (sym (c.full.ensures ∙ ap (λ w. fault.Full c.args.game w) c.word.ensures.value))
     (entries_rowed n kinds actions meetings entered c.make_rows.new.places.items c.in_ok-moves.moves rows c.args.pass.now c.enter_all.new.pass walked few
     c.in_ok-make_rows.ensures.rows c.in_ok-make_rows.ensures.numbered noted)
@@ -158,10 +158,10 @@ returns-in-None-clause-rowed g c =
     let actions = c.args.game_record.now in
     let meetings = c.meetings-meetings.result.now in
     let entered = c.as_slice-entered.result.now in
-    let walked = subst (λ (ms : List Meeting). IsWalk kinds actions ms c.in_ok-moves.moves) (sym c.meetings-meetings.ensures) c.in_ok-moves.ensures.walked in
-    let value = c.as_slice-entered.ensures.value in
-    let few = subst (λ (es : List Entered). length es ≤ length meetings) (sym value) c.enter_all.ensures.few in
-    let noted = subst (λ (es : List Entered). EntersOnly n (IsNoted meetings es) c.args.pass.now c.enter_all.new.pass) (sym value) c.in_ok-refused.ensures.noted in
+    let before = (goal.at.returns-in-None-clause-rowed g c).After-as_slice-entered in
+    let walked = walked-by g before in
+    let few = few-of g before in
+    let noted = noted-of g before in
     entries_rowed n kinds actions meetings entered c.make_rows.new.places.items c.in_ok-moves.moves c.make_rows.new.self.rows c.args.pass.now c.enter_all.new.pass walked few
     c.in_ok-make_rows.ensures.rows c.in_ok-make_rows.ensures.numbered noted
 
