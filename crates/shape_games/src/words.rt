@@ -1,13 +1,11 @@
 //! The words of the command line, and what they ask for.
-ghost use Rattle.std.specs.Prelude.{◌≡◌, ◌⊎◌, IfErr, IfOk, map, string_bytes};
-ghost use Rattle.clap.specs.Values.{kind_of};
+ghost use Rattle.std.specs.Prelude.{◌≡◌, IfErr, IfOk, map, string_bytes};
 ghost use Rattle.clap.specs.Words.{app_of};
-ghost use Rattle.engine_core.specs.declared.faults.RunFault.TheVariants as fault;
-ghost use Rattle.shape_games.specs.Words.{program_app, IsHelp, IsHelpKind, IsRefusal};
-ghost use Rattle.shape_games.specs.Words.{IsAnswered, IsLineFault};
+ghost use Rattle.command_lines.specs.Lines.{IsLineFault};
+ghost use Rattle.shape_games.specs.Words.{program_app, IsAnswered};
 
-use clap::error::ErrorKind;
-use clap::{Command, Error};
+use clap::Command;
+use command_lines::{Line, program_named, read_line};
 use engine_core::RunFault;
 use std::alloc::Global;
 
@@ -38,27 +36,13 @@ pub enum Task {
 fn program<'a>(alloc: Global) -> Command<'a>
     ensures { app_of result ≡ program_app }
 {
-    Command::new(alloc, "shape_games")
-        .about("Lists the trees of a collection: where each is, and what")
-        .override_usage("shape_games < GAMES.sgf")
-        .after_help(NOTES)
-        .version("1.0.0")
-        .no_binary_name(true)
-}
-
-/// What a refused line asks for: a text of help or version, or nothing that the program knows.
-fn refused(alloc: Global, error: &Error) -> Result<Task, RunFault>
-    ensures help { IfOk result (λ found. IsHelp found × IsHelpKind (kind_of error.now)) }
-    ensures fault { IfErr result (λ found. (found ≡ fault.Memory)
-        ⊎ ((found ≡ fault.Usage) × IsRefusal (kind_of error.now))) }
-{
-    match error.kind() {
-        ErrorKind::DisplayHelp | ErrorKind::DisplayVersion => {
-            Ok(Task::Help(error.to_string(alloc)?))
-        }
-        ErrorKind::OutOfMemory => Err(RunFault::Memory),
-        _ => Err(RunFault::Usage),
-    }
+    program_named(
+        alloc,
+        "shape_games",
+        "Lists the trees of a collection: where each is, and what",
+        "shape_games < GAMES.sgf",
+        NOTES,
+    )
 }
 
 /// What the words after the program's name ask for; no word at all asks for the listing. It takes
@@ -69,10 +53,10 @@ fn refused(alloc: Global, error: &Error) -> Result<Task, RunFault>
 /// `Usage` where the words are none that the program knows; `Memory` where memory was refused.
 pub fn read_words(alloc: Global, words: &[String]) -> Result<Task, RunFault>
     ensures task { IfOk result (IsAnswered (map string_bytes words.now)) }
-    ensures fault { IfErr result (IsLineFault (map string_bytes words.now)) }
+    ensures fault { IfErr result (IsLineFault program_app (map string_bytes words.now)) }
 {
-    match program(alloc).try_get_matches_from(words) {
-        Ok(_) => Ok(Task::List),
-        Err(error) => refused(alloc, &error),
+    match read_line(alloc, program(alloc), words)? {
+        Line::Asked(_) => Ok(Task::List),
+        Line::Told(text) => Ok(Task::Help(text)),
     }
 }

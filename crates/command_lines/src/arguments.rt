@@ -1,0 +1,87 @@
+//! The arguments that several programs take, as they are told to `clap`.
+ghost use Rattle.std.specs.Prelude.{◌≡◌, false, codes};
+ghost use Rattle.clap.specs.Words.{rule_of};
+ghost use Rattle.command_lines.specs.Arguments.{option_rule, flag_rule, word_rule, text_rule};
+ghost use Rattle.command_lines.specs.Arguments.{workers_rule};
+
+use clap::{Arg, ArgAction, value_parser};
+use std::alloc::Global;
+
+/// An option of this name that takes a value, which help calls `value_name`. It takes no memory.
+pub fn option_argument<'a>(
+    alloc: Global,
+    name: &'a str,
+    value_name: &'a str,
+    help: &'a str,
+) -> Arg<'a>
+    ensures rule { rule_of result ≡ option_rule name.entry.now }
+    ensures local { result.global ≡ false }
+{
+    Arg::new(alloc, name)
+        .long(name)
+        .value_name(value_name)
+        .help(help)
+}
+
+/// A flag of this name. It takes no memory.
+pub fn flag_argument<'a>(alloc: Global, name: &'a str, help: &'a str) -> Arg<'a>
+    ensures rule { rule_of result ≡ flag_rule name.entry.now }
+    ensures local { result.global ≡ false }
+{
+    Arg::new(alloc, name)
+        .long(name)
+        .action(ArgAction::SetTrue)
+        .help(help)
+}
+
+/// `--text`: a number from 1 to 3, which is 1 where none is given. It takes no memory.
+pub fn text_argument<'a>(alloc: Global, help: &'a str) -> Arg<'a>
+    ensures rule { rule_of result ≡ text_rule }
+    ensures local { result.global ≡ false }
+{
+    option_argument(alloc, "text", "T", help)
+        .value_parser(value_parser!(u8).range(1..=3))
+        .default_value("1")
+}
+
+/// `--workers`: a number from 1 to 64, which is 4 where none is given. It takes no memory.
+pub fn workers_argument<'a>(alloc: Global, help: &'a str) -> Arg<'a>
+    ensures rule { rule_of result ≡ workers_rule }
+    ensures local { result.global ≡ false }
+{
+    option_argument(alloc, "workers", "W", help)
+        .value_parser(value_parser!(u8).range(1..=64))
+        .default_value("4")
+}
+
+/// GLYPHS, which may be left out. It takes no memory.
+pub fn glyphs_argument<'a>(alloc: Global) -> Arg<'a>
+    ensures rule { rule_of result ≡ word_rule (codes "glyphs") }
+    ensures local { result.global ≡ false }
+{
+    Arg::new(alloc, "glyphs")
+        .value_name("GLYPHS")
+        .help("The 25 points of the pattern, row by row from the top")
+}
+
+/// COLOUR, which may be left out. It takes no memory.
+pub fn colour_argument<'a>(alloc: Global) -> Arg<'a>
+    ensures rule { rule_of result ≡ word_rule (codes "colour") }
+    ensures local { result.global ≡ false }
+{
+    Arg::new(alloc, "colour")
+        .value_name("COLOUR")
+        .help("Who is to move: black or white")
+}
+
+/// `--diamond`, which says what GLYPHS are of. It takes no memory.
+pub fn diamond_argument<'a>(alloc: Global) -> Arg<'a>
+    ensures rule { rule_of result ≡ flag_rule (codes "diamond") }
+    ensures local { result.global ≡ false }
+{
+    flag_argument(
+        alloc,
+        "diamond",
+        "The glyphs are those of a diamond and not of a square",
+    )
+}

@@ -1,0 +1,56 @@
+//! What a line of words asks for, by what `clap` answers.
+ghost use Rattle.std.specs.Prelude.{◌≡◌, ◌⊎◌, true, map, string_bytes, IfOk, IfErr};
+ghost use Rattle.clap.specs.Values.{kind_of};
+ghost use Rattle.clap.specs.Words.{app_of, is_simple_and_free};
+ghost use Rattle.command_lines.specs.Inner.Kinds.{IsHelpKind};
+ghost use Rattle.command_lines.specs.Lines.{IsLineOf, IsLineFault, IsRefusal};
+ghost use Rattle.engine_core.specs.declared.faults.RunFault.TheVariants as fault;
+
+use clap::error::ErrorKind;
+use clap::{ArgMatches, Command, Error};
+use engine_core::RunFault;
+use std::alloc::Global;
+
+/// What a line asks for.
+#[derive(Debug, Drop)]
+pub enum Line<'a> {
+    /// What these values say, of which `clap` refuses nothing.
+    Asked(ArgMatches<'a>),
+    /// This text, which was asked for by help or version.
+    Told(String),
+}
+
+/// The text that a refused line asks for, by help or version.
+fn told(alloc: Global, error: &Error) -> Result<String, RunFault>
+    ensures help { IfOk result (λ _. IsHelpKind (kind_of error.now)) }
+    ensures fault { IfErr result (λ found. (found ≡ fault.Memory)
+        ⊎ ((found ≡ fault.Usage) × IsRefusal (kind_of error.now))) }
+{
+    match error.kind() {
+        ErrorKind::DisplayHelp | ErrorKind::DisplayVersion => Ok(error.to_string(alloc)?),
+        ErrorKind::OutOfMemory => Err(RunFault::Memory),
+        _ => Err(RunFault::Usage),
+    }
+}
+
+/// What the words after a program's name ask for, where this is the program as `clap` is told it:
+/// one without groups and global arguments, in which no argument has a rule on another. It takes
+/// memory.
+///
+/// # Errors
+///
+/// `Usage` where `clap` refuses the words; `Memory` where memory was refused.
+pub fn read_line<'a>(
+    alloc: Global,
+    program: Command<'a>,
+    words: &'a [String],
+) -> Result<Line<'a>, RunFault>
+    requires { is_simple_and_free (app_of program) ≡ true }
+    ensures line { IfOk result (IsLineOf (app_of program.entry) (map string_bytes words.now)) }
+    ensures fault { IfErr result (IsLineFault (app_of program.entry) (map string_bytes words.now)) }
+{
+    match program.try_get_matches_from(words) {
+        Ok(matches) => Ok(Line::Asked(matches)),
+        Err(error) => Ok(Line::Told(told(alloc, &error)?)),
+    }
+}

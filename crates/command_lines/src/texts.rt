@@ -1,0 +1,34 @@
+//! The text of a dictionary that `--text` names.
+ghost use Rattle.std.specs.Prelude.{◌≡◌, ◌≢◌, codes, IfSome, IfNone};
+ghost use Rattle.command_lines.specs.Texts.{HasNoText, number_of};
+ghost use Rattle.command_lines.specs.Values.{IsNumberOf, rows_in};
+ghost use Rattle.shape_dict.specs.declared.entries.Text.{Text};
+
+use crate::values::small_number;
+use clap::ArgMatches;
+use shape_dict::Text;
+
+/// The text of this number, where there is one.
+fn text_numbered(number: u8) -> Option<Text>
+    ensures text { IfSome result (λ text. number ≡ number_of text) }
+    ensures none { IfNone result ((text : Text) → number ≢ number_of text) }
+{
+    match number {
+        1 => Some(Text::One),
+        2 => Some(Text::Two),
+        3 => Some(Text::Three),
+        _ => None,
+    }
+}
+
+/// The text of the number that `--text` has, where there is one. It takes no memory.
+pub fn text_of(matches: &ArgMatches<'_>) -> Option<Text>
+    ensures text { IfSome result (λ text. IsNumberOf (codes "text") (rows_in matches.now)
+        (number_of text)) }
+    ensures none { IfNone result (HasNoText (rows_in matches.now)) }
+{
+    match small_number(matches, "text") {
+        Some(number) => text_numbered(number),
+        None => None,
+    }
+}

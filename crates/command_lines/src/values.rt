@@ -1,0 +1,46 @@
+//! The value of one option, word or flag.
+ghost use Rattle.std.specs.Prelude.{◌≡◌, ◌^◌, option_map, IfSome, IfNone};
+ghost use Rattle.clap.specs.Words.{first_of};
+ghost use Rattle.command_lines.specs.Values.{HasNoNumber, IsChoiceOf, IsNumberOf, rows_in};
+ghost use Rattle.command_lines.specs.Patterns.{IsKindOf};
+
+use clap::ArgMatches;
+use shape_core::Kind;
+
+/// The first value of the option or word of this name, where it has one. It takes no memory.
+pub fn word_of<'a>(matches: &ArgMatches<'a>, name: &str) -> Option<&'a str>
+    ensures { option_map (λ word. word.now) result ≡ first_of name.now (rows_in matches.now) }
+{
+    matches.get_str(name)
+}
+
+/// The number that the option of this name has, where it has one. It takes no memory.
+pub fn number(matches: &ArgMatches<'_>, name: &str) -> Option<u64>
+    ensures number { IfSome result (IsNumberOf name.now (rows_in matches.now)) }
+    ensures none { IfNone result (HasNoNumber (2 ^ 64) name.now (rows_in matches.now)) }
+{
+    matches.get_one::<u64>(name)
+}
+
+/// The number that the option of this name has, where it has one that is below 256. It takes no
+/// memory.
+pub fn small_number(matches: &ArgMatches<'_>, name: &str) -> Option<u8>
+    ensures number { IfSome result (IsNumberOf name.now (rows_in matches.now)) }
+    ensures none { IfNone result (HasNoNumber (2 ^ 8) name.now (rows_in matches.now)) }
+{
+    matches.get_one::<u8>(name)
+}
+
+/// Which of two the flag of this name says: the first where it is given. It takes no memory.
+pub fn choice<T: Copy>(matches: &ArgMatches<'_>, flag: &str, given: T, other: T) -> T
+    ensures { IsChoiceOf flag.now given other (rows_in matches.now) result }
+{
+    if matches.get_flag(flag) { given } else { other }
+}
+
+/// The kind of pattern that GLYPHS are of, by `--diamond`. It takes no memory.
+pub fn kind_of(matches: &ArgMatches<'_>) -> Kind
+    ensures { IsKindOf (rows_in matches.now) result }
+{
+    choice(matches, "diamond", Kind::Diamond, Kind::Square)
+}
