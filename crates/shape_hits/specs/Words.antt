@@ -1,13 +1,11 @@
 -- What the words of the command line ask for.
 use Rattle.std.specs.Prelude.{◌≡◌, ◌≢◌, ◌⊎◌, ◌<◌, ◌^◌, ℕ, List, [], Option, Some, None, IfSome, codes, option_map}
-use Rattle.std.specs.Str.Parse.{IsNumeral, digits_value, without_leading_plus}
-use Rattle.clap.specs.Words.{Row, first_of, one_of, matches_of, fault_of, IsAmong}
-use Rattle.clap.specs.declared.error.kind.ErrorKind.{ErrorKind}
-use Rattle.clap.specs.declared.error.kind.ErrorKind.TheVariants as refusal
-use Rattle.shape_core.specs.declared.words.Kind.{Kind}
+use Rattle.clap.specs.Words.{Row, first_of, matches_of}
+use Rattle.command_lines.specs.Lines.{AsksForHelp, IsAskingFault, refusals_of}
+use Rattle.command_lines.specs.Patterns.{IsBadSpelling, IsKindOf, IsSpelled}
+use Rattle.command_lines.specs.Values.{IsChoiceOf, IsNumberOf}
 use Rattle.shape_core.specs.declared.words.Kind.TheVariants as kind
 use Rattle.shape_core.specs.declared.spelling.GlyphFault.{GlyphFault}
-use Rattle.engine_core.specs.Patterns.{IsPatternOf, IsPatternFault}
 use Rattle.engine_core.specs.declared.faults.RunFault.{RunFault}
 use Rattle.engine_core.specs.declared.faults.RunFault.TheVariants as fault
 use Rattle.hits_core.specs.declared.searches.Shown.{Shown}
@@ -23,39 +21,14 @@ use Rattle.shape_hits.specs.declared.words.Task.TheVariants as task
 abbrev pub rows_for : List (List ℕ) → List Row
 rows_for words = matches_of program_app words
 
--- the value of this option is this number, in decimal digits that may follow a `+`
-pub record IsNumberOf (id : List ℕ) (rows : List Row) (number : ℕ) : Type 0 where
-  pub text : List ℕ
-  pub given : one_of id rows ≡ Some text
-  pub digits : IsNumeral 10 (without_leading_plus text)
-  pub value : number ≡ digits_value 10 (without_leading_plus text)
-
 -- this many hits are asked for: all, where no number is given
 abbrev pub IsMostOf : List Row → Option ℕ → Type 0
 IsMostOf rows None = first_of (codes "most") rows ≡ None
 IsMostOf rows (Some most) = IsNumberOf (codes "most") rows most
 
--- whether the flag was given says which kind the glyphs are of
-pub record IsKindOf (rows : List Row) (found : Kind) : Type 0 where
-  pub given : one_of (codes "diamond") rows ≡ Some (codes "true") → found ≡ kind.Diamond
-  pub denied : one_of (codes "diamond") rows ≡ Some (codes "false") → found ≡ kind.Square
-  pub absent : one_of (codes "diamond") rows ≡ None → found ≡ kind.Square
-
 -- whether the flag was given says which times are listed
-pub record IsSoughtOf (rows : List Row) (found : Sought) : Type 0 where
-  pub given : one_of (codes "there") rows ≡ Some (codes "true") → found ≡ sought.There
-  pub denied : one_of (codes "there") rows ≡ Some (codes "false") → found ≡ sought.Played
-  pub absent : one_of (codes "there") rows ≡ None → found ≡ sought.Played
-
--- the glyphs and the colour spell this pattern
-pub record IsSpelled (rows : List Row) (shape : ℕ) : Type 0 where
-  pub kind_found : Kind
-  pub glyphs : List ℕ
-  pub mover : List ℕ
-  pub is_kind : IsKindOf rows kind_found
-  pub has_glyphs : first_of (codes "glyphs") rows ≡ Some glyphs
-  pub has_mover : first_of (codes "colour") rows ≡ Some mover
-  pub pattern : IsPatternOf kind_found glyphs mover shape
+abbrev pub IsSoughtOf : List Row → Sought → Type 0
+IsSoughtOf rows found = IsChoiceOf (codes "there") sought.There sought.Played rows found
 
 -- no part of a pattern is spelled
 pub record IsAlone (rows : List Row) : Type 0 where
@@ -82,10 +55,6 @@ pub record IsAsked (rows : List Row) (asked : Asked) : Type 0 where
   pub shown : asked.search.shown ≡ shown_for asked.shape
   pub workers : IsNumberOf (codes "workers") rows asked.workers
 
--- the option has no number below this limit as its value
-abbrev pub HasNoNumber : ℕ → List ℕ → List Row → Type 0
-HasNoNumber limit id rows = (number : ℕ) → IsNumberOf id rows number → number < limit → ⊥
-
 -- `--most` has a value that is no number below 2 ^ 64
 abbrev pub HasNoMost : List Row → Type 0
 HasNoMost rows = (most : Option ℕ) → IsMostOf rows most → IfSome most (λ n. n < 2 ^ 64) → ⊥
@@ -94,14 +63,9 @@ HasNoMost rows = (most : Option ℕ) → IsMostOf rows most → IfSome most (λ 
 abbrev pub HasNoPatterns : List Row → Type 0
 HasNoPatterns rows = (shape : Option ℕ) → ArePatterns rows shape → ⊥
 
--- the glyphs spell no pattern
-pub record IsBadPattern (rows : List Row) (found : GlyphFault) : Type 0 where
-  pub glyphs : List ℕ
-  pub mover : List ℕ
-  pub no_words : first_of (codes "words") rows ≡ None
-  pub has_glyphs : first_of (codes "glyphs") rows ≡ Some glyphs
-  pub has_mover : first_of (codes "colour") rows ≡ Some mover
-  pub wrong : IsPatternFault glyphs mover (fault.Glyph found)
+-- no file of words is named, and the glyphs spell no pattern
+abbrev pub IsBadPattern : List Row → GlyphFault → Type 0
+IsBadPattern rows found = (first_of (codes "words") rows ≡ None) × IsBadSpelling rows found
 
 -- a file of words is named, and diamonds are asked for beside it
 abbrev pub HasDiamondWords : List Row → Type 0
@@ -123,43 +87,16 @@ IsSearchFault rows fault.Usage = HasNoSearch rows ⊎ HasDiamondWords rows
 IsSearchFault rows (fault.Glyph found) = IsBadPattern rows found
 IsSearchFault rows found = ⊥
 
--- the kinds of refusal by which `clap` answers these words; none where it takes them
-abbrev pub refusals_of : List (List ℕ) → List ErrorKind
-refusals_of words = fault_of program_app words
-
--- `clap` answers that help or a version was asked for
-abbrev pub AsksForHelp : List (List ℕ) → Type 0
-AsksForHelp words = IsAmong refusal.DisplayHelp (refusals_of words) ⊎ IsAmong refusal.DisplayVersion (refusals_of words)
-
 -- the task is that of the words: help only where it was asked for, and a search only where `clap` refuses nothing
 abbrev pub IsAnswered : List (List ℕ) → Task → Type 0
-IsAnswered words (task.Help text) = AsksForHelp words
-IsAnswered words (task.Find asked) = (refusals_of words ≡ []) × IsAsked (rows_for words) asked
+IsAnswered words (task.Help text) = AsksForHelp program_app words
+IsAnswered words (task.Find asked) = (refusals_of program_app words ≡ []) × IsAsked (rows_for words) asked
 
 -- the task is the search that these values ask for
 abbrev pub IsSearchOf : List Row → Task → Type 0
 IsSearchOf rows (task.Help text) = ⊥
 IsSearchOf rows (task.Find asked) = IsAsked rows asked
 
-abbrev pub IsHelp : Task → Type 0
-IsHelp (task.Find asked) = ⊥
-IsHelp (task.Help text) = Unit {0}
-
--- it is the answer to who asked for help or a version
-abbrev pub IsHelpKind : ErrorKind → Type 0
-IsHelpKind found = (found ≡ refusal.DisplayHelp) ⊎ (found ≡ refusal.DisplayVersion)
-
--- this is a refusal, and no answer to who asked for help or a version
-abbrev pub IsRefusal : ErrorKind → Type 0
-IsRefusal found = (found ≢ refusal.DisplayHelp) × (found ≢ refusal.DisplayVersion) × (found ≢ refusal.OutOfMemory)
-
--- `clap` refuses the words
-abbrev pub AreRefused : List (List ℕ) → Type 0
-AreRefused words = (found : ErrorKind) × IsAmong found (refusals_of words) × IsRefusal found
-
 -- what can be wrong with the words: memory was wanting; or `clap` refuses them, or takes them and they ask for no search
-abbrev pub IsLineFault : List (List ℕ) → RunFault → Type 0
-IsLineFault words found =
-    (found ≡ fault.Memory)
-    ⊎ ((found ≡ fault.Usage) × AreRefused words)
-    ⊎ ((refusals_of words ≡ []) × IsSearchFault (rows_for words) found)
+abbrev pub IsWordsFault : List (List ℕ) → RunFault → Type 0
+IsWordsFault words = IsAskingFault program_app words (IsSearchFault (rows_for words))

@@ -1,11 +1,13 @@
 //! The command line as it is told to `clap`.
 ghost use Rattle.std.specs.Prelude.{◌≡◌, false, IfOk};
 ghost use Rattle.clap.specs.Words.{app_of, rule_of};
-ghost use Rattle.shape_hits.specs.Commands.{glyphs_rule, colour_rule, words_rule, most_rule};
-ghost use Rattle.shape_hits.specs.Commands.{workers_rule, diamond_rule, there_rule};
-ghost use Rattle.shape_hits.specs.Commands.{bare_app, patterns_app, program_app};
+ghost use Rattle.shape_hits.specs.Commands.{most_rule, patterns_app, program_app};
 
-use clap::{Arg, ArgAction, Command, value_parser};
+use clap::{Arg, Command, value_parser};
+use command_lines::{
+    colour_argument, diamond_argument, flag_argument, glyphs_argument, option_argument,
+    program_named, workers_argument,
+};
 use std::alloc::{AllocError, Global};
 
 /// The end of the program's help.
@@ -24,102 +26,35 @@ itself is the 13th. Turned, mirrored and with the colours exchanged it is the sa
 
 Exit status: 0 found, 1 not found, 2 wrong words, 3 input refused, 5 no memory, 6 a read or a write failed";
 
-fn glyphs_argument<'a>(alloc: Global) -> Arg<'a>
-    ensures rule { rule_of result ≡ glyphs_rule }
-    ensures local { result.global ≡ false }
-{
-    Arg::new(alloc, "glyphs")
-        .value_name("GLYPHS")
-        .help("The 25 points of the pattern, row by row from the top")
-}
-
-fn colour_argument<'a>(alloc: Global) -> Arg<'a>
-    ensures rule { rule_of result ≡ colour_rule }
-    ensures local { result.global ≡ false }
-{
-    Arg::new(alloc, "colour")
-        .value_name("COLOUR")
-        .help("Who is to move: black or white")
-}
-
-fn words_argument<'a>(alloc: Global) -> Arg<'a>
-    ensures rule { rule_of result ≡ words_rule }
-    ensures local { result.global ≡ false }
-{
-    Arg::new(alloc, "words")
-        .long("words")
-        .value_name("FILE")
-        .help(
-            "Look for the patterns whose words stand first in the lines of this file, as in a dictionary",
-        )
-}
-
 fn most_argument<'a>(alloc: Global) -> Arg<'a>
     ensures rule { rule_of result ≡ most_rule }
     ensures local { result.global ≡ false }
 {
-    Arg::new(alloc, "most")
-        .long("most")
-        .value_name("N")
-        .value_parser(value_parser!(u64))
-        .help("The first N lines and no more")
-}
-
-fn workers_argument<'a>(alloc: Global) -> Arg<'a>
-    ensures rule { rule_of result ≡ workers_rule }
-    ensures local { result.global ≡ false }
-{
-    Arg::new(alloc, "workers")
-        .long("workers")
-        .value_name("W")
-        .value_parser(value_parser!(u8).range(1..=64))
-        .default_value("4")
-        .help("How many threads search, from 1 to 64; the lines are the same for any number")
-}
-
-fn diamond_argument<'a>(alloc: Global) -> Arg<'a>
-    ensures rule { rule_of result ≡ diamond_rule }
-    ensures local { result.global ≡ false }
-{
-    Arg::new(alloc, "diamond")
-        .long("diamond")
-        .action(ArgAction::SetTrue)
-        .help("The glyphs are those of a diamond and not of a square")
-}
-
-fn there_argument<'a>(alloc: Global) -> Arg<'a>
-    ensures rule { rule_of result ≡ there_rule }
-    ensures local { result.global ≡ false }
-{
-    Arg::new(alloc, "there")
-        .long("there")
-        .action(ArgAction::SetTrue)
-        .help("Each time that a pattern was there, and not only when it was played")
-}
-
-/// The program without its options. Its name is not among its words.
-fn bare_program<'a>(alloc: Global) -> Command<'a>
-    ensures { app_of result ≡ bare_app }
-{
-    Command::new(alloc, "shape_hits")
-        .about("Lists in which games of a collection a pattern is, and where")
-        .override_usage(
-            "shape_hits [OPTIONS] GLYPHS COLOUR < GAMES.sgf\n       shape_hits [OPTIONS] --words FILE < GAMES.sgf",
-        )
-        .after_help(NOTES)
-        .version("1.0.0")
-        .no_binary_name(true)
+    option_argument(alloc, "most", "N", "The first N lines and no more").value_parser(value_parser!(
+        u64
+    ))
 }
 
 /// The program with what says which patterns are looked for.
 fn program_of_patterns<'a>(alloc: Global) -> Result<Command<'a>, AllocError>
     ensures { IfOk result (λ command. app_of command ≡ patterns_app) }
 {
-    bare_program(alloc)
-        .arg(glyphs_argument(alloc))?
-        .arg(colour_argument(alloc))?
-        .arg(diamond_argument(alloc))?
-        .arg(words_argument(alloc))
+    program_named(
+        alloc,
+        "shape_hits",
+        "Lists in which games of a collection a pattern is, and where",
+        "shape_hits [OPTIONS] GLYPHS COLOUR < GAMES.sgf\n       shape_hits [OPTIONS] --words FILE < GAMES.sgf",
+        NOTES,
+    )
+    .arg(glyphs_argument(alloc))?
+    .arg(colour_argument(alloc))?
+    .arg(diamond_argument(alloc))?
+    .arg(option_argument(
+        alloc,
+        "words",
+        "FILE",
+        "Look for the patterns whose words stand first in the lines of this file, as in a dictionary",
+    ))
 }
 
 /// All that the program knows.
@@ -131,7 +66,14 @@ pub fn program<'a>(alloc: Global) -> Result<Command<'a>, AllocError>
     ensures { IfOk result (λ command. app_of command ≡ program_app) }
 {
     program_of_patterns(alloc)?
-        .arg(there_argument(alloc))?
+        .arg(flag_argument(
+            alloc,
+            "there",
+            "Each time that a pattern was there, and not only when it was played",
+        ))?
         .arg(most_argument(alloc))?
-        .arg(workers_argument(alloc))
+        .arg(workers_argument(
+            alloc,
+            "How many threads search, from 1 to 64; the lines are the same for any number",
+        ))
 }

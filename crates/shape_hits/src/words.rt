@@ -1,18 +1,18 @@
 //! The words of the command line, and what they ask for.
-ghost use Rattle.std.specs.Prelude.{◌≡◌, ◌≢◌, ◌⊎◌, ◌^◌, codes, map, string_bytes, IfOk, IfErr};
+ghost use Rattle.std.specs.Prelude.{◌≡◌, ◌≢◌, codes, map, string_bytes, IfOk, IfErr};
 ghost use Rattle.std.specs.Prelude.{IfSome, IfNone, None, MatchBool};
-ghost use Rattle.clap.specs.Words.{found_of, rows_of, first_of};
-ghost use Rattle.clap.specs.Values.{kind_of as kind_of_error};
-ghost use Rattle.shape_hits.specs.Words.{IsNumberOf, IsMostOf, HasNoNumber, HasNoMost};
-ghost use Rattle.shape_hits.specs.Words.{IsKindOf, IsSoughtOf, ArePatterns, shown_for};
-ghost use Rattle.shape_hits.specs.Words.{IsPatternsFault, IsSearchOf, IsSearchFault};
-ghost use Rattle.shape_hits.specs.Words.{IsHelp, IsHelpKind, IsRefusal, IsAnswered, IsLineFault};
-ghost use Rattle.engine_core.specs.declared.faults.RunFault.TheVariants as fault;
+ghost use Rattle.clap.specs.Words.{first_of};
+ghost use Rattle.command_lines.specs.Values.{IsNumberOf, rows_in};
+ghost use Rattle.shape_hits.specs.Words.{ArePatterns, HasNoMost, IsAnswered, IsMostOf};
+ghost use Rattle.shape_hits.specs.Words.{IsPatternsFault, IsSearchFault, IsSearchOf, IsSoughtOf};
+ghost use Rattle.shape_hits.specs.Words.{IsWordsFault, shown_for};
 
 use crate::commands::program;
-use clap::error::ErrorKind;
-use clap::{ArgMatches, Error};
-use engine_core::{RunFault, pattern_of};
+use clap::ArgMatches;
+use command_lines::{
+    Line, choice, kind_of, number, read_line, small_number, spelled_pattern, word_of,
+};
+use engine_core::RunFault;
 use hits_core::{Search, Shown, Sought};
 use shape_core::{Kind, Shape};
 use std::alloc::Global;
@@ -39,64 +39,18 @@ pub enum Task<'a> {
     Help(String),
 }
 
-/// How many threads search, where the words say a number.
-fn workers_of(matches: &ArgMatches<'_>) -> Option<u8>
-    ensures number { IfSome result (IsNumberOf (codes "workers") (rows_of (found_of matches.now))) }
-    ensures none { IfNone result (HasNoNumber (2 ^ 8) (codes "workers")
-        (rows_of (found_of matches.now))) }
-{
-    match matches.get_one::<u8>("workers") {
-        Some(number) => Some(number),
-        None => None,
-    }
-}
-
-/// How many hits are asked for, where the words say a number.
-fn number_of_hits(matches: &ArgMatches<'_>) -> Option<u64>
-    ensures number { IfSome result (IsNumberOf (codes "most") (rows_of (found_of matches.now))) }
-    ensures none { IfNone result (HasNoNumber (2 ^ 64) (codes "most")
-        (rows_of (found_of matches.now))) }
-{
-    match matches.get_one::<u64>("most") {
-        Some(number) => Some(number),
-        None => None,
-    }
-}
-
 /// How many hits are asked for: all, where the words don't say how many. None where they say no
 /// number.
 fn most_of(matches: &ArgMatches<'_>) -> Option<Option<u64>>
-    ensures most { IfSome result (IsMostOf (rows_of (found_of matches.now))) }
-    ensures none { IfNone result (HasNoMost (rows_of (found_of matches.now))) }
+    ensures most { IfSome result (IsMostOf (rows_in matches.now)) }
+    ensures none { IfNone result (HasNoMost (rows_in matches.now)) }
 {
-    match matches.get_str("most") {
-        Some(_) => match number_of_hits(matches) {
+    match word_of(matches, "most") {
+        Some(_) => match number(matches, "most") {
             Some(number) => Some(Some(number)),
             None => None,
         },
         None => Some(None),
-    }
-}
-
-/// The kind of pattern that the glyphs are of.
-fn kind_of(matches: &ArgMatches<'_>) -> Kind
-    ensures { IsKindOf (rows_of (found_of matches.now)) result }
-{
-    if matches.get_flag("diamond") {
-        Kind::Diamond
-    } else {
-        Kind::Square
-    }
-}
-
-/// Which times a pattern is listed.
-fn sought_of(matches: &ArgMatches<'_>) -> Sought
-    ensures { IsSoughtOf (rows_of (found_of matches.now)) result }
-{
-    if matches.get_flag("there") {
-        Sought::There
-    } else {
-        Sought::Played
     }
 }
 
@@ -112,26 +66,22 @@ fn shown_for(shape: &Option<Shape>) -> Shown
 
 /// The pattern that glyphs and a colour spell, where no file of words is named.
 fn spelled(matches: &ArgMatches<'_>) -> Result<Option<Shape>, RunFault>
-    requires { first_of (codes "words") (rows_of (found_of matches.now)) ≡ None }
-    ensures patterns { IfOk result (ArePatterns (rows_of (found_of matches.now))) }
-    ensures fault { IfErr result (IsPatternsFault (rows_of (found_of matches.now))) }
+    requires { first_of (codes "words") (rows_in matches.now) ≡ None }
+    ensures patterns { IfOk result (ArePatterns (rows_in matches.now)) }
+    ensures fault { IfErr result (IsPatternsFault (rows_in matches.now)) }
 {
-    let Some(glyphs) = matches.get_str("glyphs") else {
-        return Err(RunFault::Usage);
-    };
-    let Some(mover) = matches.get_str("colour") else {
-        return Err(RunFault::Usage);
-    };
-    let shape = pattern_of(kind_of(matches), glyphs, mover)?;
-    Ok(Some(shape))
+    match spelled_pattern(matches) {
+        Ok(shape) => Ok(Some(shape)),
+        Err(fault) => Err(fault),
+    }
 }
 
 /// Whether a word of this name is given.
 fn is_given(matches: &ArgMatches<'_>, id: &str) -> bool
-    ensures { MatchBool result (first_of id.now (rows_of (found_of matches.now)) ≢ None)
-        (first_of id.now (rows_of (found_of matches.now)) ≡ None) }
+    ensures { MatchBool result (first_of id.now (rows_in matches.now) ≢ None)
+        (first_of id.now (rows_in matches.now) ≡ None) }
 {
-    match matches.get_str(id) {
+    match word_of(matches, id) {
         Some(_) => true,
         None => false,
     }
@@ -139,9 +89,9 @@ fn is_given(matches: &ArgMatches<'_>, id: &str) -> bool
 
 /// No pattern, where a file of words is named and nothing is spelled beside it.
 fn listed(matches: &ArgMatches<'_>) -> Result<Option<Shape>, RunFault>
-    requires { first_of (codes "words") (rows_of (found_of matches.now)) ≢ None }
-    ensures patterns { IfOk result (ArePatterns (rows_of (found_of matches.now))) }
-    ensures fault { IfErr result (IsPatternsFault (rows_of (found_of matches.now))) }
+    requires { first_of (codes "words") (rows_in matches.now) ≢ None }
+    ensures patterns { IfOk result (ArePatterns (rows_in matches.now)) }
+    ensures fault { IfErr result (IsPatternsFault (rows_in matches.now)) }
 {
     if is_given(matches, "glyphs") {
         return Err(RunFault::Usage);
@@ -157,8 +107,8 @@ fn listed(matches: &ArgMatches<'_>) -> Result<Option<Shape>, RunFault>
 
 /// The pattern that is looked for, or None where a file of words is named.
 fn shape_of(matches: &ArgMatches<'_>) -> Result<Option<Shape>, RunFault>
-    ensures patterns { IfOk result (ArePatterns (rows_of (found_of matches.now))) }
-    ensures fault { IfErr result (IsPatternsFault (rows_of (found_of matches.now))) }
+    ensures patterns { IfOk result (ArePatterns (rows_in matches.now)) }
+    ensures fault { IfErr result (IsPatternsFault (rows_in matches.now)) }
 {
     if is_given(matches, "words") {
         return listed(matches);
@@ -168,12 +118,12 @@ fn shape_of(matches: &ArgMatches<'_>) -> Result<Option<Shape>, RunFault>
 
 /// What of the patterns is listed, and how.
 fn search_of(matches: &ArgMatches<'_>, most: Option<u64>, shape: &Option<Shape>) -> Search
-    ensures sought { IsSoughtOf (rows_of (found_of matches.now)) result.sought }
+    ensures sought { IsSoughtOf (rows_in matches.now) result.sought }
     ensures most { result.most ≡ most }
     ensures shown { result.shown ≡ shown_for shape.now }
 {
     Search {
-        sought: sought_of(matches),
+        sought: choice(matches, "there", Sought::There, Sought::Played),
         most,
         shown: shown_for(shape),
     }
@@ -181,38 +131,23 @@ fn search_of(matches: &ArgMatches<'_>, most: Option<u64>, shape: &Option<Shape>)
 
 /// What values that `clap` takes ask for.
 fn accepted<'a>(matches: &ArgMatches<'a>) -> Result<Task<'a>, RunFault>
-    ensures search { IfOk result (IsSearchOf (rows_of (found_of matches.now))) }
-    ensures fault { IfErr result (IsSearchFault (rows_of (found_of matches.now))) }
+    ensures search { IfOk result (IsSearchOf (rows_in matches.now)) }
+    ensures fault { IfErr result (IsSearchFault (rows_in matches.now)) }
 {
     let shape = shape_of(matches)?;
     let Some(most) = most_of(matches) else {
         return Err(RunFault::Usage);
     };
-    let Some(workers) = workers_of(matches) else {
+    let Some(workers) = small_number(matches, "workers") else {
         return Err(RunFault::Usage);
     };
     let search = search_of(matches, most, &shape);
     Ok(Task::Find(Asked {
         shape,
-        words: matches.get_str("words"),
+        words: word_of(matches, "words"),
         search,
         workers,
     }))
-}
-
-/// What a refused line asks for: a text of help or version, or nothing that the program knows.
-fn refused<'a>(alloc: Global, error: &Error) -> Result<Task<'a>, RunFault>
-    ensures help { IfOk result (λ found. IsHelp found × IsHelpKind (kind_of_error error.now)) }
-    ensures fault { IfErr result (λ found. (found ≡ fault.Memory)
-        ⊎ ((found ≡ fault.Usage) × IsRefusal (kind_of_error error.now))) }
-{
-    match error.kind() {
-        ErrorKind::DisplayHelp | ErrorKind::DisplayVersion => {
-            Ok(Task::Help(error.to_string(alloc)?))
-        }
-        ErrorKind::OutOfMemory => Err(RunFault::Memory),
-        _ => Err(RunFault::Usage),
-    }
 }
 
 /// What the words after the program's name ask for. It takes memory.
@@ -224,11 +159,12 @@ fn refused<'a>(alloc: Global, error: &Error) -> Result<Task<'a>, RunFault>
 /// are not those of a pattern; `Memory` where memory was refused.
 pub fn read_words<'a>(alloc: Global, words: &'a [String]) -> Result<Task<'a>, RunFault>
     ensures task { IfOk result (IsAnswered (map string_bytes words.now)) }
-    ensures fault { IfErr result (IsLineFault (map string_bytes words.now)) }
+    ensures fault { IfErr result (IsWordsFault (map string_bytes words.now)) }
 {
     let command = program(alloc)?;
-    match command.try_get_matches_from(words) {
-        Ok(matches) => accepted(&matches),
-        Err(error) => refused(alloc, &error),
+    let line = read_line(alloc, command, words)?;
+    match line {
+        Line::Asked(matches) => accepted(&matches),
+        Line::Told(text) => Ok(Task::Help(text)),
     }
 }

@@ -1,11 +1,9 @@
 use Rattle.std.proofs.Common.{sym, ◌∙◌}
-use Rattle.clap.specs.Words.{found_of}
-use Rattle.clap.proofs.WalkLemmas.{first_value-rows}
 use Rattle.shape_hits.proofs.Asked.{some_none}
 use Rattle.shape_hits.proofs.words.is_given.Goals as goal
 
 pub returns-in-Some : goal.returns-in-Some
-returns-in-Some c = λ none. some_none c.in-Some.field-0.now (c.in-Some.ensures ∙ first_value-rows (found_of c.args.matches.now) c.args.id.now ∙ none)
+returns-in-Some c = λ none. some_none c.in-Some.field-0.now (c.in-Some.ensures ∙ none)
 
 pub returns-in-None : goal.returns-in-None
-returns-in-None c = sym (first_value-rows (found_of c.args.matches.now) c.args.id.now) ∙ sym c.in-None.ensures
+returns-in-None c = sym c.in-None.ensures

@@ -1,41 +1,28 @@
-use Rattle.std.proofs.Common.{◌≡◌, ◌⊎◌, [], ap, subst, map}
+use Rattle.std.proofs.Common.{inl, map}
 use Rattle.std.specs.Prelude.{string_bytes}
-use Rattle.clap.specs.Words.{App, IsAmong, fault_of, found_of, is_simple, is_simple_and_free, matches_of, rows_of}
-use Rattle.clap.specs.Values.{kind_of}
-use Rattle.clap.specs.declared.error.kind.ErrorKind.TheVariants as refusal
-use Rattle.shape_hits.proofs.Asked.{helped_from, refused_from, search_answered, search_refused}
+use Rattle.std.proofs.lemmas.Result.{err_from_is_err_and}
+use Rattle.clap.specs.Words.{app_of}
+use Rattle.command_lines.proofs.Taken.{taken_by, refused_by}
+use Rattle.shape_hits.specs.Commands.{program_app}
+use Rattle.shape_hits.proofs.Asked.{search_answered, search_refused}
 use Rattle.shape_hits.proofs.words.read_words.Goals as goal
 
-pub returns-in-Err-clause-task : goal.returns-in-Err-clause-task
-returns-in-Err-clause-task c =
+pub returns-in-Asked-clause-task : goal.returns-in-Asked-clause-task
+returns-in-Asked-clause-task c =
     let words = map string_bytes c.args.words.now in
-    let has = c.in-Err.ensures.kinds (ap is_simple_and_free c.in_ok-command.ensures) in
-    helped_from words (kind_of c.in-Err.error) c.refused.result
-    (subst (λ (a : App). (kind_of c.in-Err.error ≡ refusal.OutOfMemory) ⊎ IsAmong (kind_of c.in-Err.error) (fault_of a words)) c.in_ok-command.ensures has) c.refused.ensures.help
+    let matches = c.in-Asked.matches in
+    let are = taken_by (app_of c.in_ok-command.command) program_app words c.in_ok-line.line matches c.in_ok-command.ensures c.in-Asked.is c.in_ok-line.ensures.line in
+    search_answered words matches c.accepted.result are c.accepted.ensures.search
 
-pub returns-in-Err-clause-fault : goal.returns-in-Err-clause-fault
-returns-in-Err-clause-fault c =
+pub returns-in-Asked-clause-fault : goal.returns-in-Asked-clause-fault
+returns-in-Asked-clause-fault c =
     let words = map string_bytes c.args.words.now in
-    let has = c.in-Err.ensures.kinds (ap is_simple_and_free c.in_ok-command.ensures) in
-    refused_from words (kind_of c.in-Err.error) c.refused.result
-    (subst (λ (a : App). (kind_of c.in-Err.error ≡ refusal.OutOfMemory) ⊎ IsAmong (kind_of c.in-Err.error) (fault_of a words)) c.in_ok-command.ensures has) c.refused.ensures.fault
+    let matches = c.in-Asked.matches in
+    let are = taken_by (app_of c.in_ok-command.command) program_app words c.in_ok-line.line matches c.in_ok-command.ensures c.in-Asked.is c.in_ok-line.ensures.line in
+    search_refused words matches c.accepted.result are c.accepted.ensures.fault
 
-pub returns-in-Ok-clause-task : goal.returns-in-Ok-clause-task
-returns-in-Ok-clause-task c =
+pub returns-in_err-line-clause-fault : goal.returns-in_err-line-clause-fault
+returns-in_err-line-clause-fault c =
     let words = map string_bytes c.args.words.now in
-    let rows = rows_of (found_of c.in-Ok.matches) in
-    let none = c.in-Ok.ensures.kinds (ap is_simple_and_free c.in_ok-command.ensures) in
-    let are = (c.in-Ok.ensures.matches (ap is_simple c.in_ok-command.ensures)).0 in
-    search_answered words rows c.accepted.result
-    (subst (λ (a : App). fault_of a words ≡ []) c.in_ok-command.ensures none)
-    (subst (λ (a : App). rows ≡ matches_of a words) c.in_ok-command.ensures are) c.accepted.ensures.search
-
-pub returns-in-Ok-clause-fault : goal.returns-in-Ok-clause-fault
-returns-in-Ok-clause-fault c =
-    let words = map string_bytes c.args.words.now in
-    let rows = rows_of (found_of c.in-Ok.matches) in
-    let none = c.in-Ok.ensures.kinds (ap is_simple_and_free c.in_ok-command.ensures) in
-    let are = (c.in-Ok.ensures.matches (ap is_simple c.in_ok-command.ensures)).0 in
-    search_refused words rows c.accepted.result
-    (subst (λ (a : App). fault_of a words ≡ []) c.in_ok-command.ensures none)
-    (subst (λ (a : App). rows ≡ matches_of a words) c.in_ok-command.ensures are) c.accepted.ensures.fault
+    let p = err_from_is_err_and c.from_residual-in_err-line.result c.from_residual-in_err-line.ensures.1 in
+    rw (p.1, p.2) (inl (refused_by (app_of c.in_ok-command.command) program_app words c.in_err-line.field-0.0 c.in_ok-command.ensures c.in_err-line.ensures.fault))
