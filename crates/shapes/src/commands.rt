@@ -2,11 +2,14 @@
 ghost use Rattle.std.specs.Prelude.{◌≡◌, false, codes, IfOk};
 ghost use Rattle.clap.specs.Words.{app_of, new_app, rule_of};
 ghost use Rattle.clap.specs.declared.Command.TheViews.{out-Command as fields_of};
-ghost use Rattle.shapes.specs.Commands.{text_rule, workers_rule, bits_rule, glyphs_rule};
-ghost use Rattle.shapes.specs.Commands.{colour_rule, diamond_rule, count_app, find_app, join_app};
-ghost use Rattle.shapes.specs.Commands.{bare_app, program_app};
+ghost use Rattle.shapes.specs.Commands.{bits_rule, count_app, find_app, join_app, program_app};
+ghost use Rattle.shapes.specs.Commands.{required_word};
 
-use clap::{Arg, ArgAction, Command, value_parser};
+use clap::{Arg, Command, value_parser};
+use command_lines::{
+    colour_argument, diamond_argument, glyphs_argument, option_argument, program_named,
+    text_argument, workers_argument,
+};
 use std::alloc::{AllocError, Global};
 
 /// The end of the program's help.
@@ -48,18 +51,9 @@ const JOIN_NOTES: &str =
 
 Exit status: 0 done, 2 wrong words, 3 input refused, 5 no memory, 6 a read or a write failed";
 
-/// The argument that says which text of a dictionary is printed.
-fn text_argument<'a>(alloc: Global) -> Arg<'a>
-    ensures rule { rule_of result ≡ text_rule }
-    ensures local { result.global ≡ false }
-{
-    Arg::new(alloc, "text")
-        .long("text")
-        .value_name("T")
-        .value_parser(value_parser!(u8).range(1..=3))
-        .default_value("1")
-        .help("1: squares; 2: squares and diamonds; 3: both, with the first game of each pattern")
-}
+/// What help says of `--text`.
+const TEXT_HELP: &str =
+    "1: squares; 2: squares and diamonds; 3: both, with the first game of each pattern";
 
 fn board_command<'a>(alloc: Global) -> Command<'a>
     ensures app { app_of result ≡ new_app (codes "board") }
@@ -70,28 +64,18 @@ fn board_command<'a>(alloc: Global) -> Command<'a>
         .override_usage("shapes board < GAMES.sgf")
 }
 
-fn workers_argument<'a>(alloc: Global) -> Arg<'a>
-    ensures rule { rule_of result ≡ workers_rule }
-    ensures local { result.global ≡ false }
-{
-    Arg::new(alloc, "workers")
-        .long("workers")
-        .value_name("W")
-        .value_parser(value_parser!(u8).range(1..=64))
-        .default_value("4")
-        .help("How many threads count, from 1 to 64; the text is the same for any number")
-}
-
 fn bits_argument<'a>(alloc: Global) -> Arg<'a>
     ensures rule { rule_of result ≡ bits_rule }
     ensures local { result.global ≡ false }
 {
-    Arg::new(alloc, "bits")
-        .long("bits")
-        .value_name("K")
-        .value_parser(value_parser!(u8).range(0..=22))
-        .default_value("20")
-        .help("There is room for 2 to the power of this many patterns, from 0 to 22")
+    option_argument(
+        alloc,
+        "bits",
+        "K",
+        "There is room for 2 to the power of this many patterns, from 0 to 22",
+    )
+    .value_parser(value_parser!(u8).range(0..=22))
+    .default_value("20")
 }
 
 fn count_command<'a>(alloc: Global) -> Result<Command<'a>, AllocError>
@@ -104,39 +88,28 @@ fn count_command<'a>(alloc: Global) -> Result<Command<'a>, AllocError>
         )
         .override_usage("shapes count [OPTIONS] < GAMES.sgf > DICTIONARY")
         .after_help(COUNT_NOTES)
-        .arg(workers_argument(alloc))?
+        .arg(workers_argument(
+            alloc,
+            "How many threads count, from 1 to 64; the text is the same for any number",
+        ))?
         .arg(bits_argument(alloc))?
-        .arg(text_argument(alloc))
+        .arg(text_argument(alloc, TEXT_HELP))
 }
 
-fn glyphs_argument<'a>(alloc: Global) -> Arg<'a>
-    ensures rule { rule_of result ≡ glyphs_rule }
+/// GLYPHS, which have to be given.
+fn needed_glyphs<'a>(alloc: Global) -> Arg<'a>
+    ensures rule { rule_of result ≡ required_word (codes "glyphs") }
     ensures local { result.global ≡ false }
 {
-    Arg::new(alloc, "glyphs")
-        .value_name("GLYPHS")
-        .required(true)
-        .help("The 25 points of the pattern, row by row from the top")
+    glyphs_argument(alloc).required(true)
 }
 
-fn colour_argument<'a>(alloc: Global) -> Arg<'a>
-    ensures rule { rule_of result ≡ colour_rule }
+/// COLOUR, which has to be given.
+fn needed_colour<'a>(alloc: Global) -> Arg<'a>
+    ensures rule { rule_of result ≡ required_word (codes "colour") }
     ensures local { result.global ≡ false }
 {
-    Arg::new(alloc, "colour")
-        .value_name("COLOUR")
-        .required(true)
-        .help("Who is to move: black or white")
-}
-
-fn diamond_argument<'a>(alloc: Global) -> Arg<'a>
-    ensures rule { rule_of result ≡ diamond_rule }
-    ensures local { result.global ≡ false }
-{
-    Arg::new(alloc, "diamond")
-        .long("diamond")
-        .action(ArgAction::SetTrue)
-        .help("The glyphs are those of a diamond and not of a square")
+    colour_argument(alloc).required(true)
 }
 
 fn find_command<'a>(alloc: Global) -> Result<Command<'a>, AllocError>
@@ -147,8 +120,8 @@ fn find_command<'a>(alloc: Global) -> Result<Command<'a>, AllocError>
         .about("Prints how often one pattern was there and was played, by a dictionary")
         .override_usage("shapes find [OPTIONS] GLYPHS COLOUR < DICTIONARY")
         .after_help(FIND_NOTES)
-        .arg(glyphs_argument(alloc))?
-        .arg(colour_argument(alloc))?
+        .arg(needed_glyphs(alloc))?
+        .arg(needed_colour(alloc))?
         .arg(diamond_argument(alloc))
 }
 
@@ -160,19 +133,7 @@ fn join_command<'a>(alloc: Global) -> Result<Command<'a>, AllocError>
         .about("Adds up dictionaries that follow one another")
         .override_usage("cat DICTIONARY.. | shapes join [OPTIONS] > DICTIONARY")
         .after_help(JOIN_NOTES)
-        .arg(text_argument(alloc))
-}
-
-/// The program without its subcommands. Its name is not among its words.
-fn bare_program<'a>(alloc: Global) -> Command<'a>
-    ensures app { app_of result ≡ bare_app }
-{
-    Command::new(alloc, "shapes")
-        .about("Counts local patterns of Go in collections of games (SGF)")
-        .override_usage("shapes [COMMAND] < INPUT")
-        .after_help(NOTES)
-        .version("1.0.0")
-        .no_binary_name(true)
+        .arg(text_argument(alloc, TEXT_HELP))
 }
 
 /// All that the program knows.
@@ -183,9 +144,15 @@ fn bare_program<'a>(alloc: Global) -> Command<'a>
 pub fn program<'a>(alloc: Global) -> Result<Command<'a>, AllocError>
     ensures { IfOk result (λ command. app_of command ≡ program_app) }
 {
-    bare_program(alloc)
-        .subcommand(board_command(alloc))?
-        .subcommand(count_command(alloc)?)?
-        .subcommand(find_command(alloc)?)?
-        .subcommand(join_command(alloc)?)
+    program_named(
+        alloc,
+        "shapes",
+        "Counts local patterns of Go in collections of games (SGF)",
+        "shapes [COMMAND] < INPUT",
+        NOTES,
+    )
+    .subcommand(board_command(alloc))?
+    .subcommand(count_command(alloc)?)?
+    .subcommand(find_command(alloc)?)?
+    .subcommand(join_command(alloc)?)
 }

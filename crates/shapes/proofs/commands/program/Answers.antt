@@ -1,19 +1,21 @@
 use Rattle.std.proofs.Common.{codes}
 use Rattle.std.proofs.lemmas.Result.{IfOk-weaker}
 use Rattle.clap.specs.Words.{new_app, with_subcommand}
-use Rattle.shapes.specs.Commands.{bare_app, count_app, find_app, join_app}
-use Rattle.shapes.proofs.Told.{one_command}
+use Rattle.command_lines.specs.Arguments.{bare_app}
+use Rattle.shapes.specs.Commands.{count_app, find_app, join_app}
+use Rattle.command_lines.proofs.Added.{one_command}
 use Rattle.shapes.proofs.commands.program.Goals as goal
 
 pub returns : goal.returns
 returns c =
+    let bare = bare_app (codes "shapes") in
     let board = new_app (codes "board") in
-    let with_board = with_subcommand bare_app board.top in
+    let with_board = with_subcommand bare board.top in
     let with_count = with_subcommand with_board count_app.top in
     let one = c.in_ok-subcommand.field-0 in
     let two = c.in_ok-subcommand-2.field-0 in
     let three = c.in_ok-subcommand-3.field-0 in
-    let first = one_command c.bare_program.result c.board_command.result one bare_app board c.in_ok-subcommand.ensures c.bare_program.ensures.app c.board_command.ensures.app c.board_command.ensures.local in
+    let first = one_command c.program_named.result c.board_command.result one bare board c.in_ok-subcommand.ensures c.program_named.ensures c.board_command.ensures.app c.board_command.ensures.local in
     let second = one_command one c.in_ok-count_command.field-0 two with_board count_app c.in_ok-subcommand-2.ensures first c.in_ok-count_command.ensures.app c.in_ok-count_command.ensures.local in
     let third = one_command two c.in_ok-find_command.field-0 three with_count find_app c.in_ok-subcommand-3.ensures second c.in_ok-find_command.ensures.app c.in_ok-find_command.ensures.local in
     IfOk-weaker c.subcommand-4.result _ _

@@ -1,41 +1,28 @@
-use Rattle.std.proofs.Common.{◌≡◌, ◌⊎◌, [], ap, ◌∙◌, map, Option, List, ℕ, subst}
-use Rattle.std.specs.Prelude.{IfErr, IfOk, string_bytes}
-use Rattle.clap.specs.Words.{App, Row, IsAmong, fault_of, is_simple, is_simple_and_free, subcommand_of, subcommand_rows_of}
-use Rattle.clap.specs.Values.{kind_of}
-use Rattle.clap.specs.declared.error.kind.ErrorKind.TheVariants as refusal
-use Rattle.shapes.specs.Commands.{asked_by}
-use Rattle.shapes.specs.Words.{IsTaskOf, IsWordsFault}
-use Rattle.shapes.proofs.Asked.{answered_from, line_fault_from, helped_from, refused_from}
+use Rattle.std.proofs.Common.{inl, map}
+use Rattle.std.specs.Prelude.{string_bytes}
+use Rattle.std.proofs.lemmas.Result.{err_from_is_err_and}
+use Rattle.clap.specs.Words.{app_of}
+use Rattle.command_lines.proofs.Taken.{taken_by, refused_by}
+use Rattle.shapes.specs.Commands.{program_app}
+use Rattle.shapes.proofs.Asked.{task_answered, task_refused}
 use Rattle.shapes.proofs.words.read_words.Goals as goal
 
-pub returns-in-Ok-clause-task : goal.returns-in-Ok-clause-task
-returns-in-Ok-clause-task c =
+pub returns-in-Asked-clause-task : goal.returns-in-Asked-clause-task
+returns-in-Asked-clause-task c =
     let words = map string_bytes c.args.words.now in
-    let met = (c.in-Ok.ensures.matches (ap is_simple c.in_ok-command.ensures)).1 in
-    let asked : subcommand_rows_of c.in-Ok.matches ≡ asked_by words = met ∙ ap (λ (a : App). subcommand_of a words) c.in_ok-command.ensures in
-    let none = subst (λ (a : App). fault_of a words ≡ []) c.in_ok-command.ensures (c.in-Ok.ensures.kinds (ap is_simple_and_free c.in_ok-command.ensures)) in
-    answered_from words (asked_by words) c.task_of.result none
-    (subst (λ (a : Option (List ℕ × List Row)). IfOk c.task_of.result (IsTaskOf a)) asked c.task_of.ensures.task)
+    let matches = c.in-Asked.matches in
+    let are = taken_by (app_of c.in_ok-command.command) program_app words c.in_ok-line.line matches c.in_ok-command.ensures c.in-Asked.is c.in_ok-line.ensures.line in
+    task_answered words matches c.task_of.result are c.task_of.ensures.task
 
-pub returns-in-Ok-clause-fault : goal.returns-in-Ok-clause-fault
-returns-in-Ok-clause-fault c =
+pub returns-in-Asked-clause-fault : goal.returns-in-Asked-clause-fault
+returns-in-Asked-clause-fault c =
     let words = map string_bytes c.args.words.now in
-    let met = (c.in-Ok.ensures.matches (ap is_simple c.in_ok-command.ensures)).1 in
-    let asked : subcommand_rows_of c.in-Ok.matches ≡ asked_by words = met ∙ ap (λ (a : App). subcommand_of a words) c.in_ok-command.ensures in
-    let none = subst (λ (a : App). fault_of a words ≡ []) c.in_ok-command.ensures (c.in-Ok.ensures.kinds (ap is_simple_and_free c.in_ok-command.ensures)) in
-    line_fault_from words (asked_by words) c.task_of.result none
-    (subst (λ (a : Option (List ℕ × List Row)). IfErr c.task_of.result (IsWordsFault a)) asked c.task_of.ensures.fault)
+    let matches = c.in-Asked.matches in
+    let are = taken_by (app_of c.in_ok-command.command) program_app words c.in_ok-line.line matches c.in_ok-command.ensures c.in-Asked.is c.in_ok-line.ensures.line in
+    task_refused words matches c.task_of.result are c.task_of.ensures.fault
 
-pub returns-in-Err-clause-task : goal.returns-in-Err-clause-task
-returns-in-Err-clause-task c =
+pub returns-in_err-line-clause-fault : goal.returns-in_err-line-clause-fault
+returns-in_err-line-clause-fault c =
     let words = map string_bytes c.args.words.now in
-    let has = c.in-Err.ensures.kinds (ap is_simple_and_free c.in_ok-command.ensures) in
-    helped_from words (asked_by words) (kind_of c.in-Err.error) c.refused.result
-    (subst (λ (a : App). (kind_of c.in-Err.error ≡ refusal.OutOfMemory) ⊎ IsAmong (kind_of c.in-Err.error) (fault_of a words)) c.in_ok-command.ensures has) c.refused.ensures.help
-
-pub returns-in-Err-clause-fault : goal.returns-in-Err-clause-fault
-returns-in-Err-clause-fault c =
-    let words = map string_bytes c.args.words.now in
-    let has = c.in-Err.ensures.kinds (ap is_simple_and_free c.in_ok-command.ensures) in
-    refused_from words (asked_by words) (kind_of c.in-Err.error) c.refused.result
-    (subst (λ (a : App). (kind_of c.in-Err.error ≡ refusal.OutOfMemory) ⊎ IsAmong (kind_of c.in-Err.error) (fault_of a words)) c.in_ok-command.ensures has) c.refused.ensures.fault
+    let p = err_from_is_err_and c.from_residual-in_err-line.result c.from_residual-in_err-line.ensures.1 in
+    rw (p.1, p.2) (inl (refused_by (app_of c.in_ok-command.command) program_app words c.in_err-line.field-0.0 c.in_ok-command.ensures c.in_err-line.ensures.fault))
