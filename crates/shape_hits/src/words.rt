@@ -2,7 +2,7 @@
 ghost use Rattle.std.specs.Prelude.{◌≡◌, ◌≢◌, codes, map, string_bytes, IfOk, IfErr};
 ghost use Rattle.std.specs.Prelude.{IfSome, IfNone, None, MatchBool};
 ghost use Rattle.clap.specs.Words.{first_of};
-ghost use Rattle.command_lines.specs.Values.{IsNumberOf, rows_in};
+ghost use Rattle.command_lines.specs.Values.{rows_in};
 ghost use Rattle.shape_hits.specs.Words.{ArePatterns, HasNoMost, IsAnswered, IsMostOf};
 ghost use Rattle.shape_hits.specs.Words.{IsPatternsFault, IsSearchFault, IsSearchOf, IsSoughtOf};
 ghost use Rattle.shape_hits.specs.Words.{IsWordsFault, shown_for};
