@@ -24,6 +24,6 @@ fn count_core(rt: HostRuntime) -> Result<(), Fail> {
     );
     assert!(rt; report.is_ok());
     let wanted = b"shapes 1 games 1 moves 1 patterns 1\n3fffffcffffff 1 1\n";
-    assert_eq!(rt; text.as_slice(), wanted.as_slice());
+    assert!(rt; text.as_slice() == wanted.as_slice());
     Ok(())
 }

@@ -1,23 +1,29 @@
 //! The examples of the pages of `sgf_core`, `go_board`, `go_record` and `tally_core`.
 use go_board::{Board, Colour, Point, Size, Stone};
 use go_record::{Kind, Record, read_record, replay};
-use sgf_core::Trees;
+use sgf_core::{Tree, Trees};
 use shape_core::Kinds;
 use std::alloc::Global;
 use std::test::Fail;
 use tally_core::{TallyFault, Walk, count_plain};
 
-#[test]
-fn sgf_core(rt: HostRuntime) -> Result<(), Fail> {
-    let mut trees = Trees::new(b"(;SZ[2]B[aa];W[ba](;B[])(;B[ab]))")?;
-    let tree = trees.next_tree(rt.alloc())?.ok_or("no tree")?;
+/// How many values the main line of a tree has.
+fn values(tree: &Tree<'_>) -> usize {
     let mut values = 0usize;
     for node in tree.main_line() {
         for prop in node.props() {
             values = values.saturating_add(prop.values().len());
         }
     }
-    assert_eq!(rt; values, 4);
+    values
+}
+
+#[test]
+fn sgf_core(rt: HostRuntime) -> Result<(), Fail> {
+    let mut trees = Trees::new(b"(;SZ[2]B[aa];W[ba](;B[])(;B[ab]))")?;
+    let tree = trees.next_tree(rt.alloc())?.ok_or("no tree")?;
+    assert!(rt; values(&tree) == 4);
+    assert!(rt; trees.next_tree(rt.alloc())?.is_none());
     Ok(())
 }
 
@@ -29,7 +35,7 @@ fn go_board(rt: HostRuntime) -> Result<(), Fail> {
     board.set(corner, Stone::White);
     board.set(Point { column: 1, row: 0 }, Stone::Black);
     let played = board.play(Colour::Black, Point { column: 0, row: 1 });
-    assert_eq!(rt; (played.taken, played.own_lost), (1, 0));
+    assert!(rt; (played.taken, played.own_lost) == (1, 0));
     assert!(rt; board.cell(corner) == Stone::Empty);
     Ok(())
 }
@@ -37,11 +43,12 @@ fn go_board(rt: HostRuntime) -> Result<(), Fail> {
 #[test]
 fn go_record(rt: HostRuntime) -> Result<(), Fail> {
     let alloc = rt.alloc();
-    let mut trees = Trees::new(b"(;SZ[9];B[aa];W[ba])")?;
-    let tree = trees.next_tree(alloc)?.ok_or("no tree")?;
+    let tree = Trees::new(b"(;SZ[9];B[aa];W[ba])")?
+        .next_tree(alloc)?
+        .ok_or("no tree")?;
     if let Kind::Go(record) = read_record(alloc, &tree)? {
         let size = record.size();
-        assert_eq!(rt; size.columns(), 9);
+        assert!(rt; size.columns() == 9);
         let mut board = Board::new(alloc, size)?;
         replay(&mut board, record.actions());
         assert!(rt; board.cell(Point { column: 1, row: 0 }) == Stone::White);
@@ -60,7 +67,7 @@ fn walk(alloc: Global, record: &Record) -> Result<(u64, usize), TallyFault> {
 fn tally_core(rt: HostRuntime) -> Result<(), Fail> {
     let alloc = rt.alloc();
     let input = b"(;SZ[1];B[aa])(;SZ[2:1];B[aa];W[ba])";
-    assert_eq!(rt; count_plain(alloc, Kinds::Squares, input)?.report.games, 2);
+    assert!(rt; count_plain(alloc, Kinds::Squares, input)?.report.games == 2);
     let tree = Trees::new(input)?.next_tree(alloc)?.ok_or("no tree")?;
     if let Kind::Go(record) = read_record(alloc, &tree)? {
         assert!(rt; walk(alloc, &record) == Ok((1, 2)));

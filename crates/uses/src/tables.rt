@@ -23,7 +23,7 @@ fn slot_table(rt: HostRuntime) -> Result<(), Fail> {
     let (table, mut pass) = SlotTable::new(rt.alloc(), OddStep { capacity })?;
     if let Answer::Number(number) = table.enter(&mut pass, key) {
         table.mark(&mut pass, number, 7);
-        assert_eq!(rt; table.first(&mut pass, number), Some(7));
+        assert!(rt; table.first(&mut pass, number) == Some(7));
     }
     Ok(())
 }
@@ -44,6 +44,6 @@ fn job_core(rt: HostRuntime) -> Result<(), Fail> {
     let mut games = Games::new(b"(;SZ[1];B[aa])(;GM[2])")?;
     assert!(rt; next_game(rt.alloc(), &mut games) == Ok(Some((0, 0, 14))));
     assert!(rt; next_game(rt.alloc(), &mut games) == Ok(None));
-    assert_eq!(rt; games.report().others, 1);
+    assert!(rt; games.report().others == 1);
     Ok(())
 }
