@@ -6,3 +6,4 @@ pub mod Rectangles
 pub mod Few
 mod OneResult
 pub mod RecordFaults
+pub mod OnBoard

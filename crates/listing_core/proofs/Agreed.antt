@@ -19,7 +19,7 @@ use Rattle.listing_core.specs.declared.lines.What.TheVariants as what
 use Rattle.listing_core.specs.Listing.{IsWhat, AreLines}
 use Rattle.listing_core.specs.Agreement.{Agrees, is_game, is_other, is_refused, occasions_in}
 use Rattle.listing_core.proofs.LineLists.{lines_are_of_trees}
-use Rattle.listing_core.proofs.OnBoard.{is_on_board}
+use Rattle.go_record.proofs.OnBoard.{is_on_board}
 use Rattle.listing_core.proofs.OneNumber.{HaveOneResult, one_number}
 
 not_next : (bytes : List ℕ) (from at stop : ℕ) (tree : GameTree) → IsNextTree bytes from at stop tree → HasNoTree bytes from → ⊥

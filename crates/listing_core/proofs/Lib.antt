@@ -2,5 +2,4 @@ pub mod Agreed
 pub mod Endings
 pub mod Fronts
 pub mod LineLists
-pub mod OnBoard
 pub mod OneNumber
