@@ -15,3 +15,4 @@ mod Concluded
 mod Answered
 mod Parted
 mod Promised
+mod OwnTables

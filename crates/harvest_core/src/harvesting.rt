@@ -1,7 +1,7 @@
 //! What several workers count over one table: the dictionary of an input.
 ghost use Rattle.std.specs.Prelude.{◌≡◌, ◌≢◌, ◌⊎◌, ◌*◌, ◌^◌, ◌<◌, ◌≤◌, ◌++◌, ◌∷◌, [], ℕ, List};
 ghost use Rattle.std.specs.Prelude.{length, max, min, All, Contains, MatchResult, IfOk, IfErr, IfSome};
-ghost use Rattle.std.specs.Prelude.{IsErrAnd, Some};
+ghost use Rattle.std.specs.Prelude.{Some};
 ghost use Rattle.sgf_core.specs.Limit.{most_bytes};
 ghost use Rattle.sgf_core.specs.declared.faults.SgfFault.TheVariants as sgf;
 ghost use Rattle.shape_core.specs.declared.words.Kinds.{Kinds};
@@ -30,7 +30,7 @@ use crate::threads::Crew;
 use crate::workers::Worker;
 use gather_core::{confirm_full, gather};
 use job_core::{Desk, Games, new_queue};
-use probe_core::{Capacity, OddStep, ProbeOrder};
+use probe_core::ProbeOrder;
 use shape_core::Kinds;
 use share_core::{HarvestFault, Share};
 use slot_table::{Pass, SlotTable, laws};
@@ -158,7 +158,7 @@ fn places_for(workers: u8) -> usize
 
 /// What comes back for a half of a stake makes the whole of it again, and whatever is as much as
 /// the whole is the whole.
-fn stakes_come_together()
+pub(crate) fn stakes_come_together()
     ensures halves { (stake back : List ℕ) → IsAsMuch back (half_of stake)
         → IsAsMuch (halved stake ++ back) stake }
     ensures whole { (stake whole : List ℕ) → IsAsMuch stake whole → IsWhole whole → IsWhole stake }
@@ -230,37 +230,4 @@ where
     };
     let crop = Crew::begin(games, own).run(rt, alloc)?;
     conclude(rt, alloc, settings.kinds(), table, pass, bytes, crop)
-}
-
-/// Counts a whole collection by several workers over a new table of 2^k slots, where the settings
-/// have the number of workers, the exponent k and the kinds of pattern. It is what `count_plain`
-/// answers, whatever the gate, the number of workers and their turns. This project's own.
-///
-/// It takes memory for the table, and what `harvest_on` takes.
-///
-/// # Errors
-///
-/// `Memory` where memory was refused or a worker was not started. Else the answer is determined by
-/// the input and the settings: `Sgf` with S4 where the input has more than 2^28 bytes, else with
-/// its first fault of syntax; else `Full` where it has more patterns than the table has slots, with
-/// a game of it and one of that game's patterns. No other fault comes.
-pub fn harvest<R: Threads + Wait + Sync, G: Gate>(
-    rt: &R,
-    alloc: Global,
-    settings: Settings,
-    bytes: &[u8],
-    gate: &G,
-) -> Result<Counted, HarvestFault>
-    ensures large { most_bytes < length bytes.now
-        → IsErrAnd result (λ found. (found ≡ fault.Memory) ⊎ (found ≡ fault.Sgf sgf.TooLarge)) }
-    ensures harvest { IfOk result (λ counted. (seen : List Happened)
-        × IsHarvest (2 ^ settings.k) seen settings.kinds bytes.now counted) }
-    ensures fault { IfErr result (IsHarvestRefused (2 ^ settings.k) bytes.now settings.kinds) }
-{
-    let Some(capacity) = Capacity::new(u32::from(settings.k())) else {
-        return Err(HarvestFault::BadSettings);
-    };
-    stakes_come_together();
-    let (table, mut pass) = SlotTable::new(alloc, OddStep { capacity })?;
-    harvest_on(rt, alloc, settings, &table, &mut pass, bytes, gate)
 }

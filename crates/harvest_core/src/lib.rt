@@ -7,6 +7,7 @@
 
 mod gates;
 mod harvesting;
+mod own_tables;
 mod parting;
 mod reading;
 mod taking;
@@ -15,6 +16,7 @@ mod workers;
 mod working;
 
 pub use gates::{FreeGate, Gate};
-pub use harvesting::{harvest, harvest_on};
+pub use harvesting::harvest_on;
+pub use own_tables::harvest;
 pub use workers::{Returned, Worker, work};
 pub use working::Worked;
