@@ -1,5 +1,6 @@
 -- What `clap` knows of a command after one argument more, or one subcommand.
 use Rattle.std.proofs.Common.{◌≡◌, false, ap, ap₂, ◌∙◌}
+use Rattle.std.specs.Prelude.{◌||◌}
 use Rattle.clap.specs.Words.{AddsArg, AddsSubcommand, App, Rule, app_of, rule_of, with_rule, with_subcommand}
 use Rattle.clap.specs.declared.Arg.{Arg}
 use Rattle.clap.specs.declared.Command.{Command}
@@ -13,3 +14,8 @@ pub one_command : (old sub new : Command) (app sub_app : App) → AddsSubcommand
     app_of new ≡ with_subcommand app sub_app.top
 one_command old sub new app sub_app adds told is local =
     adds.shape local ∙ ap₂ with_subcommand told (ap (λ (a : App). a.top) is)
+
+-- it still has no argument that goes for its subcommands too
+pub still_local : (old : Command) (arg : Arg) (new : Command) → AddsArg old arg new → (out-Command old).has_globals ≡ false → arg.global ≡ false →
+    (out-Command new).has_globals ≡ false
+still_local old arg new adds none local = adds.globals ∙ ap₂ (λ a b. a || b) none local

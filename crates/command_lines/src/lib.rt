@@ -20,6 +20,6 @@ pub use arguments::{
 };
 pub use lines::{Line, read_line};
 pub use patterns::spelled_pattern;
-pub use programs::program_named;
+pub use programs::{command_named, program_named};
 pub use texts::text_of;
 pub use values::{choice, kind_of, number, small_number, word_of};

@@ -1,6 +1,7 @@
-//! A program as it is told to `clap`, before it has arguments.
-ghost use Rattle.std.specs.Prelude.{◌≡◌};
-ghost use Rattle.clap.specs.Words.{app_of};
+//! Programs and subcommands as they are told to `clap`, before they have arguments.
+ghost use Rattle.std.specs.Prelude.{◌≡◌, false};
+ghost use Rattle.clap.specs.Words.{app_of, new_app};
+ghost use Rattle.clap.specs.declared.Command.TheViews.{out-Command as fields_of};
 ghost use Rattle.command_lines.specs.Arguments.{bare_app};
 
 use clap::Command;
@@ -8,6 +9,24 @@ use std::alloc::Global;
 
 /// The version of all programs.
 const VERSION: &str = "1.0.0";
+
+/// A subcommand of this name, without arguments. Its help says what it is about, how it is used
+/// and, at the end, these notes. It takes no memory.
+pub fn command_named<'a>(
+    alloc: Global,
+    name: &'a str,
+    about: &'a str,
+    usage: &'a str,
+    notes: &'a str,
+) -> Command<'a>
+    ensures app { app_of result ≡ new_app name.entry.now }
+    ensures local { (fields_of result).has_globals ≡ false }
+{
+    Command::new(alloc, name)
+        .about(about)
+        .override_usage(usage)
+        .after_help(notes)
+}
 
 /// The program of this name, without arguments and subcommands. Its help says what it is about, how
 /// it is used and, at the end, these notes; `--version` prints its name and version. Its name is
@@ -21,10 +40,7 @@ pub fn program_named<'a>(
 ) -> Command<'a>
     ensures { app_of result ≡ bare_app name.entry.now }
 {
-    Command::new(alloc, name)
-        .about(about)
-        .override_usage(usage)
-        .after_help(notes)
+    command_named(alloc, name, about, usage, notes)
         .version(VERSION)
         .no_binary_name(true)
 }

@@ -7,8 +7,8 @@ ghost use Rattle.shapes.specs.Commands.{required_word};
 
 use clap::{Arg, Command, value_parser};
 use command_lines::{
-    colour_argument, diamond_argument, glyphs_argument, option_argument, program_named,
-    text_argument, workers_argument,
+    colour_argument, command_named, diamond_argument, glyphs_argument, option_argument,
+    program_named, text_argument, workers_argument,
 };
 use std::alloc::{AllocError, Global};
 
@@ -82,18 +82,19 @@ fn count_command<'a>(alloc: Global) -> Result<Command<'a>, AllocError>
     ensures app { IfOk result (λ command. app_of command ≡ count_app) }
     ensures local { IfOk result (λ command. (fields_of command).has_globals ≡ false) }
 {
-    Command::new(alloc, "count")
-        .about(
-            "Prints how often each local pattern was there and was played in a collection of games",
-        )
-        .override_usage("shapes count [OPTIONS] < GAMES.sgf > DICTIONARY")
-        .after_help(COUNT_NOTES)
-        .arg(workers_argument(
-            alloc,
-            "How many threads count, from 1 to 64; the text is the same for any number",
-        ))?
-        .arg(bits_argument(alloc))?
-        .arg(text_argument(alloc, TEXT_HELP))
+    command_named(
+        alloc,
+        "count",
+        "Prints how often each local pattern was there and was played in a collection of games",
+        "shapes count [OPTIONS] < GAMES.sgf > DICTIONARY",
+        COUNT_NOTES,
+    )
+    .arg(workers_argument(
+        alloc,
+        "How many threads count, from 1 to 64; the text is the same for any number",
+    ))?
+    .arg(bits_argument(alloc))?
+    .arg(text_argument(alloc, TEXT_HELP))
 }
 
 /// GLYPHS, which have to be given.
@@ -116,24 +117,30 @@ fn find_command<'a>(alloc: Global) -> Result<Command<'a>, AllocError>
     ensures app { IfOk result (λ command. app_of command ≡ find_app) }
     ensures local { IfOk result (λ command. (fields_of command).has_globals ≡ false) }
 {
-    Command::new(alloc, "find")
-        .about("Prints how often one pattern was there and was played, by a dictionary")
-        .override_usage("shapes find [OPTIONS] GLYPHS COLOUR < DICTIONARY")
-        .after_help(FIND_NOTES)
-        .arg(needed_glyphs(alloc))?
-        .arg(needed_colour(alloc))?
-        .arg(diamond_argument(alloc))
+    command_named(
+        alloc,
+        "find",
+        "Prints how often one pattern was there and was played, by a dictionary",
+        "shapes find [OPTIONS] GLYPHS COLOUR < DICTIONARY",
+        FIND_NOTES,
+    )
+    .arg(needed_glyphs(alloc))?
+    .arg(needed_colour(alloc))?
+    .arg(diamond_argument(alloc))
 }
 
 fn join_command<'a>(alloc: Global) -> Result<Command<'a>, AllocError>
     ensures app { IfOk result (λ command. app_of command ≡ join_app) }
     ensures local { IfOk result (λ command. (fields_of command).has_globals ≡ false) }
 {
-    Command::new(alloc, "join")
-        .about("Adds up dictionaries that follow one another")
-        .override_usage("cat DICTIONARY.. | shapes join [OPTIONS] > DICTIONARY")
-        .after_help(JOIN_NOTES)
-        .arg(text_argument(alloc, TEXT_HELP))
+    command_named(
+        alloc,
+        "join",
+        "Adds up dictionaries that follow one another",
+        "cat DICTIONARY.. | shapes join [OPTIONS] > DICTIONARY",
+        JOIN_NOTES,
+    )
+    .arg(text_argument(alloc, TEXT_HELP))
 }
 
 /// All that the program knows.
