@@ -13,8 +13,8 @@ use Rattle.engine_core.specs.declared.boards.Outcome.{Outcome}
 use Rattle.engine_core.specs.declared.boards.Outcome.TheVariants as outcome
 use Rattle.engine_core.specs.declared.faults.RunFault.{RunFault}
 use Rattle.shapes.specs.declared.tasks.Answer.{Answer}
-use Rattle.shapes.specs.declared.words.Task.{Task}
-use Rattle.shapes.specs.declared.words.Task.TheVariants as task
+use Rattle.shapes_line.specs.declared.words.Task.{Task}
+use Rattle.shapes_line.specs.declared.words.Task.TheVariants as task
 
 -- what a task took of the reader's rest, however it ended: help nothing, and any other what a run reads
 abbrev pub Reads : Task → Result Answer RunFault → Option (List ℕ) → Option (List ℕ) → Type 0

@@ -1,17 +1,15 @@
 //! Reads collections of Go games and dictionaries of their patterns, and prints what they say.
 #![tactic(auto)]
 
-mod commands;
 mod tasks;
-mod words;
 
 use engine_core::{RunFault, own_words};
+use shapes_line::read_words;
 use std::io;
 use std::process::ExitCode;
 use std::sync::Wait;
 use std::thread::Threads;
 use tasks::{Answer, do_task, status_after};
-use words::read_words;
 
 /// Fetches the words and does what they say. The threads that count are started through `threads`.
 fn run<T: Threads + Wait + Sync>(rt: &HostRuntime, threads: &T) -> Result<Answer, RunFault> {

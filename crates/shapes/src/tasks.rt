@@ -2,10 +2,10 @@
 ghost use Rattle.std.specs.Prelude.{◌≡◌, IfOk, IfErr};
 ghost use Rattle.shapes.specs.Tasks.{Reads, Does, IsTaskFault, status_after};
 
-use crate::words::Task;
 use count_core::run_count;
 use engine_core::{Outcome, RunFault, run_board, run_find, run_join, status_of, write_output};
 use harvest_core::FreeGate;
+use shapes_line::Task;
 use std::alloc::Global;
 use std::io::{Read, Write};
 use std::sync::Wait;

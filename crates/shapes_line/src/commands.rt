@@ -2,8 +2,8 @@
 ghost use Rattle.std.specs.Prelude.{◌≡◌, false, codes, IfOk};
 ghost use Rattle.clap.specs.Words.{app_of, new_app, rule_of};
 ghost use Rattle.clap.specs.declared.Command.TheViews.{out-Command as fields_of};
-ghost use Rattle.shapes.specs.Commands.{bits_rule, count_app, find_app, join_app, program_app};
-ghost use Rattle.shapes.specs.Commands.{required_word};
+ghost use Rattle.shapes_line.specs.Commands.{bits_rule, count_app, find_app, join_app, program_app};
+ghost use Rattle.shapes_line.specs.Commands.{required_word};
 
 use clap::{Arg, Command, value_parser};
 use command_lines::{

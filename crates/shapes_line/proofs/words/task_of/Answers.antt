@@ -1,7 +1,7 @@
 use Rattle.std.proofs.Common.{rules, ◌≡◌, codes, Some}
 use Rattle.clap.specs.Words.{found_of, rows_of, subcommand_rows_of}
-use Rattle.shapes.proofs.Asked.{count_fault}
-use Rattle.shapes.proofs.words.task_of.Goals as goal
+use Rattle.shapes_line.proofs.Asked.{count_fault}
+use Rattle.shapes_line.proofs.words.task_of.Goals as goal
 
 pub returns-in-Some-count-default-clause-fault : goal.returns-in-Some-count-default-clause-fault
 returns-in-Some-count-default-clause-fault c =

@@ -12,9 +12,9 @@ use Rattle.shape_dict.specs.declared.entries.Text.{Text}
 use Rattle.shape_dict.specs.declared.entries.Text.TheVariants as text
 use Rattle.engine_core.specs.declared.faults.RunFault.{RunFault}
 use Rattle.engine_core.specs.declared.faults.RunFault.TheVariants as fault
-use Rattle.shapes.specs.Commands.{program_app}
-use Rattle.shapes.specs.declared.words.Task.{Task}
-use Rattle.shapes.specs.declared.words.Task.TheVariants as task
+use Rattle.shapes_line.specs.Commands.{program_app}
+use Rattle.shapes_line.specs.declared.words.Task.{Task}
+use Rattle.shapes_line.specs.declared.words.Task.TheVariants as task
 
 -- the kinds that are counted for a text
 abbrev pub kinds_for : Text → Kinds

@@ -1,7 +1,7 @@
 use Rattle.std.proofs.Common.{refl}
 use Rattle.command_lines.specs.Values.{rows_in}
-use Rattle.shapes.proofs.Asked.{no_settings_text, no_settings_workers, no_settings_bits}
-use Rattle.shapes.proofs.words.count_task.Goals as goal
+use Rattle.shapes_line.proofs.Asked.{no_settings_text, no_settings_workers, no_settings_bits}
+use Rattle.shapes_line.proofs.words.count_task.Goals as goal
 
 pub returns-in_default-clause-fault : goal.returns-in_default-clause-fault
 returns-in_default-clause-fault c = (refl, no_settings_text (rows_in c.args.matches.now) c.in_default.ensures.none)

@@ -1,7 +1,7 @@
 use Rattle.std.proofs.Common.{refl}
 use Rattle.command_lines.specs.Values.{rows_in}
-use Rattle.shapes.proofs.Asked.{search_fault}
-use Rattle.shapes.proofs.words.find_task.Goals as goal
+use Rattle.shapes_line.proofs.Asked.{search_fault}
+use Rattle.shapes_line.proofs.words.find_task.Goals as goal
 
 pub returns-in-Ok-clause-task : goal.returns-in-Ok-clause-task
 returns-in-Ok-clause-task c = (rows_in c.args.matches.now, refl, c.in-Ok.ensures.shape)

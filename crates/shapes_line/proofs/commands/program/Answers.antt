@@ -2,9 +2,9 @@ use Rattle.std.proofs.Common.{codes}
 use Rattle.std.proofs.lemmas.Result.{IfOk-weaker}
 use Rattle.clap.specs.Words.{new_app, with_subcommand}
 use Rattle.command_lines.specs.Arguments.{bare_app}
-use Rattle.shapes.specs.Commands.{count_app, find_app, join_app}
+use Rattle.shapes_line.specs.Commands.{count_app, find_app, join_app}
 use Rattle.command_lines.proofs.Added.{one_command}
-use Rattle.shapes.proofs.commands.program.Goals as goal
+use Rattle.shapes_line.proofs.commands.program.Goals as goal
 
 pub returns : goal.returns
 returns c =

@@ -10,10 +10,10 @@ use Rattle.command_lines.specs.Values.{HasNoNumber, IsNumberOf}
 use Rattle.command_lines.proofs.Numbers.{one_number}
 use Rattle.shape_core.specs.declared.words.Kinds.TheVariants as kinds
 use Rattle.tally_core.specs.Limits.{AreLimits}
-use Rattle.shapes.specs.Commands.{asked_by, program_app}
-use Rattle.shapes.specs.Words.{HasNoSettings, IsWordsFault, IsTaskOf, IsAnswered}
-use Rattle.shapes.specs.declared.words.Task.{Task}
-use Rattle.shapes.specs.declared.words.Task.TheVariants as task
+use Rattle.shapes_line.specs.Commands.{asked_by, program_app}
+use Rattle.shapes_line.specs.Words.{HasNoSettings, IsWordsFault, IsTaskOf, IsAnswered}
+use Rattle.shapes_line.specs.declared.words.Task.{Task}
+use Rattle.shapes_line.specs.declared.words.Task.TheVariants as task
 use Rattle.engine_core.specs.declared.faults.RunFault.{RunFault}
 use Rattle.engine_core.specs.declared.faults.RunFault.TheVariants as fault
 

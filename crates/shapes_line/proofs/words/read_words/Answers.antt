@@ -3,9 +3,9 @@ use Rattle.std.specs.Prelude.{string_bytes}
 use Rattle.std.proofs.lemmas.Result.{err_from_is_err_and}
 use Rattle.clap.specs.Words.{app_of}
 use Rattle.command_lines.proofs.Taken.{taken_by, refused_by}
-use Rattle.shapes.specs.Commands.{program_app}
-use Rattle.shapes.proofs.Asked.{task_answered, task_refused}
-use Rattle.shapes.proofs.words.read_words.Goals as goal
+use Rattle.shapes_line.specs.Commands.{program_app}
+use Rattle.shapes_line.proofs.Asked.{task_answered, task_refused}
+use Rattle.shapes_line.proofs.words.read_words.Goals as goal
 
 pub returns-in-Asked-clause-task : goal.returns-in-Asked-clause-task
 returns-in-Asked-clause-task c =

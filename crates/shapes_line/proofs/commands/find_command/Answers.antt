@@ -3,8 +3,8 @@ use Rattle.std.proofs.lemmas.Result.{IfOk-weaker}
 use Rattle.clap.specs.Words.{new_app, with_rule}
 use Rattle.command_lines.proofs.Added.{one_argument, still_local}
 use Rattle.command_lines.specs.Arguments.{flag_rule}
-use Rattle.shapes.specs.Commands.{required_word}
-use Rattle.shapes.proofs.commands.find_command.Goals as goal
+use Rattle.shapes_line.specs.Commands.{required_word}
+use Rattle.shapes_line.proofs.commands.find_command.Goals as goal
 
 pub returns-clause-app : goal.returns-clause-app
 returns-clause-app c =

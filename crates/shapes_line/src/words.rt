@@ -4,8 +4,8 @@ ghost use Rattle.clap.specs.Words.{subcommand_rows_of};
 ghost use Rattle.command_lines.specs.Lines.{IsAskingFault};
 ghost use Rattle.command_lines.specs.Texts.{HasNoText};
 ghost use Rattle.command_lines.specs.Values.{rows_in};
-ghost use Rattle.shapes.specs.Commands.{asked_by, program_app};
-ghost use Rattle.shapes.specs.Words.{HasNoSettings, IsAnswered, IsTaskOf, IsWordsFault, kinds_for};
+ghost use Rattle.shapes_line.specs.Commands.{asked_by, program_app};
+ghost use Rattle.shapes_line.specs.Words.{HasNoSettings, IsAnswered, IsTaskOf, IsWordsFault, kinds_for};
 ghost use Rattle.engine_core.specs.declared.faults.RunFault.TheVariants as fault;
 
 use crate::commands::program;
