@@ -1,6 +1,6 @@
 -- A pass at two times: it is later than itself by no call, and times put together put their calls together. Each call of
 -- the table makes its pass later by that call.
-use Rattle.std.proofs.Common.{◌≡◌, ℕ, zero, suc, ◌+◌, ◌^◌, ◌<◌, ◌≤◌, List, [], ◌∷◌, ◌++◌, length, Option, Some, refl, sym, ◌∙◌, ap, subst, append_assoc, arith, length-append}
+use Rattle.std.proofs.Common.{◌≡◌, ℕ, zero, suc, ◌+◌, ◌<◌, ◌≤◌, List, [], ◌∷◌, ◌++◌, length, Option, Some, refl, sym, ◌∙◌, ap, subst, append_assoc, arith, length-append}
 use Rattle.std.proofs.lemmas.List.{append-nil}
 use Rattle.std.proofs.lemmas.List.Elements.{filter_map-append}
 use Rattle.std.specs.List.{cons_option}
@@ -98,11 +98,11 @@ grown_later n table table' old new longest added rises grown =
       alone = λ _. grown.lone;
     }
 
--- the same of the pass, whose table has this order
-pub pass_later : {O : Type 0} (exponent : O → ℕ) (key order : O) (table table' : TableId) (before after : View O) (old : Known O) (longest added : List Happened)
-    → key ≡ order → known_of table before ≡ old → IsRising 0 old.mine (length old.seen) → Grown (2 ^ exponent key) before longest added after
-    → IsLater (2 ^ exponent order) old added (known_of table' after)
-pass_later exponent key order table table' before after old longest added same_order same rises grown =
-    subst (λ o. IsLater (2 ^ exponent o) old added (known_of table' after)) same_order
-    (subst (λ k. IsRising 0 k.mine (length k.seen) → IsLater (2 ^ exponent key) k added (known_of table' after)) same
-    (λ r. grown_later (2 ^ exponent key) table table' before after longest added r grown) rises)
+-- the same of the pass, whose table has this many slots
+pub pass_later : {O : Type 0} (n slots : ℕ) (table table' : TableId) (before after : View O) (old : Known O) (longest added : List Happened)
+    → n ≡ slots → known_of table before ≡ old → IsRising 0 old.mine (length old.seen) → Grown n before longest added after
+    → IsLater slots old added (known_of table' after)
+pass_later n slots table table' before after old longest added same_slots same rises grown =
+    subst (λ k. IsLater k old added (known_of table' after)) same_slots
+    (subst (λ k. IsRising 0 k.mine (length k.seen) → IsLater n k added (known_of table' after)) same
+    (λ r. grown_later n table table' before after longest added r grown) rises)

@@ -53,7 +53,7 @@ found_more f ks more e among there =
     in let all : AllByRecursion P (filter_map f more) = recursion_from_All P (filter_map f more) (All-contains_itself (filter_map f more))
     in All-contains P (filter_map f ks) e (All-from_recursion P (filter_map f ks) (from_places P f ks (λ k e low is. at_place P f more k e all (among k low) is))) there
 
-module _ {O : Type 0} (n : ℕ) (numbers : Numbers O) (one other both : Known O) (of_one : IsPassOf n numbers one) (of_other : IsPassOf n numbers other) (met : Met n one other both) where
+module _ {O : Type 0} (numbers : Numbers O) (one other both : Known O) (of_one : IsPassOf numbers one) (of_other : IsPassOf numbers other) (met : Met numbers.slots one other both) where
   -- at its places each of them has the same calls in the history of both
   calls_of_one : filter_map (slice_get both.seen) one.mine ≡ calls_of one
   calls_of_one = ap (λ (t : List Happened). filter_map (slice_get t) one.mine) met.after_one.1 ∙ calls_stay one.seen met.after_one.0 0 one.mine of_one.rises
@@ -91,12 +91,12 @@ module _ {O : Type 0} (n : ℕ) (numbers : Numbers O) (one other both : Known O)
       ]))) there
 
 -- the calls of a pass that two were made of
-pub met_calls : {O : Type 0} (n : ℕ) (numbers : Numbers O) (one other both : Known O) (happened : Happened) → IsPassOf n numbers one → IsPassOf n numbers other → Met n one other both
+pub met_calls : {O : Type 0} (numbers : Numbers O) (one other both : Known O) (happened : Happened) → IsPassOf numbers one → IsPassOf numbers other → Met numbers.slots one other both
     → Contains (calls_of both) happened ↔ (Contains (calls_of one) happened ⊎ Contains (calls_of other) happened)
-met_calls n numbers one other both happened of_one of_other met = (
-  from_both n numbers one other both of_one of_other met happened,
+met_calls numbers one other both happened of_one of_other met = (
+  from_both numbers one other both of_one of_other met happened,
   λ either. elim either [
-    | inl there ↦ from_one n numbers one other both of_one of_other met happened there
-    | inr there ↦ from_other n numbers one other both of_one of_other met happened there
+    | inl there ↦ from_one numbers one other both of_one of_other met happened there
+    | inr there ↦ from_other numbers one other both of_one of_other met happened there
   ],
 )

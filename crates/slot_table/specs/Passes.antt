@@ -6,10 +6,11 @@ use Rattle.slot_table.specs.History.{IsLegal, Begins, Keeps}
 use Rattle.slot_table.specs.Places.{times, IsRising}
 use Rattle.slot_table.specs.Stakes.{IsWhole}
 
--- a table: which one it is, and its order
+-- a table: which one it is, its order, and how many slots it has, so how many numbers
 pub record Numbers (O : Type 0) : Type 0 where
   pub table : TableId
   pub order : O
+  pub slots : ℕ
 
 -- a pass: of which table and order it is, a history that it has seen, the places in it of its own calls, and its stake, how
 -- much of the right to call the table it has
@@ -20,11 +21,11 @@ pub record Known (O : Type 0) : Type 0 where
   pub mine : List ℕ
   pub stake : List ℕ
 
--- the pass is of the table, which has n numbers: it has seen a legal history, and the places of its own calls rise in it
-pub record IsPassOf {O : Type 0} (n : ℕ) (numbers : Numbers O) (pass : Known O) : Type 0 where
+-- the pass is of the table: it has seen a legal history, and the places of its own calls rise in it
+pub record IsPassOf {O : Type 0} (numbers : Numbers O) (pass : Known O) : Type 0 where
   pub table : pass.table ≡ numbers.table
   pub order : pass.order ≡ Some numbers.order
-  pub legal : IsLegal n pass.seen
+  pub legal : IsLegal numbers.slots pass.seen
   pub rises : IsRising 0 pass.mine (length pass.seen)
 
 -- the calls that a pass made, with their answers, in order: what it has seen at the places of its own calls

@@ -87,8 +87,8 @@ pub fn as_much_as_the_whole_is_the_whole()
 /// Where two passes of a table met, the calls of the one pass are those of both, and no others. It
 /// takes no memory.
 pub fn a_met_pass_has_the_calls_of_both<O>()
-    ensures { (n : ℕ) (numbers : Numbers O) (one other both : Known O) (happened : Happened) →
-        IsPassOf n numbers one → IsPassOf n numbers other → Met n one other both →
+    ensures { (numbers : Numbers O) (one other both : Known O) (happened : Happened) →
+        IsPassOf numbers one → IsPassOf numbers other → Met numbers.slots one other both →
         Contains (calls_of both) happened ↔
         (Contains (calls_of one) happened ⊎ Contains (calls_of other) happened) }
 {}

@@ -1,5 +1,5 @@
 //! A look ahead at the slots that keys will ask for, so that their lines of memory come together.
-ghost use Rattle.std.specs.Prelude.{◌^◌, ◌<◌, ◌≤◌, length};
+ghost use Rattle.std.specs.Prelude.{◌<◌, ◌≤◌, length};
 
 use crate::tables::SlotTable;
 use probe_core::{Key, ProbeOrder};
@@ -10,7 +10,7 @@ const ROUNDS: usize = 12;
 
 /// Looks at the slots that keys have at an index. No answer is waited for.
 fn look<O: ProbeOrder>(table: &SlotTable<O>, keys: &[Key], i: usize)
-    requires { i < 2 ^ O.exponent table.now.order }
+    requires { i < table.now.slots }
 {
     for key in keys {
         let _ = table.is_passed(*key, i);
@@ -20,7 +20,7 @@ fn look<O: ProbeOrder>(table: &SlotTable<O>, keys: &[Key], i: usize)
 /// Puts the keys first whose slots at an index hold other keys; the answer is how many they are. It
 /// has no branch that depends on a slot.
 fn keep_passed<O: ProbeOrder>(table: &SlotTable<O>, keys: &mut [Key], i: usize) -> usize
-    requires { i < 2 ^ O.exponent table.now.order }
+    requires { i < table.now.slots }
     ensures { result ≤ length keys.new }
 {
     let mut kept = 0;

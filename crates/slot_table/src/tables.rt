@@ -22,7 +22,7 @@ use std::marker::Model;
 ///
 /// Each key gets a number when it is entered first, and keeps it for ever. The word of a number's
 /// key and that of its least game lie side by side, so mostly in one line of memory. Contracts see
-/// which table it is, and its order.
+/// which table it is, its order, and how many slots it has.
 #[derive(Drop)]
 pub struct SlotTable<O: ProbeOrder> {
     words: Words<O>,
@@ -35,7 +35,11 @@ impl<O: ProbeOrder> Model for SlotTable<O> {
 
     ghost Value = { Numbers O };
 
-    ghost view = { λ t. record { table = t.words.shared.table_id; order = t.order } };
+    ghost view = { λ t. record {
+      table = t.words.shared.table_id;
+      order = t.order;
+      slots = 2 ^ O.exponent t.order;
+    } };
 
     ghost invariant = { λ t. (t.words.shared.key ≡ t.order)
         × (t.words.shared.table_id.words ≡ 2 * 2 ^ O.exponent t.order)
@@ -62,7 +66,8 @@ impl<O: ProbeOrder> SlotTable<O> {
     /// `Memory` where memory was refused; then nothing is kept.
     pub fn new(alloc: Global, order: O) -> Result<(SlotTable<O>, Pass<O>), SlotFault>
         ensures order { IfOk result (λ r. r.0.order ≡ order) }
-        ensures pass { IfOk result (λ r. IsPassOf (2 ^ O.exponent order) r.0 r.1) }
+        ensures slots { IfOk result (λ r. r.0.slots ≡ 2 ^ O.exponent order) }
+        ensures pass { IfOk result (λ r. IsPassOf r.0 r.1) }
         ensures seen { IfOk result (λ r. r.1.seen ≡ []) }
         ensures mine { IfOk result (λ r. r.1.mine ≡ []) }
         ensures calls { IfOk result (λ r. calls_of r.1 ≡ []) }
@@ -76,7 +81,8 @@ impl<O: ProbeOrder> SlotTable<O> {
 
     /// How many numbers there are. It takes no pass and no memory.
     pub fn capacity(&self) -> Capacity
-        ensures { result ≡ O.exponent self.now.order }
+        ensures order { result ≡ O.exponent self.now.order }
+        ensures slots { 2 ^ result ≡ self.now.slots }
     {
         self.order.capacity()
     }
@@ -88,10 +94,10 @@ impl<O: ProbeOrder> SlotTable<O> {
     ///
     /// The pass must be of this table.
     pub fn split(&self, pass: &mut Pass<O>) -> Pass<O>
-        requires { IsPassOf (2 ^ O.exponent self.now.order) self.now pass.old }
+        requires { IsPassOf self.now pass.old }
         ensures same { pass.new ≡ record pass.old { stake = halved pass.old.stake } }
-        ensures still { IsPassOf (2 ^ O.exponent self.now.order) self.now pass.new }
-        ensures pass { IsPassOf (2 ^ O.exponent self.now.order) self.now result }
+        ensures still { IsPassOf self.now pass.new }
+        ensures pass { IsPassOf self.now result }
         ensures seen { result.seen ≡ pass.old.seen }
         ensures mine { result.mine ≡ [] }
         ensures calls { calls_of result ≡ [] }
@@ -104,15 +110,13 @@ impl<O: ProbeOrder> SlotTable<O> {
 
     /// Takes the steps of a call.
     fn ask(&self, pass: &mut Pass<O>, call: Call) -> Answer
-        requires pass { IsPassOf (2 ^ O.exponent self.now.order) self.now pass.old }
+        requires pass { IsPassOf self.now pass.old }
         requires small { key_of call < 2 ^ 51 }
-        ensures pass { IsPassOf (2 ^ O.exponent self.now.order) self.now pass.new }
-        ensures made { Made (2 ^ O.exponent self.now.order)
-            pass.old (entry.Asked call result) pass.new }
-        ensures later { IsLater (2 ^ O.exponent self.now.order)
-            pass.old (entry.Asked call result ∷ []) pass.new }
+        ensures pass { IsPassOf self.now pass.new }
+        ensures made { Made self.now.slots pass.old (entry.Asked call result) pass.new }
+        ensures later { IsLater self.now.slots pass.old (entry.Asked call result ∷ []) pass.new }
         ensures alone { IsAlone pass.new }
-        ensures told { Tells (2 ^ O.exponent self.now.order) pass.new.seen call result }
+        ensures told { Tells self.now.slots pass.new.seen call result }
     {
         steps::asked(&self.words.shared, &mut pass.seat, &self.order, call)
     }
@@ -122,14 +126,13 @@ impl<O: ProbeOrder> SlotTable<O> {
     ///
     /// The pass must be of this table.
     pub fn enter(&self, pass: &mut Pass<O>, key: Key) -> Answer
-        requires { IsPassOf (2 ^ O.exponent self.now.order) self.now pass.old }
-        ensures pass { IsPassOf (2 ^ O.exponent self.now.order) self.now pass.new }
-        ensures made { Made (2 ^ O.exponent self.now.order)
-            pass.old (entry.Asked (call.Enter key) result) pass.new }
-        ensures later { IsLater (2 ^ O.exponent self.now.order)
-            pass.old (entry.Asked (call.Enter key) result ∷ []) pass.new }
+        requires { IsPassOf self.now pass.old }
+        ensures pass { IsPassOf self.now pass.new }
+        ensures made { Made self.now.slots pass.old (entry.Asked (call.Enter key) result) pass.new }
+        ensures later { IsLater self.now.slots pass.old (entry.Asked (call.Enter key) result ∷ [])
+            pass.new }
         ensures alone { IsAlone pass.new }
-        ensures told { Tells (2 ^ O.exponent self.now.order) pass.new.seen (call.Enter key) result }
+        ensures told { Tells self.now.slots pass.new.seen (call.Enter key) result }
     {
         self.ask(pass, Call::Enter(key))
     }
@@ -139,15 +142,14 @@ impl<O: ProbeOrder> SlotTable<O> {
     ///
     /// The pass must be of this table.
     pub fn look_up(&self, pass: &mut Pass<O>, key: Key) -> Answer
-        requires { IsPassOf (2 ^ O.exponent self.now.order) self.now pass.old }
-        ensures pass { IsPassOf (2 ^ O.exponent self.now.order) self.now pass.new }
-        ensures made { Made (2 ^ O.exponent self.now.order)
-            pass.old (entry.Asked (call.LookUp key) result) pass.new }
-        ensures later { IsLater (2 ^ O.exponent self.now.order)
-            pass.old (entry.Asked (call.LookUp key) result ∷ []) pass.new }
+        requires { IsPassOf self.now pass.old }
+        ensures pass { IsPassOf self.now pass.new }
+        ensures made { Made self.now.slots pass.old (entry.Asked (call.LookUp key) result)
+            pass.new }
+        ensures later { IsLater self.now.slots pass.old (entry.Asked (call.LookUp key) result ∷ [])
+            pass.new }
         ensures alone { IsAlone pass.new }
-        ensures told { Tells (2 ^ O.exponent self.now.order)
-            pass.new.seen (call.LookUp key) result }
+        ensures told { Tells self.now.slots pass.new.seen (call.LookUp key) result }
     {
         self.ask(pass, Call::LookUp(key))
     }
@@ -155,7 +157,7 @@ impl<O: ProbeOrder> SlotTable<O> {
     /// Whether the slot at the place that a key has at an index holds another key, by one load of
     /// which no pass knows.
     pub(crate) fn is_passed(&self, key: Key, i: usize) -> bool
-        requires { i < 2 ^ O.exponent self.now.order }
+        requires { i < self.now.slots }
     {
         let found = self.words.shared.peek(2 * self.order.place(key, i));
         found != 0 && found != key.bits() + 1
@@ -166,15 +168,15 @@ impl<O: ProbeOrder> SlotTable<O> {
     ///
     /// The pass must be of this table, and the number below the number of slots.
     pub fn word_at(&self, pass: &mut Pass<O>, number: usize) -> Option<Key>
-        requires pass { IsPassOf (2 ^ O.exponent self.now.order) self.now pass.old }
-        requires number { number < 2 ^ O.exponent self.now.order }
-        ensures pass { IsPassOf (2 ^ O.exponent self.now.order) self.now pass.new }
-        ensures saw { Saw (2 ^ O.exponent self.now.order) pass.old pass.new }
-        ensures later { IsLater (2 ^ O.exponent self.now.order) pass.old [] pass.new }
+        requires pass { IsPassOf self.now pass.old }
+        requires number { number < self.now.slots }
+        ensures pass { IsPassOf self.now pass.new }
+        ensures saw { Saw self.now.slots pass.old pass.new }
+        ensures later { IsLater self.now.slots pass.old [] pass.new }
         ensures alone { IsAlone pass.new }
         ensures key { result ≡
-            slice_index_or (content_of (2 ^ O.exponent self.now.order) pass.new.seen) number None }
-        ensures told { TellsAt (2 ^ O.exponent self.now.order) pass.new.seen number result }
+            slice_index_or (content_of self.now.slots pass.new.seen) number None }
+        ensures told { TellsAt self.now.slots pass.new.seen number result }
     {
         steps::word_at(&self.words.shared, &mut pass.seat, number)
     }
@@ -184,10 +186,10 @@ impl<O: ProbeOrder> SlotTable<O> {
     ///
     /// The passes must be of this table.
     pub fn meet(&self, one: Pass<O>, other: Pass<O>) -> Pass<O>
-        requires one { IsPassOf (2 ^ O.exponent self.now.order) self.now one }
-        requires other { IsPassOf (2 ^ O.exponent self.now.order) self.now other }
-        ensures pass { IsPassOf (2 ^ O.exponent self.now.order) self.now result }
-        ensures met { Met (2 ^ O.exponent self.now.order) one other result }
+        requires one { IsPassOf self.now one }
+        requires other { IsPassOf self.now other }
+        ensures pass { IsPassOf self.now result }
+        ensures met { Met self.now.slots one other result }
         ensures alone { IsAlone result }
     {
         let mut both = one;
@@ -200,10 +202,10 @@ impl<O: ProbeOrder> SlotTable<O> {
     ///
     /// The passes must be of this table.
     pub fn absorb(&self, pass: &mut Pass<O>, other: Pass<O>)
-        requires pass { IsPassOf (2 ^ O.exponent self.now.order) self.now pass.old }
-        requires other { IsPassOf (2 ^ O.exponent self.now.order) self.now other }
-        ensures pass { IsPassOf (2 ^ O.exponent self.now.order) self.now pass.new }
-        ensures met { Met (2 ^ O.exponent self.now.order) pass.old other pass.new }
+        requires pass { IsPassOf self.now pass.old }
+        requires other { IsPassOf self.now other }
+        ensures pass { IsPassOf self.now pass.new }
+        ensures met { Met self.now.slots pass.old other pass.new }
         ensures alone { IsAlone pass.new }
     {
         let Pass { seat: other } = other;
@@ -216,14 +218,12 @@ impl<O: ProbeOrder> SlotTable<O> {
     /// The pass must be of this table, the number below the number of slots, and the game not
     /// 2^64 - 1. The number need not be taken.
     pub fn mark(&self, pass: &mut Pass<O>, number: usize, game: u64)
-        requires pass { IsPassOf (2 ^ O.exponent self.now.order) self.now pass.old }
-        requires number { number < 2 ^ O.exponent self.now.order }
+        requires pass { IsPassOf self.now pass.old }
+        requires number { number < self.now.slots }
         requires game { game < 2 ^ 64 - 1 }
-        ensures pass { IsPassOf (2 ^ O.exponent self.now.order) self.now pass.new }
-        ensures made { Made (2 ^ O.exponent self.now.order)
-            pass.old (entry.Marked number game) pass.new }
-        ensures later { IsLater (2 ^ O.exponent self.now.order)
-            pass.old (entry.Marked number game ∷ []) pass.new }
+        ensures pass { IsPassOf self.now pass.new }
+        ensures made { Made self.now.slots pass.old (entry.Marked number game) pass.new }
+        ensures later { IsLater self.now.slots pass.old (entry.Marked number game ∷ []) pass.new }
         ensures alone { IsAlone pass.new }
         ensures least { IsAtMost (least_at number pass.new.seen) game }
     {
@@ -236,13 +236,11 @@ impl<O: ProbeOrder> SlotTable<O> {
     /// The pass must be of this table, and the number below the number of slots. The number need
     /// not be taken.
     pub fn first(&self, pass: &mut Pass<O>, number: usize) -> Option<u64>
-        requires pass { IsPassOf (2 ^ O.exponent self.now.order) self.now pass.old }
-        requires number { number < 2 ^ O.exponent self.now.order }
-        ensures pass { IsPassOf (2 ^ O.exponent self.now.order) self.now pass.new }
-        ensures made { Made (2 ^ O.exponent self.now.order)
-            pass.old (entry.First number result) pass.new }
-        ensures later { IsLater (2 ^ O.exponent self.now.order)
-            pass.old (entry.First number result ∷ []) pass.new }
+        requires pass { IsPassOf self.now pass.old }
+        requires number { number < self.now.slots }
+        ensures pass { IsPassOf self.now pass.new }
+        ensures made { Made self.now.slots pass.old (entry.First number result) pass.new }
+        ensures later { IsLater self.now.slots pass.old (entry.First number result ∷ []) pass.new }
         ensures alone { IsAlone pass.new }
         ensures least { result ≡ least_at number pass.new.seen }
     {

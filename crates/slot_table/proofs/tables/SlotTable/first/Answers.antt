@@ -1,4 +1,4 @@
-use Rattle.std.proofs.Common.{◌∙◌, ◌∷◌, [], ap}
+use Rattle.std.proofs.Common.{◌^◌, ◌∙◌, ◌∷◌, [], ap}
 use Rattle.slot_table.specs.declared.entries.Happened.TheVariants as entry
 use Rattle.slot_table.proofs.Later.{pass_later}
 use Rattle.slot_table.proofs.tables.SlotTable.first.Goals as goal
@@ -8,5 +8,5 @@ returns-clause-later g c =
     let seat = c.pass.inside.seat
     in let after = c.first.new.seat
     in let called = c.first.ensures.called
-    in pass_later g.O.ProbeOrder.exponent c.self.inside.words.shared.key c.args.self.now.order seat.table_id after.table_id seat.me.0 after.me.0
-    c.args.pass.now called.0 (entry.First c.args.number c.first.result ∷ []) (c.self.invariant.0 ∙ ap (λ t. t.order) c.self.view_is) c.pass.view_is c.requires.pass.rises called.1
+    in pass_later (2 ^ g.O.ProbeOrder.exponent c.self.inside.words.shared.key) c.args.self.now.slots seat.table_id after.table_id seat.me.0 after.me.0
+    c.args.pass.now called.0 (entry.First c.args.number c.first.result ∷ []) (ap (λ o. 2 ^ g.O.ProbeOrder.exponent o) c.self.invariant.0 ∙ ap (λ t. t.slots) c.self.view_is) c.pass.view_is c.requires.pass.rises called.1

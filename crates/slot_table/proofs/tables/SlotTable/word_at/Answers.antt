@@ -9,12 +9,11 @@ returns-clause-later g c =
     let seat = c.pass.inside.seat
     in let after = c.word_at.new.seat
     in let called = c.word_at.ensures.seen
-    in pass_later g.O.ProbeOrder.exponent c.self.inside.words.shared.key c.args.self.now.order seat.table_id after.table_id seat.me.0 after.me.0
-    c.args.pass.now called.0 ([]) (c.self.invariant.0 ∙ ap (λ t. t.order) c.self.view_is) c.pass.view_is c.requires.pass.rises called.1
+    in pass_later (2 ^ g.O.ProbeOrder.exponent c.self.inside.words.shared.key) c.args.self.now.slots seat.table_id after.table_id seat.me.0 after.me.0
+    c.args.pass.now called.0 ([]) (ap (λ o. 2 ^ g.O.ProbeOrder.exponent o) c.self.invariant.0 ∙ ap (λ t. t.slots) c.self.view_is) c.pass.view_is c.requires.pass.rises called.1
 
 pub returns-clause-told : goal.returns-clause-told
 returns-clause-told g c =
-    let order = c.self.invariant.0 ∙ ap (λ t. t.order) c.self.view_is
-    in let n = 2 ^ g.O.ProbeOrder.exponent c.args.self.now.order
-    in tells_at n c.word_at.new.seat.me.0.seen c.args.number c.word_at.result c.requires.number
-    (c.word_at.ensures.key ∙ ap (λ o. slice_index_or (content_of (2 ^ g.O.ProbeOrder.exponent o) c.word_at.new.seat.me.0.seen) c.args.number None) order)
+    let slots = ap (λ o. 2 ^ g.O.ProbeOrder.exponent o) c.self.invariant.0 ∙ ap (λ t. t.slots) c.self.view_is
+    in tells_at c.args.self.now.slots c.word_at.new.seat.me.0.seen c.args.number c.word_at.result c.requires.number
+    (c.word_at.ensures.key ∙ ap (λ n. slice_index_or (content_of n c.word_at.new.seat.me.0.seen) c.args.number None) slots)
