@@ -1,5 +1,5 @@
 //! Whether the games that are marked in the table are those that shares counted.
-ghost use Rattle.std.specs.Prelude.{◌≡◌, ◌+◌, ◌^◌, ◌<◌, List};
+ghost use Rattle.std.specs.Prelude.{◌≡◌, ◌+◌, ◌<◌, List};
 ghost use Rattle.slot_table.specs.Passes.{Known, IsPassOf};
 ghost use Rattle.share_core.specs.declared.rows.Row.{Row};
 ghost use Rattle.share_core.specs.declared.faults.HarvestFault.TheVariants as fault;
@@ -40,14 +40,13 @@ pub(crate) fn compare<O: ProbeOrder>(
     of_shares: Option<u64>,
     differs: &mut Option<Differs>,
 )
-    requires pass { IsPassOf (2 ^ O.exponent table.now.order) table.now pass.old }
-    requires number { number < 2 ^ O.exponent table.now.order }
-    ensures pass { IsPassOf (2 ^ O.exponent table.now.order) table.now pass.new }
-    ensures later { AsksOnly (2 ^ O.exponent table.now.order) pass.old pass.new }
+    requires pass { IsPassOf table.now pass.old }
+    requires number { number < table.now.slots }
+    ensures pass { IsPassOf table.now pass.new }
+    ensures later { AsksOnly table.now.slots pass.old pass.new }
     ensures agree { (rows : List Row) → (first : Known O) → of_shares ≡ first_at rows number
-        → AgreeBelow (2 ^ O.exponent table.now.order) rows number first pass.old differs.old
-        → AgreeBelow (2 ^ O.exponent table.now.order) rows (number + 1) first pass.new
-        differs.new }
+        → AgreeBelow table.now.slots rows number first pass.old differs.old
+        → AgreeBelow table.now.slots rows (number + 1) first pass.new differs.new }
 {
     if differs.is_some() {
         return;

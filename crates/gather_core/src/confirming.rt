@@ -1,5 +1,5 @@
 //! Why the table had no number for a pattern.
-ghost use Rattle.std.specs.Prelude.{◌≡◌, ◌^◌, ◌⊎◌, [], Some};
+ghost use Rattle.std.specs.Prelude.{◌≡◌, ◌⊎◌, [], Some};
 ghost use Rattle.std.specs.Bool.{OnTrue, OnFalse};
 ghost use Rattle.slot_table.specs.Passes.{IsPassOf, IsLater};
 ghost use Rattle.gather_core.specs.Checking.{all_rows};
@@ -110,11 +110,11 @@ pub fn confirm_full<O: ProbeOrder>(
     game: u64,
     word: Word,
 ) -> HarvestFault
-    requires { IsPassOf (2 ^ O.exponent table.now.order) table.now pass.old }
-    ensures pass { IsPassOf (2 ^ O.exponent table.now.order) table.now pass.new }
-    ensures later { IsLater (2 ^ O.exponent table.now.order) pass.old [] pass.new }
-    ensures confirmed { IsConfirmation (2 ^ O.exponent table.now.order) pass.new.seen
-        (all_rows shares.now) game word result }
+    requires { IsPassOf table.now pass.old }
+    ensures pass { IsPassOf table.now pass.new }
+    ensures later { IsLater table.now.slots pass.old [] pass.new }
+    ensures confirmed { IsConfirmation table.now.slots pass.new.seen (all_rows shares.now)
+        game word result }
 {
     let least = least_with(shares, word.bits());
     for number in 0..table.capacity().slots() {

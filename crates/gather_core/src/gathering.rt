@@ -1,5 +1,5 @@
 //! Shares put together to a dictionary.
-ghost use Rattle.std.specs.Prelude.{◌≡◌, ◌<◌, ◌^◌, All, None, OnOk, IfOk, IfErr, false};
+ghost use Rattle.std.specs.Prelude.{◌≡◌, ◌<◌, All, None, OnOk, IfOk, IfErr, false};
 ghost use Rattle.slot_table.specs.Passes.{IsPassOf};
 ghost use Rattle.gather_core.specs.Agreeing.{AskedAll};
 ghost use Rattle.gather_core.specs.Checking.{all_rows, Stand};
@@ -65,19 +65,17 @@ pub fn gather<R: Threads + Sync, O: ProbeOrder>(
     games: u64,
     shares: &[Share],
 ) -> Result<Dictionary, HarvestFault>
-    requires pass { IsPassOf (2 ^ O.exponent table.now.order) table.now pass.old }
+    requires pass { IsPassOf table.now pass.old }
     requires kinds { All (λ share. share.kinds ≡ kinds) shares.now }
     requires games { All (λ share. All (λ game. game < games) share.games) shares.now }
-    ensures pass { IsPassOf (2 ^ O.exponent table.now.order) table.now pass.new }
-    ensures later { AsksOnly (2 ^ O.exponent table.now.order) pass.old pass.new }
+    ensures pass { IsPassOf table.now pass.new }
+    ensures later { AsksOnly table.now.slots pass.old pass.new }
     ensures gathered { IfOk result (IsGathered kinds games shares.now) }
     ensures covers { OnOk result (Covers games (all_games shares.now)) }
-    ensures stand { OnOk result (Stand (2 ^ O.exponent table.now.order) pass.new.seen
-        (all_rows shares.now)) }
-    ensures asked { OnOk result (AskedAll (2 ^ O.exponent table.now.order) (all_rows shares.now)
-        pass.old pass.new) }
-    ensures fault { IfErr result (IsGatherFault (2 ^ O.exponent table.now.order) games shares.now
-        pass.old pass.new) }
+    ensures stand { OnOk result (Stand table.now.slots pass.new.seen (all_rows shares.now)) }
+    ensures asked { OnOk result (AskedAll table.now.slots (all_rows shares.now) pass.old pass.new) }
+    ensures fault { IfErr result
+        (IsGatherFault table.now.slots games shares.now pass.old pass.new) }
 {
     check_games(alloc, games, shares)?;
     let visited = visit_all(rt, alloc, table, pass, shares)?;

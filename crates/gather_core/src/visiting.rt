@@ -1,6 +1,6 @@
 //! Numbers of a table, each visited once, in rising order: whether the rows that shares have of it
 //! are of its pattern, and their least game is the one that is marked.
-ghost use Rattle.std.specs.Prelude.{◌≡◌, ◌+◌, ◌^◌, ◌<◌, ◌≤◌, ℕ, List, drop};
+ghost use Rattle.std.specs.Prelude.{◌≡◌, ◌+◌, ◌<◌, ◌≤◌, ℕ, List, drop};
 ghost use Rattle.std.specs.Prelude.{IfErr, OnOk};
 ghost use Rattle.slot_table.specs.Passes.{IsPassOf};
 ghost use Rattle.share_core.specs.declared.rows.Row.{Row};
@@ -26,14 +26,14 @@ fn visit_odd<O: ProbeOrder>(
     number: usize,
     differs: &mut Option<Differs>,
 ) -> Result<(), HarvestFault>
-    requires pass { IsPassOf (2 ^ O.exponent table.now.order) table.now pass.old }
-    requires number { number < 2 ^ O.exponent table.now.order }
-    ensures pass { IsPassOf (2 ^ O.exponent table.now.order) table.now pass.new }
-    ensures later { AsksOnly (2 ^ O.exponent table.now.order) pass.old pass.new }
-    ensures ok { OnOk result (IsVisit (2 ^ O.exponent table.now.order) (all_rows shares.now)
-        number (number + 1) pass.old pass.new differs.old differs.new) }
-    ensures fault { IfErr result (EndsVisit (2 ^ O.exponent table.now.order) (all_rows shares.now)
-        number pass.old pass.new differs.old) }
+    requires pass { IsPassOf table.now pass.old }
+    requires number { number < table.now.slots }
+    ensures pass { IsPassOf table.now pass.new }
+    ensures later { AsksOnly table.now.slots pass.old pass.new }
+    ensures ok { OnOk result (IsVisit table.now.slots (all_rows shares.now) number (number + 1)
+        pass.old pass.new differs.old differs.new) }
+    ensures fault { IfErr result
+        (EndsVisit table.now.slots (all_rows shares.now) number pass.old pass.new differs.old) }
 {
     let found = bits_of(table.word_at(pass, number));
     let sums = sums_at(shares, number, found);
@@ -54,21 +54,19 @@ fn visit_even<O: ProbeOrder>(
     number: usize,
     differs: &mut Option<Differs>,
 ) -> Result<(), HarvestFault>
-    requires pass { IsPassOf (2 ^ O.exponent table.now.order) table.now pass.old }
-    requires number { number < 2 ^ O.exponent table.now.order }
-    ensures pass { IsPassOf (2 ^ O.exponent table.now.order) table.now pass.new }
-    ensures later { AsksOnly (2 ^ O.exponent table.now.order) pass.old pass.new }
+    requires pass { IsPassOf table.now pass.old }
+    requires number { number < table.now.slots }
+    ensures pass { IsPassOf table.now pass.new }
+    ensures later { AsksOnly table.now.slots pass.old pass.new }
     ensures rest { (rows : List Row) → (high : ℕ) → number < high
         → AreTotals rows number high (drop next.old totals.now)
         → AreTotals rows (number + 1) high (drop next.new totals.now) }
     ensures ok { OnOk result ((rows : List Row) → (high : ℕ) → number < high
-        → AreTotals rows number high (drop next.old totals.now)
-        → IsVisit (2 ^ O.exponent table.now.order) rows
+        → AreTotals rows number high (drop next.old totals.now) → IsVisit table.now.slots rows
         number (number + 1) pass.old pass.new differs.old differs.new) }
     ensures fault { IfErr result (λ found. (rows : List Row) → (high : ℕ) → number < high
         → AreTotals rows number high (drop next.old totals.now)
-        → EndsVisit (2 ^ O.exponent table.now.order) rows
-        number pass.old pass.new differs.old found) }
+        → EndsVisit table.now.slots rows number pass.old pass.new differs.old found) }
 {
     let found = bits_of(table.word_at(pass, number));
     let Some(total) = next_total(totals, next, number) else {
@@ -92,15 +90,15 @@ fn visit_odd_piece<O: ProbeOrder>(
     high: usize,
     differs: &mut Option<Differs>,
 ) -> Result<(), HarvestFault>
-    requires pass { IsPassOf (2 ^ O.exponent table.now.order) table.now pass.old }
+    requires pass { IsPassOf table.now pass.old }
     requires order { from ≤ high }
-    requires high { high ≤ 2 ^ O.exponent table.now.order }
-    ensures pass { IsPassOf (2 ^ O.exponent table.now.order) table.now pass.new }
-    ensures later { AsksOnly (2 ^ O.exponent table.now.order) pass.old pass.new }
-    ensures ok { OnOk result (IsVisit (2 ^ O.exponent table.now.order) (all_rows shares.now)
-        from high pass.old pass.new differs.old differs.new) }
-    ensures fault { IfErr result (EndsVisit (2 ^ O.exponent table.now.order) (all_rows shares.now)
-        from pass.old pass.new differs.old) }
+    requires high { high ≤ table.now.slots }
+    ensures pass { IsPassOf table.now pass.new }
+    ensures later { AsksOnly table.now.slots pass.old pass.new }
+    ensures ok { OnOk result (IsVisit table.now.slots (all_rows shares.now) from high
+        pass.old pass.new differs.old differs.new) }
+    ensures fault { IfErr result
+        (EndsVisit table.now.slots (all_rows shares.now) from pass.old pass.new differs.old) }
 {
     for number in from..high {
         visit_odd(table, pass, shares, number, differs)?;
@@ -118,17 +116,15 @@ fn visit_even_piece<O: ProbeOrder>(
     high: usize,
     differs: &mut Option<Differs>,
 ) -> Result<(), HarvestFault>
-    requires pass { IsPassOf (2 ^ O.exponent table.now.order) table.now pass.old }
+    requires pass { IsPassOf table.now pass.old }
     requires order { from ≤ high }
-    requires high { high ≤ 2 ^ O.exponent table.now.order }
-    ensures pass { IsPassOf (2 ^ O.exponent table.now.order) table.now pass.new }
-    ensures later { AsksOnly (2 ^ O.exponent table.now.order) pass.old pass.new }
+    requires high { high ≤ table.now.slots }
+    ensures pass { IsPassOf table.now pass.new }
+    ensures later { AsksOnly table.now.slots pass.old pass.new }
     ensures ok { OnOk result ((rows : List Row) → AreTotals rows from high totals.now
-        → IsVisit (2 ^ O.exponent table.now.order) rows
-        from high pass.old pass.new differs.old differs.new) }
+        → IsVisit table.now.slots rows from high pass.old pass.new differs.old differs.new) }
     ensures fault { IfErr result (λ found. (rows : List Row) → AreTotals rows from high totals.now
-        → EndsVisit (2 ^ O.exponent table.now.order) rows
-        from pass.old pass.new differs.old found) }
+        → EndsVisit table.now.slots rows from pass.old pass.new differs.old found) }
 {
     let mut next = 0;
     for number in from..high {
@@ -147,16 +143,16 @@ pub(crate) fn visit_piece<O: ProbeOrder>(
     high: usize,
     differs: &mut Option<Differs>,
 ) -> Result<(), HarvestFault>
-    requires pass { IsPassOf (2 ^ O.exponent table.now.order) table.now pass.old }
+    requires pass { IsPassOf table.now pass.old }
     requires order { from ≤ high }
-    requires high { high ≤ 2 ^ O.exponent table.now.order }
+    requires high { high ≤ table.now.slots }
     requires piece { IsPiece (all_rows shares.now) from high piece.now }
-    ensures pass { IsPassOf (2 ^ O.exponent table.now.order) table.now pass.new }
-    ensures later { AsksOnly (2 ^ O.exponent table.now.order) pass.old pass.new }
-    ensures ok { OnOk result (IsVisit (2 ^ O.exponent table.now.order) (all_rows shares.now)
-        from high pass.old pass.new differs.old differs.new) }
-    ensures fault { IfErr result (EndsVisit (2 ^ O.exponent table.now.order) (all_rows shares.now)
-        from pass.old pass.new differs.old) }
+    ensures pass { IsPassOf table.now pass.new }
+    ensures later { AsksOnly table.now.slots pass.old pass.new }
+    ensures ok { OnOk result (IsVisit table.now.slots (all_rows shares.now) from high
+        pass.old pass.new differs.old differs.new) }
+    ensures fault { IfErr result
+        (EndsVisit table.now.slots (all_rows shares.now) from pass.old pass.new differs.old) }
 {
     if piece.is_odd {
         visit_odd_piece(table, pass, shares, from, high, differs)

@@ -43,16 +43,12 @@ fn enter_one<O: ProbeOrder>(
     shape: Shape,
     game: u64,
 ) -> Option<Entered>
-    requires { IsPassOf (2 ^ O.exponent table.now.order) table.now pass.old }
-    ensures pass { IsPassOf (2 ^ O.exponent table.now.order) table.now pass.new }
-    ensures later { EntersOnly (2 ^ O.exponent table.now.order) (IsEnteredAs shape result)
-        pass.old pass.new }
-    ensures some { IfSome result (IsEntered (2 ^ O.exponent table.now.order) pass.new.seen game
-        shape) }
-    ensures absent { IfNone result (IsAbsent (content_of (2 ^ O.exponent table.now.order)
-        pass.new.seen) shape) }
-    ensures full { IfNone result (IsFull (content_of (2 ^ O.exponent table.now.order)
-        pass.new.seen)) }
+    requires { IsPassOf table.now pass.old }
+    ensures pass { IsPassOf table.now pass.new }
+    ensures later { EntersOnly table.now.slots (IsEnteredAs shape result) pass.old pass.new }
+    ensures some { IfSome result (IsEntered table.now.slots pass.new.seen game shape) }
+    ensures absent { IfNone result (IsAbsent (content_of table.now.slots pass.new.seen) shape) }
+    ensures full { IfNone result (IsFull (content_of table.now.slots pass.new.seen)) }
 {
     match table.enter(pass, key_of(shape)) {
         Answer::Number(number) => {
@@ -72,20 +68,18 @@ pub(crate) fn enter_all<O: ProbeOrder>(
     meetings: &[Meeting],
     game: u64,
 ) -> Result<Option<Shape>, HarvestFault>
-    requires { IsPassOf (2 ^ O.exponent table.now.order) table.now pass.old }
-    ensures pass { IsPassOf (2 ^ O.exponent table.now.order) table.now pass.new }
-    ensures noted { OnOk result (EntersOnly (2 ^ O.exponent table.now.order)
-        (IsNoted meetings.now entered.new.items) pass.old pass.new) }
-    ensures met { OnErr result (EntersOnly (2 ^ O.exponent table.now.order)
+    requires { IsPassOf table.now pass.old }
+    ensures pass { IsPassOf table.now pass.new }
+    ensures noted { OnOk result
+        (EntersOnly table.now.slots (IsNoted meetings.now entered.new.items) pass.old pass.new) }
+    ensures met { OnErr result (EntersOnly table.now.slots
         (λ key _. IsMetIn meetings.now key) pass.old pass.new) }
     ensures few { length entered.new.items ≤ length meetings.now }
-    ensures each { AreEntered (2 ^ O.exponent table.now.order) pass.new.seen game meetings.now
-        entered.new.items }
+    ensures each { AreEntered table.now.slots pass.new.seen game meetings.now entered.new.items }
     ensures all { IfOk result (λ refused. IfNone refused
         (length entered.new.items ≡ length meetings.now)) }
     ensures refused { IfOk result (λ refused. IfSome refused
-        (IsRefused (2 ^ O.exponent table.now.order) pass.new.seen meetings.now
-        entered.new.items)) }
+        (IsRefused table.now.slots pass.new.seen meetings.now entered.new.items)) }
     ensures fault { IfErr result (λ found. found ≡ fault.Memory) }
 {
     entered.clear();
@@ -103,13 +97,12 @@ pub(crate) fn enter_all<O: ProbeOrder>(
 
 /// Marks a game at a number if the number has no mark, or that of a later game.
 fn mark_one<O: ProbeOrder>(table: &SlotTable<O>, pass: &mut Pass<O>, one: Entered, game: u64)
-    requires pass { IsPassOf (2 ^ O.exponent table.now.order) table.now pass.old }
-    requires number { one.number < 2 ^ O.exponent table.now.order }
+    requires pass { IsPassOf table.now pass.old }
+    requires number { one.number < table.now.slots }
     requires late { one.late ≡ false → IsAtMost (least_at one.number pass.old.seen) game }
     requires game { game < 2 ^ 64 - 1 }
-    ensures pass { IsPassOf (2 ^ O.exponent table.now.order) table.now pass.new }
-    ensures later { MarksOnly (2 ^ O.exponent table.now.order) (IsMarkAt one.number game)
-        pass.old pass.new }
+    ensures pass { IsPassOf table.now pass.new }
+    ensures later { MarksOnly table.now.slots (IsMarkAt one.number game) pass.old pass.new }
     ensures marked { IsAtMost (least_at one.number pass.new.seen) game }
 {
     if one.late {
@@ -125,13 +118,11 @@ pub(crate) fn mark_all<O: ProbeOrder>(
     meetings: &[Meeting],
     game: u64,
 )
-    requires pass { IsPassOf (2 ^ O.exponent table.now.order) table.now pass.old }
-    requires each { AreEntered (2 ^ O.exponent table.now.order) pass.old.seen game meetings.now
-        entered.now }
+    requires pass { IsPassOf table.now pass.old }
+    requires each { AreEntered table.now.slots pass.old.seen game meetings.now entered.now }
     requires game { game < 2 ^ 64 - 1 }
-    ensures pass { IsPassOf (2 ^ O.exponent table.now.order) table.now pass.new }
-    ensures later { MarksOnly (2 ^ O.exponent table.now.order) (IsMarkAmong entered.now game)
-        pass.old pass.new }
+    ensures pass { IsPassOf table.now pass.new }
+    ensures later { MarksOnly table.now.slots (IsMarkAmong entered.now game) pass.old pass.new }
     ensures marked { AreMarked pass.new.seen game entered.now }
 {
     for one in entered {

@@ -217,25 +217,24 @@ impl Share {
         game: u64,
         game_record: &Record,
     ) -> Result<(), HarvestFault>
-        requires pass { IsPassOf (2 ^ O.exponent table.now.order) table.now pass.old }
+        requires pass { IsPassOf table.now pass.old }
         requires game { game < most_bytes }
-        ensures pass { IsPassOf (2 ^ O.exponent table.now.order) table.now pass.new }
+        ensures pass { IsPassOf table.now pass.new }
         ensures added { OnOk result (IsAdded game game_record.now self.old self.new) }
-        ensures grown { OnOk result (HasGrown (2 ^ O.exponent table.now.order) pass.new.seen
-            game_record.now self.old self.new) }
-        ensures marked { OnOk result (IsMarked (2 ^ O.exponent table.now.order) pass.new.seen game
-            game_record.now self.old self.new) }
-        ensures calls { OnOk result (CallsOnly (2 ^ O.exponent table.now.order)
+        ensures grown { OnOk result
+            (HasGrown table.now.slots pass.new.seen game_record.now self.old self.new) }
+        ensures marked { OnOk result
+            (IsMarked table.now.slots pass.new.seen game game_record.now self.old self.new) }
+        ensures calls { OnOk result (CallsOnly table.now.slots
             (IsEntryOf self.old.kinds game_record.now (IsRowed self.new.rows))
-            (IsMarkOf (2 ^ O.exponent table.now.order) pass.new.seen self.old.kinds game_record.now
-            self.new.rows game) pass.old pass.new) }
-        ensures kept { OnErr result (IsKept (2 ^ O.exponent table.now.order) pass.new.seen
-            game_record.now self.old self.new) }
-        ensures enters { IfErr result (λ found. EntersOnly (2 ^ O.exponent table.now.order)
-            (IsEntryOf self.old.kinds game_record.now (IsRowedAfter found self.new.rows))
-            pass.old pass.new) }
-        ensures fault { IfErr result (IsAddFault (2 ^ O.exponent table.now.order) pass.new.seen game
-            game_record.now self.old self.new) }
+            (IsMarkOf table.now.slots pass.new.seen self.old.kinds game_record.now self.new.rows
+            game) pass.old pass.new) }
+        ensures kept { OnErr result
+            (IsKept table.now.slots pass.new.seen game_record.now self.old self.new) }
+        ensures enters { IfErr result (λ found. EntersOnly table.now.slots (IsEntryOf self.old.kinds
+            game_record.now (IsRowedAfter found self.new.rows)) pass.old pass.new) }
+        ensures fault { IfErr result
+            (IsAddFault table.now.slots pass.new.seen game game_record.now self.old self.new) }
     {
         let moves = self
             .workings

@@ -1,5 +1,5 @@
 //! What a share needs to count a game, kept from game to game.
-ghost use Rattle.std.specs.Prelude.{◌≡◌, ◌^◌, ◌<◌, IfOk, IfErr, OnOk};
+ghost use Rattle.std.specs.Prelude.{◌≡◌, ◌<◌, IfOk, IfErr, OnOk};
 ghost use Rattle.slot_table.specs.Passes.{IsPassOf};
 ghost use Rattle.share_core.specs.Adding.{IsPrepareFault, IsEntryOf, IsRowed, IsRowedAfter};
 ghost use Rattle.share_core.specs.Inner.Adding.{HasFresh};
@@ -34,7 +34,7 @@ fn full(game: u64, word: Word) -> HarvestFault
 }
 
 impl Workings {
-    ghost use Rattle.std.specs.Prelude.{◌≡◌, ◌^◌, [], IfOk, IfErr, OnOk};
+    ghost use Rattle.std.specs.Prelude.{◌≡◌, [], IfOk, IfErr, OnOk};
 
     /// Nothing was counted yet. It takes no memory.
     pub fn begin(alloc: Global, kinds: Kinds) -> Workings
@@ -63,22 +63,21 @@ impl Workings {
         game: u64,
         game_record: &Record,
     ) -> Result<u64, HarvestFault>
-        requires { IsPassOf (2 ^ O.exponent table.now.order) table.now pass.old }
-        ensures pass { IsPassOf (2 ^ O.exponent table.now.order) table.now pass.new }
-        ensures rowed { OnOk result (EntersOnly (2 ^ O.exponent table.now.order)
-            (IsEntryOf self.old.walk.kinds game_record.now (IsRowed ledger.new.rows))
-            pass.old pass.new) }
-        ensures enters { IfErr result (λ found. EntersOnly (2 ^ O.exponent table.now.order)
+        requires { IsPassOf table.now pass.old }
+        ensures pass { IsPassOf table.now pass.new }
+        ensures rowed { OnOk result (EntersOnly table.now.slots (IsEntryOf self.old.walk.kinds
+            game_record.now (IsRowed ledger.new.rows)) pass.old pass.new) }
+        ensures enters { IfErr result (λ found. EntersOnly table.now.slots
             (IsEntryOf self.old.walk.kinds game_record.now (IsRowedAfter found ledger.new.rows))
             pass.old pass.new) }
         ensures kinds { self.new.walk.kinds ≡ self.old.walk.kinds }
         ensures ledger { ledger.new ≡ record ledger.old { rows = ledger.new.rows } }
-        ensures fresh { HasFresh (2 ^ O.exponent table.now.order) pass.new.seen self.old.walk.kinds
-            game_record.now ledger.old.rows ledger.new.rows }
-        ensures ok { IfOk result (IsPrepared (2 ^ O.exponent table.now.order) pass.new.seen game
-            game_record.now self.new ledger.new.rows) }
-        ensures fault { IfErr result (IsPrepareFault (2 ^ O.exponent table.now.order) pass.new.seen
-            game self.old.walk.kinds game_record.now ledger.new.rows) }
+        ensures fresh { HasFresh table.now.slots pass.new.seen self.old.walk.kinds game_record.now
+            ledger.old.rows ledger.new.rows }
+        ensures ok { IfOk result (IsPrepared table.now.slots pass.new.seen game game_record.now
+            self.new ledger.new.rows) }
+        ensures fault { IfErr result (IsPrepareFault table.now.slots pass.new.seen game
+            self.old.walk.kinds game_record.now ledger.new.rows) }
     {
         let moves = self.walk.walk(game_record)?;
         let meetings = self.walk.meetings();

@@ -1,4 +1,4 @@
-use Rattle.std.proofs.Common.{◌^◌, ◌+◌, ◌∷◌, [], sym, ◌∙◌}
+use Rattle.std.proofs.Common.{◌+◌, ◌∷◌, [], sym, ◌∙◌}
 use Rattle.slot_table.specs.declared.entries.Happened.TheVariants as call
 use Rattle.gather_core.proofs.Firsts.{games_agree, games_differ}
 use Rattle.gather_core.proofs.Visits.{agree_more, differs_here}
@@ -12,14 +12,12 @@ returns-clause-later g c = record { made = call.First c.args.number c.first-of_t
 
 pub returns-then-eq-clause-agree : goal.returns-then-eq-clause-agree
 returns-then-eq-clause-agree g c rows first shares h =
-    let n = 2 ^ g.O.ProbeOrder.exponent c.args.table.now.order in
     let of_table = c.first-of_table.result in
-    agree_more n rows c.args.number first c.args.pass.now c.first-of_table.new.pass c.args.differs.now of_table (sym c.is_some.ensures ∙ c.if-is_some.false) c.first-of_table.ensures.later
+    agree_more c.args.table.now.slots rows c.args.number first c.args.pass.now c.first-of_table.new.pass c.args.differs.now of_table (sym c.is_some.ensures ∙ c.if-is_some.false) c.first-of_table.ensures.later
     (sym (games_agree c.args.of_shares of_table c.if-eq.ensures) ∙ shares) h
 
 pub returns-clause-agree : goal.returns-clause-agree
 returns-clause-agree g c rows first shares h =
-    let n = 2 ^ g.O.ProbeOrder.exponent c.args.table.now.order in
     let of_table = c.first-of_table.result in
-    differs_here n rows c.args.number (c.args.number + 1) first c.args.pass.now c.first-of_table.new.pass c.args.differs.now c.args.of_shares of_table (sym c.is_some.ensures ∙ c.if-is_some.false) c.first-of_table.ensures.later
+    differs_here c.args.table.now.slots rows c.args.number (c.args.number + 1) first c.args.pass.now c.first-of_table.new.pass c.args.differs.now c.args.of_shares of_table (sym c.is_some.ensures ∙ c.if-is_some.false) c.first-of_table.ensures.later
     c.first-of_table.ensures.least c.requires.number shares (games_differ c.args.of_shares of_table c.if-eq.ensures) h

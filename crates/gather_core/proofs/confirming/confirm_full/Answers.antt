@@ -1,4 +1,4 @@
-use Rattle.std.proofs.Common.{◌≡◌, ◌^◌, [], sym, subst, ◌∙◌, ap, arith}
+use Rattle.std.proofs.Common.{◌≡◌, [], sym, subst, ◌∙◌, arith}
 use Rattle.slot_table.specs.History.{TellsAt}
 use Rattle.slot_table.proofs.Later.{later_through}
 use Rattle.gather_core.specs.Checking.{all_rows}
@@ -9,11 +9,11 @@ use Rattle.gather_core.proofs.confirming.confirm_full.Goals as goal
 
 pub returns-then-not-agrees-clause-later : goal.returns-then-not-agrees-clause-later
 returns-then-not-agrees-clause-later g c =
-    later_through (2 ^ g.O.ProbeOrder.exponent c.args.table.now.order) c.args.pass.now c.loop-number.pass c.word_at.new.pass [] [] c.loop-number.invariant.later c.word_at.ensures.later
+    later_through c.args.table.now.slots c.args.pass.now c.loop-number.pass c.word_at.new.pass [] [] c.loop-number.invariant.later c.word_at.ensures.later
 
 pub returns-then-not-agrees-clause-confirmed : goal.returns-then-not-agrees-clause-confirmed
 returns-then-not-agrees-clause-confirmed g c =
-    let n = 2 ^ g.O.ProbeOrder.exponent c.args.table.now.order in
+    let n = c.args.table.now.slots in
     let rows = all_rows c.args.shares.now in
     let seen = c.word_at.new.pass.seen in
     let number = c.loop-number.number in
@@ -29,7 +29,7 @@ returns-then-not-agrees-clause-confirmed g c =
 
 pub loop-number-preserved : goal.loop-number-preserved
 loop-number-preserved g c =
-    let n = 2 ^ g.O.ProbeOrder.exponent c.args.table.now.order in
+    let n = c.args.table.now.slots in
     let rows = all_rows c.args.shares.now in
     let seen = c.word_at.new.pass.seen in
     let number = c.loop-number.number in
@@ -47,11 +47,11 @@ loop-number-preserved g c =
 
 pub returns-in-Some-clause-confirmed : goal.returns-in-Some-clause-confirmed
 returns-in-Some-clause-confirmed g c =
-    let n = 2 ^ g.O.ProbeOrder.exponent c.args.table.now.order in
+    let n = c.args.table.now.slots in
     let rows = all_rows c.args.shares.now in
     let seen = c.loop-number.pass.seen in
     let word = c.args.word in
-    let slots : c.slots-number-end.result ≡ n = c.slots-number-end.ensures.value ∙ ap (λ k. 2 ^ k) c.capacity.ensures in
+    let slots : c.slots-number-end.result ≡ n = c.slots-number-end.ensures.value ∙ c.capacity.ensures.slots in
     let last : c.loop-number.number ≡ c.slots-number-end.result = omega arith in
     subst (IsConfirmation n seen rows c.args.game word) (sym c.stranger_at-in-Some.ensures)
     (beyond n seen rows word c.in-Some.number

@@ -1,4 +1,4 @@
-use Rattle.std.proofs.Common.{◌≡◌, ◌≤◌, ◌^◌, ap, sym, subst, ◌∙◌, inr}
+use Rattle.std.proofs.Common.{◌≡◌, ◌≤◌, ◌^◌, sym, subst, ◌∙◌, inr}
 use Rattle.std.proofs.lemmas.Result.{err_from_is_err_and, IfErr-weaker}
 use Rattle.share_core.specs.declared.faults.HarvestFault.TheVariants as fault
 use Rattle.gather_core.specs.Checking.{all_rows}
@@ -11,19 +11,18 @@ use Rattle.gather_core.proofs.gathering.gather.Goals as goal
 
 pub returns-in_err-check_beyond-clause-fault : goal.returns-in_err-check_beyond-clause-fault
 returns-in_err-check_beyond-clause-fault g c =
-    let n = 2 ^ g.O.ProbeOrder.exponent c.args.table.now.order in
-    let slots = c.slots.ensures.value ∙ ap (λ k. 2 ^ k) c.capacity.ensures in
+    let slots = c.slots.ensures.value ∙ c.capacity.ensures.slots in
     let p = err_from_is_err_and c.from_residual-in_err-check_beyond.result c.from_residual-in_err-check_beyond.ensures.1 in
-    rw (p.1, p.2) (beyond_table n c.slots.result c.args.games c.args.shares.now c.args.pass.now c.visit_all.new.pass c.in_err-check_beyond.field-0.0 slots
+    rw (p.1, p.2) (beyond_table c.args.table.now.slots c.slots.result c.args.games c.args.shares.now c.args.pass.now c.visit_all.new.pass c.in_err-check_beyond.field-0.0 slots
     c.in_ok-check_games.ensures.ok c.in_ok-visited.ensures.ok.stand c.in_err-check_beyond.ensures.fault)
 
 pub returns-in_err-check_numbers-clause-fault : goal.returns-in_err-check_numbers-clause-fault
 returns-in_err-check_numbers-clause-fault g c =
-    let n = 2 ^ g.O.ProbeOrder.exponent c.args.table.now.order in
+    let n = c.args.table.now.slots in
     let rows = all_rows c.args.shares.now in
     let new = c.visit_all.new.pass in
     let visited = c.in_ok-visited.ensures.ok in
-    let slots = c.slots.ensures.value ∙ ap (λ k. 2 ^ k) c.capacity.ensures in
+    let slots = c.slots.ensures.value ∙ c.capacity.ensures.slots in
     let stand = stand_below n c.slots.result new.seen rows slots c.in_ok-check_beyond.ensures.ok visited.stand in
     let p = err_from_is_err_and c.from_residual-in_err-check_numbers.result c.from_residual-in_err-check_numbers.ensures.1 in
     rw (p.1, p.2) (numbers_fault n c.args.games c.args.shares.now c.args.pass.now new c.in_ok-visited.visited.differs c.in_ok-visited.visited.listed.is_large c.in_err-check_numbers.field-0.0
@@ -31,10 +30,10 @@ returns-in_err-check_numbers-clause-fault g c =
 
 pub add_up-requires-clause-entries : goal.add_up-requires-clause-entries
 add_up-requires-clause-entries g c =
-    let n = 2 ^ g.O.ProbeOrder.exponent c.args.table.now.order in
+    let n = c.args.table.now.slots in
     let rows = all_rows c.args.shares.now in
     let new = c.visit_all.new.pass in
-    let slots = c.slots.ensures.value ∙ ap (λ k. 2 ^ k) c.capacity.ensures in
+    let slots = c.slots.ensures.value ∙ c.capacity.ensures.slots in
     let stand = stand_below n c.slots.result new.seen rows slots c.in_ok-check_beyond.ensures.ok c.in_ok-visited.ensures.ok.stand in
     let made : AreEntriesOf rows c.in_ok-visited.visited.listed.entries.items =
     (n, c.in_ok-visited.ensures.listed.0.entries (one_each n new.seen rows c.visit_all.ensures.pass.legal stand) c.in_ok-check_numbers.ensures.ok.1, all_below n new.seen rows stand) in
@@ -42,19 +41,18 @@ add_up-requires-clause-entries g c =
 
 pub returns-clause-stand : goal.returns-clause-stand
 returns-clause-stand g c =
-    let n = 2 ^ g.O.ProbeOrder.exponent c.args.table.now.order in
     let rows = all_rows c.args.shares.now in
     let seen = c.visit_all.new.pass.seen in
-    let slots = c.slots.ensures.value ∙ ap (λ k. 2 ^ k) c.capacity.ensures in
-    anyway c.add_up.result (stand_below n c.slots.result seen rows slots c.in_ok-check_beyond.ensures.ok c.in_ok-visited.ensures.ok.stand)
+    let slots = c.slots.ensures.value ∙ c.capacity.ensures.slots in
+    anyway c.add_up.result (stand_below c.args.table.now.slots c.slots.result seen rows slots c.in_ok-check_beyond.ensures.ok c.in_ok-visited.ensures.ok.stand)
 
 pub returns-clause-fault : goal.returns-clause-fault
 returns-clause-fault g c =
-    let n = 2 ^ g.O.ProbeOrder.exponent c.args.table.now.order in
+    let n = c.args.table.now.slots in
     let shares = c.args.shares.now in
     let rows = all_rows shares in
     let new = c.visit_all.new.pass in
-    let slots = c.slots.ensures.value ∙ ap (λ k. 2 ^ k) c.capacity.ensures in
+    let slots = c.slots.ensures.value ∙ c.capacity.ensures.slots in
     let stand = stand_below n c.slots.result new.seen rows slots c.in_ok-check_beyond.ensures.ok c.in_ok-visited.ensures.ok.stand in
     let asked = subst (AgreeBelow n rows n c.args.pass.now new) c.in_ok-check_numbers.ensures.ok.0 c.in_ok-visited.ensures.ok.agree in
     IfErr-weaker c.add_up.result (λ found. (found ≡ fault.Overflow) × (2 ^ 64 ≤ all_moves shares)) (IsGatherFault n c.args.games shares c.args.pass.now new)

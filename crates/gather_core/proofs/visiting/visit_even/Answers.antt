@@ -1,4 +1,4 @@
-use Rattle.std.proofs.Common.{◌^◌, Some, refl, sym, subst, ◌∙◌, arith}
+use Rattle.std.proofs.Common.{Some, refl, sym, subst, ◌∙◌, arith}
 use Rattle.slot_table.specs.History.{TellsAt}
 use Rattle.gather_core.specs.Inner.Visiting.{IsVisitFault}
 use Rattle.share_core.proofs.Entered.{calls_seen, calls_through}
@@ -8,13 +8,13 @@ use Rattle.gather_core.proofs.visiting.visit_even.Goals as goal
 
 pub returns-in_default-clause-later : goal.returns-in_default-clause-later
 returns-in_default-clause-later g c =
-    let n = 2 ^ g.O.ProbeOrder.exponent c.args.table.now.order in
+    let n = c.args.table.now.slots in
     let look = c.word_at.new.pass in
     calls_through n (λ _ _. ⊥) (λ _ _. ⊥) c.args.pass.now look c.compare.new.pass (calls_seen n (λ _ _. ⊥) (λ _ _. ⊥) c.args.pass.now look c.word_at.ensures.later) c.compare.ensures.later
 
 pub returns-in_default-clause-ok : goal.returns-in_default-clause-ok
 returns-in_default-clause-ok g c rows high low h first before =
-    let n = 2 ^ g.O.ProbeOrder.exponent c.args.table.now.order in
+    let n = c.args.table.now.slots in
     let number = c.args.number in
     let look = c.word_at.new.pass in
     let found = c.bits_of-found.result in
@@ -26,7 +26,7 @@ returns-in_default-clause-ok g c rows high low h first before =
 
 pub returns-in-Some-unlike-clause-fault : goal.returns-in-Some-unlike-clause-fault
 returns-in-Some-unlike-clause-fault g c rows high low h first before =
-    let n = 2 ^ g.O.ProbeOrder.exponent c.args.table.now.order in
+    let n = c.args.table.now.slots in
     let number = c.args.number in
     let seen = c.word_at.new.pass.seen in
     let found = c.bits_of-found.result in
@@ -39,13 +39,13 @@ returns-in-Some-unlike-clause-fault g c rows high low h first before =
 
 pub returns-clause-later : goal.returns-clause-later
 returns-clause-later g c =
-    let n = 2 ^ g.O.ProbeOrder.exponent c.args.table.now.order in
+    let n = c.args.table.now.slots in
     let look = c.word_at.new.pass in
     calls_through n (λ _ _. ⊥) (λ _ _. ⊥) c.args.pass.now look c.compare-2.new.pass (calls_seen n (λ _ _. ⊥) (λ _ _. ⊥) c.args.pass.now look c.word_at.ensures.later) c.compare-2.ensures.later
 
 pub returns-clause-ok : goal.returns-clause-ok
 returns-clause-ok g c rows high low h first before =
-    let n = 2 ^ g.O.ProbeOrder.exponent c.args.table.now.order in
+    let n = c.args.table.now.slots in
     let number = c.args.number in
     let look = c.word_at.new.pass in
     let found = c.bits_of-found.result in

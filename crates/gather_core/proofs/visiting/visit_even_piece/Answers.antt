@@ -1,4 +1,4 @@
-use Rattle.std.proofs.Common.{◌≡◌, ◌^◌, subst, arith}
+use Rattle.std.proofs.Common.{◌≡◌, subst, arith}
 use Rattle.std.proofs.lemmas.Result.{err_from_is_err_and}
 use Rattle.gather_core.specs.Inner.Visiting.{AreVisited}
 use Rattle.share_core.proofs.Entered.{calls_through}
@@ -6,7 +6,7 @@ use Rattle.gather_core.proofs.visiting.visit_even_piece.Goals as goal
 
 pub returns-in_err-visit_even-clause-later : goal.returns-in_err-visit_even-clause-later
 returns-in_err-visit_even-clause-later g c =
-    calls_through (2 ^ g.O.ProbeOrder.exponent c.args.table.now.order) (λ _ _. ⊥) (λ _ _. ⊥) c.args.pass.now c.loop-number.pass c.visit_even.new.pass c.loop-number.invariant.later c.visit_even.ensures.later
+    calls_through c.args.table.now.slots (λ _ _. ⊥) (λ _ _. ⊥) c.args.pass.now c.loop-number.pass c.visit_even.new.pass c.loop-number.invariant.later c.visit_even.ensures.later
 
 pub returns-in_err-visit_even-clause-fault : goal.returns-in_err-visit_even-clause-fault
 returns-in_err-visit_even-clause-fault g c =
@@ -18,13 +18,12 @@ pub loop-number-preserved : goal.loop-number-preserved
 loop-number-preserved g c =
     record {
       pass = c.visit_even.ensures.pass;
-      later = calls_through (2 ^ g.O.ProbeOrder.exponent c.args.table.now.order) (λ _ _. ⊥) (λ _ _. ⊥) c.args.pass.now c.loop-number.pass c.visit_even.new.pass c.loop-number.invariant.later c.visit_even.ensures.later;
+      later = calls_through c.args.table.now.slots (λ _ _. ⊥) (λ _ _. ⊥) c.args.pass.now c.loop-number.pass c.visit_even.new.pass c.loop-number.invariant.later c.visit_even.ensures.later;
       rest = λ rows all. c.visit_even.ensures.rest rows c.args.high c.loop-number-test.true (c.loop-number.invariant.rest rows all);
       visited = λ rows all first h. c.in_ok-visit_even.ensures.ok rows c.args.high c.loop-number-test.true (c.loop-number.invariant.rest rows all) first (c.loop-number.invariant.visited rows all first h);
     }
 
 pub returns-clause-ok : goal.returns-clause-ok
 returns-clause-ok g c rows all first h =
-    let n = 2 ^ g.O.ProbeOrder.exponent c.args.table.now.order in
     let last : c.loop-number.number ≡ c.args.high = omega arith in
-    subst (λ k. AreVisited n rows k first c.loop-number.pass c.loop-number.differs) last (c.loop-number.invariant.visited rows all first h)
+    subst (λ k. AreVisited c.args.table.now.slots rows k first c.loop-number.pass c.loop-number.differs) last (c.loop-number.invariant.visited rows all first h)

@@ -1,4 +1,4 @@
-use Rattle.std.proofs.Common.{◌^◌, List, drop}
+use Rattle.std.proofs.Common.{List, drop}
 use Rattle.slot_table.specs.Passes.{IsPassOf}
 use Rattle.share_core.specs.declared.rows.Row.{Row}
 use Rattle.share_core.specs.Entering.{AsksOnly}
@@ -8,11 +8,9 @@ use Rattle.gather_core.proofs.visiting.visit_even_piece.Given as goal
 
 -- the numbers so far were visited, and the totals of the others are left
 abbrev pub invariant-loop-number : goal.invariant-loop-number
-invariant-loop-number g l =
-    let n = 2 ^ g.O.ProbeOrder.exponent l.table.order in
-    record {
-      pass : IsPassOf n l.table l.pass;
-      later : AsksOnly n l.fn.pass l.pass;
-      rest : (rows : List Row) → AreTotals rows l.from l.high l.totals → AreTotals rows l.number l.high (drop l.next l.totals);
-      visited : (rows : List Row) → AreTotals rows l.from l.high l.totals → IsVisit n rows l.from l.number l.fn.pass l.pass l.fn.differs l.differs;
-    }
+invariant-loop-number g l = record {
+  pass : IsPassOf l.table l.pass;
+  later : AsksOnly l.table.slots l.fn.pass l.pass;
+  rest : (rows : List Row) → AreTotals rows l.from l.high l.totals → AreTotals rows l.number l.high (drop l.next l.totals);
+  visited : (rows : List Row) → AreTotals rows l.from l.high l.totals → IsVisit l.table.slots rows l.from l.number l.fn.pass l.pass l.fn.differs l.differs;
+}

@@ -1,4 +1,4 @@
-use Rattle.std.proofs.Common.{◌^◌, sym, subst, ◌∙◌}
+use Rattle.std.proofs.Common.{sym, subst, ◌∙◌}
 use Rattle.slot_table.specs.History.{TellsAt}
 use Rattle.gather_core.specs.Checking.{all_rows}
 use Rattle.gather_core.specs.Inner.Visiting.{IsVisitFault}
@@ -8,7 +8,7 @@ use Rattle.gather_core.proofs.visiting.visit_odd.Goals as goal
 
 pub returns-in-Some-clause-fault : goal.returns-in-Some-clause-fault
 returns-in-Some-clause-fault g c first h =
-    let n = 2 ^ g.O.ProbeOrder.exponent c.args.table.now.order in
+    let n = c.args.table.now.slots in
     let rows = all_rows c.args.shares.now in
     let seen = c.word_at.new.pass.seen in
     subst (IsVisitFault n seen rows) (sym c.stranger.ensures)
@@ -17,7 +17,7 @@ returns-in-Some-clause-fault g c first h =
 
 pub returns-clause-ok : goal.returns-clause-ok
 returns-clause-ok g c first h =
-    let n = 2 ^ g.O.ProbeOrder.exponent c.args.table.now.order in
+    let n = c.args.table.now.slots in
     let rows = all_rows c.args.shares.now in
     let number = c.args.number in
     let look = c.word_at.new.pass in
@@ -30,10 +30,10 @@ returns-clause-ok g c first h =
 
 pub returns-in-Some-clause-later : goal.returns-in-Some-clause-later
 returns-in-Some-clause-later g c =
-    calls_seen (2 ^ g.O.ProbeOrder.exponent c.args.table.now.order) (λ _ _. ⊥) (λ _ _. ⊥) c.args.pass.now c.word_at.new.pass c.word_at.ensures.later
+    calls_seen c.args.table.now.slots (λ _ _. ⊥) (λ _ _. ⊥) c.args.pass.now c.word_at.new.pass c.word_at.ensures.later
 
 pub returns-clause-later : goal.returns-clause-later
 returns-clause-later g c =
-    let n = 2 ^ g.O.ProbeOrder.exponent c.args.table.now.order in
+    let n = c.args.table.now.slots in
     let look = c.word_at.new.pass in
     calls_through n (λ _ _. ⊥) (λ _ _. ⊥) c.args.pass.now look c.compare.new.pass (calls_seen n (λ _ _. ⊥) (λ _ _. ⊥) c.args.pass.now look c.word_at.ensures.later) c.compare.ensures.later

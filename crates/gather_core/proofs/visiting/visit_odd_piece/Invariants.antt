@@ -1,4 +1,3 @@
-use Rattle.std.proofs.Common.{◌^◌}
 use Rattle.slot_table.specs.Passes.{IsPassOf}
 use Rattle.gather_core.specs.Checking.{all_rows}
 use Rattle.share_core.specs.Entering.{AsksOnly}
@@ -7,10 +6,8 @@ use Rattle.gather_core.proofs.visiting.visit_odd_piece.Given as goal
 
 -- the numbers so far were visited
 abbrev pub invariant-loop-number : goal.invariant-loop-number
-invariant-loop-number g l =
-    let n = 2 ^ g.O.ProbeOrder.exponent l.table.order in
-    record {
-      pass : IsPassOf n l.table l.pass;
-      later : AsksOnly n l.fn.pass l.pass;
-      visited : IsVisit n (all_rows l.shares) l.from l.number l.fn.pass l.pass l.fn.differs l.differs;
-    }
+invariant-loop-number g l = record {
+  pass : IsPassOf l.table l.pass;
+  later : AsksOnly l.table.slots l.fn.pass l.pass;
+  visited : IsVisit l.table.slots (all_rows l.shares) l.from l.number l.fn.pass l.pass l.fn.differs l.differs;
+}

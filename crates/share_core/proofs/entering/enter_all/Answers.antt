@@ -1,4 +1,4 @@
-use Rattle.std.proofs.Common.{◌≡◌, ◌^◌, ◌<◌, ℕ, List, ◌∷◌, [], ◌++◌, length, Option, Some, None, get_or, refl, ap, sym, subst, ◌∙◌, arith, length-append}
+use Rattle.std.proofs.Common.{◌≡◌, ◌<◌, ℕ, List, ◌∷◌, [], ◌++◌, length, Option, Some, None, get_or, refl, ap, sym, subst, ◌∙◌, arith, length-append}
 use Rattle.std.proofs.lemmas.List.{get_or_default}
 use Rattle.std.proofs.lemmas.Result.{err_from_is_err_and}
 use Rattle.slot_table.specs.Passes.{Known}
@@ -39,12 +39,12 @@ met_so_far n meetings entered i shape one first old new inside same before after
 
 pub returns-in_default-clause-each : goal.returns-in_default-clause-each
 returns-in_default-clause-each g c =
-    all_kept (2 ^ g.O.ProbeOrder.exponent c.args.table.now.order) c.args.game c.loop-i.pass.seen c.enter_one.new.pass.seen c.args.meetings.now c.loop-i.entered.items
+    all_kept c.args.table.now.slots c.args.game c.loop-i.pass.seen c.enter_one.new.pass.seen c.args.meetings.now c.loop-i.entered.items
     c.enter_one.ensures.later.later.keeps c.loop-i.invariant.each
 
 pub returns-in_default-clause-noted : goal.returns-in_default-clause-noted
 returns-in_default-clause-noted g c =
-    let n = 2 ^ g.O.ProbeOrder.exponent c.args.table.now.order in
+    let n = c.args.table.now.slots in
     let meetings = c.args.meetings.now in
     let before = c.loop-i.entered.items in
     let i = c.loop-i.i in
@@ -57,21 +57,21 @@ returns-in_default-clause-noted g c =
 
 pub returns-in_err-push-clause-met : goal.returns-in_err-push-clause-met
 returns-in_err-push-clause-met g c =
-    rw (err_from_is_err_and c.from_residual.result c.from_residual.ensures.1).1 (met_so_far (2 ^ g.O.ProbeOrder.exponent c.args.table.now.order) c.args.meetings.now c.loop-i.entered.items c.loop-i.i c.index-meetings-i.result.shape c.enter_one.result c.args.pass.now
+    rw (err_from_is_err_and c.from_residual.result c.from_residual.ensures.1).1 (met_so_far c.args.table.now.slots c.args.meetings.now c.loop-i.entered.items c.loop-i.i c.index-meetings-i.result.shape c.enter_one.result c.args.pass.now
     c.loop-i.pass c.enter_one.new.pass (omega arith)
     (ap (λ (m : Meeting). m.shape) c.index-meetings-i.is ∙ shape_read c.args.meetings.now c.loop-i.i c.loop-i.i c.index-meetings-i.result (omega arith) refl)
     c.loop-i.invariant.noted c.enter_one.ensures.later)
 
 pub returns-in_err-push-clause-each : goal.returns-in_err-push-clause-each
 returns-in_err-push-clause-each g c =
-    let n = 2 ^ g.O.ProbeOrder.exponent c.args.table.now.order in
+    let n = c.args.table.now.slots in
     subst (λ (es : List Entered). AreEntered n c.enter_one.new.pass.seen c.args.game c.args.meetings.now es) (sym c.in_err-push.ensures.items)
     (all_kept n c.args.game c.loop-i.pass.seen c.enter_one.new.pass.seen c.args.meetings.now c.loop-i.entered.items
     c.enter_one.ensures.later.later.keeps c.loop-i.invariant.each)
 
 pub loop-i-preserved : goal.loop-i-preserved
 loop-i-preserved g c =
-    let n = 2 ^ g.O.ProbeOrder.exponent c.args.table.now.order in
+    let n = c.args.table.now.slots in
     let meetings = c.args.meetings.now in
     let i = c.loop-i.i in
     let before = c.loop-i.entered.items in

@@ -1,4 +1,4 @@
-use Rattle.std.proofs.Common.{◌≡◌, ◌^◌, ◌<◌, ◌≤◌, length, sym, subst, arith, ⊎_elim}
+use Rattle.std.proofs.Common.{◌≡◌, ◌<◌, ◌≤◌, length, sym, subst, arith, ⊎_elim}
 use Rattle.std.proofs.lemmas.Bool.{cases_lt}
 use Rattle.slot_table.specs.History.{least_at, IsAtMost}
 use Rattle.share_core.specs.Inner.Making.{entered_at}
@@ -8,7 +8,7 @@ use Rattle.share_core.proofs.entering.mark_all.Goals as goal
 
 pub loop-one-preserved : goal.loop-one-preserved
 loop-one-preserved g c =
-    let n = 2 ^ g.O.ProbeOrder.exponent c.args.table.now.order in
+    let n = c.args.table.now.slots in
     let i = c.loop-one.one-index in
     let after = c.mark_one.ensures.later.later.keeps in
     let inside : i < length c.args.entered.now = omega arith in

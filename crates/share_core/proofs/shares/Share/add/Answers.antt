@@ -1,4 +1,4 @@
-use Rattle.std.proofs.Common.{◌≡◌, ◌^◌, ◌++◌, ℕ, List, length, refl, ap, sym, subst, ◌∙◌}
+use Rattle.std.proofs.Common.{◌≡◌, ◌++◌, ℕ, List, length, refl, ap, sym, subst, ◌∙◌}
 use Rattle.std.proofs.lemmas.Result.{err_from_is_err_and}
 use Rattle.shape_core.specs.declared.words.Kinds.{Kinds}
 use Rattle.tally_core.specs.declared.meetings.Meeting.{Meeting}
@@ -39,10 +39,10 @@ walked-as g c =
     (subst (λ k. IsWalk k c.args.game_record.now c.prepare.new.self.walk.meetings c.in_ok-moves.moves) c.prepare.ensures.kinds c.in_ok-moves.ensures.ok.walked)
 
 entered-as : (g : _) (c : After-as_slice-entered g) →
-    AreEntered (2 ^ g.O.ProbeOrder.exponent c.args.table.now.order) c.prepare.new.pass.seen c.args.game c.meetings-meetings.result.now c.as_slice-entered.result.now
+    AreEntered c.args.table.now.slots c.prepare.new.pass.seen c.args.game c.meetings-meetings.result.now c.as_slice-entered.result.now
     × (length c.as_slice-entered.result.now ≡ length c.meetings-meetings.result.now)
 entered-as g c =
-    let n = 2 ^ g.O.ProbeOrder.exponent c.args.table.now.order in
+    let n = c.args.table.now.slots in
     let ready = c.in_ok-moves.ensures.ok in
     let seen = c.prepare.new.pass.seen in
     let same = sym c.meetings-meetings.ensures in
@@ -73,7 +73,7 @@ invariant_of-self g c =
 
 pub returns-in_err-moves-clause-kept : goal.returns-in_err-moves-clause-kept
 returns-in_err-moves-clause-kept g c =
-    let n = 2 ^ g.O.ProbeOrder.exponent c.args.table.now.order in
+    let n = c.args.table.now.slots in
     let ledger = c.prepare.new.ledger in
     let old = held-as c.self.inside.worker c.self.inside.workings.walk.kinds c.self.inside.ledger in
     let new = held-as c.self.inside.worker c.prepare.new.self.walk.kinds ledger in
@@ -92,7 +92,7 @@ invariant_of-self-in_err-count g c =
 
 pub returns-in_err-count-clause-kept : goal.returns-in_err-count-clause-kept
 returns-in_err-count-clause-kept g c =
-    let n = 2 ^ g.O.ProbeOrder.exponent c.args.table.now.order in
+    let n = c.args.table.now.slots in
     let old = held-as c.self.inside.worker c.self.inside.workings.walk.kinds c.self.inside.ledger in
     let new = held-as c.self.inside.worker c.prepare.new.self.walk.kinds c.count.new.self in
     let fresh = c.prepare.ensures.fresh in
@@ -105,7 +105,7 @@ returns-in_err-count-clause-kept g c =
 
 pub returns-in_err-count-clause-fault : goal.returns-in_err-count-clause-fault
 returns-in_err-count-clause-fault g c =
-    let n = 2 ^ g.O.ProbeOrder.exponent c.args.table.now.order in
+    let n = c.args.table.now.slots in
     let old = held-as c.self.inside.worker c.self.inside.workings.walk.kinds c.self.inside.ledger in
     let new = held-as c.self.inside.worker c.prepare.new.self.walk.kinds c.count.new.self in
     let fresh = c.prepare.ensures.fresh in
@@ -120,7 +120,7 @@ returns-in_err-count-clause-fault g c =
 
 pub returns-in_err-count-clause-enters : goal.returns-in_err-count-clause-enters
 returns-in_err-count-clause-enters g c =
-    let n = 2 ^ g.O.ProbeOrder.exponent c.args.table.now.order in
+    let n = c.args.table.now.slots in
     let kinds = c.self.inside.workings.walk.kinds in
     let actions = c.args.game_record.now in
     let found = c.in_err-count.field-0.0 in
@@ -160,7 +160,7 @@ invariant_of-self-2 g c =
 
 pub returns-clause-grown : goal.returns-clause-grown
 returns-clause-grown g c =
-    let n = 2 ^ g.O.ProbeOrder.exponent c.args.table.now.order in
+    let n = c.args.table.now.slots in
     let old = held-as c.self.inside.worker c.self.inside.workings.walk.kinds c.self.inside.ledger in
     let new = held-as c.self.inside.worker c.prepare.new.self.walk.kinds c.count.new.self in
     let meetings = c.meetings-meetings.result.now in
@@ -180,7 +180,7 @@ returns-clause-grown g c =
 
 pub returns-clause-marked : goal.returns-clause-marked
 returns-clause-marked g c =
-    let n = 2 ^ g.O.ProbeOrder.exponent c.args.table.now.order in
+    let n = c.args.table.now.slots in
     let old = held-as c.self.inside.worker c.self.inside.workings.walk.kinds c.self.inside.ledger in
     let new = held-as c.self.inside.worker c.prepare.new.self.walk.kinds c.count.new.self in
     let fresh = c.prepare.ensures.fresh in
@@ -203,7 +203,7 @@ returns-clause-marked g c =
 
 pub returns-clause-calls : goal.returns-clause-calls
 returns-clause-calls g c =
-    let n = 2 ^ g.O.ProbeOrder.exponent c.args.table.now.order in
+    let n = c.args.table.now.slots in
     let kinds = c.self.inside.workings.walk.kinds in
     let meetings = c.meetings-meetings.result.now in
     let entered = c.as_slice-entered.result.now in

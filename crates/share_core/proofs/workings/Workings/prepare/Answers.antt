@@ -1,4 +1,4 @@
-use Rattle.std.proofs.Common.{◌≡◌, ◌^◌, ◌<◌, ◌≤◌, List, length, take, IfSome, IfNone, false, ap, sym, subst, ◌∙◌}
+use Rattle.std.proofs.Common.{◌≡◌, ◌<◌, ◌≤◌, List, length, take, IfSome, IfNone, false, ap, sym, subst, ◌∙◌}
 use Rattle.std.proofs.Math.Seq.{take-length}
 use Rattle.std.proofs.lemmas.Result.{err_from_is_err_and}
 use Rattle.std.proofs.lemmas.List.Elements.{All-from_get_or}
@@ -26,25 +26,25 @@ few-of : (g : _) (c : After-as_slice-entered g) → length c.as_slice-entered.re
 few-of g c = subst (λ (es : List Entered). length es ≤ length c.meetings-meetings.result.now) (sym c.as_slice-entered.ensures.value) c.enter_all.ensures.few
 
 each-of : (g : _) (c : After-as_slice-entered g) →
-    AreEntered (2 ^ g.O.ProbeOrder.exponent c.args.table.now.order) c.enter_all.new.pass.seen c.args.game c.meetings-meetings.result.now c.as_slice-entered.result.now
+    AreEntered c.args.table.now.slots c.enter_all.new.pass.seen c.args.game c.meetings-meetings.result.now c.as_slice-entered.result.now
 each-of g c =
-    subst (λ (es : List Entered). AreEntered (2 ^ g.O.ProbeOrder.exponent c.args.table.now.order) c.enter_all.new.pass.seen c.args.game c.meetings-meetings.result.now es)
+    subst (λ (es : List Entered). AreEntered c.args.table.now.slots c.enter_all.new.pass.seen c.args.game c.meetings-meetings.result.now es)
     (sym c.as_slice-entered.ensures.value) c.enter_all.ensures.each
 
 -- the pass entered these and nothing else
 noted-of : (g : _) (c : After-as_slice-entered g) →
-    EntersOnly (2 ^ g.O.ProbeOrder.exponent c.args.table.now.order) (IsNoted c.meetings-meetings.result.now c.as_slice-entered.result.now) c.args.pass.now c.enter_all.new.pass
+    EntersOnly c.args.table.now.slots (IsNoted c.meetings-meetings.result.now c.as_slice-entered.result.now) c.args.pass.now c.enter_all.new.pass
 noted-of g c =
-    subst (λ (es : List Entered). EntersOnly (2 ^ g.O.ProbeOrder.exponent c.args.table.now.order) (IsNoted c.meetings-meetings.result.now es) c.args.pass.now c.enter_all.new.pass)
+    subst (λ (es : List Entered). EntersOnly c.args.table.now.slots (IsNoted c.meetings-meetings.result.now es) c.args.pass.now c.enter_all.new.pass)
     (sym c.as_slice-entered.ensures.value) c.in_ok-refused.ensures.noted
 
 -- the rows that came are of patterns of the game
 rows-came : (g : _) (c : After-make_rows g) → IsWalk c.args.self.now.walk.kinds c.args.game_record.now c.meetings-meetings.result.now c.in_ok-moves.moves →
     length c.as_slice-entered.result.now ≤ length c.meetings-meetings.result.now →
-    AreEntered (2 ^ g.O.ProbeOrder.exponent c.args.table.now.order) c.enter_all.new.pass.seen c.args.game c.meetings-meetings.result.now c.as_slice-entered.result.now →
-    HasFresh (2 ^ g.O.ProbeOrder.exponent c.args.table.now.order) c.enter_all.new.pass.seen c.args.self.now.walk.kinds c.args.game_record.now c.args.ledger.now.rows c.make_rows.new.self.rows
+    AreEntered c.args.table.now.slots c.enter_all.new.pass.seen c.args.game c.meetings-meetings.result.now c.as_slice-entered.result.now →
+    HasFresh c.args.table.now.slots c.enter_all.new.pass.seen c.args.self.now.walk.kinds c.args.game_record.now c.args.ledger.now.rows c.make_rows.new.self.rows
 rows-came g c walked few each =
-    fresh_of (2 ^ g.O.ProbeOrder.exponent c.args.table.now.order) c.args.game c.enter_all.new.pass.seen c.args.self.now.walk.kinds c.args.game_record.now c.meetings-meetings.result.now
+    fresh_of c.args.table.now.slots c.args.game c.enter_all.new.pass.seen c.args.self.now.walk.kinds c.args.game_record.now c.meetings-meetings.result.now
     c.as_slice-entered.result.now c.in_ok-moves.moves c.args.ledger.now.rows c.make_rows.new.self.rows walked few each c.make_rows.ensures.gained
 
 pub returns-in_err-make_rows-clause-fresh : goal.returns-in_err-make_rows-clause-fresh
@@ -56,7 +56,7 @@ pub returns-in_err-make_rows-clause-fault : goal.returns-in_err-make_rows-clause
 returns-in_err-make_rows-clause-fault g c =
     let before = (goal.at.returns-in_err-make_rows-clause-fault g c).After-as_slice-entered in
     let p = err_from_is_err_and c.from_residual-in_err-make_rows.result c.from_residual-in_err-make_rows.ensures.1 in
-    rw (p.1, p.2) (stranger_of (2 ^ g.O.ProbeOrder.exponent c.args.table.now.order) c.args.game c.enter_all.new.pass.seen c.args.self.now.walk.kinds c.args.game_record.now
+    rw (p.1, p.2) (stranger_of c.args.table.now.slots c.args.game c.enter_all.new.pass.seen c.args.self.now.walk.kinds c.args.game_record.now
     c.meetings-meetings.result.now c.as_slice-entered.result.now c.in_ok-moves.moves c.make_rows.new.self.rows c.in_err-make_rows.field-0.0
     (walked-by g before) (few-of g before) (each-of g before) c.in_err-make_rows.ensures.fault)
 
@@ -67,7 +67,7 @@ returns-in-Some-clause-fresh g c =
 
 pub returns-in-Some-clause-fault : goal.returns-in-Some-clause-fault
 returns-in-Some-clause-fault g c =
-    let n = 2 ^ g.O.ProbeOrder.exponent c.args.table.now.order in
+    let n = c.args.table.now.slots in
     let seen = c.enter_all.new.pass.seen in
     let kinds = c.args.self.now.walk.kinds in
     let actions = c.args.game_record.now in
@@ -90,7 +90,6 @@ returns-in-None-clause-fresh g c =
 
 pub returns-in-None-clause-ok : goal.returns-in-None-clause-ok
 returns-in-None-clause-ok g c =
-    let n = 2 ^ g.O.ProbeOrder.exponent c.args.table.now.order in
     let seen = c.enter_all.new.pass.seen in
     let game = c.args.game in
     let rows = c.make_rows.new.self.rows in
@@ -104,7 +103,7 @@ returns-in-None-clause-ok g c =
     record {
       walked = subst (λ k. IsWalk k c.args.game_record.now c.walk.new.self.meetings c.in_ok-moves.moves) (sym c.in_ok-moves.ensures.kinds) c.in_ok-moves.ensures.walked;
       among = c.in_ok-moves.ensures.among;
-      entered = subst (λ (ms : List Meeting). AreEntered n seen game ms c.enter_all.new.entered.items) same c.enter_all.ensures.each;
+      entered = subst (λ (ms : List Meeting). AreEntered c.args.table.now.slots seen game ms c.enter_all.new.entered.items) same c.enter_all.ensures.each;
       all = all ∙ ap length same;
       rows_are = subst (λ (ms : List Meeting). AreRowsOf ms places rows) (whole ∙ same) c.in_ok-make_rows.ensures.rows;
       numbered = subst (λ (es : List Entered). AreNumbered es places rows) value c.in_ok-make_rows.ensures.numbered;
@@ -112,7 +111,7 @@ returns-in-None-clause-ok g c =
 
 pub returns-in_err-refused-clause-enters : goal.returns-in_err-refused-clause-enters
 returns-in_err-refused-clause-enters g c =
-    let n = 2 ^ g.O.ProbeOrder.exponent c.args.table.now.order in
+    let n = c.args.table.now.slots in
     let kinds = c.args.self.now.walk.kinds in
     let actions = c.args.game_record.now in
     let rows = c.args.ledger.now.rows in
@@ -124,7 +123,6 @@ returns-in_err-refused-clause-enters g c =
 
 pub returns-in_err-make_rows-clause-enters : goal.returns-in_err-make_rows-clause-enters
 returns-in_err-make_rows-clause-enters g c =
-    let n = 2 ^ g.O.ProbeOrder.exponent c.args.table.now.order in
     let kinds = c.args.self.now.walk.kinds in
     let actions = c.args.game_record.now in
     let meetings = c.meetings-meetings.result.now in
@@ -132,12 +130,12 @@ returns-in_err-make_rows-clause-enters g c =
     let walked = walked-by g before in
     let noted = noted-of g before in
     let p = err_from_is_err_and c.from_residual-in_err-make_rows.result c.from_residual-in_err-make_rows.ensures.1 in
-    rw (p.1, p.2) (entries_unrowed n kinds actions meetings c.as_slice-entered.result.now c.in_ok-moves.moves c.make_rows.new.self.rows c.in_err-make_rows.field-0.0 c.args.pass.now c.enter_all.new.pass
+    rw (p.1, p.2) (entries_unrowed c.args.table.now.slots kinds actions meetings c.as_slice-entered.result.now c.in_ok-moves.moves c.make_rows.new.self.rows c.in_err-make_rows.field-0.0 c.args.pass.now c.enter_all.new.pass
     walked c.in_err-make_rows.ensures.fault noted)
 
 pub returns-in-Some-clause-enters : goal.returns-in-Some-clause-enters
 returns-in-Some-clause-enters g c =
-    let n = 2 ^ g.O.ProbeOrder.exponent c.args.table.now.order in
+    let n = c.args.table.now.slots in
     let kinds = c.args.self.now.walk.kinds in
     let actions = c.args.game_record.now in
     let rows = c.make_rows.new.self.rows in
@@ -153,7 +151,6 @@ returns-in-Some-clause-enters g c =
 
 pub returns-in-None-clause-rowed : goal.returns-in-None-clause-rowed
 returns-in-None-clause-rowed g c =
-    let n = 2 ^ g.O.ProbeOrder.exponent c.args.table.now.order in
     let kinds = c.args.self.now.walk.kinds in
     let actions = c.args.game_record.now in
     let meetings = c.meetings-meetings.result.now in
@@ -162,19 +159,18 @@ returns-in-None-clause-rowed g c =
     let walked = walked-by g before in
     let few = few-of g before in
     let noted = noted-of g before in
-    entries_rowed n kinds actions meetings entered c.make_rows.new.places.items c.in_ok-moves.moves c.make_rows.new.self.rows c.args.pass.now c.enter_all.new.pass walked few
+    entries_rowed c.args.table.now.slots kinds actions meetings entered c.make_rows.new.places.items c.in_ok-moves.moves c.make_rows.new.self.rows c.args.pass.now c.enter_all.new.pass walked few
     c.in_ok-make_rows.ensures.rows c.in_ok-make_rows.ensures.numbered noted
 
 pub returns-in_err-moves-clause-enters : goal.returns-in_err-moves-clause-enters
 returns-in_err-moves-clause-enters g c =
-    let n = 2 ^ g.O.ProbeOrder.exponent c.args.table.now.order in
     let p = err_from_is_err_and c.from_residual.result c.from_residual.ensures.1 in
-    rw p.1 (calls_self n (IsEntryOf c.args.self.now.walk.kinds c.args.game_record.now (IsRowedAfter p.0 c.args.ledger.now.rows)) (λ _ _. ⊥) c.args.pass.now)
+    rw p.1 (calls_self c.args.table.now.slots (IsEntryOf c.args.self.now.walk.kinds c.args.game_record.now (IsRowedAfter p.0 c.args.ledger.now.rows)) (λ _ _. ⊥) c.args.pass.now)
 
 pub make_rows-requires-clause-numbers : goal.make_rows-requires-clause-numbers
 make_rows-requires-clause-numbers g c =
-    let n = 2 ^ g.O.ProbeOrder.exponent c.args.table.now.order in
+    let n = c.args.table.now.slots in
     let entered = c.as_slice-entered.result.now in
-    let slots : c.slots-slots.result ≡ n = c.slots-slots.ensures.value ∙ ap (λ k. 2 ^ k) c.capacity.ensures in
+    let slots : c.slots-slots.result ≡ n = c.slots-slots.ensures.value ∙ c.capacity.ensures.slots in
     let each = subst (λ (es : List Entered). AreEntered n c.enter_all.new.pass.seen c.args.game c.meetings-meetings.result.now es) (sym c.as_slice-entered.ensures.value) c.enter_all.ensures.each in
     subst (λ k. AreBelow k entered) (sym slots) (All-from_get_or (λ (e : Entered). e.number < n) entered (record { number = 0; late = false }) (λ i low. (each i low).within))
