@@ -1,5 +1,5 @@
 -- What a harvest's pass knows afterwards, and what that leaves of the faults.
-use Rattle.std.proofs.Common.{◌≡◌, ℕ, ◌^◌, inl, inr, List, [], ◌∷◌, Some, None, Option, Result, Ok, Err, IfErr, refl, ap, sym, subst, ◌∙◌, arith, ⊎_elim, All, Contains}
+use Rattle.std.proofs.Common.{◌≡◌, ℕ, inl, inr, List, [], ◌∷◌, Some, None, Option, Result, Ok, Err, IfErr, refl, ap, sym, subst, ◌∙◌, arith, ⊎_elim, All, Contains}
 use Rattle.std.specs.List.{cons_option}
 use Rattle.std.proofs.lemmas.List.Elements.{All-weaker, All-contains, Contains-append_left}
 use Rattle.shape_core.specs.declared.words.Kinds.{Kinds}
@@ -35,12 +35,12 @@ harvested_self n bytes kinds pass = record {
 }
 
 -- the calls of all threads come to it
-pub harvested_met : {O : Type 0} (exponent : O → ℕ) (table : Numbers O) (bytes : List ℕ) (kinds : Kinds) (old other both : Known O) (worked : List Worked) →
-    IsPassOf (2 ^ exponent table.order) table old → AgreesWithTable exponent table bytes kinds [] other worked → Met (2 ^ exponent table.order) old other both →
-    HasHarvested (2 ^ exponent table.order) bytes kinds old both
-harvested_met exponent table bytes kinds old other both worked is agrees met =
-    let n = 2 ^ exponent table.order in
-    let split = λ (e : Happened). met_calls n table old other both e is agrees.is_of met in
+pub harvested_met : {O : Type 0} (table : Numbers O) (bytes : List ℕ) (kinds : Kinds) (old other both : Known O) (worked : List Worked) →
+    IsPassOf table old → AgreesWithTable table bytes kinds [] other worked → Met table.slots old other both →
+    HasHarvested table.slots bytes kinds old both
+harvested_met table bytes kinds old other both worked is agrees met =
+    let n = table.slots in
+    let split = λ (e : Happened). met_calls table old other both e is agrees.is_of met in
     record {
       begins = met.after_one;
       keeps = met.keeps_one;
@@ -54,12 +54,12 @@ harvested_met exponent table bytes kinds old other both worked is agrees met =
           ((split e).0 there);
     }
 
-pub agrees_met : {O : Type 0} (exponent : O → ℕ) (table : Numbers O) (bytes : List ℕ) (kinds : Kinds) (old other both : Known O) (worked : List Worked) →
-    IsPassOf (2 ^ exponent table.order) table old → IsPassOf (2 ^ exponent table.order) table both → AgreesWithTable exponent table bytes kinds [] other worked →
-    Met (2 ^ exponent table.order) old other both → AgreesWithTable exponent table bytes kinds (calls_of old) both worked
-agrees_met exponent table bytes kinds old other both worked is both_is agrees met =
-    let n = 2 ^ exponent table.order in
-    let split = λ (e : Happened). met_calls n table old other both e is agrees.is_of met in
+pub agrees_met : {O : Type 0} (table : Numbers O) (bytes : List ℕ) (kinds : Kinds) (old other both : Known O) (worked : List Worked) →
+    IsPassOf table old → IsPassOf table both → AgreesWithTable table bytes kinds [] other worked →
+    Met table.slots old other both → AgreesWithTable table bytes kinds (calls_of old) both worked
+agrees_met table bytes kinds old other both worked is both_is agrees met =
+    let n = table.slots in
+    let split = λ (e : Happened). met_calls table old other both e is agrees.is_of met in
     record {
       is_of = both_is;
       calls = λ e there. ⊎_elim

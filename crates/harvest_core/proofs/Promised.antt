@@ -1,5 +1,5 @@
 -- What threads have promised, and what they hand back.
-use Rattle.std.proofs.Common.{◌≡◌, ℕ, ◌+◌, ◌-◌, ◌^◌, ◌<◌, ◌≤◌, inl, inr, Some, zero, suc, List, [], ◌∷◌, ◌++◌, length, refl, ap, ap₂, sym, subst, ◌∙◌, arith, append_assoc, append-nil, All}
+use Rattle.std.proofs.Common.{◌≡◌, ℕ, ◌+◌, ◌-◌, ◌<◌, ◌≤◌, inl, inr, Some, zero, suc, List, [], ◌∷◌, ◌++◌, length, refl, ap, ap₂, sym, subst, ◌∙◌, arith, append_assoc, append-nil, All}
 use Rattle.std.specs.Prelude.{slice_index_or}
 use Rattle.std.specs.declared.thread.PromisedHandle.{PromisedHandle}
 use Rattle.atomic_table.specs.Seated.{TableId}
@@ -76,10 +76,10 @@ promised_more handles handle started so_far number =
 
 -- ---- a worker that was fresh
 -- what it hands back
-pub back_of : {O : Type 0} (exponent : O → ℕ) (table : Numbers O) (queue : TableId) (bytes : List ℕ) (kinds : Kinds) (number : ℕ) (desk : Hand) (pass : Known O) (back : Returned O) →
-    IsFresh exponent table queue bytes desk pass → IsReturned exponent table kinds number desk pass back → IsBackOf exponent table queue bytes kinds back
-back_of exponent table queue bytes kinds number desk pass back fresh h =
-    let n = 2 ^ exponent table.order in
+pub back_of : {O : Type 0} (table : Numbers O) (queue : TableId) (bytes : List ℕ) (kinds : Kinds) (number : ℕ) (desk : Hand) (pass : Known O) (back : Returned O) →
+    IsFresh table queue bytes desk pass → IsReturned table kinds number desk pass back → IsBackOf table queue bytes kinds back
+back_of table queue bytes kinds number desk pass back fresh h =
+    let n = table.slots in
     let input : desk.bytes ≡ bytes = ap (λ (v : Hand). v.bytes) fresh.desk_is in
     let drawn = h.drawn in
     record {
@@ -101,9 +101,9 @@ back_of exponent table queue bytes kinds number desk pass back fresh h =
 -- ---- the thread that reads, before and after workers were started
 -- what it is once it reads: nothing was called, put or read, and these stakes and this number of parts were given away; nothing
 -- else was, where they are as many as were asked for
-pub record IsLast {O G : Type 0} (exponent : O → ℕ) (table : Numbers O) (queue : TableId) (bytes : List ℕ) (kinds : Kinds) (given : List ℕ) (lent : ℕ) (crew : Crew O G) : Type 0 where
+pub record IsLast {O G : Type 0} (table : Numbers O) (queue : TableId) (bytes : List ℕ) (kinds : Kinds) (given : List ℕ) (lent : ℕ) (crew : Crew O G) : Type 0 where
   pub table_is : crew.own.table.now ≡ table
-  pub pass : IsPassOf (2 ^ exponent table.order) table crew.own.pass
+  pub pass : IsPassOf table crew.own.pass
   pub calls : calls_of crew.own.pass ≡ []
   pub desk : crew.own.desk ≡ record (reader queue bytes []) { parts = crew.own.desk.parts }
   pub kinds_are : crew.own.kinds ≡ kinds
@@ -112,9 +112,9 @@ pub record IsLast {O G : Type 0} (exponent : O → ℕ) (table : Numbers O) (que
   pub some : 1 ≤ crew.own.workers
   pub whole : lent ≡ crew.own.workers → IsAsMuch (crew.own.pass.stake ++ given) crew.begun.value.stake × (crew.own.desk.parts + lent ≡ all_parts)
 
-pub last_of : {O G : Type 0} (exponent : O → ℕ) (table : Numbers O) (queue : TableId) (bytes : List ℕ) (kinds : Kinds) (given : List ℕ) (lent : ℕ) (crew : Crew O G) →
-    IsCrew exponent table queue bytes kinds given lent crew → IsLast exponent table queue bytes kinds given lent crew
-last_of exponent table queue bytes kinds given lent crew h = record {
+pub last_of : {O G : Type 0} (table : Numbers O) (queue : TableId) (bytes : List ℕ) (kinds : Kinds) (given : List ℕ) (lent : ℕ) (crew : Crew O G) →
+    IsCrew table queue bytes kinds given lent crew → IsLast table queue bytes kinds given lent crew
+last_of table queue bytes kinds given lent crew h = record {
   table_is = h.table_is;
   pass = h.pass;
   calls = h.calls;
@@ -127,10 +127,10 @@ last_of exponent table queue bytes kinds given lent crew h = record {
 }
 
 -- the same of what is equal to it
-pub last_as : {O G : Type 0} (exponent : O → ℕ) (table : Numbers O) (queue : TableId) (bytes : List ℕ) (kinds : Kinds) (lent : ℕ) {given other : List ℕ} {crew last : Crew O G} → other ≡ given → last ≡ crew →
-    IsLast exponent table queue bytes kinds given lent crew → IsLast exponent table queue bytes kinds other lent last
-last_as exponent table queue bytes kinds lent {given = given} {other = other} {crew = crew} {last = last} same is h =
-    subst (λ (s : List ℕ). IsLast exponent table queue bytes kinds s lent last) (sym same) (subst (λ (w : Crew _ _). IsLast exponent table queue bytes kinds given lent w) (sym is) h)
+pub last_as : {O G : Type 0} (table : Numbers O) (queue : TableId) (bytes : List ℕ) (kinds : Kinds) (lent : ℕ) {given other : List ℕ} {crew last : Crew O G} → other ≡ given → last ≡ crew →
+    IsLast table queue bytes kinds given lent crew → IsLast table queue bytes kinds other lent last
+last_as table queue bytes kinds lent {given = given} {other = other} {crew = crew} {last = last} same is h =
+    subst (λ (s : List ℕ). IsLast table queue bytes kinds s lent last) (sym same) (subst (λ (w : Crew _ _). IsLast table queue bytes kinds given lent w) (sym is) h)
 
 -- a part of its desk and of its pass went to one more worker
 abbrev pub HasLent : {O G : Type 0} → Crew O G → Crew O G → Type 0
@@ -141,13 +141,13 @@ HasLent before after = after ≡ record before {
   };
 }
 
-module _ {O G : Type 0} (exponent : O → ℕ) (table : Numbers O) (queue : TableId) (bytes : List ℕ) (kinds : Kinds) (given : List ℕ) (lent : ℕ) (before after : Crew O G)
-    (h : IsCrew exponent table queue bytes kinds given lent before) (step : HasLent before after) (still : IsPassOf (2 ^ exponent before.own.table.now.order) before.own.table.now after.own.pass) where
+module _ {O G : Type 0} (table : Numbers O) (queue : TableId) (bytes : List ℕ) (kinds : Kinds) (given : List ℕ) (lent : ℕ) (before after : Crew O G)
+    (h : IsCrew table queue bytes kinds given lent before) (step : HasLent before after) (still : IsPassOf before.own.table.now after.own.pass) where
   lent_table : after.own.table.now ≡ table
   lent_table = ap (λ (w : Crew O G). w.own.table.now) step ∙ h.table_is
 
-  lent_pass : IsPassOf (2 ^ exponent table.order) table after.own.pass
-  lent_pass = subst (λ (t : Numbers O). IsPassOf (2 ^ exponent t.order) t after.own.pass) h.table_is still
+  lent_pass : IsPassOf table after.own.pass
+  lent_pass = subst (λ (t : Numbers O). IsPassOf t after.own.pass) h.table_is still
 
   lent_desk : after.own.desk ≡ record (reader queue bytes []) { parts = after.own.desk.parts }
   lent_desk =
@@ -157,7 +157,7 @@ module _ {O G : Type 0} (exponent : O → ℕ) (table : Numbers O) (queue : Tabl
 
   -- the worker was started
   pub crew_more : 1 < before.own.desk.parts → IsAsMuch (halved before.own.pass.stake ++ (given ++ half_of before.own.pass.stake)) before.begun.value.stake →
-      IsCrew exponent table queue bytes kinds (given ++ half_of before.own.pass.stake) (lent + 1) after
+      IsCrew table queue bytes kinds (given ++ half_of before.own.pass.stake) (lent + 1) after
   crew_more some as_much = record {
     table_is = lent_table;
     pass = lent_pass;
@@ -174,7 +174,7 @@ module _ {O G : Type 0} (exponent : O → ℕ) (table : Numbers O) (queue : Tabl
   }
 
   -- it was not: then fewer were started than were asked for
-  pub last_lost : lent < before.own.workers → IsLast exponent table queue bytes kinds given lent after
+  pub last_lost : lent < before.own.workers → IsLast table queue bytes kinds given lent after
   last_lost fewer = record {
     table_is = lent_table;
     pass = lent_pass;
@@ -188,15 +188,15 @@ module _ {O G : Type 0} (exponent : O → ℕ) (table : Numbers O) (queue : Tabl
   }
 
 -- what is read beside the workers may be joined with what they hand back
-pub joinable : {O G : Type 0} (exponent : O → ℕ) (table : Numbers O) (queue : TableId) (bytes : List ℕ) (kinds : Kinds) (given : List ℕ) (started lent : ℕ) (crew : Crew O G) (reading : Reading O G) →
-    IsLast exponent table queue bytes kinds given started crew → lent ≡ started → IsReadingOf exponent crew.games.bytes crew.own reading →
-    ((started ≡ crew.own.workers → ⊥) → reading.fault ≡ Some fault.Memory) → IsJoinable exponent crew.begun.value.stake given lent reading
-joinable exponent table queue bytes kinds given started lent crew reading h same read asked =
+pub joinable : {O G : Type 0} (table : Numbers O) (queue : TableId) (bytes : List ℕ) (kinds : Kinds) (given : List ℕ) (started lent : ℕ) (crew : Crew O G) (reading : Reading O G) →
+    IsLast table queue bytes kinds given started crew → lent ≡ started → IsReadingOf crew.games.bytes crew.own reading →
+    ((started ≡ crew.own.workers → ⊥) → reading.fault ≡ Some fault.Memory) → IsJoinable crew.begun.value.stake given lent reading
+joinable table queue bytes kinds given started lent crew reading h same read asked =
     let input : crew.own.desk.bytes ≡ bytes = ap (λ (v : Hand). v.bytes) h.desk in
     record {
       before = crew.own;
       begun = h.calls;
-      reading_is = subst (λ (bs : List ℕ). IsReadingOf exponent bs crew.own reading) (h.games ∙ sym input) read;
+      reading_is = subst (λ (bs : List ℕ). IsReadingOf bs crew.own reading) (h.games ∙ sym input) read;
       desk = h.desk ∙ ap₂ (λ (q : TableId) (bs : List ℕ). (let d : Hand = record (reader q bs []) { parts = crew.own.desk.parts } in d)) (sym (ap (λ (v : Hand). v.queue) h.desk)) (sym input);
       some = h.some;
       whole = λ fine. elim (cases_eq started crew.own.workers) [
@@ -206,28 +206,28 @@ joinable exponent table queue bytes kinds given started lent crew reading h same
     }
 
 -- what a worker promises that was started beside it
-pub handle_of : {O G : Type 0} (exponent : O → ℕ) (table : Numbers O) (queue : TableId) (bytes : List ℕ) (kinds : Kinds) (given : List ℕ) (lent : ℕ) (crew : Crew O G)
-    (handle : PromisedHandle (Returned O) (BackTo O)) → IsCrew exponent table queue bytes kinds given lent crew → handle.promise.table.now ≡ crew.own.table.now → handle.promise.kinds ≡ crew.own.kinds →
-    IsFresh exponent crew.own.table.now crew.own.desk.queue crew.own.desk.bytes handle.promise.desk.value handle.promise.pass.value → IsHandleOf exponent table queue bytes kinds handle
-handle_of exponent table queue bytes kinds given lent crew handle h at of fresh = record {
+pub handle_of : {O G : Type 0} (table : Numbers O) (queue : TableId) (bytes : List ℕ) (kinds : Kinds) (given : List ℕ) (lent : ℕ) (crew : Crew O G)
+    (handle : PromisedHandle (Returned O) (BackTo O)) → IsCrew table queue bytes kinds given lent crew → handle.promise.table.now ≡ crew.own.table.now → handle.promise.kinds ≡ crew.own.kinds →
+    IsFresh crew.own.table.now crew.own.desk.queue crew.own.desk.bytes handle.promise.desk.value handle.promise.pass.value → IsHandleOf table queue bytes kinds handle
+handle_of table queue bytes kinds given lent crew handle h at of fresh = record {
   table_is = at ∙ h.table_is;
   kinds_are = of ∙ h.kinds_are;
-  fresh = subst (λ (t : Numbers _). IsFresh exponent t queue bytes handle.promise.desk.value handle.promise.pass.value) h.table_is
-      (subst (λ (q : TableId). IsFresh exponent crew.own.table.now q bytes handle.promise.desk.value handle.promise.pass.value) (ap (λ (v : Hand). v.queue) h.desk)
-      (subst (λ (bs : List ℕ). IsFresh exponent crew.own.table.now crew.own.desk.queue bs handle.promise.desk.value handle.promise.pass.value) (ap (λ (v : Hand). v.bytes) h.desk) fresh));
+  fresh = subst (λ (t : Numbers _). IsFresh t queue bytes handle.promise.desk.value handle.promise.pass.value) h.table_is
+      (subst (λ (q : TableId). IsFresh crew.own.table.now q bytes handle.promise.desk.value handle.promise.pass.value) (ap (λ (v : Hand). v.queue) h.desk)
+      (subst (λ (bs : List ℕ). IsFresh crew.own.table.now crew.own.desk.queue bs handle.promise.desk.value handle.promise.pass.value) (ap (λ (v : Hand). v.bytes) h.desk) fresh));
 }
 
 -- the promises are of what was read too
-pub all_handles : {O G : Type 0} (exponent : O → ℕ) (table : Numbers O) (queue : TableId) (bytes : List ℕ) (kinds : Kinds) (given : List ℕ) (lent : ℕ) (crew : Crew O G) (reading : Reading O G)
-    (handles : List (PromisedHandle (Returned O) (BackTo O))) → IsLast exponent table queue bytes kinds given lent crew → IsReadingOf exponent crew.games.bytes crew.own reading →
-    All (IsHandleOf exponent table queue bytes kinds) handles → All (IsHandleOf exponent reading.own.table.now reading.own.desk.queue reading.own.desk.bytes reading.own.kinds) handles
-all_handles exponent table queue bytes kinds given lent crew reading handles h read all =
+pub all_handles : {O G : Type 0} (table : Numbers O) (queue : TableId) (bytes : List ℕ) (kinds : Kinds) (given : List ℕ) (lent : ℕ) (crew : Crew O G) (reading : Reading O G)
+    (handles : List (PromisedHandle (Returned O) (BackTo O))) → IsLast table queue bytes kinds given lent crew → IsReadingOf crew.games.bytes crew.own reading →
+    All (IsHandleOf table queue bytes kinds) handles → All (IsHandleOf reading.own.table.now reading.own.desk.queue reading.own.desk.bytes reading.own.kinds) handles
+all_handles table queue bytes kinds given lent crew reading handles h read all =
     let own = reading.own in
     let t : own.table.now ≡ table = ap (λ (w : Worker _ _). w.table.now) read.own_is ∙ h.table_is in
     let q : own.desk.queue ≡ queue = ap (λ (w : Worker _ _). w.desk.queue) read.own_is ∙ ap (λ (v : Hand). v.queue) h.desk in
     let b : own.desk.bytes ≡ bytes = ap (λ (w : Worker _ _). w.desk.bytes) read.own_is ∙ ap (λ (v : Hand). v.bytes) h.desk in
     let k : own.kinds ≡ kinds = ap (λ (w : Worker _ _). w.kinds) read.own_is ∙ h.kinds_are in
-    subst (λ (x : Numbers _). All (IsHandleOf exponent x own.desk.queue own.desk.bytes own.kinds) handles) (sym t)
-    (subst (λ (x : TableId). All (IsHandleOf exponent table x own.desk.bytes own.kinds) handles) (sym q)
-    (subst (λ (x : List ℕ). All (IsHandleOf exponent table queue x own.kinds) handles) (sym b)
-    (subst (λ x. All (IsHandleOf exponent table queue bytes x) handles) (sym k) all)))
+    subst (λ (x : Numbers _). All (IsHandleOf x own.desk.queue own.desk.bytes own.kinds) handles) (sym t)
+    (subst (λ (x : TableId). All (IsHandleOf table x own.desk.bytes own.kinds) handles) (sym q)
+    (subst (λ (x : List ℕ). All (IsHandleOf table queue x own.kinds) handles) (sym b)
+    (subst (λ x. All (IsHandleOf table queue bytes x) handles) (sym k) all)))

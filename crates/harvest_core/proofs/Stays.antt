@@ -1,5 +1,5 @@
 -- What stays of the thread that reads while it puts jobs and counts.
-use Rattle.std.proofs.Common.{◌≡◌, ℕ, ◌^◌, ◌⊎◌, List, ap, sym, subst, ◌∙◌, ⊎_elim}
+use Rattle.std.proofs.Common.{◌≡◌, ℕ, ◌⊎◌, List, ap, sym, subst, ◌∙◌, ⊎_elim}
 use Rattle.shape_core.specs.declared.words.Kinds.{Kinds}
 use Rattle.slot_table.specs.Passes.{Numbers}
 use Rattle.job_core.specs.Games.{WrittenGame}
@@ -37,19 +37,19 @@ offered_more {O = O} {G = G} first before after so_far step put =
     ∙ ap (λ (v : Hand). (let x : Worker O G = record first { desk = v; pass = after.pass } in x)) desk
 
 -- its calls since are of the input
-pub offered_calls : {O G : Type 0} (exponent : O → ℕ) (bytes other : List ℕ) (kinds : Kinds) (first before after : Worker O G) → HasOffered first before → other ≡ bytes →
-    CallsIn (2 ^ exponent first.table.now.order) bytes kinds first.pass before.pass → CallsIn (2 ^ exponent before.table.now.order) other kinds before.pass after.pass →
-    CallsIn (2 ^ exponent first.table.now.order) bytes kinds first.pass after.pass
-offered_calls exponent bytes other kinds first before after so_far same calls more =
-    let n = 2 ^ exponent first.table.now.order in
+pub offered_calls : {O G : Type 0} (bytes other : List ℕ) (kinds : Kinds) (first before after : Worker O G) → HasOffered first before → other ≡ bytes →
+    CallsIn first.table.now.slots bytes kinds first.pass before.pass → CallsIn before.table.now.slots other kinds before.pass after.pass →
+    CallsIn first.table.now.slots bytes kinds first.pass after.pass
+offered_calls bytes other kinds first before after so_far same calls more =
+    let n = first.table.now.slots in
     more_in_input n bytes kinds first.pass before.pass after.pass calls
     (subst (λ (bs : List ℕ). CallsIn n bs kinds before.pass after.pass) same
-    (subst (λ (t : Numbers _). CallsIn (2 ^ exponent t.order) other kinds before.pass after.pass) (ap (λ w. w.table.now) so_far) more))
+    (subst (λ (t : Numbers _). CallsIn t.slots other kinds before.pass after.pass) (ap (λ w. w.table.now) so_far) more))
 
 -- and what it has counted by them stands in the table
-pub offered_table : {O G : Type 0} (exponent : O → ℕ) (first before after : Worker O G) (old new : Worked) → HasOffered first before →
-    IsInTableSince (2 ^ exponent first.table.now.order) first.pass before.pass old → GoesOnInTable (2 ^ exponent before.table.now.order) before.pass after.pass old new →
-    IsInTableSince (2 ^ exponent first.table.now.order) first.pass after.pass new
-offered_table exponent first before after old new so_far table more =
-    goes_on (2 ^ exponent first.table.now.order) first.pass before.pass after.pass old new table
-    (subst (λ (t : Numbers _). GoesOnInTable (2 ^ exponent t.order) before.pass after.pass old new) (ap (λ w. w.table.now) so_far) more)
+pub offered_table : {O G : Type 0} (first before after : Worker O G) (old new : Worked) → HasOffered first before →
+    IsInTableSince first.table.now.slots first.pass before.pass old → GoesOnInTable before.table.now.slots before.pass after.pass old new →
+    IsInTableSince first.table.now.slots first.pass after.pass new
+offered_table first before after old new so_far table more =
+    goes_on first.table.now.slots first.pass before.pass after.pass old new table
+    (subst (λ (t : Numbers _). GoesOnInTable t.slots before.pass after.pass old new) (ap (λ w. w.table.now) so_far) more)

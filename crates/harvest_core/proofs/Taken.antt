@@ -1,5 +1,5 @@
 -- What workers hand back is taken up, one after another.
-use Rattle.std.proofs.Common.{◌≡◌, ℕ, ◌+◌, ◌^◌, ◌<◌, ◌≤◌, false, inl, inr, IfNone, IfSome, List, [], ◌∷◌, ◌++◌, length, length-append, None, Some, Option, refl, ap, ap₂, sym, subst, ◌∙◌, arith, append_assoc, append-nil, ⊎_elim, All, Contains}
+use Rattle.std.proofs.Common.{◌≡◌, ℕ, ◌+◌, ◌<◌, ◌≤◌, false, inl, inr, IfNone, IfSome, List, [], ◌∷◌, ◌++◌, length, length-append, None, Some, Option, refl, ap, ap₂, sym, subst, ◌∙◌, arith, append_assoc, append-nil, ⊎_elim, All, Contains}
 use Rattle.std.specs.List.{AllByRecursion, cons_option}
 use Rattle.std.proofs.lemmas.List.{map-append}
 use Rattle.std.proofs.lemmas.List.Elements.{All-nil, All-push, All-weaker, Contains-push, Contains-append_left, filter_map-append}
@@ -35,32 +35,29 @@ use Rattle.harvest_core.proofs.Dealt.{times_both}
 pub among_more : (worked : List Worked) (one : Worked) (e : Happened) → StandsAmong worked e → StandsAmong (worked ++ one ∷ []) e
 among_more worked one e h = record { one = h.one; among = Contains-append_left worked (one ∷ []) h.one h.among; stands = h.stands }
 
-module _ {O : Type 0} (exponent : O → ℕ) (table : Numbers O) (bytes : List ℕ) (kinds : Kinds) (earlier : List Happened) where
-  abbrev size : ℕ
-  size = 2 ^ exponent table.order
-
+module _ {O : Type 0} (table : Numbers O) (bytes : List ℕ) (kinds : Kinds) (earlier : List Happened) where
   -- what was counted agrees with the table when the pass has met another
-  pub agrees_more : (pass other both : Known O) (worked : List Worked) (one : Worked) → Met size pass other both → IsPassOf size table both → IsPassOf size table other →
-      ((e : Happened) → Contains (calls_of other) e → IsCallIn size other.seen bytes kinds e) → IsInTable size other.seen (calls_of other) one →
-      AgreesWithTable exponent table bytes kinds earlier pass worked → AgreesWithTable exponent table bytes kinds earlier both (worked ++ one ∷ [])
+  pub agrees_more : (pass other both : Known O) (worked : List Worked) (one : Worked) → Met table.slots pass other both → IsPassOf table both → IsPassOf table other →
+      ((e : Happened) → Contains (calls_of other) e → IsCallIn table.slots other.seen bytes kinds e) → IsInTable table.slots other.seen (calls_of other) one →
+      AgreesWithTable table bytes kinds earlier pass worked → AgreesWithTable table bytes kinds earlier both (worked ++ one ∷ [])
   agrees_more pass other both worked one met is of_other calls in_table h =
-      let split = λ (e : Happened). met_calls size table pass other both e h.is_of of_other met in
+      let split = λ (e : Happened). met_calls table pass other both e h.is_of of_other met in
       record {
         is_of = is;
         calls = λ e there. ⊎_elim
             (λ (mine : Contains (calls_of pass) e). ⊎_elim
             (λ (old : Contains earlier e). inl old)
-            (λ (new : IsCallIn size pass.seen bytes kinds e × StandsAmong worked e). inr (call_in_kept size pass.seen both.seen bytes kinds met.keeps_one e new.0, among_more worked one e new.1))
+            (λ (new : IsCallIn table.slots pass.seen bytes kinds e × StandsAmong worked e). inr (call_in_kept table.slots pass.seen both.seen bytes kinds met.keeps_one e new.0, among_more worked one e new.1))
             (h.calls e mine))
             (λ (theirs : Contains (calls_of other) e). inr (
-              call_in_kept size other.seen both.seen bytes kinds met.keeps_other e (calls e theirs),
+              call_in_kept table.slots other.seen both.seen bytes kinds met.keeps_other e (calls e theirs),
               record { one = one; among = Contains-push worked one; stands = λ rows. in_table.calls_stand rows e theirs },
             ))
             ((split e).0 there);
         kept = λ e was. (split e).1 (inl (h.kept e was));
-        in_table = All-push (IsInTable size both.seen []) worked one
-            (All-weaker (IsInTable size pass.seen []) (IsInTable size both.seen []) (λ w i. still_in_table size pass.seen both.seen [] w met.keeps_one i) worked h.in_table)
-            (let i = still_in_table size other.seen both.seen (calls_of other) one met.keeps_other in_table in
+        in_table = All-push (IsInTable table.slots both.seen []) worked one
+            (All-weaker (IsInTable table.slots pass.seen []) (IsInTable table.slots both.seen []) (λ w i. still_in_table table.slots pass.seen both.seen [] w met.keeps_one i) worked h.in_table)
+            (let i = still_in_table table.slots other.seen both.seen (calls_of other) one met.keeps_other in_table in
             record { stands = i.stands; marked = i.marked; calls_stand = λ rows e none. absurd (let low = none.1 in omega arith); full = i.full });
       }
 
@@ -115,8 +112,8 @@ pub workers_more : (worked : List Worked) (one : Worked) → workers_of (worked 
 workers_more worked one = map-append (λ (w : Worked). w.share.worker) worked (one ∷ [])
 
 -- ---- one more is taken up
-module _ {O G : Type 0} (exponent : O → ℕ) (before own after : Worker O G) (all rest : List (Returned O)) (one : Returned O) (worked : List Worked)
-    (h : HasTaken exponent before all (one ∷ rest) own worked) where
+module _ {O G : Type 0} (before own after : Worker O G) (all rest : List (Returned O)) (one : Returned O) (worked : List Worked)
+    (h : HasTaken before all (one ∷ rest) own worked) where
   -- the table of the thread that reads
   pub same_table : own.table.now ≡ before.table.now
   same_table = ap (λ w. w.table.now) h.own_is
@@ -127,11 +124,11 @@ module _ {O G : Type 0} (exponent : O → ℕ) (before own after : Worker O G) (
   pub their_writes : one.desk.writes ≡ false
   their_writes = ap (λ (v : Hand). v.writes) h.back.0.desk
 
-  pub their_pass : IsPassOf (2 ^ exponent own.table.now.order) own.table.now one.pass
-  their_pass = subst (λ (t : Numbers O). IsPassOf (2 ^ exponent t.order) t one.pass) (sym same_table) h.back.0.pass
+  pub their_pass : IsPassOf own.table.now one.pass
+  their_pass = subst (λ (t : Numbers O). IsPassOf t one.pass) (sym same_table) h.back.0.pass
 
-  pub own_pass : IsPassOf (2 ^ exponent own.table.now.order) own.table.now own.pass
-  own_pass = subst (λ (t : Numbers O). IsPassOf (2 ^ exponent t.order) t own.pass) (sym same_table) h.counted.is_of
+  pub own_pass : IsPassOf own.table.now own.pass
+  own_pass = subst (λ (t : Numbers O). IsPassOf t own.pass) (sym same_table) h.counted.is_of
 
   desk_stays : after.desk ≡ taking_up own.desk one.desk →
       after.desk ≡ record before.desk { parts = after.desk.parts; taken = after.desk.taken; ends_drawn = after.desk.ends_drawn }
@@ -142,14 +139,14 @@ module _ {O G : Type 0} (exponent : O → ℕ) (before own after : Worker O G) (
       is ∙ same ∙ ap (λ (d : Hand). (let v : Hand = record before.desk { parts = d.parts; taken = d.taken; ends_drawn = d.ends_drawn } in v)) (sym is)
 
   pub taken_one : after ≡ record own { desk = after.desk; pass = after.pass } → after.desk ≡ taking_up own.desk one.desk →
-      IsPassOf (2 ^ exponent own.table.now.order) own.table.now after.pass → Met (2 ^ exponent own.table.now.order) own.pass one.pass after.pass →
-      HasTaken exponent before all rest after (worked ++ one.worked ∷ [])
+      IsPassOf own.table.now after.pass → Met own.table.now.slots own.pass one.pass after.pass →
+      HasTaken before all rest after (worked ++ one.worked ∷ [])
   taken_one step desk is met =
       let table = before.table.now in
-      let n = 2 ^ exponent table.order in
+      let n = table.slots in
       let back = h.back.0 in
-      let met_here : Met n own.pass one.pass after.pass = subst (λ (t : Numbers O). Met (2 ^ exponent t.order) own.pass one.pass after.pass) same_table met in
-      let is_here : IsPassOf n table after.pass = subst (λ (t : Numbers O). IsPassOf (2 ^ exponent t.order) t after.pass) same_table is in
+      let met_here : Met n own.pass one.pass after.pass = subst (λ (t : Numbers O). Met t.slots own.pass one.pass after.pass) same_table met in
+      let is_here : IsPassOf table after.pass = subst (λ (t : Numbers O). IsPassOf t after.pass) same_table is in
       let their_parts : one.desk.parts ≡ 1 = ap (λ (v : Hand). v.parts) back.desk in
       let their_ends : one.desk.ends_drawn ≡ 1 = ap (λ (v : Hand). v.ends_drawn) back.desk in
       let their_taken : one.desk.taken ≡ [] = ap (λ (v : Hand). v.taken) back.desk in
@@ -164,7 +161,7 @@ module _ {O G : Type 0} (exponent : O → ℕ) (before own after : Worker O G) (
           numbers = λ key p number. met_here.keeps_one.numbers key p (h.keeps.numbers key p number);
           marks = λ p game at_most. met_here.keeps_one.marks p game (h.keeps.marks p game at_most);
         };
-        counted = agrees_more exponent table before.desk.bytes before.kinds (calls_of before.pass) own.pass one.pass after.pass worked one.worked met_here is_here back.pass back.calls back.in_table h.counted;
+        counted = agrees_more table before.desk.bytes before.kinds (calls_of before.pass) own.pass one.pass after.pass worked one.worked met_here is_here back.pass back.calls back.in_table h.counted;
         stake = ap (λ (s : List ℕ). s ++ stakes_back rest) met_here.stake ∙ append_assoc own.pass.stake one.pass.stake (stakes_back rest) ∙ h.stake;
         parts = (let p = h.parts in omega (arith, p, parts, their_parts));
         ends = (let e = h.ends in omega (arith, e, ends, their_ends));
@@ -177,16 +174,16 @@ module _ {O G : Type 0} (exponent : O → ℕ) (before own after : Worker O G) (
 
 -- ---- before and after
 -- nothing is taken up yet
-pub taken_none : {O G : Type 0} (exponent : O → ℕ) (own : Worker O G) (all : List (Returned O)) → IsPassOf (2 ^ exponent own.table.now.order) own.table.now own.pass → own.desk.taken ≡ [] →
-    AllByRecursion (IsBackOf exponent own.table.now own.desk.queue own.desk.bytes own.kinds) all → HasTaken exponent own all all own []
-taken_none exponent own all is none back = record {
+pub taken_none : {O G : Type 0} (own : Worker O G) (all : List (Returned O)) → IsPassOf own.table.now own.pass → own.desk.taken ≡ [] →
+    AllByRecursion (IsBackOf own.table.now own.desk.queue own.desk.bytes own.kinds) all → HasTaken own all all own []
+taken_none own all is none back = record {
   own_is = refl;
   keeps = record { numbers = λ key p number. number; marks = λ p game at_most. at_most };
   counted = record {
     is_of = is;
     calls = λ e there. inl there;
     kept = λ e there. there;
-    in_table = All-nil (IsInTable (2 ^ exponent own.table.now.order) own.pass.seen []);
+    in_table = All-nil (IsInTable own.table.now.slots own.pass.seen []);
   };
   stake = refl;
   parts = refl;
@@ -198,8 +195,8 @@ taken_none exponent own all is none back = record {
   back = back;
 }
 
-module _ {O G : Type 0} (exponent : O → ℕ) (stake given : List ℕ) (lent : ℕ) (reading : Reading O G) (all : List (Returned O)) (own : Worker O G) (worked : List Worked)
-    (j : IsJoinable exponent stake given lent reading) (h : HasTaken exponent reading.own all [] own worked) where
+module _ {O G : Type 0} (stake given : List ℕ) (lent : ℕ) (reading : Reading O G) (all : List (Returned O)) (own : Worker O G) (worked : List Worked)
+    (j : IsJoinable stake given lent reading) (h : HasTaken reading.own all [] own worked) where
   table_is : reading.own.table.now ≡ j.before.table.now
   table_is = ap (λ (w : Worker O G). w.table.now) j.reading_is.own_is
 
@@ -210,7 +207,7 @@ module _ {O G : Type 0} (exponent : O → ℕ) (stake given : List ℕ) (lent : 
   kinds_are = ap (λ (w : Worker O G). w.kinds) j.reading_is.own_is
 
   abbrev size_of : ℕ
-  size_of = 2 ^ exponent reading.own.table.now.order
+  size_of = reading.own.table.now.slots
 
   -- what the thread that reads has counted, and its calls
   mine_is : IsWorkOf reading.own.desk.bytes reading.own.kinds reading.worked
@@ -218,20 +215,20 @@ module _ {O G : Type 0} (exponent : O → ℕ) (stake given : List ℕ) (lent : 
       (subst (λ ks. IsWorkOf j.before.desk.bytes ks reading.worked) (sym kinds_are) j.reading_is.worked_is)
 
   mine_in_table : IsInTable size_of reading.own.pass.seen j.reading_is.table.0 reading.worked
-  mine_in_table = subst (λ (t : Numbers O). IsInTable (2 ^ exponent t.order) reading.own.pass.seen j.reading_is.table.0 reading.worked) (sym table_is) j.reading_is.table.2
+  mine_in_table = subst (λ (t : Numbers O). IsInTable t.slots reading.own.pass.seen j.reading_is.table.0 reading.worked) (sym table_is) j.reading_is.table.2
 
   made_is : calls_of reading.own.pass ≡ j.reading_is.table.0
   made_is = j.reading_is.table.1.calls ∙ ap (λ (es : List Happened). es ++ j.reading_is.table.0) j.begun
 
   mine_in_input : (e : Happened) → Contains (calls_of reading.own.pass) e → IsCallIn size_of reading.own.pass.seen reading.own.desk.bytes reading.own.kinds e
   mine_in_input e there =
-      subst (λ (t : Numbers O). IsCallIn (2 ^ exponent t.order) reading.own.pass.seen reading.own.desk.bytes reading.own.kinds e) (sym table_is)
-      (subst (λ (bs : List ℕ). IsCallIn (2 ^ exponent j.before.table.now.order) reading.own.pass.seen bs reading.own.kinds e) (sym bytes_are)
-      (subst (λ ks. IsCallIn (2 ^ exponent j.before.table.now.order) reading.own.pass.seen j.before.desk.bytes ks e) (sym kinds_are)
-      (calls_in_input (2 ^ exponent j.before.table.now.order) j.before.desk.bytes j.before.kinds j.before.pass reading.own.pass j.begun j.reading_is.calls e there)))
+      subst (λ (t : Numbers O). IsCallIn t.slots reading.own.pass.seen reading.own.desk.bytes reading.own.kinds e) (sym table_is)
+      (subst (λ (bs : List ℕ). IsCallIn j.before.table.now.slots reading.own.pass.seen bs reading.own.kinds e) (sym bytes_are)
+      (subst (λ ks. IsCallIn j.before.table.now.slots reading.own.pass.seen j.before.desk.bytes ks e) (sym kinds_are)
+      (calls_in_input j.before.table.now.slots j.before.desk.bytes j.before.kinds j.before.pass reading.own.pass j.begun j.reading_is.calls e there)))
 
   -- all agree with the table
-  all_agree : AgreesWithTable exponent reading.own.table.now reading.own.desk.bytes reading.own.kinds [] own.pass (worked ++ reading.worked ∷ [])
+  all_agree : AgreesWithTable reading.own.table.now reading.own.desk.bytes reading.own.kinds [] own.pass (worked ++ reading.worked ∷ [])
   all_agree = record {
     is_of = h.counted.is_of;
     calls = λ e there. inr (⊎_elim
@@ -288,11 +285,11 @@ module _ {O G : Type 0} (exponent : O → ℕ) (stake given : List ℕ) (lent : 
   -- what all threads have come to
   pub crop_is : (crop : Crop O) → stakes_back all ≡ given → crop.worked.items ≡ worked ++ reading.worked ∷ [] → crop.pass ≡ own.pass → crop.fault ≡ reading.fault → crop.report ≡ reading.report →
       (reading.fault ≡ None → (game : ℕ) → times_of own.desk.put game ≡ times_of (own.desk.drawn ++ own.desk.taken) game) →
-      IsCrop exponent reading.own.table.now reading.own.desk.bytes reading.own.kinds stake crop
+      IsCrop reading.own.table.now reading.own.desk.bytes reading.own.kinds stake crop
   crop_is crop back items pass fault_is report settled = record {
     worked_is = subst (All (IsWorkOf reading.own.desk.bytes reading.own.kinds)) (sym items) (All-push (IsWorkOf reading.own.desk.bytes reading.own.kinds) worked reading.worked h.worked_is mine_is);
-    counted = subst (λ (p : Known O). AgreesWithTable exponent reading.own.table.now reading.own.desk.bytes reading.own.kinds [] p crop.worked.items) (sym pass)
-        (subst (λ (ws : List Worked). AgreesWithTable exponent reading.own.table.now reading.own.desk.bytes reading.own.kinds [] own.pass ws) (sym items) all_agree);
+    counted = subst (λ (p : Known O). AgreesWithTable reading.own.table.now reading.own.desk.bytes reading.own.kinds [] p crop.worked.items) (sym pass)
+        (subst (λ (ws : List Worked). AgreesWithTable reading.own.table.now reading.own.desk.bytes reading.own.kinds [] own.pass ws) (sym items) all_agree);
     stake_is = λ fine.
         let whole = (j.whole (λ is. fine (fault_is ∙ is))).0 in
         let same : crop.pass.stake ≡ j.before.pass.stake ++ given =

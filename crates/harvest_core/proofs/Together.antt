@@ -1,5 +1,5 @@
 -- The shares of all threads, their refusals and their calls, looked at together.
-use Rattle.std.proofs.Common.{◌≡◌, ℕ, zero, suc, ◌^◌, ◌⊎◌, inl, inr, List, [], ◌∷◌, Option, Some, None, refl, ap, sym, subst, ◌∙◌, arith, ⊎_elim, All, Contains}
+use Rattle.std.proofs.Common.{◌≡◌, ℕ, zero, suc, ◌⊎◌, inl, inr, List, [], ◌∷◌, Option, Some, None, refl, ap, sym, subst, ◌∙◌, arith, ⊎_elim, All, Contains}
 use Rattle.std.specs.List.{cons_option}
 use Rattle.std.proofs.lemmas.List.{get_or_default}
 use Rattle.std.proofs.lemmas.List.Elements.{All-contains, Contains-append_left, Contains-append_right, Contains-append_cases, Contains-get_or}
@@ -96,11 +96,11 @@ has_its_rows bytes kinds (Some (fault.Sgf found)) read is other = absurd is
 has_its_rows bytes kinds (Some (fault.Marks number of_shares of_table)) read is other = absurd is
 
 -- where memory was refused to no one, all that was counted stands together in the table
-pub together : {O : Type 0} (exponent : O → ℕ) (table : Numbers O) (bytes : List ℕ) (kinds : Kinds) (earlier : List Happened) (pass : Known O) (worked : List Worked) → IsRead bytes →
-    All (λ (one : Worked). IsRefused bytes kinds one.refused) worked → (Contains (refusals_of worked) fault.Memory → ⊥) → AgreesWithTable exponent table bytes kinds earlier pass worked →
-    AreTogether (2 ^ exponent table.order) earlier pass (all_rows (shares_of worked))
-together exponent table bytes kinds earlier pass worked read refused fine h =
-    let n = 2 ^ exponent table.order in
+pub together : {O : Type 0} (table : Numbers O) (bytes : List ℕ) (kinds : Kinds) (earlier : List Happened) (pass : Known O) (worked : List Worked) → IsRead bytes →
+    All (λ (one : Worked). IsRefused bytes kinds one.refused) worked → (Contains (refusals_of worked) fault.Memory → ⊥) → AgreesWithTable table bytes kinds earlier pass worked →
+    AreTogether table.slots earlier pass (all_rows (shares_of worked))
+together table bytes kinds earlier pass worked read refused fine h =
+    let n = table.slots in
     let of = λ (one : Worked) (among : Contains worked one). All-contains (IsInTable n pass.seen []) worked one h.in_table among in
     record {
       stands = λ row among. let one = row_of_one worked row among in (of one.0 one.1).stands row one.2;

@@ -124,10 +124,10 @@ pub record HasDrawn {O : Type 0} (n : ℕ) (kinds : Kinds) (before after : Known
 
 -- what a worker's loop hands back, which worked at this table for these kinds under this number, and had this desk and this
 -- pass before: its pass is of the table, its share is of games of the input, and what it drew, counted and called goes together
-pub record IsReturned {O : Type 0} (exponent : O → ℕ) (table : Numbers O) (kinds : Kinds) (number : ℕ) (desk : Hand) (pass : Known O) (back : Returned O) : Type 0 where
-  pub pass_is : IsPassOf (2 ^ exponent table.order) table back.pass
+pub record IsReturned {O : Type 0} (table : Numbers O) (kinds : Kinds) (number : ℕ) (desk : Hand) (pass : Known O) (back : Returned O) : Type 0 where
+  pub pass_is : IsPassOf table back.pass
   pub number_is : back.worked.share.worker ≡ number
   pub worked_is : IsWorked desk.bytes kinds back.worked.share
   pub refused_is : IsRefused desk.bytes kinds back.worked.refused
-  pub drawn : HasDrawn (2 ^ exponent table.order) kinds pass back.pass desk back.worked back.desk
-  pub in_table : IsInTableSince (2 ^ exponent table.order) pass back.pass back.worked
+  pub drawn : HasDrawn table.slots kinds pass back.pass desk back.worked back.desk
+  pub in_table : IsInTableSince table.slots pass back.pass back.worked

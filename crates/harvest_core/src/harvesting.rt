@@ -1,5 +1,5 @@
 //! What several workers count over one table: the dictionary of an input.
-ghost use Rattle.std.specs.Prelude.{◌≡◌, ◌≢◌, ◌⊎◌, ◌*◌, ◌^◌, ◌<◌, ◌≤◌, ◌++◌, ◌∷◌, [], ℕ, List};
+ghost use Rattle.std.specs.Prelude.{◌≡◌, ◌≢◌, ◌⊎◌, ◌*◌, ◌<◌, ◌≤◌, ◌++◌, ◌∷◌, [], ℕ, List};
 ghost use Rattle.std.specs.Prelude.{length, max, min, All, Contains, MatchResult, IfOk, IfErr, IfSome};
 ghost use Rattle.std.specs.Prelude.{Some};
 ghost use Rattle.sgf_core.specs.Limit.{most_bytes};
@@ -47,16 +47,15 @@ fn explain<O: ProbeOrder>(
     shares: &[Share],
     refused: HarvestFault,
 ) -> HarvestFault
-    requires pass { IsPassOf (2 ^ O.exponent table.now.order) table.now pass.old }
-    ensures pass { IsPassOf (2 ^ O.exponent table.now.order) table.now pass.new }
-    ensures later { AsksOnly (2 ^ O.exponent table.now.order) pass.old pass.new }
-    ensures explained { IsExplained (2 ^ O.exponent table.now.order) pass.new.seen shares.now
-        refused result }
+    requires pass { IsPassOf table.now pass.old }
+    ensures pass { IsPassOf table.now pass.new }
+    ensures later { AsksOnly table.now.slots pass.old pass.new }
+    ensures explained { IsExplained table.now.slots pass.new.seen shares.now refused result }
     ensures why { (bytes : List ℕ) (kinds : Kinds) (earlier : List Happened) → IsRead bytes
         → All (IsWorked bytes kinds) shares.now → IsRefusal bytes kinds refused
-        → IsFullOf (2 ^ O.exponent table.now.order) pass.old.seen (Some refused)
-        → AreTogether (2 ^ O.exponent table.now.order) earlier pass.old (all_rows shares.now)
-        → IsHarvestFault (2 ^ O.exponent table.now.order) bytes kinds earlier pass.new result }
+        → IsFullOf table.now.slots pass.old.seen (Some refused)
+        → AreTogether table.now.slots earlier pass.old (all_rows shares.now)
+        → IsHarvestFault table.now.slots bytes kinds earlier pass.new result }
 {
     match refused {
         HarvestFault::Full { game, word } => confirm_full(table, pass, shares, game, word),
@@ -74,21 +73,20 @@ fn count_of<R: Threads + Sync, O: ProbeOrder>(
     report: Report,
     shares: &[Share],
 ) -> Result<Counted, HarvestFault>
-    requires pass { IsPassOf (2 ^ O.exponent table.now.order) table.now pass.old }
+    requires pass { IsPassOf table.now pass.old }
     requires worked { (bytes : List ℕ) × HasReadAll bytes report
         × All (IsWorked bytes kinds) shares.now }
-    ensures pass { IsPassOf (2 ^ O.exponent table.now.order) table.now pass.new }
-    ensures later { AsksOnly (2 ^ O.exponent table.now.order) pass.old pass.new }
-    ensures gathered { IfErr result (IsGatherFault (2 ^ O.exponent table.now.order) report.games
-        shares.now pass.old pass.new) }
+    ensures pass { IsPassOf table.now pass.new }
+    ensures later { AsksOnly table.now.slots pass.old pass.new }
+    ensures gathered { IfErr result
+        (IsGatherFault table.now.slots report.games shares.now pass.old pass.new) }
     ensures harvest { (bytes : List ℕ) → HasReadAll bytes report
         → All (IsWorked bytes kinds) shares.now
-        → IfOk result (IsHarvest (2 ^ O.exponent table.now.order) pass.new.seen kinds bytes) }
+        → IfOk result (IsHarvest table.now.slots pass.new.seen kinds bytes) }
     ensures fault { (bytes : List ℕ) (earlier : List Happened) → HasReadAll bytes report
         → All (IsWorked bytes kinds) shares.now → IsOnceEach report.games (all_games shares.now)
-        → AreTogether (2 ^ O.exponent table.now.order) earlier pass.old (all_rows shares.now)
-        → IfErr result (IsHarvestFault (2 ^ O.exponent table.now.order) bytes kinds earlier
-        pass.new) }
+        → AreTogether table.now.slots earlier pass.old (all_rows shares.now)
+        → IfErr result (IsHarvestFault table.now.slots bytes kinds earlier pass.new) }
 {
     let dictionary = gather(rt, alloc, table, pass, kinds, report.games, shares)?;
     Ok(Counted { dictionary, report })
@@ -106,11 +104,10 @@ fn conclude<R: Threads + Sync, O: ProbeOrder>(
     bytes: &[u8],
     crop: Crop<O>,
 ) -> Result<Counted, HarvestFault>
-    requires pass { IsPassOf (2 ^ O.exponent table.now.order) table.now pass.old }
-    requires crop { (stake : List ℕ) × IsCrop O.exponent table.now bytes.now kinds stake crop }
-    ensures pass { IsPassOf (2 ^ O.exponent table.now.order) table.now pass.new }
-    ensures calls { HasHarvested (2 ^ O.exponent table.now.order) bytes.now kinds pass.old
-        pass.new }
+    requires pass { IsPassOf table.now pass.old }
+    requires crop { (stake : List ℕ) × IsCrop table.now bytes.now kinds stake crop }
+    ensures pass { IsPassOf table.now pass.new }
+    ensures calls { HasHarvested table.now.slots bytes.now kinds pass.old pass.new }
     ensures stake { pass.new.stake ≡ pass.old.stake ++ crop.pass.stake }
     ensures alone { IsAlone pass.new }
     ensures memory { Contains (refusals_of crop.worked.items) fault.Memory
@@ -118,12 +115,10 @@ fn conclude<R: Threads + Sync, O: ProbeOrder>(
     ensures input { IfSome crop.fault (λ found. (result ≡ Err found)
         ⊎ (result ≡ Err fault.Memory)) }
     ensures refused { crop.fault ≡ None → MatchResult result
-        (λ _. refusals_of crop.worked.items ≡ [])
-        (IsTold (2 ^ O.exponent table.now.order) crop pass.new) }
-    ensures harvest { IfOk result (IsHarvest (2 ^ O.exponent table.now.order) pass.new.seen kinds
-        bytes.now) }
-    ensures fault { IfErr result (IsHarvestFault (2 ^ O.exponent table.now.order) bytes.now kinds
-        (calls_of pass.old) pass.new) }
+        (λ _. refusals_of crop.worked.items ≡ []) (IsTold table.now.slots crop pass.new) }
+    ensures harvest { IfOk result (IsHarvest table.now.slots pass.new.seen kinds bytes.now) }
+    ensures fault { IfErr result
+        (IsHarvestFault table.now.slots bytes.now kinds (calls_of pass.old) pass.new) }
 {
     let Crop {
         worked,
@@ -201,20 +196,18 @@ pub fn harvest_on<R: Threads + Wait + Sync, O: ProbeOrder, G: Gate>(
 ) -> Result<Counted, HarvestFault>
 where
     O: Send + Sync,
-    requires pass { IsPassOf (2 ^ O.exponent table.now.order) table.now pass.old }
-    ensures pass { IsPassOf (2 ^ O.exponent table.now.order) table.now pass.new }
-    ensures calls { HasHarvested (2 ^ O.exponent table.now.order) bytes.now settings.kinds pass.old
-        pass.new }
+    requires pass { IsPassOf table.now pass.old }
+    ensures pass { IsPassOf table.now pass.new }
+    ensures calls { HasHarvested table.now.slots bytes.now settings.kinds pass.old pass.new }
     ensures stake { result ≢ Err fault.Memory → IsAsMuch pass.new.stake pass.old.stake }
     ensures large { most_bytes < length bytes.now
         → (result ≡ Err (fault.Sgf sgf.TooLarge)) × (pass.new ≡ pass.old) }
-    ensures harvest { IfOk result (IsHarvest (2 ^ O.exponent table.now.order) pass.new.seen
-        settings.kinds bytes.now) }
-    ensures fault { IfErr result (IsHarvestFault (2 ^ O.exponent table.now.order) bytes.now
-        settings.kinds (calls_of pass.old) pass.new) }
+    ensures harvest { IfOk result
+        (IsHarvest table.now.slots pass.new.seen settings.kinds bytes.now) }
+    ensures fault { IfErr result
+        (IsHarvestFault table.now.slots bytes.now settings.kinds (calls_of pass.old) pass.new) }
     ensures alone { IsWhole pass.old.stake → calls_of pass.old ≡ []
-        → IfErr result (IsHarvestRefused (2 ^ O.exponent table.now.order) bytes.now
-        settings.kinds) }
+        → IfErr result (IsHarvestRefused table.now.slots bytes.now settings.kinds) }
 {
     stakes_come_together();
     let games = Games::new(bytes)?;

@@ -1,6 +1,6 @@
 //! The thread that reads: it makes a job of each game and puts it into the queue, and counts those
 //! that the queue hands back.
-ghost use Rattle.std.specs.Prelude.{◌≡◌, ◌+◌, ◌^◌, ◌≤◌, ◌⊎◌, ◌↔◌, [], ℕ, List, true, None};
+ghost use Rattle.std.specs.Prelude.{◌≡◌, ◌+◌, ◌≤◌, ◌⊎◌, ◌↔◌, [], ℕ, List, true, None};
 ghost use Rattle.std.specs.Prelude.{IsTrue, IfErr, OnOk};
 ghost use Rattle.job_core.specs.declared.jobs.Item.TheVariants as item;
 ghost use Rattle.shape_core.specs.declared.words.Kinds.{Kinds};
@@ -33,12 +33,10 @@ fn offer<'a, R: Wait, O: ProbeOrder, G: Gate>(
     worked: &mut Worked,
     job: Job<'a>,
 )
-    requires pass { IsPassOf (2 ^ O.exponent own.old.table.now.order) own.old.table.now
-        own.old.pass }
+    requires pass { IsPassOf own.old.table.now own.old.pass }
     requires job { MayPut own.old.desk (item.Job job) }
     ensures same { own.new ≡ record own.old { desk = own.new.desk; pass = own.new.pass } }
-    ensures pass { IsPassOf (2 ^ O.exponent own.old.table.now.order) own.old.table.now
-        own.new.pass }
+    ensures pass { IsPassOf own.old.table.now own.new.pass }
     ensures offered { ((own.new.desk ≡ putting own.old.desk (item.Job job.entry))
         × (worked.new ≡ worked.old))
         ⊎ ((own.new.desk ≡ own.old.desk) × IsCounted job.entry.game worked.old worked.new) }
@@ -47,14 +45,13 @@ fn offer<'a, R: Wait, O: ProbeOrder, G: Gate>(
         → past worked.old.share.games ≤ job.entry.game
         → IsWorked job.entry.bytes kinds worked.new.share }
     ensures refused { (kinds : Kinds) → IsWorked job.entry.bytes kinds worked.old.share
-        → Stand (2 ^ O.exponent own.old.table.now.order) own.old.pass.seen worked.old.share.rows
+        → Stand own.old.table.now.slots own.old.pass.seen worked.old.share.rows
         → IsRefused job.entry.bytes kinds worked.old.refused
         → IsRefused job.entry.bytes kinds worked.new.refused }
     ensures calls { (kinds : Kinds) → worked.old.share.kinds ≡ kinds
-        → CallsIn (2 ^ O.exponent own.old.table.now.order) job.entry.bytes kinds
-        own.old.pass own.new.pass }
-    ensures table { GoesOnInTable (2 ^ O.exponent own.old.table.now.order) own.old.pass
-        own.new.pass worked.old worked.new }
+        → CallsIn own.old.table.now.slots job.entry.bytes kinds own.old.pass own.new.pass }
+    ensures table { GoesOnInTable own.old.table.now.slots own.old.pass own.new.pass
+        worked.old worked.new }
 {
     match own.desk.put(rt, Item::Job(job)) {
         Ok(()) => (),
@@ -79,8 +76,7 @@ fn read_all<'a, R: Wait, O: ProbeOrder, G: Gate>(
     own: &mut Worker<'_, 'a, '_, O, G>,
     worked: &mut Worked,
 ) -> Result<(), HarvestFault>
-    requires pass { IsPassOf (2 ^ O.exponent own.old.table.now.order) own.old.table.now
-        own.old.pass }
+    requires pass { IsPassOf own.old.table.now own.old.pass }
     requires step { IsInStep games.old own.old.desk }
     requires none { (games.old.report.games ≡ 0) × (own.old.desk.put ≡ []) }
     requires begun { (worked.old.share.games ≡ []) × (worked.old.share.rows ≡ [])
@@ -90,15 +86,13 @@ fn read_all<'a, R: Wait, O: ProbeOrder, G: Gate>(
       desk = record own.old.desk { put = own.new.desk.put };
       pass = own.new.pass;
     } }
-    ensures pass { IsPassOf (2 ^ O.exponent own.old.table.now.order) own.old.table.now
-        own.new.pass }
+    ensures pass { IsPassOf own.old.table.now own.new.pass }
     ensures worker { worked.new.share.worker ≡ worked.old.share.worker }
     ensures worked { IsWorked games.old.bytes own.old.kinds worked.new.share }
     ensures refused { IsRefused games.old.bytes own.old.kinds worked.new.refused }
-    ensures calls { CallsIn (2 ^ O.exponent own.old.table.now.order) games.old.bytes own.old.kinds
+    ensures calls { CallsIn own.old.table.now.slots games.old.bytes own.old.kinds
         own.old.pass own.new.pass }
-    ensures table { IsInTableSince (2 ^ O.exponent own.old.table.now.order) own.old.pass
-        own.new.pass worked.new }
+    ensures table { IsInTableSince own.old.table.now.slots own.old.pass own.new.pass worked.new }
     ensures all { OnOk result (HasReadAll games.old.bytes games.new.report) }
     ensures dealt { OnOk result (AreDealt games.new.report.games own.new.desk.put worked.new) }
     ensures fault { IfErr result (IsReadFault games.old.bytes) }
@@ -154,10 +148,10 @@ pub(crate) fn read_games<'q, 'a, 't, R: Wait, O: ProbeOrder, G: Gate>(
     own: Worker<'q, 'a, 't, O, G>,
     workers: usize,
 ) -> Reading<'q, 'a, 't, O, G>
-    requires pass { IsPassOf (2 ^ O.exponent own.table.now.order) own.table.now own.pass }
+    requires pass { IsPassOf own.table.now own.pass }
     requires step { IsInStep games own.desk }
     requires none { (games.report.games ≡ 0) × (own.desk.put ≡ []) }
-    ensures reading { IsReadingOf O.exponent games.entry.bytes own.entry result }
+    ensures reading { IsReadingOf games.entry.bytes own.entry result }
     ensures ends { result.own.desk.ends_put ≡ own.entry.desk.ends_put + workers }
 {
     let mut games = games;

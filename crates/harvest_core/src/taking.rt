@@ -27,9 +27,8 @@ pub(crate) fn take_up<'q, 'a, O: ProbeOrder, G: Gate>(
     worked: &mut Vec<Worked>,
     all: Vec<Returned<'q, 'a, O>>,
 ) -> Result<(), AllocError>
-    requires { HasTaken O.exponent own.old all.items all.items own.old worked.old.items }
-    ensures { OnOk result (HasTaken O.exponent own.old all.entry.items [] own.new
-        worked.new.items) }
+    requires { HasTaken own.old all.items all.items own.old worked.old.items }
+    ensures { OnOk result (HasTaken own.old all.entry.items [] own.new worked.new.items) }
 {
     for back in all {
         let Returned {

@@ -1,5 +1,5 @@
 //! The thread that reads and the workers beside it.
-ghost use Rattle.std.specs.Prelude.{◌≡◌, ◌≢◌, ◌+◌, ◌^◌, ◌++◌, ◌∷◌, [], ℕ, List, All, length};
+ghost use Rattle.std.specs.Prelude.{◌≡◌, ◌≢◌, ◌+◌, ◌++◌, ◌∷◌, [], ℕ, List, All, length};
 ghost use Rattle.std.specs.Prelude.{IfOk, Some};
 ghost use Rattle.std.specs.List.{AllByRecursion};
 ghost use Rattle.slot_table.specs.Passes.{IsPassOf};
@@ -50,8 +50,7 @@ impl<'q, 'a, 't, O: ProbeOrder> Promise<Returned<'q, 'a, O>> for BackTo<'q, 'a, 
     ghost use Rattle.std.specs.Prelude.{◌≡◌};
     ghost use Rattle.harvest_core.specs.Working.{IsReturned};
 
-    ghost kept_by = { λ p r. IsReturned O.exponent p.table.now p.kinds p.number p.desk.value
-        p.pass.value r };
+    ghost kept_by = { λ p r. IsReturned p.table.now p.kinds p.number p.desk.value p.pass.value r };
 }
 
 /// What a worker promises.
@@ -83,7 +82,7 @@ fn splits_lose_no_stake()
 }
 
 impl<'q, 'a, 't, O: ProbeOrder, G: Gate> Crew<'q, 'a, 't, O, G> {
-    ghost use Rattle.std.specs.Prelude.{◌≡◌, ◌-◌, ◌<◌, ◌^◌};
+    ghost use Rattle.std.specs.Prelude.{◌≡◌, ◌-◌, ◌<◌};
     ghost use Rattle.slot_table.specs.Passes.{IsPassOf};
     ghost use Rattle.slot_table.specs.Stakes.{halved, half_of};
     ghost use Rattle.harvest_core.specs.Inner.Crew.{IsFresh};
@@ -100,8 +99,7 @@ impl<'q, 'a, 't, O: ProbeOrder, G: Gate> Crew<'q, 'a, 't, O, G> {
 
     /// A worker beside this thread, with a part of its desk and of its pass.
     fn another(&mut self, number: usize) -> Worker<'q, 'a, 't, O, G>
-        requires pass { IsPassOf (2 ^ O.exponent self.old.own.table.now.order)
-            self.old.own.table.now self.old.own.pass }
+        requires pass { IsPassOf self.old.own.table.now self.old.own.pass }
         requires parts { 1 < self.old.own.desk.parts }
         ensures same { self.new ≡ record self.old {
           own = record self.old.own {
@@ -109,9 +107,8 @@ impl<'q, 'a, 't, O: ProbeOrder, G: Gate> Crew<'q, 'a, 't, O, G> {
             pass = record self.old.own.pass { stake = halved self.old.own.pass.stake };
           };
         } }
-        ensures still { IsPassOf (2 ^ O.exponent self.old.own.table.now.order)
-            self.old.own.table.now self.new.own.pass }
-        ensures theirs { IsFresh O.exponent self.old.own.table.now self.old.own.desk.queue
+        ensures still { IsPassOf self.old.own.table.now self.new.own.pass }
+        ensures theirs { IsFresh self.old.own.table.now self.old.own.desk.queue
             self.old.own.desk.bytes result.desk result.pass }
         ensures table { result.table.now ≡ self.old.own.table.now }
         ensures kinds { result.kinds ≡ self.old.own.kinds }
@@ -139,10 +136,10 @@ fn finish<'q, 'a, 't, R: Wait, O: ProbeOrder, G: Gate>(
     own: Worker<'q, 'a, 't, O, G>,
     started: usize,
 ) -> Reading<'q, 'a, 't, O, G>
-    requires pass { IsPassOf (2 ^ O.exponent own.table.now.order) own.table.now own.pass }
+    requires pass { IsPassOf own.table.now own.pass }
     requires step { IsInStep games own.desk }
     requires none { (games.report.games ≡ 0) × (own.desk.put ≡ []) }
-    ensures reading { IsReadingOf O.exponent games.entry.bytes own.entry result }
+    ensures reading { IsReadingOf games.entry.bytes own.entry result }
     ensures ends { result.own.desk.ends_put ≡ own.entry.desk.ends_put + started }
     ensures asked { started ≢ own.entry.workers → result.fault ≡ Some fault.Memory }
 {
@@ -165,10 +162,10 @@ fn theirs<'q, 'a, 't, R: Threads, O: ProbeOrder, G: Gate>(
     own: &Worker<'q, 'a, 't, O, G>,
     handles: Vec<PromisedHandle<Returned<'q, 'a, O>, BackTo<'q, 'a, 't, O>>>,
 ) -> Result<Vec<Returned<'q, 'a, O>>, AllocError>
-    requires { All (IsHandleOf O.exponent own.now.table.now own.now.desk.queue own.now.desk.bytes
+    requires { All (IsHandleOf own.now.table.now own.now.desk.queue own.now.desk.bytes
         own.now.kinds) handles.items }
-    ensures back { IfOk result (λ all. AllByRecursion (IsBackOf O.exponent own.now.table.now
-        own.now.desk.queue own.now.desk.bytes own.now.kinds) all.items) }
+    ensures back { IfOk result (λ all. AllByRecursion (IsBackOf own.now.table.now own.now.desk.queue
+        own.now.desk.bytes own.now.kinds) all.items) }
     ensures each { IfOk result (λ all. length all.items ≡ length handles.entry.items) }
     ensures stakes { IfOk result (λ all. stakes_back all.items ≡ stakes_of handles.entry.items) }
     ensures numbers { IfOk result (λ all. numbers_back all.items
@@ -190,12 +187,12 @@ fn joined<'q, 'a, 't, R: Threads, O: ProbeOrder, G: Gate>(
     reading: Reading<'q, 'a, 't, O, G>,
     handles: Vec<PromisedHandle<Returned<'q, 'a, O>, BackTo<'q, 'a, 't, O>>>,
 ) -> Result<Crop<O>, AllocError>
-    requires handles { All (IsHandleOf O.exponent reading.own.table.now reading.own.desk.queue
+    requires handles { All (IsHandleOf reading.own.table.now reading.own.desk.queue
         reading.own.desk.bytes reading.own.kinds) handles.items }
-    requires reading { IsJoinable O.exponent begun.value.stake (stakes_of handles.items)
+    requires reading { IsJoinable begun.value.stake (stakes_of handles.items)
         (length handles.items) reading }
-    ensures crop { IfOk result (IsCrop O.exponent reading.entry.own.table.now
-        reading.entry.own.desk.bytes reading.entry.own.kinds begun.value.stake) }
+    ensures crop { IfOk result (IsCrop reading.entry.own.table.now reading.entry.own.desk.bytes
+        reading.entry.own.kinds begun.value.stake) }
     ensures fault { IfOk result (λ crop. crop.fault ≡ reading.entry.fault) }
     ensures each { IfOk result (λ crop. length crop.worked.items
         ≡ length handles.entry.items + 1) }
@@ -226,7 +223,7 @@ fn joined<'q, 'a, 't, R: Threads, O: ProbeOrder, G: Gate>(
 }
 
 impl<'q, 'a, 't, O: ProbeOrder, G: Gate> Crew<'q, 'a, 't, O, G> {
-    ghost use Rattle.std.specs.Prelude.{◌^◌, [], IfOk};
+    ghost use Rattle.std.specs.Prelude.{[], IfOk};
     ghost use Rattle.slot_table.specs.Passes.{IsPassOf};
     ghost use Rattle.harvest_core.specs.Working.{IsReturned};
     ghost use Rattle.harvest_core.specs.Inner.Crew.{IsCrew, IsCrop, AreAsked};
@@ -240,10 +237,10 @@ impl<'q, 'a, 't, O: ProbeOrder, G: Gate> Crew<'q, 'a, 't, O, G> {
     ) -> Result<Crop<O>, AllocError>
     where
         O: Send + Sync,
-        requires crew { IsCrew O.exponent self.own.table.now self.own.desk.queue self.games.bytes
+        requires crew { IsCrew self.own.table.now self.own.desk.queue self.games.bytes
             self.own.kinds [] 0 self }
-        ensures crop { IfOk result (IsCrop O.exponent self.entry.own.table.now
-            self.entry.games.bytes self.entry.own.kinds self.entry.begun.value.stake) }
+        ensures crop { IfOk result (IsCrop self.entry.own.table.now self.entry.games.bytes
+            self.entry.own.kinds self.entry.begun.value.stake) }
         ensures workers { IfOk result (AreAsked self.entry.own.workers) }
     {
         let crew = self;
@@ -251,10 +248,10 @@ impl<'q, 'a, 't, O: ProbeOrder, G: Gate> Crew<'q, 'a, 't, O, G> {
             thread::scope_env(),
             rt,
             move |scope| -> Result<Crop<O>, AllocError>
-                requires { IsCrew O.exponent crew.own.table.now crew.own.desk.queue
-                    crew.games.bytes crew.own.kinds [] 0 crew }
-                ensures crop { IfOk result (IsCrop O.exponent crew.entry.own.table.now
-                    crew.entry.games.bytes crew.entry.own.kinds crew.entry.begun.value.stake) }
+                requires { IsCrew crew.own.table.now crew.own.desk.queue crew.games.bytes
+                    crew.own.kinds [] 0 crew }
+                ensures crop { IfOk result (IsCrop crew.entry.own.table.now crew.entry.games.bytes
+                    crew.entry.own.kinds crew.entry.begun.value.stake) }
                 ensures workers { IfOk result (AreAsked crew.entry.own.workers) }
             {
                 let mut crew = crew;
@@ -268,9 +265,8 @@ impl<'q, 'a, 't, O: ProbeOrder, G: Gate> Crew<'q, 'a, 't, O, G> {
                     let worker = crew.another(started + 1);
                     let promise = back_to(&worker);
                     let task = move || -> Returned<'_, '_, O>
-                        requires { IsPassOf (2 ^ O.exponent worker.table.now.order)
-                            worker.table.now worker.pass }
-                        ensures { IsReturned O.exponent worker.entry.table.now worker.entry.kinds
+                        requires { IsPassOf worker.table.now worker.pass }
+                        ensures { IsReturned worker.entry.table.now worker.entry.kinds
                             worker.entry.number worker.entry.desk worker.entry.pass result }
                     { work(rt, alloc, worker) };
                     match scope.spawn_with(promise, task) {

@@ -1,5 +1,5 @@
 //! A worker: it draws jobs and counts their games until it draws an end.
-ghost use Rattle.std.specs.Prelude.{◌≡◌, ◌^◌};
+ghost use Rattle.std.specs.Prelude.{◌≡◌};
 ghost use Rattle.slot_table.specs.Passes.{IsPassOf};
 ghost use Rattle.harvest_core.specs.Working.{IsReturned};
 
@@ -51,8 +51,8 @@ pub fn work<'q, 'a, R: Wait, O: ProbeOrder, G: Gate>(
     alloc: Global,
     worker: Worker<'q, 'a, '_, O, G>,
 ) -> Returned<'q, 'a, O>
-    requires { IsPassOf (2 ^ O.exponent worker.table.now.order) worker.table.now worker.pass }
-    ensures { IsReturned O.exponent worker.entry.table.now worker.entry.kinds worker.entry.number
+    requires { IsPassOf worker.table.now worker.pass }
+    ensures { IsReturned worker.entry.table.now worker.entry.kinds worker.entry.number
         worker.entry.desk worker.entry.pass result }
 {
     let Worker {

@@ -1,5 +1,5 @@
 //! What a worker has counted, game by game.
-ghost use Rattle.std.specs.Prelude.{◌≡◌, ◌++◌, ◌^◌, ◌≤◌, [], ℕ, List, Some, None};
+ghost use Rattle.std.specs.Prelude.{◌≡◌, ◌++◌, ◌≤◌, [], ℕ, List, Some, None};
 ghost use Rattle.shape_core.specs.declared.words.Kinds.{Kinds};
 ghost use Rattle.slot_table.specs.declared.entries.Happened.{Happened};
 ghost use Rattle.slot_table.specs.Passes.{IsPassOf, calls_of};
@@ -64,30 +64,27 @@ impl Worked {
         gate: &G,
         job: &Job<'_>,
     )
-        requires { IsPassOf (2 ^ O.exponent table.now.order) table.now pass.old }
-        ensures pass { IsPassOf (2 ^ O.exponent table.now.order) table.now pass.new }
+        requires { IsPassOf table.now pass.old }
+        ensures pass { IsPassOf table.now pass.new }
         ensures worker { self.new.share.worker ≡ self.old.share.worker }
         ensures worked { (kinds : Kinds) → IsWorked job.now.bytes kinds self.old.share
             → past self.old.share.games ≤ job.now.game
             → IsWorked job.now.bytes kinds self.new.share }
         ensures refused { (kinds : Kinds) → IsWorked job.now.bytes kinds self.old.share
-            → Stand (2 ^ O.exponent table.now.order) pass.old.seen self.old.share.rows
+            → Stand table.now.slots pass.old.seen self.old.share.rows
             → IsRefused job.now.bytes kinds self.old.refused
             → IsRefused job.now.bytes kinds self.new.refused }
         ensures games { IsCounted job.now.game self.old self.new }
         ensures first { (found : HarvestFault) → self.old.refused ≡ Some found
             → (self.new ≡ self.old) × (pass.new ≡ pass.old) }
         ensures later { (kinds : Kinds) → self.old.share.kinds ≡ kinds
-            → CallsOfGame (2 ^ O.exponent table.now.order) job.now.bytes kinds job.now.game
-            pass.old pass.new }
+            → CallsOfGame table.now.slots job.now.bytes kinds job.now.game pass.old pass.new }
         ensures rows { (kinds : Kinds) → self.old.share.kinds ≡ kinds
             → AreOfGame job.now.bytes kinds job.now.game self.old.share self.new.share }
-        ensures table { GoesOnInTable (2 ^ O.exponent table.now.order) pass.old pass.new self.old
-            self.new }
+        ensures table { GoesOnInTable table.now.slots pass.old pass.new self.old self.new }
         ensures refusal { (found : HarvestFault) → self.old.refused ≡ None
-            → self.new.refused ≡ Some found
-            → IsRefusedGame (2 ^ O.exponent table.now.order) pass.new.seen job.now.bytes
-            job.now.game self.old.share self.new.share found }
+            → self.new.refused ≡ Some found → IsRefusedGame table.now.slots pass.new.seen
+            job.now.bytes job.now.game self.old.share self.new.share found }
     {
         if self.refused.is_some() {
             return;

@@ -1,5 +1,5 @@
 -- What threads work with, and what comes back from them.
-use Rattle.std.specs.Prelude.{◌≡◌, ◌≢◌, ◌⊎◌, ℕ, ◌+◌, ◌^◌, ◌≤◌, List, [], ◌∷◌, ◌++◌, length, map, All, Contains, None, Some, IfNone, IfSome}
+use Rattle.std.specs.Prelude.{◌≡◌, ◌≢◌, ◌⊎◌, ℕ, ◌+◌, ◌≤◌, List, [], ◌∷◌, ◌++◌, length, map, All, Contains, None, Some, IfNone, IfSome}
 use Rattle.std.specs.List.{AllByRecursion}
 use Rattle.std.specs.declared.thread.PromisedHandle.{PromisedHandle}
 use Rattle.atomic_table.specs.Seated.{TableId}
@@ -29,16 +29,16 @@ use Rattle.harvest_core.specs.Inner.Parted.{shares_of, refusals_of}
 
 -- ---- before the workers begin
 -- a worker's desk and pass, of this table, queue and input, which have called and drawn nothing
-pub record IsFresh {O : Type 0} (exponent : O → ℕ) (table : Numbers O) (queue : TableId) (bytes : List ℕ) (desk : Hand) (pass : Known O) : Type 0 where
-  pub is_of : IsPassOf (2 ^ exponent table.order) table pass
+pub record IsFresh {O : Type 0} (table : Numbers O) (queue : TableId) (bytes : List ℕ) (desk : Hand) (pass : Known O) : Type 0 where
+  pub is_of : IsPassOf table pass
   pub calls : calls_of pass ≡ []
   pub desk_is : desk ≡ worker queue bytes []
 
 -- the thread that reads works for this table, queue and input, and has called and read nothing; it has given these stakes and
 -- this number of parts away
-pub record IsCrew {O G : Type 0} (exponent : O → ℕ) (table : Numbers O) (queue : TableId) (bytes : List ℕ) (kinds : Kinds) (given : List ℕ) (lent : ℕ) (crew : Crew O G) : Type 0 where
+pub record IsCrew {O G : Type 0} (table : Numbers O) (queue : TableId) (bytes : List ℕ) (kinds : Kinds) (given : List ℕ) (lent : ℕ) (crew : Crew O G) : Type 0 where
   pub table_is : crew.own.table.now ≡ table
-  pub pass : IsPassOf (2 ^ exponent table.order) table crew.own.pass
+  pub pass : IsPassOf table crew.own.pass
   pub calls : calls_of crew.own.pass ≡ []
   pub stake : IsAsMuch (crew.own.pass.stake ++ given) crew.begun.value.stake
   pub desk : crew.own.desk ≡ record (reader queue bytes []) { parts = crew.own.desk.parts }
@@ -49,10 +49,10 @@ pub record IsCrew {O G : Type 0} (exponent : O → ℕ) (table : Numbers O) (que
   pub workers : (1 ≤ crew.own.workers) × (crew.own.workers ≤ 64)
 
 -- the return of a worker of this table, queue and input is promised, whose desk and pass were fresh
-pub record IsHandleOf {O : Type 0} (exponent : O → ℕ) (table : Numbers O) (queue : TableId) (bytes : List ℕ) (kinds : Kinds) (handle : PromisedHandle (Returned O) (BackTo O)) : Type 0 where
+pub record IsHandleOf {O : Type 0} (table : Numbers O) (queue : TableId) (bytes : List ℕ) (kinds : Kinds) (handle : PromisedHandle (Returned O) (BackTo O)) : Type 0 where
   pub table_is : handle.promise.table.now ≡ table
   pub kinds_are : handle.promise.kinds ≡ kinds
-  pub fresh : IsFresh exponent table queue bytes handle.promise.desk.value handle.promise.pass.value
+  pub fresh : IsFresh table queue bytes handle.promise.desk.value handle.promise.pass.value
 
 -- the stakes that were given away, in order
 abbrev pub stakes_of : {O : Type 0} → List (PromisedHandle (Returned O) (BackTo O)) → List ℕ
@@ -66,15 +66,15 @@ promised_of (handle ∷ handles) = handle.promise.number ∷ promised_of handles
 
 -- ---- once they came back
 -- what a worker of this table, queue and input hands back, which had called and drawn nothing before
-pub record IsBackOf {O : Type 0} (exponent : O → ℕ) (table : Numbers O) (queue : TableId) (bytes : List ℕ) (kinds : Kinds) (back : Returned O) : Type 0 where
-  pub pass : IsPassOf (2 ^ exponent table.order) table back.pass
+pub record IsBackOf {O : Type 0} (table : Numbers O) (queue : TableId) (bytes : List ℕ) (kinds : Kinds) (back : Returned O) : Type 0 where
+  pub pass : IsPassOf table back.pass
   pub desk : back.desk ≡ record (worker queue bytes []) { drawn = back.desk.drawn; ends_drawn = 1 }
   pub rest : List ℕ
   pub drawn : back.desk.drawn ≡ back.worked.share.games ++ rest
   pub whole : back.worked.refused ≡ None → rest ≡ []
   pub worked_is : IsWorkOf bytes kinds back.worked
-  pub calls : (e : Happened) → Contains (calls_of back.pass) e → IsCallIn (2 ^ exponent table.order) back.pass.seen bytes kinds e
-  pub in_table : IsInTable (2 ^ exponent table.order) back.pass.seen (calls_of back.pass) back.worked
+  pub calls : (e : Happened) → Contains (calls_of back.pass) e → IsCallIn table.slots back.pass.seen bytes kinds e
+  pub in_table : IsInTable table.slots back.pass.seen (calls_of back.pass) back.worked
 
 -- the stakes that came back, in order
 abbrev pub stakes_back : {O : Type 0} → List (Returned O) → List ℕ
@@ -99,21 +99,21 @@ pub record StandsAmong (worked : List Worked) (e : Happened) : Type 0 where
 -- ---- what all threads have come to
 -- the pass is of the table, and its calls since it had made these are of the input and stand in the rows of what was counted,
 -- which stands in the table
-pub record AgreesWithTable {O : Type 0} (exponent : O → ℕ) (table : Numbers O) (bytes : List ℕ) (kinds : Kinds) (earlier : List Happened) (pass : Known O) (worked : List Worked) : Type 0 where
-  pub is_of : IsPassOf (2 ^ exponent table.order) table pass
+pub record AgreesWithTable {O : Type 0} (table : Numbers O) (bytes : List ℕ) (kinds : Kinds) (earlier : List Happened) (pass : Known O) (worked : List Worked) : Type 0 where
+  pub is_of : IsPassOf table pass
   pub calls : (e : Happened) → Contains (calls_of pass) e → Contains earlier e
-      ⊎ (IsCallIn (2 ^ exponent table.order) pass.seen bytes kinds e × StandsAmong worked e)
+      ⊎ (IsCallIn table.slots pass.seen bytes kinds e × StandsAmong worked e)
   pub kept : (e : Happened) → Contains earlier e → Contains (calls_of pass) e
-  pub in_table : All (IsInTable (2 ^ exponent table.order) pass.seen []) worked
+  pub in_table : All (IsInTable table.slots pass.seen []) worked
 
 -- the thread that reads has taken back what some workers hand back, and these are left
-pub record HasTaken {O G : Type 0} (exponent : O → ℕ) (before : Worker O G) (all left : List (Returned O)) (own : Worker O G) (worked : List Worked) : Type 0 where
+pub record HasTaken {O G : Type 0} (before : Worker O G) (all left : List (Returned O)) (own : Worker O G) (worked : List Worked) : Type 0 where
   pub own_is : own ≡ record before {
     desk = record before.desk { parts = own.desk.parts; taken = own.desk.taken; ends_drawn = own.desk.ends_drawn };
     pass = own.pass;
   }
-  pub keeps : Keeps (2 ^ exponent before.table.now.order) before.pass.seen own.pass.seen
-  pub counted : AgreesWithTable exponent before.table.now before.desk.bytes before.kinds (calls_of before.pass) own.pass worked
+  pub keeps : Keeps before.table.now.slots before.pass.seen own.pass.seen
+  pub counted : AgreesWithTable before.table.now before.desk.bytes before.kinds (calls_of before.pass) own.pass worked
   pub stake : own.pass.stake ++ stakes_back left ≡ before.pass.stake ++ stakes_back all
   pub parts : own.desk.parts + length left ≡ before.desk.parts + length all
   pub ends : own.desk.ends_drawn + length left ≡ before.desk.ends_drawn + length all
@@ -121,23 +121,23 @@ pub record HasTaken {O G : Type 0} (exponent : O → ℕ) (before : Worker O G) 
   pub many : length worked + length left ≡ length all
   pub numbers : workers_of worked ++ numbers_back left ≡ numbers_back all
   pub worked_is : All (IsWorkOf before.desk.bytes before.kinds) worked
-  pub back : AllByRecursion (IsBackOf exponent before.table.now before.desk.queue before.desk.bytes before.kinds) left
+  pub back : AllByRecursion (IsBackOf before.table.now before.desk.queue before.desk.bytes before.kinds) left
 
 -- the thread that reads has come to this beside workers that promised to return, with these stakes and as many: it had called
 -- nothing before it read. Unless memory was refused, these are as many as were asked for, and nothing else was given away
-pub record IsJoinable {O G : Type 0} (exponent : O → ℕ) (stake given : List ℕ) (lent : ℕ) (reading : Reading O G) : Type 0 where
+pub record IsJoinable {O G : Type 0} (stake given : List ℕ) (lent : ℕ) (reading : Reading O G) : Type 0 where
   pub before : Worker O G
   pub begun : calls_of before.pass ≡ []
-  pub reading_is : IsReadingOf exponent before.desk.bytes before reading
+  pub reading_is : IsReadingOf before.desk.bytes before reading
   pub desk : before.desk ≡ record (reader before.desk.queue before.desk.bytes []) { parts = before.desk.parts }
   pub some : 1 ≤ before.workers
   pub whole : reading.fault ≢ Some fault.Memory →
       IsAsMuch (before.pass.stake ++ given) stake × (before.desk.parts + lent ≡ all_parts) × (lent ≡ before.workers)
 
 -- what all threads have come to, for this table, input and kinds; what their passes had together at the beginning
-pub record IsCrop {O : Type 0} (exponent : O → ℕ) (table : Numbers O) (bytes : List ℕ) (kinds : Kinds) (stake : List ℕ) (crop : Crop O) : Type 0 where
+pub record IsCrop {O : Type 0} (table : Numbers O) (bytes : List ℕ) (kinds : Kinds) (stake : List ℕ) (crop : Crop O) : Type 0 where
   pub worked_is : All (IsWorkOf bytes kinds) crop.worked.items
-  pub counted : AgreesWithTable exponent table bytes kinds [] crop.pass crop.worked.items
+  pub counted : AgreesWithTable table bytes kinds [] crop.pass crop.worked.items
   pub stake_is : crop.fault ≢ Some fault.Memory → IsAsMuch crop.pass.stake stake
   pub covers : crop.fault ≡ None → refusals_of crop.worked.items ≡ [] → IsOnceEach crop.report.games (all_games (shares_of crop.worked.items))
   pub all : IfNone crop.fault (HasReadAll bytes crop.report)

@@ -1,5 +1,5 @@
 -- Which games a thread that reads has dealt out, and why an input was not read to its end.
-use Rattle.std.specs.Prelude.{◌≡◌, ℕ, ◌^◌, nat_lt, if◌then◌else◌, List, ◌++◌, None, IfNone, IfSome}
+use Rattle.std.specs.Prelude.{◌≡◌, ℕ, nat_lt, if◌then◌else◌, List, ◌++◌, None, IfNone, IfSome}
 use Rattle.tally_core.specs.Counted.{IsCountFault}
 use Rattle.tally_core.specs.declared.faults.TallyFault.TheVariants as tally
 use Rattle.slot_table.specs.Passes.{IsPassOf}
@@ -30,16 +30,16 @@ abbrev pub AreDealt : ℕ → List ℕ → Worked → Type 0
 AreDealt high put worked = worked.refused ≡ None → IsOnceEach high (put ++ worked.share.games)
 
 -- what the thread that reads has come to, which had this desk and pass before
-pub record IsReadingOf {O G : Type 0} (exponent : O → ℕ) (bytes : List ℕ) (before : Worker O G) (reading : Reading O G) : Type 0 where
+pub record IsReadingOf {O G : Type 0} (bytes : List ℕ) (before : Worker O G) (reading : Reading O G) : Type 0 where
   pub own_is : reading.own ≡ record before {
     desk = record before.desk { put = reading.own.desk.put; ends_put = reading.own.desk.ends_put };
     pass = reading.own.pass;
   }
-  pub pass : IsPassOf (2 ^ exponent before.table.now.order) before.table.now reading.own.pass
+  pub pass : IsPassOf before.table.now reading.own.pass
   pub number : reading.worked.share.worker ≡ 0
   pub worked_is : IsWorkOf bytes before.kinds reading.worked
-  pub calls : CallsIn (2 ^ exponent before.table.now.order) bytes before.kinds before.pass reading.own.pass
-  pub table : IsInTableSince (2 ^ exponent before.table.now.order) before.pass reading.own.pass reading.worked
+  pub calls : CallsIn before.table.now.slots bytes before.kinds before.pass reading.own.pass
+  pub table : IsInTableSince before.table.now.slots before.pass reading.own.pass reading.worked
   pub all : IfNone reading.fault (HasReadAll bytes reading.report)
   pub dealt : IfNone reading.fault (AreDealt reading.report.games reading.own.desk.put reading.worked)
   pub fault_is : IfSome reading.fault (IsReadFault bytes)

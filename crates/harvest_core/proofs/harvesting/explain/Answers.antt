@@ -1,4 +1,4 @@
-use Rattle.std.proofs.Common.{◌^◌, Some, ap, refl, subst}
+use Rattle.std.proofs.Common.{Some, ap, refl, subst}
 use Rattle.gather_core.specs.Checking.{all_rows}
 use Rattle.harvest_core.specs.Working.{IsRefusal}
 use Rattle.harvest_core.proofs.Concluded.{explained, refused_for}
@@ -6,11 +6,10 @@ use Rattle.harvest_core.proofs.harvesting.explain.Goals as goal
 
 pub returns-in-Full-clause-why : goal.returns-in-Full-clause-why
 returns-in-Full-clause-why g c bytes kinds earlier read worked pattern full together =
-    let n = 2 ^ g.O.ProbeOrder.exponent c.args.table.now.order in
     let why = full c.in-Full.game c.in-Full.word (ap (λ f. Some f) c.in-Full.is) in
-    explained n bytes kinds earlier c.args.pass.now c.confirm_full.new.pass (all_rows c.args.shares.now) read together c.args.shares.now c.in-Full.game c.in-Full.word c.confirm_full.result refl
+    explained c.args.table.now.slots bytes kinds earlier c.args.pass.now c.confirm_full.new.pass (all_rows c.args.shares.now) read together c.args.shares.now c.in-Full.game c.in-Full.word c.confirm_full.result refl
     c.confirm_full.ensures.pass.legal worked (subst (IsRefusal bytes kinds) c.in-Full.is pattern) why.0 why.1 c.confirm_full.ensures.later c.confirm_full.ensures.confirmed
 
 pub returns-in_default-clause-why : goal.returns-in_default-clause-why
 returns-in_default-clause-why g c bytes kinds earlier read worked why full together =
-    refused_for (2 ^ g.O.ProbeOrder.exponent c.args.table.now.order) bytes kinds earlier c.args.pass.now c.args.refused c.in_default.not-Full read why
+    refused_for c.args.table.now.slots bytes kinds earlier c.args.pass.now c.args.refused c.in_default.not-Full read why

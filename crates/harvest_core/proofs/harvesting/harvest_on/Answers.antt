@@ -1,4 +1,4 @@
-use Rattle.std.proofs.Common.{◌≡◌, ◌^◌, ◌++◌, ◌⊎◌, ℕ, List, [], Err, IfSome, IfErr, ap, sym, subst, ◌∙◌, ⊎_elim}
+use Rattle.std.proofs.Common.{◌≡◌, ◌++◌, ◌⊎◌, ℕ, List, [], Err, IfSome, IfErr, ap, sym, subst, ◌∙◌, ⊎_elim}
 use Rattle.slot_table.specs.Passes.{Known, calls_of}
 use Rattle.slot_table.specs.Stakes.{IsAsMuch, halved, half_of}
 use Rattle.share_core.specs.declared.faults.HarvestFault.TheVariants as fault
@@ -8,7 +8,7 @@ use Rattle.harvest_core.proofs.harvesting.harvest_on.Goals as goal
 
 pub returns-clause-calls : goal.returns-clause-calls
 returns-clause-calls g c =
-    let n = 2 ^ g.O.ProbeOrder.exponent c.args.table.now.order in
+    let n = c.args.table.now.slots in
     let h = subst (λ (p : Known _). HasHarvested n c.args.bytes.now c.kinds-2.result p c.conclude.new.pass) c.split.ensures.same c.conclude.ensures.calls in
     subst (λ ks. HasHarvested n c.args.bytes.now ks c.args.pass.now c.conclude.new.pass) c.kinds-2.ensures
     (record { begins = h.begins; keeps = h.keeps; kept = h.kept; calls = h.calls })
@@ -26,7 +26,7 @@ returns-clause-stake g c fine =
 
 pub returns-clause-alone : goal.returns-clause-alone
 returns-clause-alone g c whole none =
-    let n = 2 ^ g.O.ProbeOrder.exponent c.args.table.now.order in
+    let n = c.args.table.now.slots in
     let old = c.args.pass.now in
     let mid : calls_of c.split.new.pass ≡ [] = ap (λ (p : Known _). calls_of p) c.split.ensures.same ∙ none in
     subst (λ ks. IfErr c.conclude.result (IsHarvestRefused n c.args.bytes.now ks)) c.kinds-2.ensures

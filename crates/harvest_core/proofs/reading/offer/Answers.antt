@@ -1,4 +1,4 @@
-use Rattle.std.proofs.Common.{◌≡◌, ◌^◌, List, [], append-nil, sym, subst}
+use Rattle.std.proofs.Common.{◌≡◌, List, [], append-nil, sym, subst}
 use Rattle.slot_table.specs.declared.entries.Happened.{Happened}
 use Rattle.slot_table.proofs.Later.{later_self}
 use Rattle.job_core.specs.Games.{WrittenGame}
@@ -23,27 +23,25 @@ returns-in-Err-Job-clause-refused g c kinds w stood r =
 
 pub returns-in-Err-Job-clause-calls : goal.returns-in-Err-Job-clause-calls
 returns-in-Err-Job-clause-calls g c kinds of =
-    let n = 2 ^ g.O.ProbeOrder.exponent c.args.own.now.table.now.order in
+    let n = c.args.own.now.table.now.slots in
     let same : c.in-Err-Job.back ≡ c.args.job = same_job c.in-Err-Job.field-0 c.in-Err-Job.back c.args.job c.in-Err-Job.field-0-is c.in-Err-Job.ensures.0 in
     subst (λ (j : WrittenGame). CallsIn n j.bytes kinds c.args.own.now.pass c.count.new.pass) same
     (game_in_input n c.in-Err-Job.back.bytes kinds c.in-Err-Job.back.game c.args.own.now.pass c.count.new.pass (c.count.ensures.later kinds of))
 
 pub returns-in-Ok-clause-calls : goal.returns-in-Ok-clause-calls
 returns-in-Ok-clause-calls g c kinds of =
-    let n = 2 ^ g.O.ProbeOrder.exponent c.args.own.now.table.now.order in
-    no_calls_in n c.args.job.bytes kinds c.args.own.now.pass
+    no_calls_in c.args.own.now.table.now.slots c.args.job.bytes kinds c.args.own.now.pass
 
 pub returns-in-Ok-clause-table : goal.returns-in-Ok-clause-table
 returns-in-Ok-clause-table g c calls h =
-    let n = 2 ^ g.O.ProbeOrder.exponent c.args.own.now.table.now.order in
+    let n = c.args.own.now.table.now.slots in
     ([], later_self n c.args.own.now.pass, subst (λ (es : List Happened). IsInTable n c.args.own.now.pass.seen es c.args.worked.now) (sym (append-nil calls)) h)
 
 pub returns-in-Err-End-clause-calls : goal.returns-in-Err-End-clause-calls
 returns-in-Err-End-clause-calls g c kinds of =
-    let n = 2 ^ g.O.ProbeOrder.exponent c.args.own.now.table.now.order in
-    no_calls_in n c.args.job.bytes kinds c.args.own.now.pass
+    no_calls_in c.args.own.now.table.now.slots c.args.job.bytes kinds c.args.own.now.pass
 
 pub returns-in-Err-End-clause-table : goal.returns-in-Err-End-clause-table
 returns-in-Err-End-clause-table g c calls h =
-    let n = 2 ^ g.O.ProbeOrder.exponent c.args.own.now.table.now.order in
+    let n = c.args.own.now.table.now.slots in
     ([], later_self n c.args.own.now.pass, subst (λ (es : List Happened). IsInTable n c.args.own.now.pass.seen es c.args.worked.now) (sym (append-nil calls)) h)

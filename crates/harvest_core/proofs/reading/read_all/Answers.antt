@@ -1,4 +1,4 @@
-use Rattle.std.proofs.Common.{◌≡◌, ◌^◌, ℕ, List, [], IfSome, IfNone, inl, inr, arith, refl, ap, sym, subst, ◌∙◌, ⊎_elim}
+use Rattle.std.proofs.Common.{◌≡◌, ℕ, List, [], IfSome, IfNone, inl, inr, arith, refl, ap, sym, subst, ◌∙◌, ⊎_elim}
 use Rattle.slot_table.specs.Passes.{Numbers, IsPassOf}
 use Rattle.slot_table.proofs.Later.{later_self}
 use Rattle.gather_core.specs.Checking.{Stand}
@@ -20,7 +20,7 @@ pub loop-job-init : goal.loop-job-init
 loop-job-init g c =
     let own = c.args.own.now in
     let worked = c.args.worked.now in
-    let n = 2 ^ g.O.ProbeOrder.exponent own.table.now.order in
+    let n = own.table.now.slots in
     let begun = c.requires.begun in
     let none = c.requires.none in
     record {
@@ -47,7 +47,6 @@ loop-job-preserved g c =
     let old = c.loop-job.own in
     let new = c.offer.new.own in
     let h = c.loop-job.invariant in
-    let n = 2 ^ g.O.ProbeOrder.exponent begun.table.now.order in
     let offer = c.offer.ensures in
     let next : IsNextGame before after job = subst (λ o. IfSome o (IsNextGame before after)) c.in-Some.is c.in_ok-job.ensures.job in
     let same = c.next_job.ensures.bytes in
@@ -59,7 +58,7 @@ loop-job-preserved g c =
           (λ (put : (new.desk ≡ putting old.desk (Job job)) × (c.offer.new.worked ≡ c.loop-job.worked)). inl put.0)
           (λ (back : (new.desk ≡ old.desk) × IsCounted job.game c.loop-job.worked c.offer.new.worked). inr back.0)
           offer.offered));
-      pass = subst (λ (t : Numbers _). IsPassOf (2 ^ g.O.ProbeOrder.exponent t.order) t new.pass) table offer.pass;
+      pass = subst (λ (t : Numbers _). IsPassOf t new.pass) table offer.pass;
       bytes = same ∙ h.bytes;
       step = ⊎_elim
           (λ (put : (new.desk ≡ putting old.desk (Job job)) × (c.offer.new.worked ≡ c.loop-job.worked)). in_step_put before after old.desk new.desk job same h.step next put.0)
@@ -71,10 +70,10 @@ loop-job-preserved g c =
       worker = offer.worker ∙ h.worker;
       worked = subst (λ (bs : List ℕ). IsWorked bs kinds c.offer.new.worked.share) bytes (offer.worked kinds worked (omega (arith, h.above, next.game)));
       refused = subst (λ (bs : List ℕ). IsRefused bs kinds c.offer.new.worked.refused) bytes
-          (offer.refused kinds worked (subst (λ (t : Numbers _). Stand (2 ^ g.O.ProbeOrder.exponent t.order) old.pass.seen c.loop-job.worked.share.rows) (sym table) h.in_table.2.stands)
+          (offer.refused kinds worked (subst (λ (t : Numbers _). Stand t.slots old.pass.seen c.loop-job.worked.share.rows) (sym table) h.in_table.2.stands)
           (subst (λ (bs : List ℕ). IsRefused bs kinds c.loop-job.worked.refused) (sym bytes) h.refused));
-      calls = offered_calls g.O.ProbeOrder.exponent c.args.games.now.bytes job.bytes kinds begun old new h.same bytes h.calls (offer.calls kinds h.worked.kinds_are);
-      in_table = offered_table g.O.ProbeOrder.exponent begun old new c.loop-job.worked c.offer.new.worked h.same h.in_table offer.table;
+      calls = offered_calls c.args.games.now.bytes job.bytes kinds begun old new h.same bytes h.calls (offer.calls kinds h.worked.kinds_are);
+      in_table = offered_table begun old new c.loop-job.worked c.offer.new.worked h.same h.in_table offer.table;
     }
 
 pub returns-in-None-clause-dealt : goal.returns-in-None-clause-dealt
@@ -90,9 +89,9 @@ returns-then-wants_memory-clause-calls g c =
     let before = c.loop-job.games in
     let h = c.loop-job.invariant in
     let next : IsNextGame before c.next_job.new.self job = subst (λ o. IfSome o (IsNextGame before c.next_job.new.self)) c.in-Some.is c.in_ok-job.ensures.job in
-    offered_calls g.O.ProbeOrder.exponent c.args.games.now.bytes job.bytes c.args.own.now.kinds c.args.own.now c.loop-job.own c.offer.new.own h.same (next.bytes ∙ h.bytes) h.calls
+    offered_calls c.args.games.now.bytes job.bytes c.args.own.now.kinds c.args.own.now c.loop-job.own c.offer.new.own h.same (next.bytes ∙ h.bytes) h.calls
     (c.offer.ensures.calls c.args.own.now.kinds h.worked.kinds_are)
 
 pub returns-then-wants_memory-clause-table : goal.returns-then-wants_memory-clause-table
 returns-then-wants_memory-clause-table g c =
-    offered_table g.O.ProbeOrder.exponent c.args.own.now c.loop-job.own c.offer.new.own c.loop-job.worked c.offer.new.worked c.loop-job.invariant.same c.loop-job.invariant.in_table c.offer.ensures.table
+    offered_table c.args.own.now c.loop-job.own c.offer.new.own c.loop-job.worked c.offer.new.worked c.loop-job.invariant.same c.loop-job.invariant.in_table c.offer.ensures.table

@@ -11,10 +11,9 @@ use Rattle.harvest_core.proofs.reading.read_all.Given as goal
 abbrev pub invariant-loop-job : goal.invariant-loop-job
 invariant-loop-job g l =
     let before = l.fn.own in
-    let n = 2 ^ g.O.ProbeOrder.exponent before.table.now.order in
     record {
       same : l.own ≡ record before { desk = record before.desk { put = l.own.desk.put }; pass = l.own.pass };
-      pass : IsPassOf n before.table.now l.own.pass;
+      pass : IsPassOf before.table.now l.own.pass;
       bytes : l.games.bytes ≡ l.fn.games.bytes;
       step : IsInStep l.games l.own.desk;
       above : past l.worked.share.games ≤ l.games.report.games;
@@ -22,8 +21,8 @@ invariant-loop-job g l =
       worker : l.worked.share.worker ≡ l.fn.worked.share.worker;
       worked : IsWorked l.fn.games.bytes before.kinds l.worked.share;
       refused : IsRefused l.fn.games.bytes before.kinds l.worked.refused;
-      calls : CallsIn n l.fn.games.bytes before.kinds before.pass l.own.pass;
-      in_table : IsInTableSince n before.pass l.own.pass l.worked;
+      calls : CallsIn before.table.now.slots l.fn.games.bytes before.kinds before.pass l.own.pass;
+      in_table : IsInTableSince before.table.now.slots before.pass l.own.pass l.worked;
     }
 
 -- each turn reads a game, and an input has at most 2 ^ 28 of them

@@ -6,6 +6,6 @@ use Rattle.harvest_core.proofs.taking.take_up.Given as goal
 -- what came back so far is taken up
 abbrev pub invariant-loop-back : goal.invariant-loop-back
 invariant-loop-back g l = record {
-  taken : HasTaken g.O.ProbeOrder.exponent l.fn.own l.fn.all.items (into_iter_items l.back-iterator) l.own l.worked.items;
+  taken : HasTaken l.fn.own l.fn.all.items (into_iter_items l.back-iterator) l.own l.worked.items;
   long : into_iter_len l.back-iterator ≡ length (into_iter_items l.back-iterator);
 }

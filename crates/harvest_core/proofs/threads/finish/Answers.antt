@@ -1,4 +1,4 @@
-use Rattle.std.proofs.Common.{◌≡◌, ◌^◌, [], ap, sym, subst, ◌∙◌}
+use Rattle.std.proofs.Common.{◌≡◌, [], ap, sym, subst, ◌∙◌}
 use Rattle.slot_table.proofs.Later.{later_self}
 use Rattle.job_core.specs.declared.hands.Hand.{Hand}
 use Rattle.harvest_core.specs.declared.workers.Worker.{Worker}
@@ -11,7 +11,7 @@ pub returns-clause-reading : goal.returns-clause-reading
 returns-clause-reading g c =
     let own = c.args.own in
     let bytes = c.args.games.bytes in
-    let n = 2 ^ g.O.ProbeOrder.exponent own.table.now.order in
+    let n = own.table.now.slots in
     let desk = c.close.new.desk in
     let worked = c.begin.result in
     let begun = c.begin.ensures in

@@ -11,18 +11,17 @@ use Rattle.harvest_core.proofs.threads.theirs.Goals as goal
 pub returns-in-Ok-clause-back : goal.returns-in-Ok-clause-back
 returns-in-Ok-clause-back g c =
     let own = c.args.own.now in
-    let E = g.O.ProbeOrder.exponent in
     let all = c.in-Ok.all.items in
-    let P = IsBackOf E own.table.now own.desk.queue own.desk.bytes own.kinds in
+    let P = IsBackOf own.table.now own.desk.queue own.desk.bytes own.kinds in
     recursion_from_All P all (λ k d below.
     let there : k < vec_len c.args.handles = search rules in
     let here : k < length c.args.handles.items = search rules in
     let keeps = (c.in-Ok.ensures.each k d there).1 in
     let promise = keeps.handle.promise in
-    let mine = subst (IsHandleOf E own.table.now own.desk.queue own.desk.bytes own.kinds) (sym keeps.handle_is) (c.requires k keeps.handle here) in
-    back_of E own.table.now own.desk.queue own.desk.bytes own.kinds promise.number promise.desk.value promise.pass.value (slice_index_or all k d) mine.fresh
-    (subst (λ (t : Numbers _). IsReturned E t own.kinds promise.number promise.desk.value promise.pass.value (slice_index_or all k d)) mine.table_is
-    (subst (λ ks. IsReturned E promise.table.now ks promise.number promise.desk.value promise.pass.value (slice_index_or all k d)) mine.kinds_are keeps.kept)))
+    let mine = subst (IsHandleOf own.table.now own.desk.queue own.desk.bytes own.kinds) (sym keeps.handle_is) (c.requires k keeps.handle here) in
+    back_of own.table.now own.desk.queue own.desk.bytes own.kinds promise.number promise.desk.value promise.pass.value (slice_index_or all k d) mine.fresh
+    (subst (λ (t : Numbers _). IsReturned t own.kinds promise.number promise.desk.value promise.pass.value (slice_index_or all k d)) mine.table_is
+    (subst (λ ks. IsReturned promise.table.now ks promise.number promise.desk.value promise.pass.value (slice_index_or all k d)) mine.kinds_are keeps.kept)))
 
 pub returns-in-Ok-clause-stakes : goal.returns-in-Ok-clause-stakes
 returns-in-Ok-clause-stakes g c =

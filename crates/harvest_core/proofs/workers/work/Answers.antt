@@ -1,4 +1,4 @@
-use Rattle.std.proofs.Common.{◌≡◌, ◌^◌, ◌+◌, ℕ, List, [], ap, sym, subst, ◌∙◌}
+use Rattle.std.proofs.Common.{◌≡◌, ◌+◌, ℕ, List, [], ap, sym, subst, ◌∙◌}
 use Rattle.std.specs.Prelude.{IsSome}
 use Rattle.std.proofs.lemmas.Bool.{false≢true}
 use Rattle.slot_table.proofs.Later.{later_self}
@@ -15,7 +15,7 @@ use Rattle.harvest_core.proofs.workers.work.Goals.{in-None, in-Some+in-Some-End}
 pub loop-init : goal.loop-init
 loop-init g c =
     let worker = c.args.worker in
-    let n = 2 ^ g.O.ProbeOrder.exponent worker.table.now.order in
+    let n = worker.table.now.slots in
     let begun = c.begin_among-worked.ensures in
     record {
       pass = c.requires;
@@ -29,7 +29,7 @@ loop-init g c =
 pub loop-preserved-in-Some-Job : goal.loop-preserved-in-Some-Job
 loop-preserved-in-Some-Job g c =
     let worker = c.args.worker in
-    let n = 2 ^ g.O.ProbeOrder.exponent worker.table.now.order in
+    let n = worker.table.now.slots in
     let kinds = worker.kinds in
     let job = c.in-Some-Job.job in
     let old = worker.desk in
@@ -61,9 +61,8 @@ loop-preserved-in-Some-Job g c =
 pub returns : goal.returns
 returns g c =
     let worker = c.args.worker in
-    let n = 2 ^ g.O.ProbeOrder.exponent worker.table.now.order in
     let h = c.loop.invariant in
-    let P : Hand → Type 0 = HasDrawn n worker.kinds worker.pass c.loop.pass worker.desk c.loop.worked in
+    let P : Hand → Type 0 = HasDrawn worker.table.now.slots worker.kinds worker.pass c.loop.pass worker.desk c.loop.worked in
     record {
       pass_is = h.pass;
       number_is = h.number;

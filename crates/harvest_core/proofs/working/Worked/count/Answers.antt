@@ -1,4 +1,4 @@
-use Rattle.std.proofs.Common.{rules, ◌≡◌, ◌^◌, Some, None, refl, subst}
+use Rattle.std.proofs.Common.{rules, ◌≡◌, Some, None, refl, subst}
 use Rattle.std.specs.List.{AllByRecursion}
 use Rattle.go_record.specs.Actions.{Actions}
 use Rattle.share_core.specs.Adding.{IsAdded, HasGrown, IsKept, IsAddFault, IsMarked, IsRowed, IsRowedAfter, IsEntryOf, IsMarkOf}
@@ -11,7 +11,7 @@ use Rattle.harvest_core.proofs.working.Worked.count.Goals as goal
 
 pub returns-in-Err-clause-worked : goal.returns-in-Err-clause-worked
 returns-in-Err-clause-worked g c kinds h above =
-    let n = 2 ^ g.O.ProbeOrder.exponent c.args.table.now.order in
+    let n = c.args.table.now.slots in
     let job = c.args.job.now in
     worked_kept job.bytes n c.add.new.pass.seen kinds job.game job.actions c.args.self.now.share c.add.new.self
     (record { at = job.at; end = job.end; is_of = c.record.ensures.game })
@@ -19,7 +19,7 @@ returns-in-Err-clause-worked g c kinds h above =
 
 pub returns-in_default-clause-worked : goal.returns-in_default-clause-worked
 returns-in_default-clause-worked g c kinds h above =
-    let n = 2 ^ g.O.ProbeOrder.exponent c.args.table.now.order in
+    let n = c.args.table.now.slots in
     let job = c.args.job.now in
     let old = c.args.self.now.share in
     let new = c.add.new.self in
@@ -31,7 +31,7 @@ returns-in_default-clause-worked g c kinds h above =
 
 pub returns-in-Err-clause-refused : goal.returns-in-Err-clause-refused
 returns-in-Err-clause-refused g c kinds h stood before =
-    let n = 2 ^ g.O.ProbeOrder.exponent c.args.table.now.order in
+    let n = c.args.table.now.slots in
     let job = c.args.job.now in
     let old = c.args.self.now.share in
     let new = c.add.new.self in
@@ -46,7 +46,7 @@ returns-in-Err-clause-refused g c kinds h stood before =
 
 pub returns-in-Err-clause-rows : goal.returns-in-Err-clause-rows
 returns-in-Err-clause-rows g c kinds same =
-    let n = 2 ^ g.O.ProbeOrder.exponent c.args.table.now.order in
+    let n = c.args.table.now.slots in
     let job = c.args.job.now in
     rows_kept job.bytes n c.add.new.pass.seen kinds job.game job.actions c.args.self.now.share c.add.new.self
     (record { at = job.at; end = job.end; is_of = c.record.ensures.game }) same
@@ -54,7 +54,7 @@ returns-in-Err-clause-rows g c kinds same =
 
 pub returns-in_default-clause-rows : goal.returns-in_default-clause-rows
 returns-in_default-clause-rows g c kinds same =
-    let n = 2 ^ g.O.ProbeOrder.exponent c.args.table.now.order in
+    let n = c.args.table.now.slots in
     let job = c.args.job.now in
     rows_added job.bytes n c.add.new.pass.seen kinds job.game job.actions c.args.self.now.share c.add.new.self
     (record { at = job.at; end = job.end; is_of = c.record.ensures.game }) same
@@ -62,7 +62,7 @@ returns-in_default-clause-rows g c kinds same =
 
 pub returns-in-Err-clause-later : goal.returns-in-Err-clause-later
 returns-in-Err-clause-later g c kinds same =
-    let n = 2 ^ g.O.ProbeOrder.exponent c.args.table.now.order in
+    let n = c.args.table.now.slots in
     let job = c.args.job.now in
     let held = c.args.self.now.share.kinds in
     let found = c.in-Err.fault in
@@ -72,7 +72,7 @@ returns-in-Err-clause-later g c kinds same =
 
 pub returns-in_default-clause-later : goal.returns-in_default-clause-later
 returns-in_default-clause-later g c kinds same =
-    let n = 2 ^ g.O.ProbeOrder.exponent c.args.table.now.order in
+    let n = c.args.table.now.slots in
     let job = c.args.job.now in
     let held = c.args.self.now.share.kinds in
     let seen = c.add.new.pass.seen in
@@ -85,7 +85,7 @@ returns-in_default-clause-later g c kinds same =
 
 pub returns-in-Err-clause-table : goal.returns-in-Err-clause-table
 returns-in-Err-clause-table g c calls h =
-    let n = 2 ^ g.O.ProbeOrder.exponent c.args.table.now.order in
+    let n = c.args.table.now.slots in
     let job = c.args.job.now in
     let old = c.args.self.now in
     let new = c.add.new.self in
@@ -105,7 +105,7 @@ returns-in-Err-clause-table g c calls h =
 
 pub returns-in_default-clause-table : goal.returns-in_default-clause-table
 returns-in_default-clause-table g c calls h =
-    let n = 2 ^ g.O.ProbeOrder.exponent c.args.table.now.order in
+    let n = c.args.table.now.slots in
     let job = c.args.job.now in
     let old = c.args.self.now in
     let new = c.add.new.self in

@@ -7,14 +7,13 @@ use Rattle.harvest_core.proofs.threads.fn.Crew.run.scope.Given as goal
 -- the workers that were started so far have promised to return, and the rest of the desk and of the pass is here
 abbrev pub invariant-loop : goal.invariant-loop
 invariant-loop g l =
-    let E = g.O.ProbeOrder.exponent in
     let first = l.initial.crew in
     record {
-      crew : IsCrew E first.own.table.now first.own.desk.queue first.games.bytes first.own.kinds (stakes_of l.handles.items) l.started l.crew;
+      crew : IsCrew first.own.table.now first.own.desk.queue first.games.bytes first.own.kinds (stakes_of l.handles.items) l.started l.crew;
       begun : l.crew.begun ≡ first.begun;
       workers : l.crew.own.workers ≡ first.own.workers;
       few : l.started ≤ l.counter;
       each : length l.handles.items ≡ l.started;
       numbers : promised_of l.handles.items ≡ count_from 1 l.started;
-      handles : All (IsHandleOf E first.own.table.now first.own.desk.queue first.games.bytes first.own.kinds) l.handles.items;
+      handles : All (IsHandleOf first.own.table.now first.own.desk.queue first.games.bytes first.own.kinds) l.handles.items;
     }
