@@ -1,5 +1,5 @@
 //! Small collections, counted by workers: always the dictionary that one thread counts.
-ghost use Rattle.std.specs.Prelude.{◌≡◌, ◌+◌, ◌-◌, ◌<◌, ◌^◌, []};
+ghost use Rattle.std.specs.Prelude.{◌≡◌, ◌+◌, ◌-◌, ◌<◌, []};
 ghost use Rattle.slot_table.specs.Passes.{IsPassOf};
 ghost use Rattle.job_core.specs.Rule.{worker};
 
@@ -141,9 +141,8 @@ fn draw_to_the_end<'q, 'a, R: Abort + Wait, O: ProbeOrder>(
     games: &[u64],
     moves: u64,
 ) -> Returned<'q, 'a, O>
-    requires { IsPassOf (2 ^ O.exponent worker.table.now.order) worker.table.now worker.pass }
-    ensures pass { IsPassOf (2 ^ O.exponent worker.entry.table.now.order) worker.entry.table.now
-        result.pass }
+    requires { IsPassOf worker.table.now worker.pass }
+    ensures pass { IsPassOf worker.entry.table.now result.pass }
     ensures desk { result.desk ≡ record worker.entry.desk {
       drawn = result.desk.drawn;
       ends_drawn = worker.entry.desk.ends_drawn + 1;
@@ -164,13 +163,13 @@ fn worker_beside<'q, 'a, 't, O: ProbeOrder>(
     number: usize,
     workers: usize,
 ) -> Worker<'q, 'a, 't, O, FreeGate>
-    requires pass { IsPassOf (2 ^ O.exponent table.now.order) table.now pass.old }
+    requires pass { IsPassOf table.now pass.old }
     requires parts { 1 < desk.old.parts }
-    ensures still { IsPassOf (2 ^ O.exponent table.now.order) table.now pass.new }
+    ensures still { IsPassOf table.now pass.new }
     ensures lent { desk.new ≡ record desk.old { parts = desk.old.parts - 1 } }
     ensures desk { result.desk ≡ worker desk.old.queue desk.old.bytes [] }
     ensures table { result.table.now ≡ table.now }
-    ensures pass { IsPassOf (2 ^ O.exponent table.now.order) table.now result.pass }
+    ensures pass { IsPassOf table.now result.pass }
 {
     Worker {
         desk: desk.another(),
@@ -193,7 +192,7 @@ fn draw_ends<R: Abort + Wait, O: ProbeOrder>(
     pass: &mut Pass<O>,
     workers: usize,
 )
-    requires pass { IsPassOf (2 ^ O.exponent table.now.order) table.now pass.old }
+    requires pass { IsPassOf table.now pass.old }
     requires parts { 1 < desk.old.parts }
 {
     for number in 1..workers {

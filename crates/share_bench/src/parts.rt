@@ -1,5 +1,5 @@
 //! The parts of a count that are timed.
-ghost use Rattle.std.specs.Prelude.{◌≡◌, ◌^◌, [], IfOk, IfErr};
+ghost use Rattle.std.specs.Prelude.{◌≡◌, [], IfOk, IfErr};
 ghost use Rattle.slot_table.specs.Passes.{IsPassOf};
 ghost use Rattle.share_bench.specs.Timed.{AreAllGames, actions_of, HaveMoves, IsShareOfAll};
 ghost use Rattle.share_bench.specs.Timed.{IsReadingFault, IsWantOrLarge, IsOfCount};
@@ -88,8 +88,8 @@ pub fn share_all<O: ProbeOrder>(
     pass: &mut Pass<O>,
     jobs: &[Job<'_>],
 ) -> Result<Share, BenchFault>
-    requires { IsPassOf (2 ^ O.exponent table.now.order) table.now pass.old }
-    ensures pass { IsPassOf (2 ^ O.exponent table.now.order) table.now pass.new }
+    requires { IsPassOf table.now pass.old }
+    ensures pass { IsPassOf table.now pass.new }
     ensures share { IfOk result (IsShareOfAll kinds jobs.now) }
     ensures fault { IfErr result IsOfCount }
 {
@@ -107,7 +107,7 @@ pub fn new_table<O: ProbeOrder>(
     alloc: Global,
     order: O,
 ) -> Result<(SlotTable<O>, Pass<O>), BenchFault>
-    ensures pass { IfOk result (λ new. IsPassOf (2 ^ O.exponent order) new.0 new.1) }
+    ensures pass { IfOk result (λ new. IsPassOf new.0 new.1) }
     ensures order { IfOk result (λ new. new.0.order ≡ order) }
     ensures seen { IfOk result (λ new. new.1.seen ≡ []) }
     ensures fault { IfErr result (λ found. found ≡ fault.Count count.Memory) }

@@ -1,5 +1,5 @@
 //! Games dealt to several shares in several ways: always the dictionary that one thread counts.
-ghost use Rattle.std.specs.Prelude.{◌≡◌, ◌<◌, ◌≤◌, ◌^◌, All, IfOk, OnOk, length};
+ghost use Rattle.std.specs.Prelude.{◌≡◌, ◌<◌, ◌≤◌, All, IfOk, OnOk, length};
 ghost use Rattle.shape_core.specs.declared.words.Kinds.TheVariants as kinds;
 ghost use Rattle.slot_table.specs.Passes.{IsPassOf};
 ghost use Rattle.sgf_core.specs.Limit.{most_bytes};
@@ -46,11 +46,11 @@ fn add_one<O: ProbeOrder>(
     game: usize,
     records: &[Record],
 ) -> Result<(), HarvestFault>
-    requires pass { IsPassOf (2 ^ O.exponent table.now.order) table.now pass.old }
+    requires pass { IsPassOf table.now pass.old }
     requires few { length records.now ≤ most_bytes }
     requires game { game < length records.now }
     requires games { All (λ game. game < length records.now) share.old.games }
-    ensures pass { IsPassOf (2 ^ O.exponent table.now.order) table.now pass.new }
+    ensures pass { IsPassOf table.now pass.new }
     ensures kinds { OnOk result (share.new.kinds ≡ share.old.kinds) }
     ensures games { OnOk result (All (λ game. game < length records.now) share.new.games) }
 {
@@ -66,10 +66,10 @@ fn share_of<O: ProbeOrder>(
     dealt: &[usize],
     turn: usize,
 ) -> Result<Share, HarvestFault>
-    requires pass { IsPassOf (2 ^ O.exponent table.now.order) table.now pass.old }
+    requires pass { IsPassOf table.now pass.old }
     requires few { length records.now ≤ most_bytes }
     requires dealt { length dealt.now ≡ length records.now }
-    ensures pass { IsPassOf (2 ^ O.exponent table.now.order) table.now pass.new }
+    ensures pass { IsPassOf table.now pass.new }
     ensures kinds { IfOk result (λ share. share.kinds ≡ kinds.Both) }
     ensures games { IfOk result (λ share. All (λ game. game < length records.now) share.games) }
 {
@@ -97,7 +97,7 @@ fn gather_three<R: Threads + Sync, O: ProbeOrder>(
     records: &[Record],
     dealt: &[usize],
 ) -> Result<Dictionary, HarvestFault>
-    requires pass { IsPassOf (2 ^ O.exponent table.now.order) table.now pass.old }
+    requires pass { IsPassOf table.now pass.old }
     requires few { length records.now ≤ most_bytes }
     requires dealt { length dealt.now ≡ length records.now }
 {
@@ -186,11 +186,10 @@ fn part_of<O: ProbeOrder>(
     dealt: &[usize],
     turn: usize,
 ) -> Result<Part<O>, HarvestFault>
-    requires pass { IsPassOf (2 ^ O.exponent table.now.order) table.now pass }
+    requires pass { IsPassOf table.now pass }
     requires few { length records.now ≤ most_bytes }
     requires dealt { length dealt.now ≡ length records.now }
-    ensures pass { IfOk result (λ part. IsPassOf (2 ^ O.exponent table.now.order) table.now
-        part.pass) }
+    ensures pass { IfOk result (λ part. IsPassOf table.now part.pass) }
     ensures kinds { IfOk result (λ part. part.share.kinds ≡ kinds.Both) }
     ensures games { IfOk result (λ part. All (λ game. game < length records.now) part.share.games) }
 {
@@ -217,12 +216,11 @@ fn two_of<O: ProbeOrder + Send + Sync, R: Threads + Sync>(
     dealt: &[usize],
     turn: usize,
 ) -> Result<Two<O>, HarvestFault>
-    requires pass { IsPassOf (2 ^ O.exponent table.now.order) table.now pass }
+    requires pass { IsPassOf table.now pass }
     requires few { length records.now ≤ most_bytes }
     requires dealt { length dealt.now ≡ length records.now }
     requires turn { turn < 4 }
-    ensures pass { IfOk result (λ two. IsPassOf (2 ^ O.exponent table.now.order) table.now
-        two.pass) }
+    ensures pass { IfOk result (λ two. IsPassOf table.now two.pass) }
     ensures one { IfOk result (λ two. two.one.kinds ≡ kinds.Both) }
     ensures games { IfOk result (λ two. All (λ game. game < length records.now) two.one.games) }
     ensures other { IfOk result (λ two. two.other.kinds ≡ kinds.Both) }
@@ -233,21 +231,19 @@ fn two_of<O: ProbeOrder + Send + Sync, R: Threads + Sync>(
     let (left, right) = thread::join(
         rt,
         move || -> Result<Part<O>, HarvestFault>
-            requires pass { IsPassOf (2 ^ O.exponent table.now.order) table.now pass }
+            requires pass { IsPassOf table.now pass }
             requires few { length records.now ≤ most_bytes }
             requires dealt { length dealt.now ≡ length records.now }
-            ensures pass { IfOk result (λ part. IsPassOf (2 ^ O.exponent table.entry.now.order)
-                table.entry.now part.pass) }
+            ensures pass { IfOk result (λ part. IsPassOf table.entry.now part.pass) }
             ensures kinds { IfOk result (λ part. part.share.kinds ≡ kinds.Both) }
             ensures games { IfOk result (λ part. All (λ game. game < length records.entry.now)
                 part.share.games) }
         { part_of(alloc, table, pass, records, dealt, turn) },
         move || -> Result<Part<O>, HarvestFault>
-            requires pass { IsPassOf (2 ^ O.exponent table.now.order) table.now second }
+            requires pass { IsPassOf table.now second }
             requires few { length records.now ≤ most_bytes }
             requires dealt { length dealt.now ≡ length records.now }
-            ensures pass { IfOk result (λ part. IsPassOf (2 ^ O.exponent table.entry.now.order)
-                table.entry.now part.pass) }
+            ensures pass { IfOk result (λ part. IsPassOf table.entry.now part.pass) }
             ensures kinds { IfOk result (λ part. part.share.kinds ≡ kinds.Both) }
             ensures games { IfOk result (λ part. All (λ game. game < length records.entry.now)
                 part.share.games) }
@@ -271,7 +267,7 @@ fn four_of<O: ProbeOrder + Send + Sync, R: Threads + Sync>(
     records: &[Record],
     dealt: &[usize],
 ) -> Result<Dictionary, HarvestFault>
-    requires pass { IsPassOf (2 ^ O.exponent table.now.order) table.now pass }
+    requires pass { IsPassOf table.now pass }
     requires few { length records.now ≤ most_bytes }
     requires dealt { length dealt.now ≡ length records.now }
 {

@@ -1,6 +1,6 @@
 //! Memory that is refused, whichever request it is: a share has a game or is as before, and a fault
 //! says so.
-ghost use Rattle.std.specs.Prelude.{◌≡◌, ◌++◌, ◌∷◌, [], ◌<◌, ◌^◌, IfSome};
+ghost use Rattle.std.specs.Prelude.{◌≡◌, ◌++◌, ◌∷◌, [], ◌<◌, IfSome};
 ghost use Rattle.std.specs.Bool.{OnTrue};
 ghost use Rattle.shape_core.specs.declared.words.Kinds.TheVariants as kinds;
 ghost use Rattle.slot_table.specs.Passes.{IsPassOf};
@@ -70,9 +70,9 @@ fn add_or_keep<O: ProbeOrder>(
     game: u64,
     record: &Record,
 ) -> bool
-    requires pass { IsPassOf (2 ^ O.exponent table.now.order) table.now pass.old }
+    requires pass { IsPassOf table.now pass.old }
     requires game { game < most_bytes }
-    ensures pass { IsPassOf (2 ^ O.exponent table.now.order) table.now pass.new }
+    ensures pass { IsPassOf table.now pass.new }
     ensures kinds { share.new.kinds ≡ share.old.kinds }
     ensures games { OnTrue result (share.new.games ≡ share.old.games ++ game ∷ []) }
 {
@@ -96,8 +96,8 @@ fn share_of_both<O: ProbeOrder>(
     table: &SlotTable<O>,
     pass: &mut Pass<O>,
 ) -> Option<Share>
-    requires { IsPassOf (2 ^ O.exponent table.now.order) table.now pass.old }
-    ensures pass { IsPassOf (2 ^ O.exponent table.now.order) table.now pass.new }
+    requires { IsPassOf table.now pass.old }
+    ensures pass { IsPassOf table.now pass.new }
     ensures kinds { IfSome result (λ share. share.kinds ≡ kinds.Both) }
     ensures games { IfSome result (λ share. share.games ≡ 1 ∷ 0 ∷ []) }
 {
@@ -127,7 +127,7 @@ fn gather_or_keep<O: ProbeOrder>(
     pass: &mut Pass<O>,
     share: Share,
 ) -> Option<Dictionary>
-    requires pass { IsPassOf (2 ^ O.exponent table.now.order) table.now pass.old }
+    requires pass { IsPassOf table.now pass.old }
     requires kinds { share.kinds ≡ kinds.Both }
     requires games { share.games ≡ 1 ∷ 0 ∷ [] }
 {

@@ -1,5 +1,4 @@
 //! The rows of a share, one after another.
-ghost use Rattle.std.specs.Prelude.{◌^◌};
 ghost use Rattle.slot_table.specs.Passes.{IsPassOf};
 
 use crate::testing::{
@@ -60,7 +59,7 @@ fn share_of_both<O: ProbeOrder>(
     table: &SlotTable<O>,
     pass: &mut Pass<O>,
 ) -> Result<Share, Fail>
-    requires { IsPassOf (2 ^ O.exponent table.now.order) table.now pass.old }
+    requires { IsPassOf table.now pass.old }
 {
     let mut share = Share::begin(alloc, 0, Kinds::Squares);
     let two = refusal_of(alloc, &mut share, table, pass, 1, TWO_POINTS)?;

@@ -1,5 +1,5 @@
 //! Shares seen from outside: small tables, and shares of other tables.
-ghost use Rattle.std.specs.Prelude.{◌<◌, ◌≤◌, ◌^◌};
+ghost use Rattle.std.specs.Prelude.{◌<◌, ◌≤◌};
 ghost use Rattle.slot_table.specs.Passes.{IsPassOf};
 ghost use Rattle.sgf_core.specs.Limit.{most_bytes};
 
@@ -30,10 +30,10 @@ fn gather_two<R: Threads + Sync, O: ProbeOrder>(
     other: u64,
     games: u64,
 ) -> Result<Dictionary, HarvestFault>
-    requires pass { IsPassOf (2 ^ O.exponent table.now.order) table.now pass.old }
+    requires pass { IsPassOf table.now pass.old }
     requires games { games ≤ most_bytes }
     requires other { other < games }
-    ensures { IsPassOf (2 ^ O.exponent table.now.order) table.now pass.new }
+    ensures { IsPassOf table.now pass.new }
 {
     let one = share_of(alloc, table, pass, 0, record)?;
     let other = share_of(alloc, table, pass, other, record)?;

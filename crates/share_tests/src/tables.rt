@@ -1,5 +1,5 @@
 //! The table seen from outside: rows worked by hand, and threads that number the same keys.
-ghost use Rattle.std.specs.Prelude.{◌^◌, All, IfOk};
+ghost use Rattle.std.specs.Prelude.{All, IfOk};
 ghost use Rattle.slot_table.specs.Passes.{IsPassOf};
 
 use probe_core::{Answer, Capacity, Key, Linear, OddStep, ProbeOrder};
@@ -30,7 +30,7 @@ fn number_of(rt: &impl Abort, answer: Answer) -> usize {
 
 /// Two numbers, of which the keys 5 and 6 get the first and the second.
 fn assert_two_numbers<O: ProbeOrder>(rt: &impl Abort, table: &SlotTable<O>, pass: &mut Pass<O>)
-    requires { IsPassOf (2 ^ O.exponent table.now.order) table.now pass.old }
+    requires { IsPassOf table.now pass.old }
 {
     let (five, six, seven) = (key_of(rt, 5), key_of(rt, 6), key_of(rt, 7));
     assert!(rt; table.capacity().slots() == 2);
@@ -184,10 +184,9 @@ fn jobs_of<O: ProbeOrder>(
     pass: &mut Pass<O>,
     count: u8,
 ) -> Result<Vec<Job<O>>, AllocError>
-    requires { IsPassOf (2 ^ O.exponent table.now.order) table.now pass.old }
-    ensures pass { IsPassOf (2 ^ O.exponent table.now.order) table.now pass.new }
-    ensures jobs { IfOk result (λ v. All (λ job. IsPassOf (2 ^ O.exponent table.now.order)
-        table.now job.pass) v.items) }
+    requires { IsPassOf table.now pass.old }
+    ensures pass { IsPassOf table.now pass.new }
+    ensures jobs { IfOk result (λ v. All (λ job. IsPassOf table.now job.pass) v.items) }
 {
     let mut jobs = Vec::new(alloc);
     for first in 0..count {
@@ -200,8 +199,8 @@ fn jobs_of<O: ProbeOrder>(
 /// Enters all keys, from the job's first one on in strides of its own: every key, every second one,
 /// and so on.
 fn enter_all<O: ProbeOrder>(rt: &impl Abort, table: &SlotTable<O>, job: Job<O>) -> Done<O>
-    requires { IsPassOf (2 ^ O.exponent table.now.order) table.now job.pass }
-    ensures { IsPassOf (2 ^ O.exponent table.now.order) table.now result.pass }
+    requires { IsPassOf table.now job.pass }
+    ensures { IsPassOf table.now result.pass }
 {
     let Job { mut pass, first } = job;
     let mut numbers = [0; KEYS];
@@ -218,17 +217,15 @@ fn run_all<O: ProbeOrder + Send + Sync, R: Threads + Abort + Sync>(
     table: &SlotTable<O>,
     jobs: Vec<Job<O>>,
 ) -> Result<Vec<Done<O>>, AllocError>
-    requires { All (λ job. IsPassOf (2 ^ O.exponent table.now.order) table.now job.pass)
-        jobs.items }
-    ensures { IfOk result (λ v. All (λ done. IsPassOf (2 ^ O.exponent table.now.order) table.now
-        done.pass) v.items) }
+    requires { All (λ job. IsPassOf table.now job.pass) jobs.items }
+    ensures { IfOk result (λ v. All (λ done. IsPassOf table.now done.pass) v.items) }
 {
     thread::map_vec(
         rt,
         jobs,
         &|job: Job<O>| -> Done<O>
-            requires { IsPassOf (2 ^ O.exponent table.now.order) table.now job.pass }
-            ensures { IsPassOf (2 ^ O.exponent table.entry.now.order) table.entry.now result.pass }
+            requires { IsPassOf table.now job.pass }
+            ensures { IsPassOf table.entry.now result.pass }
         { enter_all(rt, table, job) },
     )
 }
@@ -240,8 +237,8 @@ fn assert_found<O: ProbeOrder>(
     pass: &mut Pass<O>,
     numbers: &[usize; KEYS],
 )
-    requires { IsPassOf (2 ^ O.exponent table.now.order) table.now pass.old }
-    ensures { IsPassOf (2 ^ O.exponent table.now.order) table.now pass.new }
+    requires { IsPassOf table.now pass.old }
+    ensures { IsPassOf table.now pass.new }
 {
     for key in 0..KEYS {
         let bits = key_of(rt, key as u64);
@@ -254,7 +251,7 @@ fn assert_found<O: ProbeOrder>(
 
 /// How many numbers are free.
 fn free_of<O: ProbeOrder>(table: &SlotTable<O>, pass: &mut Pass<O>) -> usize
-    requires { IsPassOf (2 ^ O.exponent table.now.order) table.now pass.old }
+    requires { IsPassOf table.now pass.old }
 {
     let mut free = 0usize;
     for number in 0..table.capacity().slots() {
@@ -273,9 +270,8 @@ fn assert_read_back<O: ProbeOrder>(
     agreed: &[usize; KEYS],
     mut done: Vec<Done<O>>,
 )
-    requires pass { IsPassOf (2 ^ O.exponent table.now.order) table.now pass }
-    requires done { All (λ done. IsPassOf (2 ^ O.exponent table.now.order) table.now done.pass)
-        done.items }
+    requires pass { IsPassOf table.now pass }
+    requires done { All (λ done. IsPassOf table.now done.pass) done.items }
 {
     let mut all = pass;
     while let Some(other) = done.pop() {
@@ -322,14 +318,13 @@ fn enter_each<O: ProbeOrder + Send + Sync, R: Threads + Abort + Sync>(
     table: &SlotTable<O>,
     jobs: Vec<Job<O>>,
 ) -> Result<Vec<Answer>, AllocError>
-    requires { All (λ job. IsPassOf (2 ^ O.exponent table.now.order) table.now job.pass)
-        jobs.items }
+    requires { All (λ job. IsPassOf table.now job.pass) jobs.items }
 {
     thread::map_vec(
         rt,
         jobs,
         &|job: Job<O>| -> Answer
-            requires { IsPassOf (2 ^ O.exponent table.now.order) table.now job.pass }
+            requires { IsPassOf table.now job.pass }
         {
             let Job { mut pass, first } = job;
             table.enter(&mut pass, key_of(rt, u64::from(first)))
@@ -361,25 +356,23 @@ fn mark_each<O: ProbeOrder + Send + Sync, R: Threads + Sync>(
     table: &SlotTable<O>,
     jobs: Vec<Job<O>>,
 ) -> Result<Vec<Done<O>>, AllocError>
-    requires { All (λ job. IsPassOf (2 ^ O.exponent table.now.order) table.now job.pass)
-        jobs.items }
-    ensures { IfOk result (λ v. All (λ done. IsPassOf (2 ^ O.exponent table.now.order) table.now
-        done.pass) v.items) }
+    requires { All (λ job. IsPassOf table.now job.pass) jobs.items }
+    ensures { IfOk result (λ v. All (λ done. IsPassOf table.now done.pass) v.items) }
 {
     thread::map_vec(
         rt,
         jobs,
         &|job: Job<O>| -> Done<O>
-            requires { IsPassOf (2 ^ O.exponent table.now.order) table.now job.pass }
-            ensures { IsPassOf (2 ^ O.exponent table.entry.now.order) table.entry.now result.pass }
+            requires { IsPassOf table.now job.pass }
+            ensures { IsPassOf table.entry.now result.pass }
         { mark_one(table, job) },
     )
 }
 
 /// Marks number 0 with a game from 41 on.
 fn mark_one<O: ProbeOrder>(table: &SlotTable<O>, job: Job<O>) -> Done<O>
-    requires { IsPassOf (2 ^ O.exponent table.now.order) table.now job.pass }
-    ensures { IsPassOf (2 ^ O.exponent table.now.order) table.now result.pass }
+    requires { IsPassOf table.now job.pass }
+    ensures { IsPassOf table.now result.pass }
 {
     let Job { mut pass, first } = job;
     if table.capacity().slots() > 0 {
@@ -393,8 +386,7 @@ fn mark_one<O: ProbeOrder>(table: &SlotTable<O>, job: Job<O>) -> Done<O>
 
 /// Each pass reads that 41 is the least game at number 0.
 fn assert_least<O: ProbeOrder>(rt: &impl Abort, table: &SlotTable<O>, mut done: Vec<Done<O>>)
-    requires { All (λ done. IsPassOf (2 ^ O.exponent table.now.order) table.now done.pass)
-        done.items }
+    requires { All (λ done. IsPassOf table.now done.pass) done.items }
 {
     assert!(rt; table.capacity().slots() > 0);
     while let Some(other) = done.pop() {

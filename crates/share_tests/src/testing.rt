@@ -1,5 +1,5 @@
 //! What the tests share: games, tables' orders, patterns, and shares.
-ghost use Rattle.std.specs.Prelude.{◌≡◌, ◌<◌, ◌^◌, ◌∷◌, [], IfOk};
+ghost use Rattle.std.specs.Prelude.{◌≡◌, ◌<◌, ◌∷◌, [], IfOk};
 ghost use Rattle.shape_core.specs.declared.words.Kinds.TheVariants as kinds;
 ghost use Rattle.slot_table.specs.Passes.{IsPassOf};
 ghost use Rattle.sgf_core.specs.Limit.{most_bytes};
@@ -70,9 +70,9 @@ pub(crate) fn share_of<O: ProbeOrder>(
     game: u64,
     record: &Record,
 ) -> Result<Share, HarvestFault>
-    requires pass { IsPassOf (2 ^ O.exponent table.now.order) table.now pass.old }
+    requires pass { IsPassOf table.now pass.old }
     requires game { game < most_bytes }
-    ensures pass { IsPassOf (2 ^ O.exponent table.now.order) table.now pass.new }
+    ensures pass { IsPassOf table.now pass.new }
     ensures kinds { IfOk result (λ share. share.kinds ≡ kinds.Squares) }
     ensures games { IfOk result (λ share. share.games ≡ game ∷ []) }
 {
@@ -88,8 +88,8 @@ pub(crate) fn first_share<O: ProbeOrder>(
     pass: &mut Pass<O>,
     bytes: &[u8],
 ) -> Result<Share, Fail>
-    requires { IsPassOf (2 ^ O.exponent table.now.order) table.now pass.old }
-    ensures pass { IsPassOf (2 ^ O.exponent table.now.order) table.now pass.new }
+    requires { IsPassOf table.now pass.old }
+    ensures pass { IsPassOf table.now pass.new }
     ensures kinds { IfOk result (λ share. share.kinds ≡ kinds.Squares) }
     ensures games { IfOk result (λ share. share.games ≡ 0 ∷ []) }
 {
@@ -107,9 +107,9 @@ pub(crate) fn refusal_of<O: ProbeOrder>(
     game: u64,
     bytes: &[u8],
 ) -> Result<Option<HarvestFault>, Fail>
-    requires pass { IsPassOf (2 ^ O.exponent table.now.order) table.now pass.old }
+    requires pass { IsPassOf table.now pass.old }
     requires game { game < most_bytes }
-    ensures { IsPassOf (2 ^ O.exponent table.now.order) table.now pass.new }
+    ensures { IsPassOf table.now pass.new }
 {
     let record = record_of(alloc, bytes).ok_or("no record")?;
     Ok(share.add(table, pass, game, &record).err())

@@ -1,6 +1,5 @@
-use Rattle.std.proofs.Common.{◌^◌}
 use Rattle.slot_table.specs.Passes.{IsPassOf}
 use Rattle.share_tests.proofs.tables.assert_found.Given as goal
 
 abbrev pub invariant-loop-key : goal.invariant-loop-key
-invariant-loop-key g l = IsPassOf (2 ^ g.O.ProbeOrder.exponent l.table.order) l.table l.pass
+invariant-loop-key g l = IsPassOf l.table l.pass
