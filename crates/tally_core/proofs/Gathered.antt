@@ -1,24 +1,22 @@
 -- The entries of a map in which games were counted are those of the dictionary of these games.
-use Rattle.std.proofs.Common.{◌≡◌, ℕ, ◌<◌, nat_lt, Bool, true, false, cond, List, map, length, Some, None, refl, ap, sym, subst, ◌∙◌, arith, All}
-use Rattle.std.specs.BTreeMap.{BTreeMap}
+use Rattle.std.proofs.Common.{◌≡◌, ℕ, ◌<◌, nat_lt, Bool, true, false, cond, List, length, Option, Some, None, refl, ap, sym, subst, ◌∙◌, arith, All}
 use Rattle.std.specs.List.Sorted.{IsStrictlyIncreasing}
 use Rattle.std.proofs.lemmas.Bool.Decides.{nat_tests}
 use Rattle.shape_core.specs.declared.words.Kinds.{Kinds}
 use Rattle.shape_dict.specs.declared.entries.Entry.{Entry}
-use Rattle.shape_dict.specs.Contents.{entry_of, IsDictionary}
+use Rattle.shape_dict.specs.Contents.{IsDictionary}
 use Rattle.tally_core.specs.declared.counters.Count.{Count}
 use Rattle.tally_core.specs.declared.dictionaries.FirstGames.TheVariants as first_games
 use Rattle.tally_core.specs.Counts.{Replayed, kinds_of, there_in}
-use Rattle.tally_core.specs.Inner.Counter.{count_in, CountsGames}
+use Rattle.tally_core.specs.Inner.Counter.{CountsGames}
 use Rattle.tally_core.specs.Games.{there_sum, played_sum, counts_diamonds, IsDictionaryOf}
 use Rattle.tally_core.specs.Entries.{IsShape}
-use Rattle.tally_core.specs.Inner.Entries.{entry_of_pair}
+use Rattle.tally_core.specs.Inner.Entries.{entered, AreEntered}
 use Rattle.tally_core.proofs.RisingEntries.{shapes_of}
 use Rattle.tally_core.proofs.CountedEntries.{AreCounted}
 use Rattle.tally_core.proofs.PlayedPatterns.{CanonicalStays, AroundStays}
 use Rattle.tally_core.proofs.RisingDictionary.{is_dictionary}
 use Rattle.tally_core.proofs.Games.{first_of, first-some}
-use Rattle.tally_core.proofs.Lookups.{entered, entry_of-pairs}
 
 -- ---- the entry of a pattern
 entered_numbers : (shape there played first games : ℕ) → (0 < there → first < games) →
@@ -37,19 +35,18 @@ entered_numbers shape there played first games inside =
       | false ↦ λ none. refl
     ] refl
 
-of_map : (kinds : Kinds) (games : List Replayed) (counts : BTreeMap ℕ Count) (moves : ℕ) (entries : List Entry) → entries ≡ map (entry_of_pair first_games.Kept) counts.entries →
-    CountsGames kinds games (count_in counts) moves → AreCounted kinds games entries
+of_map : (kinds : Kinds) (games : List Replayed) (counts : ℕ → Option Count) (moves : ℕ) (entries : List Entry) → AreEntered first_games.Kept counts entries →
+    CountsGames kinds games counts moves → AreCounted kinds games entries
 unfolding first_of
 of_map kinds games counts moves entries same h shape =
     let there = λ (game : Replayed). there_in (kinds_of kinds) game shape in
-    ap (entry_of shape) same
-    ∙ entry_of-pairs first_games.Kept shape counts.entries
+    same shape
     ∙ ap (entered first_games.Kept shape) (h.counted shape)
     ∙ entered_numbers shape (there_sum kinds games shape) (played_sum kinds games shape) (first_of there games) (length games) (first-some there games)
 
 -- ---- the dictionary
-exact : CanonicalStays → AroundStays → (kinds : Kinds) (games : List Replayed) (moves : ℕ) (counts : BTreeMap ℕ Count) (entries : List Entry) →
-    entries ≡ map (entry_of_pair first_games.Kept) counts.entries → All IsShape entries → IsStrictlyIncreasing (shapes_of entries) → CountsGames kinds games (count_in counts) moves →
+exact : CanonicalStays → AroundStays → (kinds : Kinds) (games : List Replayed) (moves : ℕ) (counts : ℕ → Option Count) (entries : List Entry) →
+    AreEntered first_games.Kept counts entries → All IsShape entries → IsStrictlyIncreasing (shapes_of entries) → CountsGames kinds games counts moves →
     IsDictionaryOf kinds games (record { games = length games; moves = moves; entries = entries; counts_diamonds = counts_diamonds kinds })
 exact canonical around kinds games moves counts entries same shapes rises h =
     let counted = of_map kinds games counts moves entries same h in
@@ -63,9 +60,9 @@ exact canonical around kinds games moves counts entries same shapes rises h =
     }
 
 -- the dictionary of games, from the map in which they were counted
-pub gathered : CanonicalStays → AroundStays → (kinds : Kinds) (replayed : List Replayed) (games moves : ℕ) (counts : BTreeMap ℕ Count) (entries : List Entry) (diamonds : Bool) →
-    entries ≡ map (entry_of_pair first_games.Kept) counts.entries → All IsShape entries → IsStrictlyIncreasing (shapes_of entries) → diamonds ≡ counts_diamonds kinds →
-    length replayed ≡ games → CountsGames kinds replayed (count_in counts) moves →
+pub gathered : CanonicalStays → AroundStays → (kinds : Kinds) (replayed : List Replayed) (games moves : ℕ) (counts : ℕ → Option Count) (entries : List Entry) (diamonds : Bool) →
+    AreEntered first_games.Kept counts entries → All IsShape entries → IsStrictlyIncreasing (shapes_of entries) → diamonds ≡ counts_diamonds kinds →
+    length replayed ≡ games → CountsGames kinds replayed counts moves →
     IsDictionaryOf kinds replayed (record { games = games; moves = moves; entries = entries; counts_diamonds = diamonds })
 gathered canonical around kinds replayed games moves counts entries diamonds same shapes rises judged numbered h =
     subst (λ b. IsDictionaryOf kinds replayed (record { games = games; moves = moves; entries = entries; counts_diamonds = b })) (sym judged)

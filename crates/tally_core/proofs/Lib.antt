@@ -17,6 +17,7 @@ pub mod Rows
 pub mod Among
 pub mod Entered
 pub mod Lookups
+pub mod InOrder
 pub mod Games
 pub mod DoubleCounting
 pub mod PlayedPatterns
@@ -27,3 +28,6 @@ pub mod Gathered
 pub mod PlayedThere
 pub mod PutTogether
 pub mod Trees
+pub mod MorePatterns
+pub mod RowLookups
+pub mod Ways

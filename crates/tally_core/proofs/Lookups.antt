@@ -1,9 +1,7 @@
 -- What a list of entries has of a pattern, and what a map has.
-use Rattle.std.proofs.Common.{◌≡◌, ℕ, zero, suc, ◌≤◌, ◌==◌, nat_lt, true, false, cond, List, [], ◌∷◌, map, All, Option, Some, None, refl, ap, sym, ◌∙◌, arith}
-use Rattle.std.specs.Ordering.{nat_cmp, is_eq}
+use Rattle.std.proofs.Common.{◌≡◌, ℕ, zero, suc, ◌≤◌, ◌==◌, nat_eq, nat_lt, true, false, cond, List, [], ◌∷◌, map, All, Option, Some, None, refl, ap, sym, ◌∙◌, arith}
 use Rattle.std.specs.List.Sorted.{IsStrictlyIncreasing}
 use Rattle.std.specs.Map.{lookup}
-use Rattle.std.specs.BTreeMap.{BTreeMap, is_at}
 use Rattle.std.proofs.Math.Dec.{leb-zero, leb-suc-suc}
 use Rattle.std.proofs.lemmas.Bool.Decides.{nat_tests}
 use Rattle.shape_core.specs.declared.words.Kind.{Kind}
@@ -17,19 +15,14 @@ use Rattle.shape_dict.specs.Contents.{entry_of}
 use Rattle.tally_core.specs.declared.counters.Count.{Count}
 use Rattle.tally_core.specs.declared.dictionaries.FirstGames.{FirstGames}
 use Rattle.tally_core.specs.declared.dictionaries.FirstGames.TheVariants as first_games
-use Rattle.tally_core.specs.Inner.Counter.{used_again, count_in, CountsGame}
-use Rattle.tally_core.specs.Inner.Entries.{entry_of_pair}
-
--- the entry of a pattern with this count
-unfoldable pub entered : FirstGames → ℕ → Option Count → Option Entry
-entered firsts shape None = None
-entered firsts shape (Some count) = Some (entry_of_pair firsts (shape, count))
-
-test_same : (a b : ℕ) → is_eq (nat_cmp a b) ≡ (b == a)
-test_same a b = Prim.grind (arith, nat_tests)
+use Rattle.tally_core.specs.Inner.Counter.{used_again, CountsGame}
+use Rattle.tally_core.specs.Inner.Entries.{entry_of_pair, entered, AreEntered}
 
 test_tells : (a b : ℕ) → (a == b) ≡ true → a ≡ b
 test_tells a b h = Prim.grind (arith, nat_tests)
+
+test_flips : (a b : ℕ) → (a == b) ≡ (b == a)
+test_flips a b = Prim.grind (arith, nat_tests)
 
 -- the entry of a pattern that was there and played so often in a game counted alone
 tallied_numbers : (shape there played : ℕ) → played ≤ there → entered first_games.LeftOut shape (used_again 0 there played None)
@@ -39,17 +32,17 @@ tallied_numbers shape zero zero among = refl
 tallied_numbers shape zero (suc played) among = absurd (omega arith)
 tallied_numbers shape (suc there) played among = sym (ap (λ b. cond b (Some (record { shape = shape; there = suc there; played = played; first = None })) None) (leb-suc-suc 0 there ∙ leb-zero there))
 
-pub entry_of-pairs : (firsts : FirstGames) (shape : ℕ) (pairs : List (ℕ × Count)) → entry_of shape (map (entry_of_pair firsts) pairs) ≡ entered firsts shape (lookup (is_at (nat_cmp shape)) pairs)
+pub entry_of-pairs : (firsts : FirstGames) (shape : ℕ) (pairs : List (ℕ × Count)) → entry_of shape (map (entry_of_pair firsts) pairs) ≡ entered firsts shape (lookup (nat_eq shape) pairs)
 unfolding entered
 entry_of-pairs firsts shape [] = refl
 entry_of-pairs firsts shape (pair ∷ pairs) =
     elim (pair.0 == shape) as (λ b. (pair.0 == shape) ≡ b →
     cond b (Some (entry_of_pair firsts pair)) (entry_of shape (map (entry_of_pair firsts) pairs))
-    ≡ entered firsts shape (cond (is_at (nat_cmp shape) pair.0) (Some pair.1) (lookup (is_at (nat_cmp shape)) pairs))) [
+    ≡ entered firsts shape (cond (shape == pair.0) (Some pair.1) (lookup (nat_eq shape) pairs))) [
       | true ↦ λ same. ap (λ key. Some (entry_of_pair firsts (key, pair.1))) (test_tells pair.0 shape same)
-          ∙ sym (ap (λ b. entered firsts shape (cond b (Some pair.1) (lookup (is_at (nat_cmp shape)) pairs))) (test_same shape pair.0 ∙ same))
+          ∙ sym (ap (λ b. entered firsts shape (cond b (Some pair.1) (lookup (nat_eq shape) pairs))) (test_flips shape pair.0 ∙ same))
       | false ↦ λ other. entry_of-pairs firsts shape pairs
-          ∙ sym (ap (λ b. entered firsts shape (cond b (Some pair.1) (lookup (is_at (nat_cmp shape)) pairs))) (test_same shape pair.0 ∙ other))
+          ∙ sym (ap (λ b. entered firsts shape (cond b (Some pair.1) (lookup (nat_eq shape) pairs))) (test_flips shape pair.0 ∙ other))
     ] refl
 
 -- what a pattern counts in a game that is counted alone
@@ -59,20 +52,19 @@ unfolding entered
 tallied kinds game shape among = tallied_numbers shape (there_in kinds game shape) (played_in kinds game shape) among
 
 -- the entries of a map in which one game was counted are those of its tally
-pub tally_entries : (kinds : Kinds) (game : Actions) (none counts : BTreeMap ℕ Count) (moves : ℕ) (entries : List Entry) →
-    none.entries ≡ [] → entries ≡ map (entry_of_pair first_games.LeftOut) counts.entries → (counted : CountsGame kinds game 0 (count_in none) (count_in counts) moves) →
+tally_entries : (kinds : Kinds) (game : Actions) (none counts : ℕ → Option Count) (moves : ℕ) (entries : List Entry) →
+    ((shape : ℕ) → none shape ≡ None) → AreEntered first_games.LeftOut counts entries → (counted : CountsGame kinds game 0 none counts moves) →
     (shape : ℕ) → entry_of shape entries ≡ tallied_entry (kinds_of kinds) (record { size = game.size; occasions = counted.occasions }) shape
-unfolding entered
 tally_entries kinds game none counts moves entries empty same counted shape =
     let replayed : Replayed = record { size = game.size; occasions = counted.occasions } in
     let k = kinds_of kinds in
-    ap (entry_of shape) same ∙ entry_of-pairs first_games.LeftOut shape counts.entries
-    ∙ ap (entered first_games.LeftOut shape) (counted.counted shape ∙ ap (λ pairs. used_again 0 (there_in k replayed shape) (played_in k replayed shape) (lookup (is_at (nat_cmp shape)) pairs)) empty)
+    same shape
+    ∙ ap (entered first_games.LeftOut shape) (counted.counted shape ∙ ap (used_again 0 (there_in k replayed shape) (played_in k replayed shape)) (empty shape))
     ∙ tallied k replayed shape (counted.among shape)
 
 -- so they are its tally
-pub counted_tally : (kinds : Kinds) (game : Actions) (none counts : BTreeMap ℕ Count) (moves : ℕ) (entries : List Entry) →
-    none.entries ≡ [] → entries ≡ map (entry_of_pair first_games.LeftOut) counts.entries → CountsGame kinds game 0 (count_in none) (count_in counts) moves →
+pub counted_tally : (kinds : Kinds) (game : Actions) (none counts : ℕ → Option Count) (moves : ℕ) (entries : List Entry) →
+    ((shape : ℕ) → none shape ≡ None) → AreEntered first_games.LeftOut counts entries → CountsGame kinds game 0 none counts moves →
     All IsShape entries → IsStrictlyIncreasing (map (λ entry. entry.shape) entries) → IsTally kinds game (record { moves = moves; entries = entries })
 counted_tally kinds game none counts moves entries empty same counted shapes rises = record {
   occasions = counted.occasions;

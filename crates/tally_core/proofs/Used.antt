@@ -1,8 +1,6 @@
 -- Patterns that are counted one after another.
 use Rattle.std.proofs.Common.{◌≡◌, ℕ, zero, suc, ◌+◌, ◌<◌, ◌≤◌, ◌==◌, true, false, List, ◌++◌, Option, Some, None, refl, ap, ap₂, sym, ◌∙◌, cond, arith, subst, zero-add, add-zero, add_assoc}
 use Rattle.std.specs.Prelude.{Result, Ok, Err, IsErrAnd, IfErr}
-use Rattle.std.specs.Ordering.{nat_cmp}
-use Rattle.std.specs.BTreeMap.{is_at}
 use Rattle.std.proofs.lemmas.Bool.Decides.{nat_tests}
 use Rattle.std.proofs.lemmas.List.Sums.{sum_by-append}
 use Rattle.tally_core.specs.declared.counters.Count.{Count}
@@ -57,19 +55,29 @@ fault-later fault.Overflow few most a b h k = (k.0, omega (arith, h k.0, k.1))
 fault-later (fault.BadSettings) few most a b h k = k
 fault-later (fault.Sgf found) few most a b h k = k
 
-at_test : (a b : ℕ) → is_at (nat_cmp a) b ≡ (a == b)
-at_test a b = Prim.grind (arith, nat_tests)
-
 -- a pattern that had no count was there and was played this often
 pub used_first : (game only there played : ℕ) (a b : ℕ → Option Count) → 0 < there + played → a only ≡ None →
-    ((q : ℕ) → b q ≡ cond (is_at (nat_cmp only) q) (Some (record { there = there; played = played; first = game })) (a q)) →
+    ((q : ℕ) → b q ≡ cond (only == q) (Some (record { there = there; played = played; first = game })) (a q)) →
     AreCounts (used game (one_pattern only there) (one_pattern only played) a) b
 used_first game only there played a b some none updated q =
     let new : Option Count = Some (record { there = there; played = played; first = game }) in
     elim (only == q) as (λ t. (only == q) ≡ t → b q ≡ used_again game (cond t there 0) (cond t played 0) (a q)) [
       | true ↦ λ same.
-          updated q ∙ ap (λ t. cond t new (a q)) (at_test only q ∙ same)
+          updated q ∙ ap (λ t. cond t new (a q)) same
           ∙ sym (first_used-some game there played some)
           ∙ ap (used_again game there played) (sym none ∙ ap a (Prim.grind (arith, nat_tests)))
-      | false ↦ λ other. updated q ∙ ap (λ t. cond t new (a q)) (at_test only q ∙ other) ∙ sym (again-none game (a q))
+      | false ↦ λ other. updated q ∙ ap (λ t. cond t new (a q)) other ∙ sym (again-none game (a q))
+    ] refl
+
+-- a pattern that had a count was there and was played this often again
+pub used_more : (game only there played : ℕ) (count : Count) (a b : ℕ → Option Count) → a only ≡ Some count →
+    ((q : ℕ) → b q ≡ cond (only == q) (Some (record count { there = count.there + there; played = count.played + played })) (a q)) →
+    AreCounts (used game (one_pattern only there) (one_pattern only played) a) b
+used_more game only there played count a b is updated q =
+    let new : Option Count = Some (record count { there = count.there + there; played = count.played + played }) in
+    elim (only == q) as (λ t. (only == q) ≡ t → b q ≡ used_again game (cond t there 0) (cond t played 0) (a q)) [
+      | true ↦ λ same.
+          updated q ∙ ap (λ t. cond t new (a q)) same
+          ∙ ap (used_again game there played) (sym is ∙ ap a (Prim.grind (arith, nat_tests)))
+      | false ↦ λ other. updated q ∙ ap (λ t. cond t new (a q)) other ∙ sym (again-none game (a q))
     ] refl

@@ -1,6 +1,6 @@
 -- What a collection is counted as: the dictionary of its games, and how many of its trees are games, are of other games,
 -- and have a fault.
-use Rattle.std.specs.Prelude.{◌≡◌, ℕ, ◌<◌, ◌≤◌, List, length, map}
+use Rattle.std.specs.Prelude.{◌≡◌, ◌≢◌, ℕ, ◌<◌, ◌≤◌, List, length, map, All, AllPairs}
 use Rattle.sgf_core.specs.Tree.{GameTree}
 use Rattle.sgf_core.specs.Next.{HasNoTree}
 use Rattle.sgf_core.specs.Reading.{IsFaultAt}
@@ -8,7 +8,7 @@ use Rattle.sgf_core.specs.declared.faults.SgfFault.{SgfFault}
 use Rattle.sgf_core.specs.declared.faults.SgfFault.TheVariants as sgf
 use Rattle.shape_core.specs.declared.words.Kinds.{Kinds}
 use Rattle.tally_core.specs.Counts.{Replayed}
-use Rattle.tally_core.specs.Games.{IsDictionaryOf}
+use Rattle.tally_core.specs.Games.{there_sum, IsDictionaryOf}
 use Rattle.tally_core.specs.Collection.{AreTrees, record_of_tree, games_among, others_among, refused_among, AreReplayed}
 use Rattle.tally_core.specs.declared.collections.Counted.{Counted}
 use Rattle.tally_core.specs.declared.reports.Report.{Report}
@@ -33,6 +33,18 @@ pub record IsCounted (kinds : Kinds) (bytes : List ℕ) (counted : Counted) : Ty
   pub replayed : AreReplayed (games_among (map record_of_tree trees)) games
   pub dictionary : IsDictionaryOf kinds games counted.dictionary
   pub reported : IsReport trees counted.report
+
+-- the games of some of the input's trees, from the first on, have more patterns than this: so many different ones
+pub record HasMore (kinds : Kinds) (bytes : List ℕ) (most : ℕ) : Type 0 where
+  pub trees : List GameTree
+  pub end : ℕ
+  pub games : List Replayed
+  pub written : AreTrees bytes 0 trees end
+  pub replayed : AreReplayed (games_among (map record_of_tree trees)) games
+  pub shapes : List ℕ
+  pub more : most < length shapes
+  pub different : AllPairs (λ one other. one ≢ other) shapes
+  pub there : All (λ shape. 0 < there_sum kinds games shape) shapes
 
 -- after trees that can be read, the next one has this fault of syntax
 pub record HasFault (bytes : List ℕ) (found : SgfFault) : Type 0 where

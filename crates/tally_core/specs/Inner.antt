@@ -3,6 +3,7 @@ pub mod Blank
 pub mod Counter
 pub mod Counting
 pub mod Entries
+pub mod Index
 pub mod Meeting
 pub mod Place
 pub mod Sight

@@ -1,7 +1,7 @@
 //! A whole collection, counted on one thread.
-ghost use Rattle.std.specs.Prelude.{◌≡◌, ◌^◌, ◌<◌, length, IfOk, IfErr};
+ghost use Rattle.std.specs.Prelude.{◌≡◌, ◌^◌, ◌<◌, length, IfOk, IfErr, IfSome, IfNone};
 ghost use Rattle.sgf_core.specs.declared.faults.SgfFault.TheVariants as sgf;
-ghost use Rattle.tally_core.specs.Counted.{IsCounted, IsCountFault};
+ghost use Rattle.tally_core.specs.Counted.{IsCounted, HasMore, IsCountFault};
 ghost use Rattle.tally_core.specs.declared.faults.TallyFault.TheVariants as fault;
 ghost use Rattle.sgf_core.specs.Limit.{most_bytes};
 
@@ -24,10 +24,52 @@ pub struct Counted {
     pub report: Report,
 }
 
-/// Counts a whole collection on one thread, in an ordered map: the dictionary of its games, which
-/// are numbered from 0 in their order, and how many of its trees are games, are of other games, and
-/// are refused. `kinds` says which kinds of pattern are counted. It takes memory for the largest
-/// tree and its record, for the board, and for each pattern.
+/// As many patterns as this many bytes mostly have at most, but no more than are counted. A move
+/// takes six bytes, and brings some eight patterns that the collection has not had yet.
+fn likely_patterns(bytes: usize, most: usize) -> usize {
+    (bytes / 2).saturating_mul(3).min(most).min(1 << 22)
+}
+
+/// Counts a whole collection on one thread, unless it has more patterns than `most`: then it is
+/// None, at the first tree with which there are. It is the dictionary of the games, which are
+/// numbered from 0 in their order, and how many of the trees are games, are of other games, and are
+/// refused. `kinds` says which kinds of pattern are counted. It takes memory for the largest tree
+/// and its record, for the board, and for each pattern.
+///
+/// # Errors
+///
+/// `TallyFault::Sgf` with S4 where there are more than 2^28 bytes, else with the first fault of
+/// syntax in what was read; `TallyFault::Memory` where memory was refused. `TallyFault::Overflow`
+/// does not come: no count of an input that is not too large passes 2^64 - 1.
+pub fn count_within(
+    alloc: Global,
+    kinds: Kinds,
+    most: usize,
+    bytes: &[u8],
+) -> Result<Option<Counted>, TallyFault>
+    ensures counted { IfOk result (λ found. IfSome found (IsCounted kinds bytes.now)) }
+    ensures more { IfOk result (λ found. IfNone found (HasMore kinds bytes.now most)) }
+    ensures few { IfOk result (λ found. IfNone found (most < 2 ^ 63)) }
+    ensures fault { IfErr result (IsCountFault bytes.now) }
+    ensures large { most_bytes < length bytes.now
+        → IfErr result (λ found. found ≡ fault.Sgf sgf.TooLarge) }
+{
+    let mut trees = Trees::new(bytes).map_err(TallyFault::Sgf)?;
+    let mut counter = Counter::new(alloc, likely_patterns(bytes.len(), most));
+    let mut walk = Walk::begin(alloc, kinds);
+    let all = count_trees(alloc, &mut walk, &mut counter, &mut trees, most)?;
+    if !all {
+        return Ok(None);
+    }
+    let report = counter.report;
+    let dictionary = dictionary_of(alloc, kinds, report.games, counter.moves, &counter.counts)?;
+    Ok(Some(Counted { dictionary, report }))
+}
+
+/// Counts a whole collection on one thread: the dictionary of its games, which are numbered from 0
+/// in their order, and how many of its trees are games, are of other games, and are refused.
+/// `kinds` says which kinds of pattern are counted. It takes memory for the largest tree and its
+/// record, for the board, and for each pattern.
 ///
 /// # Errors
 ///
@@ -40,11 +82,7 @@ pub fn count_plain(alloc: Global, kinds: Kinds, bytes: &[u8]) -> Result<Counted,
     ensures large { most_bytes < length bytes.now
         → IfErr result (λ found. found ≡ fault.Sgf sgf.TooLarge) }
 {
-    let mut trees = Trees::new(bytes).map_err(TallyFault::Sgf)?;
-    let mut counter = Counter::new(alloc);
-    let mut walk = Walk::begin(alloc, kinds);
-    count_trees(alloc, &mut walk, &mut counter, &mut trees)?;
-    let report = counter.report;
-    let dictionary = dictionary_of(alloc, kinds, report.games, counter.moves, &counter.counts)?;
-    Ok(Counted { dictionary, report })
+    // No map has so many patterns.
+    let counted = count_within(alloc, kinds, usize::MAX, bytes)?;
+    Ok(counted.unwrap())
 }

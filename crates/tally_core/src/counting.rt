@@ -9,26 +9,26 @@ ghost use Rattle.go_record.specs.declared.faults.RecordFault.TheVariants as reco
 ghost use Rattle.go_record.specs.Adding.{IsRecordOrMemory};
 ghost use Rattle.tally_core.specs.Collection.{record_of_tree};
 ghost use Rattle.tally_core.specs.Inner.Counting.{CountsTrees, IsWithin, IsSmallTree, CountsAll};
+ghost use Rattle.tally_core.specs.Inner.Counting.{CountsMore};
+ghost use Rattle.std.specs.Bool.{OnTrue, OnFalse};
 ghost use Rattle.tally_core.specs.Inner.Counting.{IsNextFault, IsKept, actions_in, TakesMemory};
 ghost use Rattle.tally_core.specs.Counted.{IsCountFault};
 ghost use Rattle.tally_core.specs.declared.faults.TallyFault.TheVariants as harvest_fault;
 ghost use Rattle.sgf_core.specs.Limit.{most_bytes};
 
-use crate::counters::Count;
+use crate::counts::Counts;
 use crate::faults::TallyFault;
 use crate::replays::count_game;
 use crate::reports::Report;
 use crate::walks::Walk;
 use go_record::{Kind, Record, RecordFault, few_actions, read_record};
 use sgf_core::{SgfFault, Tree, Trees, few_values};
-use shape_core::Shape;
 use std::alloc::Global;
-use std::collections::BTreeMap;
 
 /// What was counted of the part of a collection that was read.
 #[derive(Drop)]
 pub struct Counter {
-    pub counts: BTreeMap<Shape, Count>,
+    pub counts: Counts,
     pub moves: u64,
     pub report: Report,
 }
@@ -38,8 +38,8 @@ impl Counter {
     ghost use Rattle.shape_core.specs.declared.words.Kinds.{Kinds};
     ghost use Rattle.tally_core.specs.Inner.Counting.{CountsTrees, IsWithin};
 
-    /// Nothing was counted yet. It takes no memory.
-    pub fn new(alloc: Global) -> Counter
+    /// Nothing was counted yet. There is room for this many patterns, where there is memory for it.
+    pub fn new(alloc: Global, patterns: usize) -> Counter
         ensures counted { (kinds : Kinds) → CountsTrees kinds [] result }
         ensures within { IsWithin 0 result }
     {
@@ -49,7 +49,7 @@ impl Counter {
             refused: 0,
         };
         Counter {
-            counts: BTreeMap::new(alloc),
+            counts: Counts::with_room(alloc, patterns),
             moves: 0,
             report,
         }
@@ -164,28 +164,35 @@ fn next<'a>(alloc: Global, trees: &mut Trees<'a>) -> Result<Option<Tree<'a>>, Ta
     }
 }
 
-/// Counts all trees of an input. Want of memory is answered only where the reader met no fault of
-/// syntax.
+/// Counts all trees of an input, unless there are more patterns than `most`: it stops at the first
+/// tree with which there are, and the answer is whether all were counted. Want of memory is
+/// answered only where the reader met no fault of syntax.
 pub(crate) fn count_trees(
     alloc: Global,
     walk: &mut Walk,
     counter: &mut Counter,
     trees: &mut Trees<'_>,
-) -> Result<(), TallyFault>
+    most: usize,
+) -> Result<bool, TallyFault>
     requires small { length trees.old.bytes ≤ most_bytes }
     requires begins { trees.old.from ≡ 0 }
     requires no_fault { trees.old.fault ≡ None }
     requires none { CountsTrees walk.old.kinds [] counter.old }
     requires within { IsWithin 0 counter.old }
-    ensures counted { OnOk result (CountsAll walk.old.kinds trees.old.bytes counter.new) }
-    ensures within { OnOk result (IsWithin (most_bytes) counter.new) }
+    ensures counted { IfOk result (λ all. OnTrue all
+        (CountsAll walk.old.kinds trees.old.bytes counter.new)) }
+    ensures more { IfOk result (λ all. OnFalse all
+        (CountsMore walk.old.kinds trees.old.bytes most counter.new)) }
     ensures fault { IfErr result (IsCountFault trees.old.bytes) }
     ensures kept { IfErr result (λ found. IsKept found trees.new.fault) }
 {
     // The main line of a tree has fewer values than the tree has bytes.
     few_values();
-    while let Some(tree) = next(alloc, trees)? {
+    'tree: while counter.counts.rows().len() <= most {
+        let Some(tree) = next(alloc, trees)? else {
+            return Ok(true);
+        };
         count_tree(alloc, walk, counter, &tree)?;
     }
-    Ok(())
+    Ok(false)
 }

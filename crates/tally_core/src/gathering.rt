@@ -5,13 +5,12 @@ ghost use Rattle.tally_core.specs.Inner.Counter.{count_in, CountsGames};
 ghost use Rattle.tally_core.specs.Games.{counts_diamonds, IsDictionaryOf};
 ghost use Rattle.tally_core.specs.declared.faults.TallyFault.TheVariants as fault;
 
-use crate::counters::Count;
+use crate::counts::Counts;
 use crate::dictionaries::{FirstGames, entries_of};
 use crate::faults::TallyFault;
-use shape_core::{Kinds, Shape, kinds_stay};
+use shape_core::{Kinds, kinds_stay};
 use shape_dict::Dictionary;
 use std::alloc::Global;
-use std::collections::BTreeMap;
 
 /// Whether diamonds are among these kinds.
 pub fn has_diamonds(kinds: Kinds) -> bool
@@ -30,7 +29,7 @@ pub(crate) fn dictionary_of(
     kinds: Kinds,
     games: u64,
     moves: u64,
-    counts: &BTreeMap<Shape, Count>,
+    counts: &Counts,
 ) -> Result<Dictionary, TallyFault>
     requires counted { (replayed : List Replayed) × (length replayed ≡ games)
         × CountsGames kinds replayed (count_in counts.now) moves }

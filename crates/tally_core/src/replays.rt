@@ -3,33 +3,28 @@ ghost use Rattle.std.specs.Prelude.{◌≡◌, ◌*◌, ◌≤◌, length, IfOk,
 ghost use Rattle.tally_core.specs.Inner.Counter.{count_in, CountsGame, CountsMeetings, IsMeetingsFault};
 ghost use Rattle.tally_core.specs.Inner.Counter.{GrowsBy, IsCountingFault};
 
-use crate::counters::{Count, add};
+use crate::counts::Counts;
 use crate::faults::TallyFault;
 use crate::meetings::Meeting;
 use crate::walks::Walk;
 use go_record::Record;
-use shape_core::Shape;
-use std::collections::BTreeMap;
 
 /// Counts what was met in a game.
-fn count_meetings(
-    counts: &mut BTreeMap<Shape, Count>,
-    meetings: &[Meeting],
-    game: u64,
-) -> Result<(), TallyFault>
+fn count_meetings(counts: &mut Counts, meetings: &[Meeting], game: u64) -> Result<(), TallyFault>
     ensures ok { OnOk result
         (CountsMeetings game meetings.now (count_in counts.old) (count_in counts.new)) }
     ensures fault { IfErr result (IsMeetingsFault game meetings.now (count_in counts.old)) }
 {
-    for meeting in meetings {
-        add(counts, meeting.shape, meeting.there, meeting.played, game)?;
+    for (i, meeting) in meetings.iter().enumerate() {
+        counts.expect(meetings, i)?;
+        counts.add(meeting.shape, meeting.there, meeting.played, game)?;
     }
     Ok(())
 }
 
 /// Walks a game and counts what it met; the answer is how many occasions it has.
 pub(crate) fn count_game(
-    counts: &mut BTreeMap<Shape, Count>,
+    counts: &mut Counts,
     walk: &mut Walk,
     game_record: &Record,
     game: u64,

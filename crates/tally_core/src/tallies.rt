@@ -2,6 +2,7 @@
 ghost use Rattle.std.specs.Prelude.{IfOk, IfErr};
 ghost use Rattle.tally_core.specs.Tally.{IsTally, IsTallyFault};
 
+use crate::counts::Counts;
 use crate::dictionaries::{FirstGames, entries_of};
 use crate::faults::TallyFault;
 use crate::replays::count_game;
@@ -10,7 +11,6 @@ use go_record::Record;
 use shape_core::Kinds;
 use shape_dict::Entry;
 use std::alloc::Global;
-use std::collections::BTreeMap;
 use std::marker::Model;
 
 /// How often each pattern of one game was there and was played. Each value is the tally of some
@@ -67,7 +67,7 @@ pub fn tally_plain(alloc: Global, kinds: Kinds, game_record: &Record) -> Result<
     ensures tally { IfOk result (IsTally kinds game_record.now) }
     ensures fault { IfErr result (IsTallyFault game_record.now) }
 {
-    let mut counts = BTreeMap::new(alloc);
+    let mut counts = Counts::new(alloc);
     let mut walk = Walk::begin(alloc, kinds);
     let moves = count_game(&mut counts, &mut walk, game_record, 0)?;
     let entries = entries_of(alloc, FirstGames::LeftOut, &counts)?;

@@ -1,7 +1,6 @@
--- Counts of patterns, as an ordered map keeps them.
-use Rattle.std.specs.Prelude.{◌≡◌, ℕ, zero, suc, ◌+◌, ◌^◌, ◌≤◌, ◌==◌, nat_lt, List, length, count_by, sum_by, Option, Some, None, if◌then◌else◌}
-use Rattle.std.specs.Ordering.{nat_cmp}
-use Rattle.std.specs.BTreeMap.{get, BTreeMap}
+-- Counts of patterns, as their rows have them.
+use Rattle.std.specs.Prelude.{◌≡◌, ℕ, zero, suc, ◌+◌, ◌^◌, ◌≤◌, ◌==◌, nat_eq, nat_lt, List, length, count_by, sum_by, Option, Some, None, if◌then◌else◌}
+use Rattle.std.specs.Map.{lookup}
 use Rattle.std.specs.List.{flat_map, position_or_len}
 use Rattle.go_record.specs.Actions.{Actions}
 use Rattle.shape_core.specs.declared.words.Kinds.{Kinds}
@@ -14,9 +13,9 @@ use Rattle.tally_core.specs.declared.counters.Count.{Count}
 use Rattle.tally_core.specs.declared.faults.TallyFault.{TallyFault}
 use Rattle.tally_core.specs.declared.faults.TallyFault.TheVariants as fault
 
--- the count of a pattern that a map has, if it has one
-abbrev pub count_in : BTreeMap ℕ Count → ℕ → Option Count
-count_in counts shape = get nat_cmp counts shape
+-- the count of a pattern that rows have, if they have one
+abbrev pub count_in : List (ℕ × Count) → ℕ → Option Count
+count_in rows shape = lookup (nat_eq shape) rows
 
 -- how often a pattern was counted, both counts together
 abbrev pub uses_at : Option Count → ℕ

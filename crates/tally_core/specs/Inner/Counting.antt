@@ -1,5 +1,7 @@
 -- What a counter holds once some trees of a collection were counted.
-use Rattle.std.specs.Prelude.{◌≡◌, ℕ, ◌+◌, ◌*◌, ◌<◌, ◌≤◌, List, map, length, Option, Some, None, Result, Ok, Err}
+use Rattle.std.specs.Prelude.{◌≡◌, ℕ, ◌+◌, ◌*◌, ◌^◌, ◌<◌, ◌≤◌, nat_eq, List, map, length, Option, Some, None, Result, Ok, Err}
+use Rattle.std.specs.List.{IsDistinct}
+use Rattle.std.specs.Map.{keys_of}
 use Rattle.sgf_core.specs.Tree.{GameTree, main_line_of}
 use Rattle.sgf_core.specs.Counts.{value_count}
 use Rattle.sgf_core.specs.Marks.{marks_of}
@@ -49,6 +51,16 @@ pub record CountsAll (kinds : Kinds) (bytes : List ℕ) (counter : Counter) : Ty
   pub written : AreTrees bytes 0 trees end
   pub no_more : HasNoTree bytes end
   pub counted : CountsTrees kinds trees counter
+
+-- some trees of an input were counted, and they have more patterns than this
+pub record CountsMore (kinds : Kinds) (bytes : List ℕ) (most : ℕ) (counter : Counter) : Type 0 where
+  pub trees : List GameTree
+  pub end : ℕ
+  pub written : AreTrees bytes 0 trees end
+  pub counted : CountsTrees kinds trees counter
+  pub more : most < length counter.counts
+  pub once : IsDistinct nat_eq (keys_of counter.counts)
+  pub small : length counter.counts < 2 ^ 63
 
 -- why there is no next tree from a place on: a fault of syntax, or memory was wanting
 abbrev pub IsNextFault : List ℕ → ℕ → TallyFault → Type 0

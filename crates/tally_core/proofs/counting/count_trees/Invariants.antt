@@ -3,8 +3,8 @@ use Rattle.tally_core.specs.Inner.Counting.{IsWithin}
 use Rattle.tally_core.proofs.Trees.{CountsUpTo}
 use Rattle.tally_core.proofs.counting.count_trees.Given as goal
 
-abbrev pub invariant-loop-tree : goal.invariant-loop-tree
-invariant-loop-tree l = record {
+abbrev pub invariant-tree : goal.invariant-tree
+invariant-tree l = record {
   bytes : l.trees.bytes ≡ l.fn.trees.bytes;
   no_fault : l.trees.fault ≡ None;
   in_input : l.trees.from ≤ length l.trees.bytes;
@@ -13,5 +13,5 @@ invariant-loop-tree l = record {
   within : IsWithin l.trees.from l.counter;
 }
 
-abbrev pub decreases-loop-tree : goal.decreases-loop-tree
-decreases-loop-tree l = length l.trees.bytes - l.trees.from
+abbrev pub decreases-tree : goal.decreases-tree
+decreases-tree l = length l.trees.bytes - l.trees.from

@@ -1,4 +1,5 @@
-use Rattle.std.proofs.Common.{◌≡◌, ap, subst}
+use Rattle.std.proofs.Common.{◌≡◌, nat_eq, ap, subst}
+use Rattle.std.specs.Map.{lookup}
 use Rattle.shape_core.specs.declared.words.Kinds.{Kinds}
 use Rattle.tally_core.specs.Walk.{Walked}
 use Rattle.tally_core.specs.Inner.Counter.{CountsGame, count_in}
@@ -14,8 +15,8 @@ invariant_of-result c =
     record {
       kinds = c.args.kinds;
       game = c.args.game_record.now;
-      tallied = counted_tally c.args.kinds c.args.game_record.now c.new-counts.result c.count_game.new.counts c.in_ok-moves.moves c.in_ok-entries.entries.items
-          c.new-counts.ensures.empty c.in_ok-entries.ensures.entries counted c.in_ok-entries.ensures.shapes c.in_ok-entries.ensures.rises;
+      tallied = counted_tally c.args.kinds c.args.game_record.now (count_in c.new-counts.result) (count_in c.count_game.new.counts) c.in_ok-moves.moves c.in_ok-entries.entries.items
+          (λ shape. ap (lookup (nat_eq shape)) c.new-counts.ensures) c.in_ok-entries.ensures.entries counted c.in_ok-entries.ensures.shapes c.in_ok-entries.ensures.rises;
     }
 
 pub returns-clause-tally : goal.returns-clause-tally
@@ -24,5 +25,5 @@ returns-clause-tally c =
     let counted =
     subst (λ (k : Kinds). CountsGame k c.args.game_record.now 0 (count_in c.new-counts.result) (count_in c.count_game.new.counts) c.in_ok-moves.moves) kinds
     c.in_ok-moves.ensures.counts in
-    counted_tally c.args.kinds c.args.game_record.now c.new-counts.result c.count_game.new.counts c.in_ok-moves.moves c.in_ok-entries.entries.items
-    c.new-counts.ensures.empty c.in_ok-entries.ensures.entries counted c.in_ok-entries.ensures.shapes c.in_ok-entries.ensures.rises
+    counted_tally c.args.kinds c.args.game_record.now (count_in c.new-counts.result) (count_in c.count_game.new.counts) c.in_ok-moves.moves c.in_ok-entries.entries.items
+    (λ shape. ap (lookup (nat_eq shape)) c.new-counts.ensures) c.in_ok-entries.ensures.entries counted c.in_ok-entries.ensures.shapes c.in_ok-entries.ensures.rises
