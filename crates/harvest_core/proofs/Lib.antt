@@ -16,3 +16,4 @@ mod Answered
 mod Parted
 mod Promised
 mod OwnTables
+mod Alone

@@ -1,5 +1,6 @@
-//! A collection counted over tables of its own: over a small one where the input is small.
-ghost use Rattle.std.specs.Prelude.{◌≡◌, ◌⊎◌, ◌^◌, ◌<◌, ◌≤◌, List, length, IfOk, IfErr};
+//! A collection counted over tables of its own: by one worker in a map, and by several over a small
+//! table where the input is small.
+ghost use Rattle.std.specs.Prelude.{◌≡◌, ◌⊎◌, ◌^◌, ◌<◌, ◌≤◌, List, length, IfOk, IfErr, IfSome};
 ghost use Rattle.std.specs.Prelude.{IsErrAnd};
 ghost use Rattle.std.specs.Bool.{OnFalse};
 ghost use Rattle.sgf_core.specs.Limit.{most_bytes};
@@ -17,7 +18,7 @@ use slot_table::SlotTable;
 use std::alloc::Global;
 use std::sync::Wait;
 use std::thread::Threads;
-use tally_core::{Counted, Settings};
+use tally_core::{Counted, Settings, count_within};
 
 /// How many slots a first table has for each byte of the input. A move takes six bytes, and some 25
 /// points then have a new pattern of each kind, so few inputs need more.
@@ -63,13 +64,62 @@ fn harvest_over<R: Threads + Wait + Sync, G: Gate>(
     harvest_on(rt, alloc, settings, &table, &mut pass, bytes, gate)
 }
 
+/// The same as `harvest`, by as many workers as the settings say, over a new table that they share:
+/// over a small one where the input is small, and over one of 2^k slots where that is full.
+fn harvest_together<R: Threads + Wait + Sync, G: Gate>(
+    rt: &R,
+    alloc: Global,
+    settings: Settings,
+    bytes: &[u8],
+    gate: &G,
+) -> Result<Counted, HarvestFault>
+    ensures large { most_bytes < length bytes.now
+        → IsErrAnd result (λ found. (found ≡ fault.Memory) ⊎ (found ≡ fault.Sgf sgf.TooLarge)) }
+    ensures harvest { IfOk result (λ counted. (seen : List Happened)
+        × IsHarvest (2 ^ settings.k) seen settings.kinds bytes.now counted) }
+    ensures fault { IfErr result (IsHarvestRefused (2 ^ settings.k) bytes.now settings.kinds) }
+{
+    let most = u32::from(settings.k());
+    let likely = likely_exponent(bytes.len(), most);
+    let counted = harvest_over(rt, alloc, settings, likely, bytes, gate);
+    if likely < most && is_full(&counted) {
+        return harvest_over(rt, alloc, settings, most, bytes, gate);
+    }
+    counted
+}
+
+/// Counts a collection by this thread alone, in a map that nobody shares. None where it has more
+/// patterns than a table of 2^k slots has numbers.
+fn count_alone(
+    alloc: Global,
+    settings: Settings,
+    bytes: &[u8],
+) -> Result<Option<Counted>, HarvestFault>
+    ensures large { most_bytes < length bytes.now
+        → IfErr result (λ found. found ≡ fault.Sgf sgf.TooLarge) }
+    ensures harvest { IfOk result (λ found. IfSome found (λ counted. (seen : List Happened)
+        × IsHarvest (2 ^ settings.k) seen settings.kinds bytes.now counted)) }
+    ensures fault { IfErr result (IsHarvestRefused (2 ^ settings.k) bytes.now settings.kinds) }
+{
+    let most = 1 << settings.k();
+    let Some(counted) = count_within(alloc, settings.kinds(), most, bytes)? else {
+        return Ok(None);
+    };
+    if counted.dictionary.entries().len() > most {
+        return Ok(None);
+    }
+    Ok(Some(counted))
+}
+
 /// Counts a whole collection by several workers over a new table of 2^k slots, where the settings
 /// have the number of workers, the exponent k and the kinds of pattern. It is what `count_plain`
 /// answers, whatever the gate, the number of workers and their turns. This project's own.
 ///
-/// A small input is counted over a smaller table, which takes less time and memory. Where that has
-/// no room for its patterns, it is counted once more over one of 2^k slots, and the gate is told of
-/// each game again. It takes memory for the table, and what `harvest_on` takes.
+/// One worker alone needs no table that threads share: this thread counts then, in a map, and the
+/// gate is not asked. Several workers count a small input over a smaller table, which takes less
+/// time and memory. Where the map would have more than 2^k patterns, or the smaller table has no
+/// room for them, it is counted once more over a table of 2^k slots, and the gate is told of each
+/// game again. It takes memory for the table, and what `harvest_on` takes.
 ///
 /// # Errors
 ///
@@ -90,11 +140,10 @@ pub fn harvest<R: Threads + Wait + Sync, G: Gate>(
         × IsHarvest (2 ^ settings.k) seen settings.kinds bytes.now counted) }
     ensures fault { IfErr result (IsHarvestRefused (2 ^ settings.k) bytes.now settings.kinds) }
 {
-    let most = u32::from(settings.k());
-    let likely = likely_exponent(bytes.len(), most);
-    let counted = harvest_over(rt, alloc, settings, likely, bytes, gate);
-    if likely < most && is_full(&counted) {
-        return harvest_over(rt, alloc, settings, most, bytes, gate);
+    if settings.workers() == 1 {
+        if let Some(counted) = count_alone(alloc, settings, bytes)? {
+            return Ok(counted);
+        }
     }
-    counted
+    harvest_together(rt, alloc, settings, bytes, gate)
 }

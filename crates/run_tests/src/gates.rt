@@ -101,7 +101,7 @@ fn reader_helps(rt: HostRuntime) -> Result<(), Fail> {
     let alloc = rt.alloc();
     let bytes = collection(alloc, 150)?;
     let plain = count_plain(alloc, Kinds::Squares, &bytes)?;
-    for workers in [1, 2, 7, 64] {
+    for workers in [2, 7, 64] {
         let gate = ReaderHelps {
             helped: AtomicU64::new(0),
             given_up: AtomicU64::new(0),
