@@ -34,7 +34,7 @@ pub record IsCounted (kinds : Kinds) (bytes : List ℕ) (counted : Counted) : Ty
   pub dictionary : IsDictionaryOf kinds games counted.dictionary
   pub reported : IsReport trees counted.report
 
--- the games of some of the input's trees, from the first on, have more patterns than this: so many different ones
+-- the games of the input's first trees have more patterns than this: a list of different ones is longer
 pub record HasMore (kinds : Kinds) (bytes : List ℕ) (most : ℕ) : Type 0 where
   pub trees : List GameTree
   pub end : ℕ

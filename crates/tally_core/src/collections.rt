@@ -82,7 +82,7 @@ pub fn count_plain(alloc: Global, kinds: Kinds, bytes: &[u8]) -> Result<Counted,
     ensures large { most_bytes < length bytes.now
         → IfErr result (λ found. found ≡ fault.Sgf sgf.TooLarge) }
 {
-    // No map has so many patterns.
+    // A map has at most 2^63 patterns.
     let counted = count_within(alloc, kinds, usize::MAX, bytes)?;
     Ok(counted.unwrap())
 }

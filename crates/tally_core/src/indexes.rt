@@ -31,7 +31,7 @@ fn mixed(shape: Shape) -> u64
     shape.word().bits().wrapping_mul(MULTIPLIER)
 }
 
-/// The first place of a pattern, of so many.
+/// The first place of a pattern in an index with this number of places.
 #[inline(always)]
 pub(crate) fn home(shape: Shape, places: usize) -> usize
     requires { 0 < places }

@@ -12,7 +12,7 @@ use Rattle.tally_core.specs.declared.looking.Place.TheVariants as place
 abbrev pub mixed_of : ℕ → ℕ
 mixed_of shape = (shape * 0x9E37_79B9_7F4A_7C15) % 2 ^ 64
 
--- its first place, of so many
+-- its first place in an index with this number of places
 abbrev pub home_of : ℕ → ℕ → ℕ
 home_of places shape = (mixed_of shape / 2 ^ 32) % places
 
@@ -40,7 +40,7 @@ slot_at index place = slice_index_or index place (record { above = 0; tag = 0 })
 abbrev pub slot_of : ℕ → ℕ → Slot
 slot_of shape row = record { above = row + 1; tag = tag_of shape }
 
--- the first places on a pattern's way, so many, are taken
+-- the first places on a pattern's way, that number of them, are taken
 abbrev pub AreTaken : List Slot → ℕ → ℕ → Type 0
 AreTaken index shape steps = (step : ℕ) → step < steps → 0 < (slot_at index (way_of index shape step)).above
 
@@ -50,7 +50,7 @@ pub record IsNoted (index : List Slot) (shape row : ℕ) : Type 0 where
   pub here : slot_at index (way_of index shape step) ≡ slot_of shape row
   pub taken : AreTaken index shape step
 
--- the first rows, so many, are noted
+-- the first rows, that number of them, are noted
 abbrev pub AreNoted : List Slot → List ℕ → ℕ → Type 0
 AreNoted index shapes rows = (row : ℕ) → row < rows → IsNoted index (slice_index_or shapes row 0) row
 
