@@ -20,5 +20,4 @@ mod Listings
 pub mod Confirmed
 mod SoughtRows
 mod Agreed
-mod Parted
 pub mod Standings

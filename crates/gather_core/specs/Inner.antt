@@ -10,6 +10,5 @@ pub mod Listing
 pub mod Numbers
 pub mod Pieces
 pub mod Rounds
-pub mod Sorting
 pub mod Totals
 pub mod Visiting

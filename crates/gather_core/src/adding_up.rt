@@ -4,12 +4,10 @@ ghost use Rattle.share_core.specs.declared.faults.HarvestFault.TheVariants as fa
 ghost use Rattle.share_core.specs.Shares.{IsShare};
 ghost use Rattle.gather_core.specs.Covering.{all_games, Covers};
 ghost use Rattle.gather_core.specs.Checking.{all_rows};
-ghost use Rattle.gather_core.specs.Inner.Listing.{IsParted};
 ghost use Rattle.gather_core.specs.Inner.Totals.{AreEntriesOf};
 ghost use Rattle.gather_core.specs.Gathering.{AreWithin, all_moves, IsGathered};
 
 use crate::listing::Listed;
-use crate::sorting::sort;
 use shape_core::{Kinds, kinds_stay};
 use shape_dict::Dictionary;
 use share_core::{HarvestFault, Share};
@@ -50,8 +48,7 @@ pub(crate) fn add_up<R: Threads + Sync>(
     requires kinds { All (λ share. share.kinds ≡ kinds) shares.now }
     requires within { AreWithin games shares.now }
     requires covers { Covers games (all_games shares.now) }
-    requires entries { AreEntriesOf (all_rows shares.now) listed.entries.items }
-    requires parted { IsParted listed }
+    requires entries { AreEntriesOf (all_rows shares.now) listed.entries }
     ensures ok { IfOk result (IsGathered kinds games shares.now) }
     ensures fault { IfErr result (λ found. (found ≡ fault.Overflow)
         × (2 ^ 64 ≤ all_moves shares.now)) }
@@ -59,7 +56,6 @@ pub(crate) fn add_up<R: Threads + Sync>(
     // A canonical word is of the kind that was looked at.
     kinds_stay();
     let moves = moves_of(shares)?;
-    let mut listed = listed;
-    sort(rt, &mut listed, shares.len());
-    Ok(Dictionary::new(games, moves, listed.entries, has_diamonds(kinds)))
+    let entries = listed.entries.put_in_order(rt, shares.len());
+    Ok(Dictionary::new(games, moves, entries, has_diamonds(kinds)))
 }

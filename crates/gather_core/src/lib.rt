@@ -21,7 +21,6 @@ mod adding_up;
 mod gathering;
 pub mod laws;
 mod listing;
-mod sorting;
 
 pub use confirming::confirm_full;
 pub use gathering::gather;

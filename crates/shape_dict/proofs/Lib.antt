@@ -14,3 +14,4 @@ pub mod Unique
 pub mod Worked
 pub mod Chunked
 pub mod Counted
+pub mod Parted

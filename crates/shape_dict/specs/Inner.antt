@@ -3,3 +3,4 @@ pub mod Merging
 pub mod Parsing
 pub mod Reading
 pub mod Parts
+pub mod Sorting

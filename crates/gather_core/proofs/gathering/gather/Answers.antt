@@ -26,7 +26,7 @@ returns-in_err-check_numbers-clause-fault g c =
     let stand = stand_below n c.slots.result new.seen rows slots c.in_ok-check_beyond.ensures.ok visited.stand in
     let p = err_from_is_err_and c.from_residual-in_err-check_numbers.result c.from_residual-in_err-check_numbers.ensures.1 in
     rw (p.1, p.2) (numbers_fault n c.args.games c.args.shares.now c.args.pass.now new c.in_ok-visited.visited.differs c.in_ok-visited.visited.listed.is_large c.in_err-check_numbers.field-0.0
-    c.in_ok-check_games.ensures.ok stand (one_each n new.seen rows c.visit_all.ensures.pass.legal stand) visited.agree c.in_ok-visited.ensures.listed.0.large c.in_err-check_numbers.ensures.fault)
+    c.in_ok-check_games.ensures.ok stand (one_each n new.seen rows c.visit_all.ensures.pass.legal stand) visited.agree c.in_ok-visited.ensures.listed.large c.in_err-check_numbers.ensures.fault)
 
 pub add_up-requires-clause-entries : goal.add_up-requires-clause-entries
 add_up-requires-clause-entries g c =
@@ -35,8 +35,8 @@ add_up-requires-clause-entries g c =
     let new = c.visit_all.new.pass in
     let slots = c.slots.ensures.value ∙ c.capacity.ensures.slots in
     let stand = stand_below n c.slots.result new.seen rows slots c.in_ok-check_beyond.ensures.ok c.in_ok-visited.ensures.ok.stand in
-    let made : AreEntriesOf rows c.in_ok-visited.visited.listed.entries.items =
-    (n, c.in_ok-visited.ensures.listed.0.entries (one_each n new.seen rows c.visit_all.ensures.pass.legal stand) c.in_ok-check_numbers.ensures.ok.1, all_below n new.seen rows stand) in
+    let made : AreEntriesOf rows c.in_ok-visited.visited.listed.entries =
+    (n, c.in_ok-visited.ensures.listed.entries (one_each n new.seen rows c.visit_all.ensures.pass.legal stand) c.in_ok-check_numbers.ensures.ok.1, all_below n new.seen rows stand) in
     λ κs lives. made
 
 pub returns-clause-stand : goal.returns-clause-stand
