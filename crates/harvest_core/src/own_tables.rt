@@ -24,6 +24,9 @@ use tally_core::{Counted, Settings, count_within};
 /// points then have a new pattern of each kind, so few inputs need more.
 const SLOTS_A_BYTE: usize = 16;
 
+/// In how many threads the entries of a count by one worker are put in order.
+const ALONE_THREADS: usize = 4;
+
 /// The exponent of a table that mostly has room for the patterns of this many bytes, but at most
 /// this one.
 fn likely_exponent(bytes: usize, most: u32) -> u32
@@ -64,33 +67,10 @@ fn harvest_over<R: Threads + Wait + Sync, G: Gate>(
     harvest_on(rt, alloc, settings, &table, &mut pass, bytes, gate)
 }
 
-/// The same as `harvest`, by as many workers as the settings say, over a new table that they share:
-/// over a small one where the input is small, and over one of 2^k slots where that is full.
-fn harvest_together<R: Threads + Wait + Sync, G: Gate>(
-    rt: &R,
-    alloc: Global,
-    settings: Settings,
-    bytes: &[u8],
-    gate: &G,
-) -> Result<Counted, HarvestFault>
-    ensures large { most_bytes < length bytes.now
-        → IsErrAnd result (λ found. (found ≡ fault.Memory) ⊎ (found ≡ fault.Sgf sgf.TooLarge)) }
-    ensures harvest { IfOk result (λ counted. (seen : List Happened)
-        × IsHarvest (2 ^ settings.k) seen settings.kinds bytes.now counted) }
-    ensures fault { IfErr result (IsHarvestRefused (2 ^ settings.k) bytes.now settings.kinds) }
-{
-    let most = u32::from(settings.k());
-    let likely = likely_exponent(bytes.len(), most);
-    let counted = harvest_over(rt, alloc, settings, likely, bytes, gate);
-    if likely < most && is_full(&counted) {
-        return harvest_over(rt, alloc, settings, most, bytes, gate);
-    }
-    counted
-}
-
 /// Counts a collection by this thread alone, in a map that nobody shares. None where it has more
 /// patterns than a table of 2^k slots has numbers.
-fn count_alone(
+fn count_alone<R: Threads + Sync>(
+    rt: &R,
     alloc: Global,
     settings: Settings,
     bytes: &[u8],
@@ -102,7 +82,8 @@ fn count_alone(
     ensures fault { IfErr result (IsHarvestRefused (2 ^ settings.k) bytes.now settings.kinds) }
 {
     let most = 1 << settings.k();
-    let Some(counted) = count_within(alloc, settings.kinds(), most, bytes)? else {
+    let kinds = settings.kinds();
+    let Some(counted) = count_within(rt, alloc, kinds, most, ALONE_THREADS, bytes)? else {
         return Ok(None);
     };
     if counted.dictionary.entries().len() > most {
@@ -115,11 +96,12 @@ fn count_alone(
 /// have the number of workers, the exponent k and the kinds of pattern. It is what `count_plain`
 /// answers, whatever the gate, the number of workers and their turns. This project's own.
 ///
-/// One worker alone needs no table that threads share: this thread counts then, in a map, and the
-/// gate is not asked. Several workers count a small input over a smaller table, which takes less
-/// time and memory. Where the map would have more than 2^k patterns, or the smaller table has no
-/// room for them, it is counted once more over a table of 2^k slots, and the gate is told of each
-/// game again. It takes memory for the table, and what `harvest_on` takes.
+/// One worker alone needs no table that threads share: this thread counts then, in a map, threads
+/// sort what it has counted, and the gate is not asked. Several workers count a small input over a
+/// smaller table, which takes less time and memory. Where the map would have more than 2^k
+/// patterns, or the smaller table has no room for them, it is counted once more over a table of 2^k
+/// slots, and the gate is told of each game again. It takes memory for the table, and what
+/// `harvest_on` takes.
 ///
 /// # Errors
 ///
@@ -141,9 +123,15 @@ pub fn harvest<R: Threads + Wait + Sync, G: Gate>(
     ensures fault { IfErr result (IsHarvestRefused (2 ^ settings.k) bytes.now settings.kinds) }
 {
     if settings.workers() == 1 {
-        if let Some(counted) = count_alone(alloc, settings, bytes)? {
+        if let Some(counted) = count_alone(rt, alloc, settings, bytes)? {
             return Ok(counted);
         }
     }
-    harvest_together(rt, alloc, settings, bytes, gate)
+    let most = u32::from(settings.k());
+    let likely = likely_exponent(bytes.len(), most);
+    let counted = harvest_over(rt, alloc, settings, likely, bytes, gate);
+    if likely < most && is_full(&counted) {
+        return harvest_over(rt, alloc, settings, most, bytes, gate);
+    }
+    counted
 }

@@ -1,19 +1,28 @@
 //! A whole collection, counted on one thread.
-ghost use Rattle.std.specs.Prelude.{◌≡◌, ◌^◌, ◌<◌, length, IfOk, IfErr, IfSome, IfNone};
+ghost use Rattle.std.specs.Prelude.{◌≡◌, ℕ, ◌^◌, ◌<◌, ◌≤◌, List, All, map, length, OnOk, IfOk, IfErr};
+ghost use Rattle.std.specs.Prelude.{IfSome, IfNone};
+ghost use Rattle.std.specs.List.Sorted.{IsStrictlyIncreasing};
 ghost use Rattle.sgf_core.specs.declared.faults.SgfFault.TheVariants as sgf;
 ghost use Rattle.tally_core.specs.Counted.{IsCounted, HasMore, IsCountFault};
+ghost use Rattle.tally_core.specs.Entries.{IsShape};
+ghost use Rattle.tally_core.specs.Inner.Counter.{count_in};
+ghost use Rattle.tally_core.specs.Inner.Counting.{CountsAll};
+ghost use Rattle.tally_core.specs.Inner.Entries.{AreEntered};
+ghost use Rattle.tally_core.specs.declared.dictionaries.FirstGames.TheVariants as first_games;
 ghost use Rattle.tally_core.specs.declared.faults.TallyFault.TheVariants as fault;
 ghost use Rattle.sgf_core.specs.Limit.{most_bytes};
 
 use crate::counting::{Counter, count_trees};
+use crate::dictionaries::{FirstGames, entries_of, entries_within};
 use crate::faults::TallyFault;
 use crate::gathering::dictionary_of;
 use crate::reports::Report;
 use crate::walks::Walk;
 use sgf_core::Trees;
 use shape_core::Kinds;
-use shape_dict::Dictionary;
+use shape_dict::{Dictionary, Entry};
 use std::alloc::Global;
+use std::thread::Threads;
 
 /// A collection that was counted.
 #[derive(Drop)]
@@ -30,24 +39,16 @@ fn likely_patterns(bytes: usize, most: usize) -> usize {
     (bytes / 2).saturating_mul(3).min(most).min(1 << 22)
 }
 
-/// Counts a whole collection on one thread, unless it has more patterns than `most`: then it is
-/// None, at the first tree with which there are. It is the dictionary of the games, which are
-/// numbered from 0 in their order, and how many of the trees are games, are of other games, and are
-/// refused. `kinds` says which kinds of pattern are counted. It takes memory for the largest tree
-/// and its record, for the board, and for each pattern.
-///
-/// # Errors
-///
-/// `TallyFault::Sgf` with S4 where there are more than 2^28 bytes, else with the first fault of
-/// syntax in what was read; `TallyFault::Memory` where memory was refused. `TallyFault::Overflow`
-/// does not come: no count of an input that is not too large passes 2^64 - 1.
-pub fn count_within(
+/// Counts the trees of a collection, unless they have more patterns than `most`: then it is None,
+/// at the first tree with which there are.
+fn counter_of(
     alloc: Global,
     kinds: Kinds,
     most: usize,
     bytes: &[u8],
-) -> Result<Option<Counted>, TallyFault>
-    ensures counted { IfOk result (λ found. IfSome found (IsCounted kinds bytes.now)) }
+) -> Result<Option<Counter>, TallyFault>
+    ensures counted { IfOk result (λ found. IfSome found (CountsAll kinds bytes.now)) }
+    ensures small { OnOk result (length bytes.now ≤ most_bytes) }
     ensures more { IfOk result (λ found. IfNone found (HasMore kinds bytes.now most)) }
     ensures few { IfOk result (λ found. IfNone found (most < 2 ^ 63)) }
     ensures fault { IfErr result (IsCountFault bytes.now) }
@@ -61,9 +62,56 @@ pub fn count_within(
     if !all {
         return Ok(None);
     }
+    Ok(Some(counter))
+}
+
+/// What a collection is counted as whose trees were all counted, and whose patterns have these
+/// entries. It takes no memory.
+fn counted_of(kinds: Kinds, counter: &Counter, entries: Vec<Entry>) -> Counted
+    requires counted { (bytes : List ℕ) × CountsAll kinds bytes counter.now }
+    requires entries { AreEntered first_games.Kept (count_in counter.now.counts) entries.items }
+    requires shapes { All IsShape entries.items }
+    requires rises { IsStrictlyIncreasing (map (λ entry. entry.shape) entries.items) }
+    ensures { (bytes : List ℕ) → length bytes ≤ most_bytes → CountsAll kinds bytes counter.now
+        → IsCounted kinds bytes result }
+{
     let report = counter.report;
-    let dictionary = dictionary_of(alloc, kinds, report.games, counter.moves, &counter.counts)?;
-    Ok(Some(Counted { dictionary, report }))
+    let dictionary = dictionary_of(kinds, counter, entries);
+    Counted { dictionary, report }
+}
+
+/// Counts a whole collection on one thread, unless it has more patterns than `most`: then it is
+/// None, at the first tree with which there are. It is the dictionary of the games, which are
+/// numbered from 0 in their order, and how many of the trees are games, are of other games, and are
+/// refused. `kinds` says which kinds of pattern are counted. Where there are many patterns, threads
+/// sort the dictionary: `threads`, rounded up to a power of two, 64 at most. The answer is the
+/// same. It takes memory for the largest tree and its record, for the board, and for each pattern.
+///
+/// # Errors
+///
+/// `TallyFault::Sgf` with S4 where there are more than 2^28 bytes, else with the first fault of
+/// syntax in what was read; `TallyFault::Memory` where memory was refused. `TallyFault::Overflow`
+/// does not come: no count of an input that is not too large passes 2^64 - 1.
+pub fn count_within<R: Threads + Sync>(
+    rt: &R,
+    alloc: Global,
+    kinds: Kinds,
+    most: usize,
+    threads: usize,
+    bytes: &[u8],
+) -> Result<Option<Counted>, TallyFault>
+    ensures counted { IfOk result (λ found. IfSome found (IsCounted kinds bytes.now)) }
+    ensures more { IfOk result (λ found. IfNone found (HasMore kinds bytes.now most)) }
+    ensures few { IfOk result (λ found. IfNone found (most < 2 ^ 63)) }
+    ensures fault { IfErr result (IsCountFault bytes.now) }
+    ensures large { most_bytes < length bytes.now
+        → IfErr result (λ found. found ≡ fault.Sgf sgf.TooLarge) }
+{
+    let Some(counter) = counter_of(alloc, kinds, most, bytes)? else {
+        return Ok(None);
+    };
+    let entries = entries_within(rt, alloc, &counter.counts, threads)?;
+    Ok(Some(counted_of(kinds, &counter, entries)))
 }
 
 /// Counts a whole collection on one thread: the dictionary of its games, which are numbered from 0
@@ -83,6 +131,7 @@ pub fn count_plain(alloc: Global, kinds: Kinds, bytes: &[u8]) -> Result<Counted,
         → IfErr result (λ found. found ≡ fault.Sgf sgf.TooLarge) }
 {
     // A map has at most 2^63 patterns.
-    let counted = count_within(alloc, kinds, usize::MAX, bytes)?;
-    Ok(counted.unwrap())
+    let counter = counter_of(alloc, kinds, usize::MAX, bytes)?.unwrap();
+    let entries = entries_of(alloc, FirstGames::Kept, &counter.counts)?;
+    Ok(counted_of(kinds, &counter, entries))
 }

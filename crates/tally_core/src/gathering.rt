@@ -1,16 +1,16 @@
 //! The dictionary of the games that were counted.
-ghost use Rattle.std.specs.Prelude.{◌≡◌, List, length, IfOk, IfErr};
+ghost use Rattle.std.specs.Prelude.{◌≡◌, List, All, map, length};
+ghost use Rattle.std.specs.List.Sorted.{IsStrictlyIncreasing};
 ghost use Rattle.tally_core.specs.Counts.{Replayed};
 ghost use Rattle.tally_core.specs.Inner.Counter.{count_in, CountsGames};
 ghost use Rattle.tally_core.specs.Games.{counts_diamonds, IsDictionaryOf};
-ghost use Rattle.tally_core.specs.declared.faults.TallyFault.TheVariants as fault;
+ghost use Rattle.tally_core.specs.Entries.{IsShape};
+ghost use Rattle.tally_core.specs.Inner.Entries.{AreEntered};
+ghost use Rattle.tally_core.specs.declared.dictionaries.FirstGames.TheVariants as first_games;
 
-use crate::counts::Counts;
-use crate::dictionaries::{FirstGames, entries_of};
-use crate::faults::TallyFault;
+use crate::counting::Counter;
 use shape_core::{Kinds, kinds_stay};
-use shape_dict::Dictionary;
-use std::alloc::Global;
+use shape_dict::{Dictionary, Entry};
 
 /// Whether diamonds are among these kinds.
 pub fn has_diamonds(kinds: Kinds) -> bool
@@ -22,24 +22,20 @@ pub fn has_diamonds(kinds: Kinds) -> bool
     }
 }
 
-/// The dictionary of the games whose counts a map has: `games` of them, with `moves` moves. It
-/// takes memory for an entry of each pattern; `TallyFault::Memory` comes where that was refused.
-pub(crate) fn dictionary_of(
-    alloc: Global,
-    kinds: Kinds,
-    games: u64,
-    moves: u64,
-    counts: &Counts,
-) -> Result<Dictionary, TallyFault>
-    requires counted { (replayed : List Replayed) × (length replayed ≡ games)
-        × CountsGames kinds replayed (count_in counts.now) moves }
-    ensures ok { IfOk result (λ d. (replayed : List Replayed) → length replayed ≡ games
-        → CountsGames kinds replayed (count_in counts.now) moves
-        → IsDictionaryOf kinds replayed d) }
-    ensures fault { IfErr result (λ found. found ≡ fault.Memory) }
+/// The dictionary of the games whose counts a counter has, of the entries of their patterns. It
+/// takes no memory.
+pub(crate) fn dictionary_of(kinds: Kinds, counter: &Counter, entries: Vec<Entry>) -> Dictionary
+    requires counted { (replayed : List Replayed) × (length replayed ≡ counter.now.report.games)
+        × CountsGames kinds replayed (count_in counter.now.counts) counter.now.moves }
+    requires entries { AreEntered first_games.Kept (count_in counter.now.counts) entries.items }
+    requires shapes { All IsShape entries.items }
+    requires rises { IsStrictlyIncreasing (map (λ entry. entry.shape) entries.items) }
+    ensures { (replayed : List Replayed) → length replayed ≡ counter.now.report.games
+        → CountsGames kinds replayed (count_in counter.now.counts) counter.now.moves
+        → IsDictionaryOf kinds replayed result }
 {
     // A canonical word is of the kind that was looked at.
     kinds_stay();
-    let entries = entries_of(alloc, FirstGames::Kept, counts)?;
-    Ok(Dictionary::new(games, moves, entries, has_diamonds(kinds)))
+    let games = counter.report.games;
+    Dictionary::new(games, counter.moves, entries, has_diamonds(kinds))
 }

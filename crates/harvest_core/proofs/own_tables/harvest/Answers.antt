@@ -2,7 +2,7 @@ use Rattle.std.proofs.Common.{◌≤◌, ◌^◌, arith}
 use Rattle.std.proofs.lemmas.Result.{IfOk-weaker}
 use Rattle.std.proofs.Math.Pow.{pow_mono}
 use Rattle.harvest_core.proofs.OwnTables.{harvest_of_more}
-use Rattle.harvest_core.proofs.own_tables.harvest_together.Goals as goal
+use Rattle.harvest_core.proofs.own_tables.harvest.Goals as goal
 
 pub returns-clause-harvest : goal.returns-clause-harvest
 returns-clause-harvest g c =

@@ -1,12 +1,11 @@
-use Rattle.std.proofs.Common.{◌≡◌, ◌≤◌, ◌^◌, ℕ, List, length, ap, subst, rules, None}
+use Rattle.std.proofs.Common.{◌≡◌, ℕ, List, ap, subst, rules, None}
 use Rattle.std.specs.Bool.{OnTrue, OnFalse}
 use Rattle.sgf_core.specs.Reading.{Reading}
 use Rattle.shape_core.specs.declared.words.Kinds.{Kinds}
 use Rattle.tally_core.specs.Walk.{Walked}
 use Rattle.tally_core.specs.Inner.Counting.{CountsAll, CountsMore}
 use Rattle.tally_core.proofs.MorePatterns.{has_more}
-use Rattle.tally_core.proofs.Trees.{games_reported}
-use Rattle.tally_core.proofs.collections.count_within.Goals as goal
+use Rattle.tally_core.proofs.collections.counter_of.Goals as goal
 
 pub returns-then-not-all-clause-more : goal.returns-then-not-all-clause-more
 returns-then-not-all-clause-more c =
@@ -18,30 +17,11 @@ returns-then-not-all-clause-more c =
     (subst (λ (bytes : List ℕ). CountsMore c.args.kinds bytes c.args.most c.count_trees.new.counter) bytes
     (subst (λ (k : Kinds). CountsMore k c.in_ok-trees.trees.bytes c.args.most c.count_trees.new.counter) kinds more))
 
-pub dictionary_of-requires : goal.dictionary_of-requires
-dictionary_of-requires c =
-    let kinds : c.begin-walk.result.kinds ≡ c.args.kinds = ap (λ (w : Walked). w.kinds) c.begin-walk.ensures in
-    let counted = subst (λ b. OnTrue b (CountsAll c.begin-walk.result.kinds c.in_ok-trees.trees.bytes c.count_trees.new.counter)) c.if-not-all.false c.in_ok-all.ensures.counted in
-    let all = subst (λ (k : Kinds). CountsAll k c.in_ok-trees.trees.bytes c.count_trees.new.counter) kinds counted in
-    record { counted = (all.counted.games, games_reported c.args.kinds all.trees c.count_trees.new.counter all.counted, all.counted.counted) }
-
 pub returns-clause-counted : goal.returns-clause-counted
 returns-clause-counted c =
     let begins : c.in_ok-trees.trees ≡ record { bytes = c.args.bytes.now; from = 0; fault = None } = search rules in
     let bytes = ap (λ (t : Reading). t.bytes) begins in
-    let small : length c.args.bytes.now ≤ 2 ^ 28 = search rules in
     let kinds : c.begin-walk.result.kinds ≡ c.args.kinds = ap (λ (w : Walked). w.kinds) c.begin-walk.ensures in
     let counted = subst (λ b. OnTrue b (CountsAll c.begin-walk.result.kinds c.in_ok-trees.trees.bytes c.count_trees.new.counter)) c.if-not-all.false c.in_ok-all.ensures.counted in
-    let all = subst (λ (bytes : List ℕ). CountsAll c.args.kinds bytes c.count_trees.new.counter) bytes
-    (subst (λ (k : Kinds). CountsAll k c.in_ok-trees.trees.bytes c.count_trees.new.counter) kinds counted) in
-    record {
-      trees = all.trees;
-      end = all.end;
-      games = all.counted.games;
-      small = small;
-      written = all.written;
-      no_more = all.no_more;
-      replayed = all.counted.replayed;
-      dictionary = c.in_ok-dictionary.ensures.ok all.counted.games (games_reported c.args.kinds all.trees c.count_trees.new.counter all.counted) all.counted.counted;
-      reported = all.counted.reported;
-    }
+    subst (λ (bytes : List ℕ). CountsAll c.args.kinds bytes c.count_trees.new.counter) bytes
+    (subst (λ (k : Kinds). CountsAll k c.in_ok-trees.trees.bytes c.count_trees.new.counter) kinds counted)
