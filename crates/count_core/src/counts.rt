@@ -13,6 +13,9 @@ use std::sync::Wait;
 use std::thread::Threads;
 use tally_core::{Report, Settings};
 
+/// How many threads make a text at least, also for one worker: counting is over then.
+const LEAST_THREADS: usize = 4;
+
 /// How many threads make a text at most. With more, each part would be too small for large pages.
 const MOST_THREADS: usize = 16;
 
@@ -32,7 +35,7 @@ fn counted_text<T: Threads + Wait + Sync, G: Gate>(
     ensures fault { IfErr result (IsCountRunFault (2 ^ settings.k) settings.kinds input.now) }
 {
     let counted = harvest(rt, alloc, settings, input, gate)?;
-    let threads = usize::from(settings.workers()).clamp(2, MOST_THREADS);
+    let threads = usize::from(settings.workers()).clamp(LEAST_THREADS, MOST_THREADS);
     let written = counted.dictionary.parts(rt, alloc, text, threads)?;
     Ok((written, counted.report))
 }
@@ -42,8 +45,8 @@ fn counted_text<T: Threads + Wait + Sync, G: Gate>(
 /// where diamonds are not counted, texts 2 and 3 say so, and text 1 is that of the squares. This
 /// thread reads, and as many workers as the settings say count. They number the patterns in one
 /// table of 2^k slots, or of fewer for a small input; the text is the same whatever the settings'
-/// workers. As many threads as there are workers, two at least and 16 at most, make it, in parts
-/// that are written one after another. It takes memory for the input, the table, and for each
+/// workers. As many threads as there are workers, 4 at least and 16 at most, make it, in parts that
+/// are written one after another. It takes memory for the input, the table, and for each
 /// thread for the largest tree and its record, the board, and each pattern; and for the text.
 ///
 /// The gate is for a test or a display of progress: it is told which worker is about to count which
