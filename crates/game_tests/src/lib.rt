@@ -12,6 +12,8 @@ mod patterns;
 #[cfg(test)]
 mod records;
 #[cfg(test)]
+mod sorts;
+#[cfg(test)]
 mod tallies;
 #[cfg(test)]
 mod walks;
