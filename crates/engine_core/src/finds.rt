@@ -12,7 +12,7 @@ use crate::faults::RunFault;
 use crate::input::read_input;
 use crate::output::write_output;
 use shape_core::Shape;
-use shape_dict::{Dictionary, Entry, Text, push_line};
+use shape_dict::{Dictionary, Entry, FirstGame, Text, push_line};
 use std::alloc::{AllocError, Global};
 use std::io::{Read, Write};
 
@@ -50,7 +50,7 @@ fn answer(alloc: Global, input: &[u8], shape: Shape) -> Result<(Vec<u8>, Outcome
                 shape,
                 there: 0,
                 played: 0,
-                first: None,
+                first: FirstGame::new(None),
             };
             Ok((found_line(alloc, &absent)?, Outcome::NotFound))
         }

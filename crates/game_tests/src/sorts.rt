@@ -1,7 +1,7 @@
 //! What threads put in order, and counts of no more patterns than wanted, from outside.
 use go_board::Colour;
 use shape_core::{Kinds, Shape, Word, canonical};
-use shape_dict::{Entry, LooseEntries, SAMPLE};
+use shape_dict::{Entry, FirstGame, LooseEntries, SAMPLE};
 use std::test::Fail;
 use tally_core::count_within;
 
@@ -24,7 +24,7 @@ fn many_entries_in_any_order(rt: HostRuntime) -> Result<(), Fail> {
             shape: shape(number)?,
             there: number,
             played: 0,
-            first: None,
+            first: FirstGame::new(None),
         })?;
     }
     let sorted = entries.put_in_order(&rt, 4);

@@ -72,7 +72,7 @@ pub(crate) fn game_of(alloc: Global, bytes: &[u8]) -> Option<Record> {
 fn are(entries: &[Entry], wanted: &[(u64, u64, u64)]) -> bool {
     for (entry, wanted) in entries.iter().zip(wanted) {
         let found = (entry.shape.word().bits(), entry.there, entry.played);
-        if found != *wanted || entry.first.is_some() {
+        if found != *wanted || entry.first.get().is_some() {
             return false;
         }
     }

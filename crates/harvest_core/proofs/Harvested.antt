@@ -25,7 +25,8 @@ use Rattle.tally_core.specs.Counts.{Replayed}
 use Rattle.tally_core.specs.Collection.{AreTrees, AreReplayed}
 use Rattle.tally_core.specs.Counted.{IsCounted}
 use Rattle.tally_core.specs.declared.reports.Report.{Report}
-use Rattle.tally_core.proofs.RisingEntries.{shapes_of, each_is_found}
+use Rattle.tally_core.specs.Inner.Entries.{shapes_of}
+use Rattle.tally_core.proofs.RisingEntries.{each_is_found}
 use Rattle.probe_core.specs.Sequential.{Table, IsNumber}
 use Rattle.slot_table.specs.declared.entries.Happened.{Happened}
 use Rattle.slot_table.specs.History.{content_of, IsLegal}

@@ -57,10 +57,7 @@ pub(crate) fn moved(entry: Entry, games: u64) -> Result<Option<Entry>, NextFault
     ensures ok { IfOk result (λ moved. moved ≡ Some (moved_entry games entry)) }
     ensures err { IfErr result (λ found. found ≡ fault.Changed) }
 {
-    let first = match entry.first {
-        None => None,
-        Some(game) => Some(game.checked_add(games).ok_or(NextFault::Changed)?),
-    };
+    let first = entry.first.moved(games).ok_or(NextFault::Changed)?;
     Ok(Some(Entry { first, ..entry }))
 }
 

@@ -12,10 +12,7 @@ use std::alloc::Global;
 fn moved(entry: Entry, games: u64) -> Result<Entry, NextFault>
     ensures { IfOk result (λ moved. moved ≡ moved_entry games entry) }
 {
-    let first = match entry.first {
-        None => None,
-        Some(game) => Some(game.checked_add(games).ok_or(NextFault::Changed)?),
-    };
+    let first = entry.first.moved(games).ok_or(NextFault::Changed)?;
     Ok(Entry { first, ..entry })
 }
 

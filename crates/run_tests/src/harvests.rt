@@ -344,7 +344,7 @@ fn memory_is_found_or_named(rt: HostRuntime) -> Result<(), Fail> {
             {
                 assert_eq!(rt; entry.shape.word().bits(), bits);
                 assert_eq!(rt;
-                    (entry.there, entry.played, entry.first),
+                    (entry.there, entry.played, entry.first.get()),
                     (there, played, Some(first))
                 );
             }

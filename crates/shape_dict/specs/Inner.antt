@@ -1,4 +1,5 @@
 -- What serves the contracts of private functions, and invariants: nothing here has to be believed.
+pub mod FirstGames
 pub mod Merging
 pub mod Parsing
 pub mod Reading

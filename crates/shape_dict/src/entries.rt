@@ -1,4 +1,5 @@
 //! Entries of a dictionary, and its three texts.
+use crate::first_games::FirstGame;
 use shape_core::Shape;
 
 /// One pattern: how often it was there, how often it was played, and the first game that had it,
@@ -8,7 +9,7 @@ pub struct Entry {
     pub shape: Shape,
     pub there: u64,
     pub played: u64,
-    pub first: Option<u64>,
+    pub first: FirstGame,
 }
 
 /// The texts of a dictionary: of its squares, of squares and diamonds, and with first games.

@@ -6,6 +6,7 @@ ghost use Rattle.shape_dict.specs.Reading.{IsLine, IsAbove, IsLineFault};
 
 use crate::entries::Entry;
 use crate::faults::DictFault;
+use crate::first_games::FirstGame;
 use crate::headers::Header;
 use crate::lines::read_line;
 use shape_core::{Shape, Word};
@@ -54,7 +55,7 @@ pub fn read_entry<'a>(
         shape,
         there: line.there,
         played: line.played,
-        first: line.first,
+        first: FirstGame::new(line.first),
     };
     Ok((entry, rest))
 }

@@ -21,14 +21,13 @@ pub(crate) fn sum_of(left: u64, right: u64) -> Result<u64, DictFault>
 
 /// An entry of the right alone, whose first game follows the left's games.
 fn moved(entry: Entry, games: u64) -> Entry
-    requires { IfSome entry.first (λ game. game + games < 2 ^ 64) }
+    requires { IfSome entry.first (λ game. game + games + 1 < 2 ^ 64) }
     ensures { result ≡ moved_entry games entry }
 {
-    let first = match entry.first {
-        Some(game) => Some(game + games),
-        None => None,
-    };
-    Entry { first, ..entry }
+    Entry {
+        first: entry.first.moved(games).unwrap(),
+        ..entry
+    }
 }
 
 /// An entry of both.
@@ -72,7 +71,7 @@ fn push_kept(entries: &mut Vec<Entry>, left: &[Entry]) -> Result<(), AllocError>
 /// Appends the entries of the right alone.
 fn push_moved(entries: &mut Vec<Entry>, right: &[Entry], games: u64) -> Result<(), AllocError>
     requires small { All (λ entry. entry.there < 2 ^ 64) entries.old.items }
-    requires first { All (λ entry. IfSome entry.first (λ game. game + games < 2 ^ 64)) right.now }
+    requires first { All (λ entry. IfSome entry.first (λ game. game + games + 1 < 2 ^ 64)) right.now }
     ensures ok { OnOk result (entries.new.items
         ≡ entries.old.items ++ map (moved_entry games) right.now) }
     ensures err { OnErr result (0 < length right.now) }
@@ -97,7 +96,7 @@ pub(crate) fn merge(
     requires right_rises { IsStrictlyIncreasing (map (λ entry. entry.shape) right.now) }
     requires left_played { All (λ entry. entry.played ≤ entry.there) left.now }
     requires right_played { All (λ entry. entry.played ≤ entry.there) right.now }
-    requires right_first { All (λ entry. IfSome entry.first (λ game. game + games < 2 ^ 64))
+    requires right_first { All (λ entry. IfSome entry.first (λ game. game + games + 1 < 2 ^ 64))
         right.now }
     ensures ok { IfOk result (λ both. both.items ≡ merged games left.now right.now) }
     ensures small { IfOk result (λ both. All (λ entry. entry.there < 2 ^ 64) both.items) }

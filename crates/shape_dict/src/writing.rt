@@ -137,6 +137,6 @@ pub fn push_line(out: &mut Vec<u8>, text: Text, entry: &Entry) -> Result<(), All
 {
     push_word(out, entry.shape)?;
     push_uses(out, entry)?;
-    push_first(out, text, entry.first)?;
+    push_first(out, text, entry.first.get())?;
     push_byte(out, b'\n')
 }

@@ -42,7 +42,7 @@ pub(crate) fn said(entry: &Entry) -> ShapesEntry
         shape: entry.shape.word().bits(),
         there: entry.there,
         played: entry.played,
-        first: or_unknown(entry.first),
+        first: or_unknown(entry.first.get()),
     }
 }
 

@@ -6,4 +6,3 @@ pub mod Making
 pub mod Preparing
 pub mod Raising
 pub mod Rows
-pub mod Small

@@ -102,7 +102,8 @@ impl KeptRow {
 
     /// The least game in which it was there.
     pub fn first(self) -> Option<u64>
-        ensures { result ≡ self.first }
+        ensures first { result ≡ self.first }
+        ensures small { IfSome result (λ game. game < 2 ^ 32) }
     {
         match self.first.get() {
             None => None,

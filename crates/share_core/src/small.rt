@@ -13,7 +13,7 @@ pub(crate) struct SmallOption {
 
 impl Model for SmallOption {
     ghost use Rattle.std.specs.Prelude.{ℕ, Option};
-    ghost use Rattle.share_core.specs.Inner.Small.{number_of, kept};
+    ghost use Rattle.shape_dict.specs.Inner.FirstGames.{number_of, kept};
 
     ghost Value = { Option ℕ };
 
@@ -23,7 +23,7 @@ impl Model for SmallOption {
 }
 
 impl SmallOption {
-    ghost use Rattle.std.specs.Prelude.{◌≡◌, ◌+◌, ◌^◌, ◌<◌, Some};
+    ghost use Rattle.std.specs.Prelude.{◌≡◌, ◌+◌, ◌^◌, ◌<◌, Some, IfSome};
 
     /// No number.
     pub fn none() -> SmallOption
@@ -44,7 +44,8 @@ impl SmallOption {
 
     /// The number, if there is one.
     pub fn get(self) -> Option<usize>
-        ensures { result ≡ self }
+        ensures number { result ≡ self }
+        ensures small { IfSome result (λ number. number < 2 ^ 32) }
     {
         if self.above == 0 {
             None

@@ -8,7 +8,7 @@ use go_record::{Kind, Record, read_record};
 use probe_core::{Capacity, OddStep, ProbeOrder};
 use sgf_core::Trees;
 use shape_core::{Kinds, Shape, Word};
-use shape_dict::Entry;
+use shape_dict::{Entry, FirstGame};
 use share_core::{HarvestFault, Share};
 use slot_table::{Pass, SlotTable};
 use std::alloc::Global;
@@ -58,7 +58,7 @@ pub(crate) fn entry_of(rt: &impl Abort, bits: u64, there: u64, played: u64, firs
         shape: shape_of(rt, bits),
         there,
         played,
-        first: Some(first),
+        first: FirstGame::new(Some(first)),
     }
 }
 

@@ -12,7 +12,7 @@ use crate::head::HEAD;
 use crate::orders::Order;
 use crate::pieces::push_whole_percent;
 use shape_core::Kind;
-use shape_dict::{Dictionary, Entry, push_number, push_word};
+use shape_dict::{Dictionary, Entry, FirstGame, push_number, push_word};
 use std::alloc::{AllocError, Global};
 
 /// Appends how many times of a hundred the pattern was played, and how often it was there.
@@ -53,10 +53,10 @@ fn push_name(text: &mut Vec<u8>, rank: u64, entry: &Entry) -> Result<(), AllocEr
 
 /// Appends the first game that had a pattern, where it is known.
 #[tactic(auto, unfolding(crate::specs::Page::game_text))]
-fn push_game(text: &mut Vec<u8>, first: Option<u64>) -> Result<(), AllocError>
+fn push_game(text: &mut Vec<u8>, first: FirstGame) -> Result<(), AllocError>
     ensures { OnOk result (text.new.items ≡ text.old.items ++ game_text first) }
 {
-    match first {
+    match first.get() {
         None => Ok(()),
         Some(game) => {
             text.extend_from_slice(b"<br>first in game ")?;

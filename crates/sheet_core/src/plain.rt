@@ -67,7 +67,7 @@ fn push_caption(text: &mut Vec<u8>, rank: u64, entry: &Entry) -> Result<(), Allo
     text.push(b' ')?;
     push_word(text, entry.shape)?;
     push_uses(text, entry)?;
-    push_first(text, entry.first)?;
+    push_first(text, entry.first.get())?;
     text.push(b'\n')?;
     Ok(())
 }

@@ -1,5 +1,5 @@
 //! The next line's entry, read with few branches where its numbers are of the common lengths.
-ghost use Rattle.std.specs.Prelude.{◌≡◌, ◌++◌, ◌∷◌, ◌<◌, ◌≤◌, ◌^◌, ℕ, length, take, true, codes};
+ghost use Rattle.std.specs.Prelude.{◌+◌, ◌≡◌, ◌++◌, ◌∷◌, ◌<◌, ◌≤◌, ◌^◌, ℕ, length, take, true, codes};
 ghost use Rattle.std.specs.Prelude.{IfSome, IfOk, IfErr};
 ghost use Rattle.std.specs.Fmt.{decimal};
 ghost use Rattle.shape_core.specs.Symmetry.{least_image};
@@ -12,7 +12,7 @@ ghost use Rattle.stream_core.specs.Inner.Counting.{CountedTo};
 
 use crate::progress::Progress;
 use shape_core::{Kind, Shape, Word};
-use shape_dict::{DictFault, Entry, Header, Text, read_entry};
+use shape_dict::{DictFault, Entry, FirstGame, Header, Text, read_entry};
 
 /// No more digits of a number are read here.
 const DIGITS: usize = 18;
@@ -146,7 +146,7 @@ fn quick_game(bytes: &[u8]) -> Option<(Option<u64>, &[u8])>
 #[inline(always)]
 fn quick_end<'a>(bytes: &'a [u8], header: &Header) -> Option<(Option<u64>, &'a [u8])>
     ensures { IfSome result (λ p. (bytes.now ≡ first_text header.now.text p.0 ++ (line_feed ++ p.1.now))
-        × IsFirst header.now.text header.now.games p.0 × IfSome p.0 (λ game. game < 2 ^ 64)) }
+        × IsFirst header.now.text header.now.games p.0 × IfSome p.0 (λ game. game + 1 < 2 ^ 64)) }
 {
     if header.text != Text::Three {
         let rest = after(bytes, b'\n')?;
@@ -199,7 +199,7 @@ pub(crate) fn quick_entry<'a>(
         shape,
         there,
         played,
-        first,
+        first: FirstGame::new(first),
     };
     Some((entry, rest))
 }

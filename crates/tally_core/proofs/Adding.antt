@@ -1,14 +1,14 @@
 -- Meetings of a game that are added to counts.
 use Rattle.std.proofs.Common.{◌≡◌, ℕ, ◌+◌, ◌≤◌, ◌<◌, ◌==◌, cond, List, length, take, get_or, Option, ap, arith}
 use Rattle.std.proofs.lemmas.List.Sums.{sum_by_more_le}
-use Rattle.tally_core.specs.declared.counters.Count.{Count}
+use Rattle.tally_core.specs.Inner.Count.{Count}
 use Rattle.tally_core.specs.declared.meetings.Meeting.{Meeting}
 use Rattle.tally_core.specs.Inner.Counter.{uses_at, one_pattern, used, CountsMeetings}
 use Rattle.tally_core.specs.Walk.{there_among, played_among}
 use Rattle.tally_core.proofs.Used.{again-uses}
 
 -- the counts with one meeting more are within those with all
-pub next-within : (game : ℕ) (meetings : List Meeting) (i : ℕ) (meeting : Meeting) (before now : ℕ → Option Count) (shape : ℕ) → i < length meetings → meeting ≡ get_or meetings i meeting →
+pub next-within : (game : Option ℕ) (meetings : List Meeting) (i : ℕ) (meeting : Meeting) (before now : ℕ → Option Count) (shape : ℕ) → i < length meetings → meeting ≡ get_or meetings i meeting →
     CountsMeetings game (take i meetings) before now →
     uses_at (used game (one_pattern meeting.shape meeting.there) (one_pattern meeting.shape meeting.played) now shape) + 0
     ≤ uses_at (used game (there_among meetings) (played_among meetings) before shape) + 0

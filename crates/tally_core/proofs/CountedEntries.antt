@@ -11,7 +11,8 @@ use Rattle.shape_dict.specs.Contents.{entry_of, played_in}
 use Rattle.tally_core.specs.Counts.{Replayed}
 use Rattle.tally_core.specs.Games.{there_sum, played_sum, first_game, counted_entry}
 use Rattle.tally_core.proofs.DoubleCounting.{sum-same}
-use Rattle.tally_core.proofs.RisingEntries.{shapes_of, each_is_found}
+use Rattle.tally_core.specs.Inner.Entries.{shapes_of}
+use Rattle.tally_core.proofs.RisingEntries.{each_is_found}
 use Rattle.tally_core.proofs.PlayedPatterns.{all_played, played_among_all}
 
 -- the entry of each shape is what the games count of it

@@ -3,14 +3,13 @@ use Rattle.std.proofs.Common.{◌≡◌, ◌++◌, ◌∷◌, [], List, map, ap,
 use Rattle.std.specs.Map.{keys_of}
 use Rattle.std.proofs.lemmas.List.Elements.{All-append, All-cons, All-nil}
 use Rattle.shape_dict.specs.declared.entries.Entry.{Entry}
-use Rattle.tally_core.specs.declared.counters.Count.{Count}
-use Rattle.tally_core.specs.declared.dictionaries.FirstGames.{FirstGames}
+use Rattle.tally_core.specs.Inner.Count.{Count}
 use Rattle.tally_core.specs.Entries.{IsShape}
 use Rattle.tally_core.specs.Inner.Entries.{entry_of_pair}
 
 pub shapes_more : (old new : List Entry) (entry : Entry) → new ≡ old ++ entry ∷ [] → IsShape entry → All IsShape old → All IsShape new
 shapes_more old new entry grown is all = subst (All IsShape) (sym grown) (All-append IsShape old (entry ∷ []) all (All-cons IsShape entry [] is (All-nil IsShape)))
 
-pub shapes_of-pairs : (firsts : FirstGames) (pairs : List (ℕ × Count)) → map (λ entry. entry.shape) (map (entry_of_pair firsts) pairs) ≡ keys_of pairs
-shapes_of-pairs firsts [] = refl
-shapes_of-pairs firsts (pair ∷ pairs) = ap (λ shapes. pair.0 ∷ shapes) (shapes_of-pairs firsts pairs)
+pub shapes_of-pairs : (pairs : List (ℕ × Count)) → map (λ entry. entry.shape) (map entry_of_pair pairs) ≡ keys_of pairs
+shapes_of-pairs [] = refl
+shapes_of-pairs (pair ∷ pairs) = ap (λ shapes. pair.0 ∷ shapes) (shapes_of-pairs pairs)

@@ -7,7 +7,7 @@ use Rattle.std.proofs.lemmas.List.Folds.{position_or_len_push}
 use Rattle.std.proofs.lemmas.Bool.{cases_lt}
 use Rattle.std.proofs.Math.Numerals.{one-add}
 use Rattle.std.proofs.lemmas.Bool.Decides.{nat_tests}
-use Rattle.tally_core.specs.declared.counters.Count.{Count}
+use Rattle.tally_core.specs.Inner.Count.{Count}
 use Rattle.go_record.specs.Actions.{Actions}
 use Rattle.shape_core.specs.declared.words.Kinds.{Kinds}
 use Rattle.tally_core.specs.Counts.{Replayed, kinds_of, there_in, played_in}
@@ -15,19 +15,19 @@ use Rattle.tally_core.specs.Inner.Counter.{first_used, used_again, CountsGame, C
 
 -- what a pattern's count is after these sums, first seen in this game
 pub counted : ℕ → ℕ → ℕ → Option Count
-counted there played first = cond (nat_lt 0 there) (Some (record { there = there; played = played; first = first })) None
+counted there played first = cond (nat_lt 0 there) (Some (record { there = there; played = played; first = Some first })) None
 
-counted-some : (there played first : ℕ) → 0 < there → counted there played first ≡ Some (record { there = there; played = played; first = first })
+counted-some : (there played first : ℕ) → 0 < there → counted there played first ≡ Some (record { there = there; played = played; first = Some first })
 unfolding counted
 counted-some there played first h =
     let test : nat_lt 0 there ≡ true = Prim.grind (arith, nat_tests) in
-    ap (λ b. cond b (Some (record { there = there; played = played; first = first })) None) test
+    ap (λ b. cond b (Some (record { there = there; played = played; first = Some first })) None) test
 
 counted-none : (there played first : ℕ) → there ≡ 0 → counted there played first ≡ None
 unfolding counted
 counted-none there played first h =
     let test : nat_lt 0 there ≡ false = Prim.grind (arith, nat_tests) in
-    ap (λ b. cond b (Some (record { there = there; played = played; first = first })) None) test
+    ap (λ b. cond b (Some (record { there = there; played = played; first = Some first })) None) test
 
 -- the place of the first thing of which some is there
 unfoldable pub first_of : {X : Type 0} → (X → ℕ) → List X → ℕ
@@ -59,19 +59,19 @@ first-some amount (x ∷ xs) h =
 
 -- one game more
 pub counted-more : (number there played first n m : ℕ) → played ≤ there → m ≤ n → (there ≡ 0 → 0 < n → first ≡ number) →
-    used_again number n m (counted there played first) ≡ counted (there + n) (played + m) first
+    used_again (Some number) n m (counted there played first) ≡ counted (there + n) (played + m) first
 unfolding counted
 counted-more number zero played first zero m among more_among none =
     let no : m ≡ 0 = omega arith in
-    ap (λ k. first_used number zero k) no ∙ sym (counted-none (zero + zero) (played + m) first (omega arith))
+    ap (λ k. first_used (Some number) zero k) no ∙ sym (counted-none (zero + zero) (played + m) first (omega arith))
 counted-more number zero played first (suc n) m among more_among none =
     let no : played ≡ 0 = omega arith in
-    ap (λ p. Some (record { there = suc n; played = p; first = number })) (sym (zero-add m) ∙ ap (λ p. p + m) (sym no))
-    ∙ ap (λ f. Some (record { there = suc n; played = played + m; first = f })) (sym (none refl (omega arith)))
+    ap (λ p. Some (record { there = suc n; played = p; first = Some number })) (sym (zero-add m) ∙ ap (λ p. p + m) (sym no))
+    ∙ ap (λ f. Some (record { there = suc n; played = played + m; first = Some f })) (sym (none refl (omega arith)))
     ∙ sym (counted-some (suc n) (played + m) first (omega arith))
     ∙ ap (λ t. counted t (played + m) first) (sym (zero-add (suc n)))
 counted-more number (suc there) played first n m among more_among none =
-    ap (used_again number n m) (counted-some (suc there) played first (omega arith))
+    ap (used_again (Some number) n m) (counted-some (suc there) played first (omega arith))
     ∙ sym (counted-some (suc there + n) (played + m) first (omega arith))
 
 -- one more game after games of which some had the pattern
@@ -105,7 +105,7 @@ counted-first (suc there) played first other same = ap (λ f. counted (suc there
 
 -- one game more was counted
 pub games_more : (kinds : Kinds) (games : List Replayed) (game : Actions) (number moves more : ℕ) (a b : ℕ → Option Count) →
-    number ≡ length games → CountsGames kinds games a moves → (new : CountsGame kinds game number a b more) →
+    number ≡ length games → CountsGames kinds games a moves → (new : CountsGame kinds game (Some number) a b more) →
     CountsGames kinds (games ++ record { size = game.size; occasions = new.occasions } ∷ []) b (moves + more)
 unfolding counted first_of
 games_more kinds games game number moves more a b is before new =
@@ -118,7 +118,7 @@ games_more kinds games game number moves more a b is before new =
           let p = sum_by (played shape) games in
           let f = first_of (there shape) (games ++ next ∷ []) in
           new.counted shape
-          ∙ ap (used_again number (there shape next) (played shape next))
+          ∙ ap (used_again (Some number) (there shape next) (played shape next))
           (before.counted shape ∙ counted-first s p (first_of (there shape) games) f (λ some. sym (first-kept (there shape) games next some)))
           ∙ counted-more number s p f (there shape next) (played shape next) (before.among shape) (new.among shape)
           (λ none some. first-new (there shape) games next none some ∙ sym is)

@@ -5,14 +5,13 @@ use Rattle.std.proofs.lemmas.Bool.Decides.{nat_tests}
 use Rattle.shape_core.specs.declared.words.Kinds.{Kinds}
 use Rattle.shape_dict.specs.declared.entries.Entry.{Entry}
 use Rattle.shape_dict.specs.Contents.{IsDictionary}
-use Rattle.tally_core.specs.declared.counters.Count.{Count}
-use Rattle.tally_core.specs.declared.dictionaries.FirstGames.TheVariants as first_games
+use Rattle.tally_core.specs.Inner.Count.{Count}
 use Rattle.tally_core.specs.Counts.{Replayed, kinds_of, there_in}
 use Rattle.tally_core.specs.Inner.Counter.{CountsGames}
 use Rattle.tally_core.specs.Games.{there_sum, played_sum, counts_diamonds, IsDictionaryOf}
 use Rattle.tally_core.specs.Entries.{IsShape}
 use Rattle.tally_core.specs.Inner.Entries.{entered, AreEntered}
-use Rattle.tally_core.proofs.RisingEntries.{shapes_of}
+use Rattle.tally_core.specs.Inner.Entries.{shapes_of}
 use Rattle.tally_core.proofs.CountedEntries.{AreCounted}
 use Rattle.tally_core.proofs.PlayedPatterns.{CanonicalStays, AroundStays}
 use Rattle.tally_core.proofs.RisingDictionary.{is_dictionary}
@@ -20,12 +19,12 @@ use Rattle.tally_core.proofs.Games.{first_of, first-some}
 
 -- ---- the entry of a pattern
 entered_numbers : (shape there played first games : ℕ) → (0 < there → first < games) →
-    entered first_games.Kept shape (cond (nat_lt 0 there) (Some (record { there = there; played = played; first = first })) None)
+    entered shape (cond (nat_lt 0 there) (Some (record { there = there; played = played; first = Some first })) None)
     ≡ cond (nat_lt 0 there) (Some (record { shape = shape; there = there; played = played; first = cond (nat_lt first games) (Some first) None })) None
 unfolding entered
 entered_numbers shape there played first games inside =
     elim (nat_lt 0 there) as (λ b. nat_lt 0 there ≡ b →
-    entered first_games.Kept shape (cond b (Some (record { there = there; played = played; first = first })) None)
+    entered shape (cond b (Some (record { there = there; played = played; first = Some first })) None)
     ≡ cond b (Some (record { shape = shape; there = there; played = played; first = cond (nat_lt first games) (Some first) None })) None) [
       | true ↦ λ some.
           let positive : 0 < there = Prim.grind (arith, nat_tests) in
@@ -35,18 +34,18 @@ entered_numbers shape there played first games inside =
       | false ↦ λ none. refl
     ] refl
 
-of_map : (kinds : Kinds) (games : List Replayed) (counts : ℕ → Option Count) (moves : ℕ) (entries : List Entry) → AreEntered first_games.Kept counts entries →
+of_map : (kinds : Kinds) (games : List Replayed) (counts : ℕ → Option Count) (moves : ℕ) (entries : List Entry) → AreEntered counts entries →
     CountsGames kinds games counts moves → AreCounted kinds games entries
 unfolding first_of
 of_map kinds games counts moves entries same h shape =
     let there = λ (game : Replayed). there_in (kinds_of kinds) game shape in
     same shape
-    ∙ ap (entered first_games.Kept shape) (h.counted shape)
+    ∙ ap (entered shape) (h.counted shape)
     ∙ entered_numbers shape (there_sum kinds games shape) (played_sum kinds games shape) (first_of there games) (length games) (first-some there games)
 
 -- ---- the dictionary
 exact : CanonicalStays → AroundStays → (kinds : Kinds) (games : List Replayed) (moves : ℕ) (counts : ℕ → Option Count) (entries : List Entry) →
-    AreEntered first_games.Kept counts entries → All IsShape entries → IsStrictlyIncreasing (shapes_of entries) → CountsGames kinds games counts moves →
+    AreEntered counts entries → All IsShape entries → IsStrictlyIncreasing (shapes_of entries) → CountsGames kinds games counts moves →
     IsDictionaryOf kinds games (record { games = length games; moves = moves; entries = entries; counts_diamonds = counts_diamonds kinds })
 exact canonical around kinds games moves counts entries same shapes rises h =
     let counted = of_map kinds games counts moves entries same h in
@@ -61,7 +60,7 @@ exact canonical around kinds games moves counts entries same shapes rises h =
 
 -- the dictionary of games, from the map in which they were counted
 pub gathered : CanonicalStays → AroundStays → (kinds : Kinds) (replayed : List Replayed) (games moves : ℕ) (counts : ℕ → Option Count) (entries : List Entry) (diamonds : Bool) →
-    AreEntered first_games.Kept counts entries → All IsShape entries → IsStrictlyIncreasing (shapes_of entries) → diamonds ≡ counts_diamonds kinds →
+    AreEntered counts entries → All IsShape entries → IsStrictlyIncreasing (shapes_of entries) → diamonds ≡ counts_diamonds kinds →
     length replayed ≡ games → CountsGames kinds replayed counts moves →
     IsDictionaryOf kinds replayed (record { games = games; moves = moves; entries = entries; counts_diamonds = diamonds })
 gathered canonical around kinds replayed games moves counts entries diamonds same shapes rises judged numbered h =

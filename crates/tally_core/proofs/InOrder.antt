@@ -12,10 +12,9 @@ use Rattle.std.proofs.lemmas.Map.Keys.{IsDistinct-IsPermutation, IsStrictlyIncre
 use Rattle.std.proofs.lemmas.Map.Views.{IfSome-lookup, lookup-from_Contains}
 use Rattle.shape_dict.specs.declared.entries.Entry.{Entry}
 use Rattle.shape_dict.specs.Contents.{entry_of}
-use Rattle.tally_core.specs.declared.counters.Count.{Count}
-use Rattle.tally_core.specs.declared.dictionaries.FirstGames.{FirstGames}
+use Rattle.tally_core.specs.Inner.Count.{Count}
 use Rattle.tally_core.specs.Inner.Entries.{entry_of_pair, entered}
-use Rattle.tally_core.proofs.RisingEntries.{shapes_of}
+use Rattle.tally_core.specs.Inner.Entries.{shapes_of}
 use Rattle.tally_core.proofs.Entered.{shapes_of-pairs}
 use Rattle.tally_core.proofs.Lookups.{entry_of-pairs}
 
@@ -64,10 +63,10 @@ module _ (few more : List (ℕ × Entry)) (same : IsPermutation few more) (once 
   same_lookup = sym (found_before (lookup (nat_eq key) more) refl)
 
 -- ---- the entries of a map
-module _ (firsts : FirstGames) (pairs : List (ℕ × Count)) (listed sorted : List Entry) (all : listed ≡ map (entry_of_pair firsts) pairs) (once : IsDistinct nat_eq (keys_of pairs))
+module _ (pairs : List (ℕ × Count)) (listed sorted : List Entry) (all : listed ≡ map entry_of_pair pairs) (once : IsDistinct nat_eq (keys_of pairs))
     (same : IsPermutation listed sorted) where
   listed_once : IsDistinct nat_eq (shapes_of listed)
-  listed_once = subst (IsDistinct nat_eq) (sym (ap shapes_of all ∙ shapes_of-pairs firsts pairs)) once
+  listed_once = subst (IsDistinct nat_eq) (sym (ap shapes_of all ∙ shapes_of-pairs pairs)) once
 
   pub sorted_rises : IsNonDecreasingBy (λ (e : Entry). e.shape) sorted → IsStrictlyIncreasing (shapes_of sorted)
   sorted_rises up =
@@ -81,9 +80,9 @@ module _ (firsts : FirstGames) (pairs : List (ℕ × Count)) (listed sorted : Li
       omega arith)
       (IsDistinct-IsPermutation nat_eq test_flips (shapes_of listed) (shapes_of sorted) (IsPermutation-map (λ (e : Entry). e.shape) listed sorted same) listed_once)
 
-  pub sorted_entered : (shape : ℕ) → entry_of shape sorted ≡ entered firsts shape (lookup (nat_eq shape) pairs)
+  pub sorted_entered : (shape : ℕ) → entry_of shape sorted ≡ entered shape (lookup (nat_eq shape) pairs)
   unfolding tagged
   sorted_entered shape =
       entry_of-tagged shape sorted
       ∙ same_lookup (tagged listed) (tagged sorted) (IsPermutation-map (λ (e : Entry). (e.shape, e)) listed sorted same) (subst (IsDistinct nat_eq) (sym (keys_of-tagged listed)) listed_once) shape
-      ∙ sym (entry_of-tagged shape listed) ∙ ap (entry_of shape) all ∙ entry_of-pairs firsts shape pairs
+      ∙ sym (entry_of-tagged shape listed) ∙ ap (entry_of shape) all ∙ entry_of-pairs shape pairs

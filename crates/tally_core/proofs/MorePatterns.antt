@@ -9,7 +9,7 @@ use Rattle.std.proofs.lemmas.Map.Views.{lookup-from_Contains}
 use Rattle.std.proofs.lemmas.List.Elements.{All-map, All-weaker, All-contains_itself}
 use Rattle.shape_core.specs.declared.words.Kinds.{Kinds}
 use Rattle.tally_core.specs.declared.counting.Counter.{Counter}
-use Rattle.tally_core.specs.declared.counters.Count.{Count}
+use Rattle.tally_core.specs.Inner.Count.{Count}
 use Rattle.tally_core.specs.Counted.{HasMore}
 use Rattle.tally_core.specs.Games.{there_sum}
 use Rattle.tally_core.specs.Inner.Counting.{CountsMore}

@@ -12,7 +12,8 @@ use Rattle.tally_core.specs.Occasions.{Occasion}
 use Rattle.tally_core.specs.Counts.{Replayed, kinds_of, patterns_played}
 use Rattle.tally_core.specs.Games.{there_sum, played_sum, IsDictionaryOf}
 use Rattle.tally_core.proofs.DoubleCounting.{count-cons, counted_within}
-use Rattle.tally_core.proofs.RisingEntries.{shapes_of, stands_once_at_most, stands_nowhere}
+use Rattle.tally_core.specs.Inner.Entries.{shapes_of}
+use Rattle.tally_core.proofs.RisingEntries.{stands_once_at_most, stands_nowhere}
 use Rattle.tally_core.proofs.CountedEntries.{counted_nowhere, plays_counted}
 use Rattle.tally_core.proofs.PlayedPatterns.{CanonicalStays, AroundStays, is_low, one_square, one_diamond, no_diamonds_played, all_played, played_among_all, one_each}
 

@@ -15,7 +15,8 @@ use Rattle.tally_core.specs.Counts.{Replayed, kinds_of, there_in, patterns_playe
 use Rattle.tally_core.specs.Games.{there_sum, played_sum, counts_diamonds}
 use Rattle.tally_core.specs.Entries.{IsShape}
 use Rattle.tally_core.proofs.DoubleCounting.{counted_twice}
-use Rattle.tally_core.proofs.RisingEntries.{shapes_of, stands_once}
+use Rattle.tally_core.specs.Inner.Entries.{shapes_of}
+use Rattle.tally_core.proofs.RisingEntries.{stands_once}
 use Rattle.tally_core.proofs.CountedEntries.{AreCounted, IsCounted, entry_there, counted_there, each_counted, plays_counted}
 use Rattle.tally_core.proofs.PlayedPatterns.{CanonicalStays, AroundStays, is_low, one_square, one_diamond, no_diamonds, all_played, played_among_all, one_each}
 

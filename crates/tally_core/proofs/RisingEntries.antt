@@ -7,10 +7,8 @@ use Rattle.std.proofs.lemmas.Bool.Decides.{nat_tests}
 use Rattle.std.proofs.lemmas.List.Elements.{All-nil, All-cons, All-weaker, recursion_from_All}
 use Rattle.shape_dict.specs.declared.entries.Entry.{Entry}
 use Rattle.shape_dict.specs.Contents.{entry_of}
+use Rattle.tally_core.specs.Inner.Entries.{shapes_of}
 use Rattle.tally_core.proofs.DoubleCounting.{count-cons}
-
-abbrev pub shapes_of : List Entry → List ℕ
-shapes_of entries = map (λ (entry : Entry). entry.shape) entries
 
 -- the numbers rise, from a least one on
 Rises : ℕ → List ℕ → Type 0

@@ -5,17 +5,11 @@ use Rattle.std.specs.Map.{keys_of, lookup}
 use Rattle.std.proofs.lemmas.Bool.Decides.{nat_tests}
 use Rattle.std.proofs.lemmas.Map.Entries.{length-keys_of}
 use Rattle.std.proofs.lemmas.Map.Keys.{IsDistinct-tail, apart_from_distinct}
-use Rattle.tally_core.specs.declared.counters.Count.{Count}
+use Rattle.tally_core.specs.Inner.Count.{Count}
 use Rattle.tally_core.specs.Inner.Index.{HasNoRow}
 
 flips : (a b : ℕ) → nat_eq a b ≡ nat_eq b a
 flips a b = Prim.grind (arith, nat_tests)
-
--- ---- a row is raised
-pub keys_stay : (rows : List (ℕ × Count)) (at shape : ℕ) (count : Count) → at < length rows → slice_index_or (keys_of rows) at 0 ≡ shape → keys_of (slice_set rows at (shape, count)) ≡ keys_of rows
-keys_stay [] at shape count low is = absurd (omega (arith, low))
-keys_stay (first ∷ rows) zero shape count low is = ap (λ key. key ∷ keys_of rows) (sym is)
-keys_stay (first ∷ rows) (suc at) shape count low is = ap (λ keys. first.0 ∷ keys) (keys_stay rows at shape count (omega (arith, low)) is)
 
 -- ---- a row comes
 pub none_found : (rows : List (ℕ × Count)) (shape : ℕ) → HasNoRow (keys_of rows) shape → lookup (nat_eq shape) rows ≡ None

@@ -1,5 +1,5 @@
 -- Trees that are counted one after another.
-use Rattle.std.proofs.Common.{◌≡◌, ℕ, suc, ◌+◌, ◌≤◌, List, [], ◌∷◌, ◌++◌, length, map, Result, Ok, Err, refl, ap, sym, subst, ◌∙◌, arith, length-append, add-zero}
+use Rattle.std.proofs.Common.{◌≡◌, ℕ, suc, ◌+◌, ◌≤◌, List, [], ◌∷◌, ◌++◌, length, map, Some, Result, Ok, Err, refl, ap, sym, subst, ◌∙◌, arith, length-append, add-zero}
 use Rattle.std.proofs.lemmas.List.{map-append, append-nil}
 use Rattle.sgf_core.specs.Tree.{GameTree, Node}
 use Rattle.sgf_core.specs.Counts.{value_count}
@@ -100,7 +100,7 @@ report-push trees tree recorded before after is reported games others refused =
 
 -- one game more
 pub counts_game : (kinds : Kinds) (trees : List GameTree) (tree : GameTree) (game : Actions) (before after : Counter) (moves : ℕ) →
-    record_of_tree tree ≡ Ok (kind.Go game) → CountsTrees kinds trees before → CountsGame kinds game before.report.games (count_in before.counts) (count_in after.counts) moves →
+    record_of_tree tree ≡ Ok (kind.Go game) → CountsTrees kinds trees before → CountsGame kinds game (Some before.report.games) (count_in before.counts) (count_in after.counts) moves →
     after.moves ≡ before.moves + moves → after.report ≡ record before.report { games = before.report.games + 1 } → CountsTrees kinds (trees ++ tree ∷ []) after
 unfolding one_game one_other one_refused
 counts_game kinds trees tree game before after moves is counted new all_moves report =

@@ -3,23 +3,23 @@ use Rattle.std.proofs.Common.{◌≡◌, ℕ, zero, suc, ◌+◌, ◌<◌, ◌�
 use Rattle.std.specs.Prelude.{Result, Ok, Err, IsErrAnd, IfErr}
 use Rattle.std.proofs.lemmas.Bool.Decides.{nat_tests}
 use Rattle.std.proofs.lemmas.List.Sums.{sum_by-append}
-use Rattle.tally_core.specs.declared.counters.Count.{Count}
+use Rattle.tally_core.specs.Inner.Count.{Count}
 use Rattle.tally_core.specs.declared.faults.TallyFault.{TallyFault}
 use Rattle.tally_core.specs.declared.faults.TallyFault.TheVariants as fault
 use Rattle.tally_core.specs.Inner.Counter.{first_used, used_again, used, uses_at, times_in, one_pattern, AreAmong, AreCounts, IsCountingFault}
 
-first_used-some : (game there played : ℕ) → 0 < there + played → first_used game there played ≡ Some (record { there = there; played = played; first = game })
+first_used-some : (game : Option ℕ) (there played : ℕ) → 0 < there + played → first_used game there played ≡ Some (record { there = there; played = played; first = game })
 first_used-some game zero zero some = absurd (omega arith)
 first_used-some game zero (suc played) some = refl
 first_used-some game (suc there) played some = refl
 
 -- used at no occasion more
-pub again-none : (game : ℕ) (old : Option Count) → used_again game 0 0 old ≡ old
+pub again-none : (game : Option ℕ) (old : Option Count) → used_again game 0 0 old ≡ old
 again-none game None = refl
 again-none game (Some count) = ap₂ (λ t p. Some (record count { there = t; played = p })) (add-zero count.there) (add-zero count.played)
 
 -- n times, and then m more
-pub again-again : (game there played more_there more_played : ℕ) (old : Option Count) →
+pub again-again : (game : Option ℕ) (there played more_there more_played : ℕ) (old : Option Count) →
     used_again game more_there more_played (used_again game there played old) ≡ used_again game (there + more_there) (played + more_played) old
 again-again game there played more_there more_played (Some count) =
     ap₂ (λ t p. Some (record count { there = t; played = p })) (add_assoc count.there there more_there) (add_assoc count.played played more_played)
@@ -29,7 +29,7 @@ again-again game zero (suc played) more_there more_played None = sym (first_used
 again-again game (suc there) played more_there more_played None = sym (first_used-some game (suc there + more_there) (played + more_played) (omega arith))
 
 -- a pattern's uses grow by as much as it was used
-pub again-uses : (game there played : ℕ) (old : Option Count) → uses_at (used_again game there played old) ≡ uses_at old + there + played
+pub again-uses : (game : Option ℕ) (there played : ℕ) (old : Option Count) → uses_at (used_again game there played old) ≡ uses_at old + there + played
 again-uses game zero zero None = refl
 again-uses game zero (suc played) None = omega arith
 again-uses game (suc there) played None = omega arith
@@ -56,7 +56,7 @@ fault-later (fault.BadSettings) few most a b h k = k
 fault-later (fault.Sgf found) few most a b h k = k
 
 -- a pattern that had no count was there and was played this often
-pub used_first : (game only there played : ℕ) (a b : ℕ → Option Count) → 0 < there + played → a only ≡ None →
+pub used_first : (game : Option ℕ) (only there played : ℕ) (a b : ℕ → Option Count) → 0 < there + played → a only ≡ None →
     ((q : ℕ) → b q ≡ cond (only == q) (Some (record { there = there; played = played; first = game })) (a q)) →
     AreCounts (used game (one_pattern only there) (one_pattern only played) a) b
 used_first game only there played a b some none updated q =
@@ -70,7 +70,7 @@ used_first game only there played a b some none updated q =
     ] refl
 
 -- a pattern that had a count was there and was played this often again
-pub used_more : (game only there played : ℕ) (count : Count) (a b : ℕ → Option Count) → a only ≡ Some count →
+pub used_more : (game : Option ℕ) (only there played : ℕ) (count : Count) (a b : ℕ → Option Count) → a only ≡ Some count →
     ((q : ℕ) → b q ≡ cond (only == q) (Some (record count { there = count.there + there; played = count.played + played })) (a q)) →
     AreCounts (used game (one_pattern only there) (one_pattern only played) a) b
 used_more game only there played count a b is updated q =

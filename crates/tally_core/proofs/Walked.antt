@@ -18,7 +18,7 @@ use Rattle.tally_core.specs.Counts.{kinds_of, patterns_there, patterns_played}
 use Rattle.tally_core.specs.Inner.Counter.{times_in, AreAmong, used_again, used, uses_at, CountsMeetings, CountsGame}
 use Rattle.tally_core.specs.Walk.{there_among, played_among, shapes_of, once_each, IsWalk, IsAmong, IsSmall}
 use Rattle.tally_core.specs.Inner.Standing.{IsWalkOf}
-use Rattle.tally_core.specs.declared.counters.Count.{Count}
+use Rattle.tally_core.specs.Inner.Count.{Count}
 use Rattle.tally_core.specs.declared.meetings.Meeting.{Meeting}
 use Rattle.tally_core.proofs.Among.{action_among}
 use Rattle.tally_core.proofs.Used.{among-append, again-uses}
@@ -95,7 +95,7 @@ small-of kinds size actions start meetings moves most extent few walked shape =
 
 -- ---- a game that is counted by its walk
 
-pub counts-walked : (kinds : Kinds) (game : Actions) (number : ℕ) (before after : ℕ → Option Count) (meetings : List Meeting) (moves : ℕ) →
+pub counts-walked : (kinds : Kinds) (game : Actions) (number : Option ℕ) (before after : ℕ → Option Count) (meetings : List Meeting) (moves : ℕ) →
     IsWalk kinds game meetings moves → IsAmong meetings → CountsMeetings number meetings before after → CountsGame kinds game number before after moves
 counts-walked kinds game number before after meetings moves walked among counted =
     let there = flat_map (patterns_there (kinds_of kinds) game.size) walked.occasions in
@@ -112,7 +112,7 @@ counts-walked kinds game number before after meetings moves walked among counted
     }
 
 -- how much counts grow by the meetings of a game
-pub meetings-grow : (number most : ℕ) (meetings : List Meeting) (before : ℕ → Option Count) (shape : ℕ) → IsSmall most meetings →
+pub meetings-grow : (number : Option ℕ) (most : ℕ) (meetings : List Meeting) (before : ℕ → Option Count) (shape : ℕ) → IsSmall most meetings →
     uses_at (used number (there_among meetings) (played_among meetings) before shape) ≤ uses_at (before shape) + most
 meetings-grow number most meetings before shape small =
     omega (arith, small shape, again-uses number (there_among meetings shape) (played_among meetings shape) (before shape))

@@ -1,17 +1,14 @@
 -- The ways of patterns through an index.
 use Rattle.std.proofs.Common.{◌≡◌, ℕ, zero, suc, ◌+◌, ◌<◌, nat_eq, List, [], ◌∷◌, ◌++◌, length, slice_set, slice_index_or, refl, ap, sym, subst, ◌∙◌, arith, add-one, ⊎_elim}
 use Rattle.std.proofs.lemmas.Bool.{cases_eq}
-use Rattle.std.proofs.lemmas.List.{get_or-set_other, length-set, get_or_append_left, get_or_push, length_push, map_push}
-use Rattle.std.proofs.lemmas.Map.Entries.{length-keys_of}
+use Rattle.std.proofs.lemmas.List.{get_or-set_other, length-set, get_or_append_left, get_or_push, length_push}
 use Rattle.std.proofs.lemmas.Map.Keys.{IsDistinct-push}
 use Rattle.std.specs.Cmp.{nat_eq_equiv}
 use Rattle.std.specs.List.{IsDistinct}
 use Rattle.std.proofs.lemmas.Grind.{get_or-set_at}
-use Rattle.std.specs.Map.{keys_of}
-use Rattle.tally_core.specs.declared.counters.Count.{Count}
 use Rattle.tally_core.specs.declared.indexes.Slot.{Slot}
 use Rattle.tally_core.specs.Inner.Index.{home_of, next_place, place_at, way_of, slot_at, slot_of, AreTaken, IsNoted, AreNoted, IsFree, HasNoRow, IsIndexed}
-use Rattle.tally_core.proofs.RowLookups.{keys_stay, none_any}
+use Rattle.tally_core.proofs.RowLookups.{none_any}
 
 -- one step more on a way
 pub way-next : (index : List Slot) (shape step : ℕ) → way_of index shape (step + 1) ≡ next_place (length index) (way_of index shape step)
@@ -78,37 +75,16 @@ noted_more index place shape row shapes noted found is one low = ⊎_elim
     noted_still index place (slot_of shape row) found.free found.within (let l : 0 < row + 1 = omega arith in l) (slice_index_or shapes one 0) one (noted one (omega (arith, low, apart))))
     (cases_eq one row)
 
--- the pattern of a row
-pub key_at : (rows : List (ℕ × Count)) (row : ℕ) (default : ℕ × Count) → row < length rows → slice_index_or (keys_of rows) row 0 ≡ (slice_index_or rows row default).0
-key_at [] row default low = absurd (omega (arith, low))
-key_at (first ∷ rows) zero default low = refl
-key_at (first ∷ rows) (suc row) default low = key_at rows row default (omega (arith, low))
-
 -- a row more, of a pattern that had none
-pub indexed_more : (index : List Slot) (rows : List (ℕ × Count)) (place shape : ℕ) (count : Count) → IsIndexed index rows → IsFree index shape place → HasNoRow (keys_of rows) shape →
-    IsIndexed (slice_set index place (slot_of shape (length rows))) (rows ++ (shape, count) ∷ [])
-indexed_more index rows place shape count indexed found none =
-    let keys = keys_of rows in
-    let pushed : keys_of (rows ++ (shape, count) ∷ []) ≡ keys ++ shape ∷ [] = map_push (λ (r : ℕ × Count). r.0) rows (shape, count) in
-    let long = length-keys_of rows in
-    let before : AreNoted index (keys ++ shape ∷ []) (length rows) = λ row low.
-    subst (λ s. IsNoted index s row) (sym (get_or_append_left keys (shape ∷ []) 0 row (omega (arith, low, long)))) (indexed.noted row low) in
+pub indexed_more : (index : List Slot) (shapes : List ℕ) (place shape : ℕ) → IsIndexed index shapes → IsFree index shape place → HasNoRow shapes shape →
+    IsIndexed (slice_set index place (slot_of shape (length shapes))) (shapes ++ shape ∷ [])
+indexed_more index shapes place shape indexed found none =
+    let before : AreNoted index (shapes ++ shape ∷ []) (length shapes) = λ row low.
+    subst (λ s. IsNoted index s row) (sym (get_or_append_left shapes (shape ∷ []) 0 row low)) (indexed.noted row low) in
     record {
-      once = subst (IsDistinct nat_eq) (sym pushed) (IsDistinct-push nat_eq_equiv keys shape indexed.once (none_any keys shape none));
-      noted = subst (λ all. AreNoted (slice_set index place (slot_of shape (length rows))) all (length (rows ++ (shape, count) ∷ []))) (sym pushed)
-          (subst (AreNoted (slice_set index place (slot_of shape (length rows))) (keys ++ shape ∷ [])) (sym (length_push rows (shape, count)))
-          (noted_more index place shape (length rows) (keys ++ shape ∷ []) before found (get_or_push keys shape 0 (length rows) long)));
-    }
-
--- the same index, of rows of which one was raised
-pub indexed_raised : (index : List Slot) (rows : List (ℕ × Count)) (at shape : ℕ) (count : Count) → at < length rows → slice_index_or (keys_of rows) at 0 ≡ shape → IsIndexed index rows →
-    IsIndexed index (slice_set rows at (shape, count))
-indexed_raised index rows at shape count low is indexed =
-    let keys = keys_stay rows at shape count low is in
-    let long = length-set rows at (shape, count) in
-    record {
-      once = subst (IsDistinct nat_eq) (sym keys) indexed.once;
-      noted = subst (λ all. AreNoted index all (length (slice_set rows at (shape, count)))) (sym keys) (subst (AreNoted index (keys_of rows)) (sym long) indexed.noted);
+      once = IsDistinct-push nat_eq_equiv shapes shape indexed.once (none_any shapes shape none);
+      noted = subst (AreNoted (slice_set index place (slot_of shape (length shapes))) (shapes ++ shape ∷ [])) (sym (length_push shapes shape))
+          (noted_more index place shape (length shapes) (shapes ++ shape ∷ []) before found (get_or_push shapes shape 0 (length shapes) refl));
     }
 
 pub none_indexed : (index : List Slot) → IsIndexed index []

@@ -1,5 +1,6 @@
 -- What serves the contracts of private functions, and invariants: nothing here has to be believed.
 pub mod Blank
+pub mod Count
 pub mod Counter
 pub mod Counting
 pub mod Entries

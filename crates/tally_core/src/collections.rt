@@ -5,15 +5,13 @@ ghost use Rattle.std.specs.List.Sorted.{IsStrictlyIncreasing};
 ghost use Rattle.sgf_core.specs.declared.faults.SgfFault.TheVariants as sgf;
 ghost use Rattle.tally_core.specs.Counted.{IsCounted, HasMore, IsCountFault};
 ghost use Rattle.tally_core.specs.Entries.{IsShape};
-ghost use Rattle.tally_core.specs.Inner.Counter.{count_in};
-ghost use Rattle.tally_core.specs.Inner.Counting.{CountsAll};
-ghost use Rattle.tally_core.specs.Inner.Entries.{AreEntered};
-ghost use Rattle.tally_core.specs.declared.dictionaries.FirstGames.TheVariants as first_games;
+ghost use Rattle.tally_core.specs.Inner.Counting.{CountsAll, IsEndOf};
+ghost use Rattle.tally_core.specs.declared.counting.Counter.{Counter};
 ghost use Rattle.tally_core.specs.declared.faults.TallyFault.TheVariants as fault;
 ghost use Rattle.sgf_core.specs.Limit.{most_bytes};
 
 use crate::counting::{Counter, count_trees};
-use crate::dictionaries::{FirstGames, entries_of, entries_within};
+use crate::dictionaries::{entries_of, entries_within};
 use crate::faults::TallyFault;
 use crate::gathering::dictionary_of;
 use crate::reports::Report;
@@ -65,18 +63,18 @@ fn counter_of(
     Ok(Some(counter))
 }
 
-/// What a collection is counted as whose trees were all counted, and whose patterns have these
-/// entries. It takes no memory.
-fn counted_of(kinds: Kinds, counter: &Counter, entries: Vec<Entry>) -> Counted
-    requires counted { (bytes : List ℕ) × CountsAll kinds bytes counter.now }
-    requires entries { AreEntered first_games.Kept (count_in counter.now.counts) entries.items }
+/// What a collection is counted as whose trees were all counted, with these moves and this report,
+/// and whose patterns have these entries. It takes no memory.
+fn counted_of(kinds: Kinds, moves: u64, report: Report, entries: Vec<Entry>) -> Counted
+    requires counted { (bytes : List ℕ) × (counter : Counter) × CountsAll kinds bytes counter
+        × IsEndOf counter moves report entries.items }
     requires shapes { All IsShape entries.items }
     requires rises { IsStrictlyIncreasing (map (λ entry. entry.shape) entries.items) }
-    ensures { (bytes : List ℕ) → length bytes ≤ most_bytes → CountsAll kinds bytes counter.now
-        → IsCounted kinds bytes result }
+    ensures { (bytes : List ℕ) → length bytes ≤ most_bytes
+        → (counter : Counter) → CountsAll kinds bytes counter
+        → IsEndOf counter moves report entries.items → IsCounted kinds bytes result }
 {
-    let report = counter.report;
-    let dictionary = dictionary_of(kinds, counter, entries);
+    let dictionary = dictionary_of(kinds, report.games, moves, entries);
     Counted { dictionary, report }
 }
 
@@ -110,8 +108,13 @@ pub fn count_within<R: Threads + Sync>(
     let Some(counter) = counter_of(alloc, kinds, most, bytes)? else {
         return Ok(None);
     };
-    let entries = entries_within(rt, alloc, &counter.counts, threads)?;
-    Ok(Some(counted_of(kinds, &counter, entries)))
+    let Counter {
+        counts,
+        moves,
+        report,
+    } = counter;
+    let entries = entries_within(rt, counts, threads);
+    Ok(Some(counted_of(kinds, moves, report, entries)))
 }
 
 /// Counts a whole collection on one thread: the dictionary of its games, which are numbered from 0
@@ -131,7 +134,10 @@ pub fn count_plain(alloc: Global, kinds: Kinds, bytes: &[u8]) -> Result<Counted,
         → IfErr result (λ found. found ≡ fault.Sgf sgf.TooLarge) }
 {
     // A map has at most 2^63 patterns.
-    let counter = counter_of(alloc, kinds, usize::MAX, bytes)?.unwrap();
-    let entries = entries_of(alloc, FirstGames::Kept, &counter.counts)?;
-    Ok(counted_of(kinds, &counter, entries))
+    let Counter {
+        counts,
+        moves,
+        report,
+    } = counter_of(alloc, kinds, usize::MAX, bytes)?.unwrap();
+    Ok(counted_of(kinds, moves, report, entries_of(counts)))
 }

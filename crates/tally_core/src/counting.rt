@@ -23,6 +23,7 @@ use crate::reports::Report;
 use crate::walks::Walk;
 use go_record::{Kind, Record, RecordFault, few_actions, read_record};
 use sgf_core::{SgfFault, Tree, Trees, few_values};
+use shape_dict::FirstGame;
 use std::alloc::Global;
 
 /// What was counted of the part of a collection that was read.
@@ -74,7 +75,12 @@ fn count_record(
     ensures kinds { walk.new.kinds ≡ walk.old.kinds }
 {
     let game = counter.report.games;
-    let moves = count_game(&mut counter.counts, walk, game_record, game)?;
+    let moves = count_game(
+        &mut counter.counts,
+        walk,
+        game_record,
+        FirstGame::new(Some(game)),
+    )?;
     counter.moves += moves;
     counter.report.games += 1;
     Ok(())
@@ -188,7 +194,7 @@ pub(crate) fn count_trees(
 {
     // The main line of a tree has fewer values than the tree has bytes.
     few_values();
-    'tree: while counter.counts.rows().len() <= most {
+    'tree: while counter.counts.len() <= most {
         let Some(tree) = next(alloc, trees)? else {
             return Ok(true);
         };

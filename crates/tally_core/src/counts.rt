@@ -1,14 +1,16 @@
 //! Counts of patterns: a row for each pattern, in the order in which they were first counted.
 ghost use Rattle.std.specs.Prelude.{◌≡◌, ◌++◌, ◌∷◌, [], ◌<◌, ◌≤◌, length, OnOk, OnErr};
 ghost use Rattle.std.specs.Map.{keys_of};
-ghost use Rattle.tally_core.specs.Inner.Index.{IsIndexed, IsFree, HasNoRow};
+ghost use Rattle.std.specs.Prelude.{◌+◌, ◌^◌, IfSome, IfNone};
+ghost use Rattle.tally_core.specs.Inner.Index.{IsFree, HasNoRow};
+ghost use Rattle.tally_core.specs.Inner.Entries.{shapes_of, AreRows};
 
-use crate::counters::Count;
 use crate::faults::TallyFault;
 use crate::indexes::{Slot, home, index_of, note};
 use crate::looking::{Place, find};
 use crate::meetings::Meeting;
 use shape_core::Shape;
+use shape_dict::{Entry, FirstGame};
 use std::alloc::{AllocError, Global};
 use std::marker::Model;
 
@@ -38,7 +40,7 @@ fn first_slots(index: &[Slot], meetings: &[Meeting]) -> ([u32; BLOCK], usize)
 /// of their patterns tell. Their lines of memory, of the index and of the rows, come together, and
 /// `find` finds them in a cache.
 #[inline(never)]
-fn count_new(index: &[Slot], rows: &[(Shape, Count)], meetings: &[Meeting]) -> usize
+fn count_new(index: &[Slot], rows: &[Entry], meetings: &[Meeting]) -> usize
     ensures { result ≤ BLOCK }
 {
     if index.is_empty() || rows.is_empty() {
@@ -48,62 +50,81 @@ fn count_new(index: &[Slot], rows: &[(Shape, Count)], meetings: &[Meeting]) -> u
     let mut count = 0;
     for i in 0..looked {
         let at = (above[i] as usize).wrapping_sub(1).min(rows.len() - 1);
-        count += (rows[at].0 != meetings[i].shape) as usize;
+        count += (rows[at].shape != meetings[i].shape) as usize;
     }
     count
 }
 
 /// A row more, of a pattern that has none, and a free place on its way.
 fn push(
-    rows: &mut Vec<(Shape, Count)>,
+    rows: &mut Vec<Entry>,
     index: &mut Vec<Slot>,
     place: usize,
-    shape: Shape,
-    count: Count,
+    row: Entry,
 ) -> Result<(), AllocError>
-    requires indexed { IsIndexed index.old.items rows.old.items }
-    requires free { IsFree index.old.items shape place }
-    requires none { HasNoRow (keys_of rows.old.items) shape }
-    ensures ok { OnOk result (rows.new.items ≡ rows.old.items ++ (shape, count) ∷ []) }
+    requires rows { AreRows index.old.items rows.old.items }
+    requires free { IsFree index.old.items row.shape place }
+    requires none { HasNoRow (shapes_of rows.old.items) row.shape }
+    ensures ok { OnOk result (rows.new.items ≡ rows.old.items ++ row ∷ []) }
     ensures err { OnErr result (rows.new.items ≡ rows.old.items) }
-    ensures indexed { IsIndexed index.new.items rows.new.items }
+    ensures rows { AreRows index.new.items rows.new.items }
 {
+    // Its word is the least of its images.
+    let shape = row.shape;
+    let _ = shape.word();
     let at = rows.as_slice().len();
     if at >= 0xFFFF_FFFF {
         return Err(AllocError);
     }
-    rows.push((shape, count))?;
+    rows.push(row)?;
     note(index, place, shape, at);
     Ok(())
 }
 
-/// Counts of patterns, each found by its word. Contracts see the rows, in the order in which they
-/// were made; no pattern has two.
+/// A row once its pattern was there and was played this often again; None where that passes
+/// 2^64 - 1.
+fn raised(row: Entry, there: u64, played: u64) -> Option<Entry>
+    ensures some { IfSome result (λ more. more
+        ≡ record row { there = row.there + there; played = row.played + played }) }
+    ensures none { IfNone result (2 ^ 64 ≤ row.there + row.played + there + played) }
+{
+    Some(Entry {
+        there: row.there.checked_add(there)?,
+        played: row.played.checked_add(played)?,
+        ..row
+    })
+}
+
+/// Counts of patterns, each found by its word. Contracts see the patterns with their counts, in
+/// the order in which they were first counted; no pattern is there twice.
 #[derive(Drop)]
 pub struct Counts {
     alloc: Global,
-    rows: Vec<(Shape, Count)>,
+    rows: Vec<Entry>,
     index: Vec<Slot>,
 }
 
 impl Model for Counts {
     ghost use Rattle.std.specs.Prelude.{ℕ, List};
-    ghost use Rattle.tally_core.specs.declared.counters.Count.{Count};
-    ghost use Rattle.tally_core.specs.Inner.Index.{IsIndexed};
+    ghost use Rattle.tally_core.specs.Inner.Count.{Count};
+    ghost use Rattle.tally_core.specs.Inner.Entries.{pairs_of, AreRows};
 
     ghost Value = { List (ℕ × Count) };
 
-    ghost view = { λ c. c.rows.items };
+    ghost view = { λ c. pairs_of c.rows.items };
 
-    ghost invariant = { λ c. IsIndexed c.index.items c.rows.items };
+    ghost invariant = { λ c. AreRows c.index.items c.rows.items };
 }
 
 impl Counts {
-    ghost use Rattle.std.specs.Prelude.{◌≡◌, ◌^◌, ◌<◌, ◌≤◌, [], ℕ, nat_eq, length, slice_index_or, OnOk, IfErr};
+    ghost use Rattle.std.specs.Prelude.{◌≡◌, ◌^◌, ◌<◌, ◌≤◌, [], ℕ, Option, nat_eq, length, map};
+    ghost use Rattle.std.specs.Prelude.{slice_index_or, All, OnOk, IfErr};
     ghost use Rattle.std.specs.List.{IsDistinct};
     ghost use Rattle.std.specs.Map.{keys_of};
     ghost use Rattle.tally_core.specs.Inner.Counter.{count_in, one_pattern, used, AreCounts};
     ghost use Rattle.tally_core.specs.Inner.Counter.{IsCountingFault};
+    ghost use Rattle.tally_core.specs.Inner.Entries.{entry_of_pair};
+    ghost use Rattle.tally_core.specs.Entries.{IsShape};
 
     /// Nothing was counted yet. It takes no memory.
     pub fn new(alloc: Global) -> Counts
@@ -131,13 +152,23 @@ impl Counts {
         }
     }
 
-    /// The rows, in the order in which they were made.
-    pub fn rows(&self) -> &[(Shape, Count)]
-        ensures rows { result.now ≡ self.now }
+    /// How many patterns have counts.
+    pub fn len(&self) -> usize
+        ensures len { result ≡ length self.now }
         ensures once { IsDistinct nat_eq (keys_of self.now) }
         ensures small { length self.now < 2 ^ 63 }
     {
-        self.rows.as_slice()
+        self.rows.len()
+    }
+
+    /// The patterns' entries in a dictionary, in the order in which they were first counted. It
+    /// takes no memory.
+    pub fn into_entries(self) -> Vec<Entry>
+        ensures entries { result.items ≡ map entry_of_pair self }
+        ensures shapes { All IsShape result.items }
+        ensures once { IsDistinct nat_eq (keys_of self) }
+    {
+        self.rows
     }
 
     /// Where a block of meetings begins at this one, makes room for the rows that they seem to
@@ -172,29 +203,31 @@ impl Counts {
     fn raise(&mut self, at: usize, shape: Shape, there: u64, played: u64) -> Result<(), TallyFault>
         requires within { at < length self.old }
         requires row { slice_index_or (keys_of self.old) at 0 ≡ shape }
-        ensures ok { (game : ℕ) → OnOk result (AreCounts (used game (one_pattern shape there)
-            (one_pattern shape played) (count_in self.old)) (count_in self.new)) }
-        ensures fault { (game : ℕ) → IfErr result (IsCountingFault 0 (used game
+        ensures ok { (first : Option ℕ) → OnOk result (AreCounts (used first
+            (one_pattern shape there) (one_pattern shape played) (count_in self.old))
+            (count_in self.new)) }
+        ensures fault { (first : Option ℕ) → IfErr result (IsCountingFault 0 (used first
             (one_pattern shape there) (one_pattern shape played) (count_in self.old))) }
     {
-        let Some(raised) = self.rows[at].1.raised(there, played) else {
+        let Some(row) = raised(self.rows[at], there, played) else {
             return Err(TallyFault::Overflow);
         };
-        self.rows[at] = (shape, raised);
+        self.rows[at] = row;
         Ok(())
     }
 
-    /// Counts a pattern as being there and being played this often again, in a game.
+    /// Counts a pattern as being there and being played this often again. Where it has no count
+    /// yet, this is its first game.
     pub fn add(
         &mut self,
         shape: Shape,
         there: u64,
         played: u64,
-        game: u64,
+        first: FirstGame,
     ) -> Result<(), TallyFault>
-        ensures ok { OnOk result (AreCounts (used game (one_pattern shape there)
+        ensures ok { OnOk result (AreCounts (used first (one_pattern shape there)
             (one_pattern shape played) (count_in self.old)) (count_in self.new)) }
-        ensures fault { IfErr result (IsCountingFault 0 (used game (one_pattern shape there)
+        ensures fault { IfErr result (IsCountingFault 0 (used first (one_pattern shape there)
             (one_pattern shape played) (count_in self.old))) }
     {
         if there == 0 && played == 0 {
@@ -204,12 +237,13 @@ impl Counts {
         match find(self.index.as_slice(), self.rows.as_slice(), shape) {
             Some(Place::Met(at)) => self.raise(at, shape, there, played),
             Some(Place::Free(place)) => {
-                let count = Count {
+                let row = Entry {
+                    shape,
                     there,
                     played,
-                    first: game,
+                    first,
                 };
-                push(&mut self.rows, &mut self.index, place, shape, count)?;
+                push(&mut self.rows, &mut self.index, place, row)?;
                 Ok(())
             }
             // A quarter of the places is free.

@@ -1,14 +1,13 @@
 //! The dictionary of the games that were counted.
-ghost use Rattle.std.specs.Prelude.{◌≡◌, List, All, map, length};
+ghost use Rattle.std.specs.Prelude.{◌≡◌, ℕ, Option, List, All, map, length};
 ghost use Rattle.std.specs.List.Sorted.{IsStrictlyIncreasing};
 ghost use Rattle.tally_core.specs.Counts.{Replayed};
-ghost use Rattle.tally_core.specs.Inner.Counter.{count_in, CountsGames};
+ghost use Rattle.tally_core.specs.Inner.Count.{Count};
+ghost use Rattle.tally_core.specs.Inner.Counter.{CountsGames};
 ghost use Rattle.tally_core.specs.Games.{counts_diamonds, IsDictionaryOf};
 ghost use Rattle.tally_core.specs.Entries.{IsShape};
 ghost use Rattle.tally_core.specs.Inner.Entries.{AreEntered};
-ghost use Rattle.tally_core.specs.declared.dictionaries.FirstGames.TheVariants as first_games;
 
-use crate::counting::Counter;
 use shape_core::{Kinds, kinds_stay};
 use shape_dict::{Dictionary, Entry};
 
@@ -22,20 +21,19 @@ pub fn has_diamonds(kinds: Kinds) -> bool
     }
 }
 
-/// The dictionary of the games whose counts a counter has, of the entries of their patterns. It
+/// The dictionary of this many games with this many moves, whose counts have these entries. It
 /// takes no memory.
-pub(crate) fn dictionary_of(kinds: Kinds, counter: &Counter, entries: Vec<Entry>) -> Dictionary
-    requires counted { (replayed : List Replayed) × (length replayed ≡ counter.now.report.games)
-        × CountsGames kinds replayed (count_in counter.now.counts) counter.now.moves }
-    requires entries { AreEntered first_games.Kept (count_in counter.now.counts) entries.items }
+pub(crate) fn dictionary_of(kinds: Kinds, games: u64, moves: u64, entries: Vec<Entry>) -> Dictionary
+    requires counted { (counts : ℕ → Option Count) × AreEntered counts entries.items
+        × ((replayed : List Replayed) × (length replayed ≡ games)
+        × CountsGames kinds replayed counts moves) }
     requires shapes { All IsShape entries.items }
     requires rises { IsStrictlyIncreasing (map (λ entry. entry.shape) entries.items) }
-    ensures { (replayed : List Replayed) → length replayed ≡ counter.now.report.games
-        → CountsGames kinds replayed (count_in counter.now.counts) counter.now.moves
-        → IsDictionaryOf kinds replayed result }
+    ensures { (counts : ℕ → Option Count) → AreEntered counts entries.items
+        → (replayed : List Replayed) → length replayed ≡ games
+        → CountsGames kinds replayed counts moves → IsDictionaryOf kinds replayed result }
 {
     // A canonical word is of the kind that was looked at.
     kinds_stay();
-    let games = counter.report.games;
-    Dictionary::new(games, counter.moves, entries, has_diamonds(kinds))
+    Dictionary::new(games, moves, entries, has_diamonds(kinds))
 }

@@ -1,11 +1,11 @@
 //! An index of rows by their patterns: open addressing, each place followed by the next one.
 ghost use Rattle.std.specs.Prelude.{◌≡◌, ◌+◌, ◌<◌, ◌^◌, ◌%◌, ◌/◌, length, slice_set, IfSome, IfOk, OnOk};
-ghost use Rattle.std.specs.Map.{keys_of};
 ghost use Rattle.tally_core.specs.Inner.Index.{mixed_of, home_of, tag_of, next_place, slot_of};
 ghost use Rattle.tally_core.specs.Inner.Index.{IsFree, AreNoted};
+ghost use Rattle.tally_core.specs.Inner.Entries.{shapes_of};
 
-use crate::counters::Count;
 use shape_core::Shape;
+use shape_dict::Entry;
 use std::alloc::{AllocError, Global};
 
 /// The multiplier of words: 2^64 over the golden ratio, made odd. No claim rests on it.
@@ -90,12 +90,12 @@ pub(crate) fn note(index: &mut Vec<Slot>, place: usize, shape: Shape, row: usize
 }
 
 /// Notes the next row, where all before it are noted.
-fn note_next(index: &mut Vec<Slot>, rows: &[(Shape, Count)], row: usize) -> Result<(), AllocError>
+fn note_next(index: &mut Vec<Slot>, rows: &[Entry], row: usize) -> Result<(), AllocError>
     requires within { row < length rows.now }
-    requires noted { AreNoted index.old.items (keys_of rows.now) row }
-    ensures { OnOk result (AreNoted index.new.items (keys_of rows.now) (row + 1)) }
+    requires noted { AreNoted index.old.items (shapes_of rows.now) row }
+    ensures { OnOk result (AreNoted index.new.items (shapes_of rows.now) (row + 1)) }
 {
-    let shape = rows[row].0;
+    let shape = rows[row].shape;
     let Some(place) = free_place(index.as_slice(), shape) else {
         return Err(AllocError);
     };
@@ -111,9 +111,9 @@ fn note_next(index: &mut Vec<Slot>, rows: &[(Shape, Count)], row: usize) -> Resu
 pub(crate) fn index_of(
     alloc: Global,
     places: usize,
-    rows: &[(Shape, Count)],
+    rows: &[Entry],
 ) -> Result<Vec<Slot>, AllocError>
-    ensures { IfOk result (λ index. AreNoted index.items (keys_of rows.now) (length rows.now)) }
+    ensures { IfOk result (λ index. AreNoted index.items (shapes_of rows.now) (length rows.now)) }
 {
     let mut index = Vec::new(alloc);
     index.resize(places, FREE)?;

@@ -3,7 +3,6 @@
 
 mod blanks;
 mod collections;
-mod counters;
 mod counting;
 mod counts;
 mod dictionaries;

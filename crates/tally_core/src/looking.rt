@@ -1,10 +1,11 @@
 //! A pattern's row is looked up.
 ghost use Rattle.std.specs.Prelude.{◌≡◌, ◌<◌, length, IfSome, IfNone};
 ghost use Rattle.tally_core.specs.Inner.Index.{tag_of, IsIndexed, IsSeen, IsOther, IsFound};
+ghost use Rattle.tally_core.specs.Inner.Entries.{shapes_of};
 
-use crate::counters::Count;
 use crate::indexes::{Slot, home, next, tag};
 use shape_core::Shape;
+use shape_dict::Entry;
 
 /// Where a pattern is looked up.
 #[derive(Clone, Copy)]
@@ -18,17 +19,11 @@ pub(crate) enum Place {
 /// What is noted at a place of the index: the row there, if it is of this pattern; None where it is
 /// of another.
 #[inline(always)]
-fn look(
-    index: &[Slot],
-    rows: &[(Shape, Count)],
-    place: usize,
-    tagged: u32,
-    shape: Shape,
-) -> Option<Place>
+fn look(index: &[Slot], rows: &[Entry], place: usize, tagged: u32, shape: Shape) -> Option<Place>
     requires within { place < length index.now }
     requires tag { tagged ≡ tag_of shape }
-    ensures seen { IfSome result (IsSeen index.now rows.now shape place) }
-    ensures other { IfNone result (IsOther index.now rows.now shape place) }
+    ensures seen { IfSome result (IsSeen index.now (shapes_of rows.now) shape place) }
+    ensures other { IfNone result (IsOther index.now (shapes_of rows.now) shape place) }
 {
     let slot = index[place];
     if slot.above == 0 {
@@ -41,7 +36,7 @@ fn look(
     let Some(row) = rows.get(at) else {
         return None;
     };
-    if row.0 == shape {
+    if row.shape == shape {
         Some(Place::Met(at))
     } else {
         None
@@ -51,9 +46,9 @@ fn look(
 /// Looks a pattern up: from its first place on, up to its row or to the first free place. None
 /// where no place is free.
 #[inline(always)]
-pub(crate) fn find(index: &[Slot], rows: &[(Shape, Count)], shape: Shape) -> Option<Place>
-    requires { IsIndexed index.now rows.now }
-    ensures { IfSome result (IsFound index.now rows.now shape) }
+pub(crate) fn find(index: &[Slot], rows: &[Entry], shape: Shape) -> Option<Place>
+    requires { IsIndexed index.now (shapes_of rows.now) }
+    ensures { IfSome result (IsFound index.now (shapes_of rows.now) shape) }
 {
     let places = index.len();
     if places == 0 {

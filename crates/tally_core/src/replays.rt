@@ -8,9 +8,14 @@ use crate::faults::TallyFault;
 use crate::meetings::Meeting;
 use crate::walks::Walk;
 use go_record::Record;
+use shape_dict::FirstGame;
 
 /// Counts what was met in a game.
-fn count_meetings(counts: &mut Counts, meetings: &[Meeting], game: u64) -> Result<(), TallyFault>
+fn count_meetings(
+    counts: &mut Counts,
+    meetings: &[Meeting],
+    game: FirstGame,
+) -> Result<(), TallyFault>
     ensures ok { OnOk result
         (CountsMeetings game meetings.now (count_in counts.old) (count_in counts.new)) }
     ensures fault { IfErr result (IsMeetingsFault game meetings.now (count_in counts.old)) }
@@ -27,7 +32,7 @@ pub(crate) fn count_game(
     counts: &mut Counts,
     walk: &mut Walk,
     game_record: &Record,
-    game: u64,
+    game: FirstGame,
 ) -> Result<u64, TallyFault>
     ensures counts { IfOk result
         (CountsGame walk.old.kinds game_record.now game (count_in counts.old) (count_in counts.new)) }

@@ -3,13 +3,13 @@ ghost use Rattle.std.specs.Prelude.{IfOk, IfErr};
 ghost use Rattle.tally_core.specs.Tally.{IsTally, IsTallyFault};
 
 use crate::counts::Counts;
-use crate::dictionaries::{FirstGames, entries_of};
+use crate::dictionaries::entries_of;
 use crate::faults::TallyFault;
 use crate::replays::count_game;
 use crate::walks::Walk;
 use go_record::Record;
 use shape_core::Kinds;
-use shape_dict::Entry;
+use shape_dict::{Entry, FirstGame};
 use std::alloc::Global;
 use std::marker::Model;
 
@@ -69,7 +69,11 @@ pub fn tally_plain(alloc: Global, kinds: Kinds, game_record: &Record) -> Result<
 {
     let mut counts = Counts::new(alloc);
     let mut walk = Walk::begin(alloc, kinds);
-    let moves = count_game(&mut counts, &mut walk, game_record, 0)?;
-    let entries = entries_of(alloc, FirstGames::LeftOut, &counts)?;
-    Ok(Tally { moves, entries })
+    // One game has no number.
+    let unnumbered = FirstGame::new(None);
+    let moves = count_game(&mut counts, &mut walk, game_record, unnumbered)?;
+    Ok(Tally {
+        moves,
+        entries: entries_of(counts),
+    })
 }

@@ -9,7 +9,7 @@ use Rattle.tally_core.specs.Counts.{Replayed, kinds_of, patterns_there, patterns
 use Rattle.tally_core.specs.Walk.{there_among, played_among}
 use Rattle.tally_core.specs.declared.meetings.Meeting.{Meeting}
 use Rattle.tally_core.specs.Games.{there_sum, played_sum}
-use Rattle.tally_core.specs.declared.counters.Count.{Count}
+use Rattle.tally_core.specs.Inner.Count.{Count}
 use Rattle.tally_core.specs.declared.faults.TallyFault.{TallyFault}
 use Rattle.tally_core.specs.declared.faults.TallyFault.TheVariants as fault
 
@@ -33,18 +33,18 @@ IsCountingFault most before fault.Overflow = (shape : ℕ) × (2 ^ 64 ≤ uses_a
 IsCountingFault most before found = ⊥
 
 -- the count of a pattern that had none, once it was there and was played this often in a game
-abbrev pub first_used : ℕ → ℕ → ℕ → Option Count
+abbrev pub first_used : Option ℕ → ℕ → ℕ → Option Count
 first_used game zero zero = None
 first_used game zero (suc played) = Some (record { there = 0; played = suc played; first = game })
 first_used game (suc there) played = Some (record { there = suc there; played = played; first = game })
 
 -- a pattern's count once it was there and was played this often again, in a game
-abbrev pub used_again : ℕ → ℕ → ℕ → Option Count → Option Count
+abbrev pub used_again : Option ℕ → ℕ → ℕ → Option Count → Option Count
 used_again game there played None = first_used game there played
 used_again game there played (Some count) = Some (record count { there = count.there + there; played = count.played + played })
 
 -- what each pattern's count is once each was there and was played this often again
-abbrev pub used : ℕ → (ℕ → ℕ) → (ℕ → ℕ) → (ℕ → Option Count) → ℕ → Option Count
+abbrev pub used : Option ℕ → (ℕ → ℕ) → (ℕ → ℕ) → (ℕ → Option Count) → ℕ → Option Count
 used game there played before shape = used_again game (there shape) (played shape) (before shape)
 
 -- one pattern n times, and no other
@@ -60,15 +60,15 @@ abbrev pub AreCounts : (ℕ → Option Count) → (ℕ → Option Count) → Typ
 AreCounts counts after = (shape : ℕ) → after shape ≡ counts shape
 
 -- what each pattern's count is once the first were there and the second were played, in a game
-abbrev pub Counts : ℕ → List ℕ → List ℕ → (ℕ → Option Count) → (ℕ → Option Count) → Type 0
+abbrev pub Counts : Option ℕ → List ℕ → List ℕ → (ℕ → Option Count) → (ℕ → Option Count) → Type 0
 Counts game there played before after = AreCounts (used game (times_in there) (times_in played) before) after
 
 -- what each pattern's count is once the meetings of a game were counted
-abbrev pub CountsMeetings : ℕ → List Meeting → (ℕ → Option Count) → (ℕ → Option Count) → Type 0
+abbrev pub CountsMeetings : Option ℕ → List Meeting → (ℕ → Option Count) → (ℕ → Option Count) → Type 0
 CountsMeetings game meetings before after = AreCounts (used game (there_among meetings) (played_among meetings) before) after
 
 -- memory was wanting, or some pattern's count passes 2 ^ 64 - 1 with these meetings
-abbrev pub IsMeetingsFault : ℕ → List Meeting → (ℕ → Option Count) → TallyFault → Type 0
+abbrev pub IsMeetingsFault : Option ℕ → List Meeting → (ℕ → Option Count) → TallyFault → Type 0
 IsMeetingsFault game meetings before found =
     IsCountingFault 0 (used game (there_among meetings) (played_among meetings) before) found
 
@@ -76,8 +76,8 @@ IsMeetingsFault game meetings before found =
 abbrev pub AreAmong : List ℕ → List ℕ → Type 0
 AreAmong played there = (shape : ℕ) → count_by (λ c. c == shape) played ≤ count_by (λ c. c == shape) there
 
--- a game with this number of occasions was counted
-pub record CountsGame (kinds : Kinds) (game : Actions) (number : ℕ) (before after : ℕ → Option Count) (moves : ℕ) : Type 0 where
+-- a game was counted, with its number where it has one
+pub record CountsGame (kinds : Kinds) (game : Actions) (number : Option ℕ) (before after : ℕ → Option Count) (moves : ℕ) : Type 0 where
   pub occasions : List Occasion
   pub replayed : AreOccasions game occasions
   pub moves_counted : moves ≡ length occasions
@@ -91,7 +91,7 @@ games_count kinds games shape =
     then Some (record {
       there = there_sum kinds games shape;
       played = played_sum kinds games shape;
-      first = position_or_len (λ game. nat_lt 0 (there_in (kinds_of kinds) game shape)) games;
+      first = Some (position_or_len (λ game. nat_lt 0 (there_in (kinds_of kinds) game shape)) games);
     })
     else None
 

@@ -17,7 +17,10 @@ use Rattle.shape_core.specs.declared.words.Kinds.{Kinds}
 use Rattle.tally_core.specs.Counts.{Replayed}
 use Rattle.tally_core.specs.Collection.{AreTrees, record_of_tree, games_among, AreReplayed}
 use Rattle.tally_core.specs.Inner.Counter.{CountsGames, count_in, uses_at}
+use Rattle.shape_dict.specs.declared.entries.Entry.{Entry}
+use Rattle.tally_core.specs.Inner.Entries.{AreEntered}
 use Rattle.tally_core.specs.Counted.{IsReport}
+use Rattle.tally_core.specs.declared.reports.Report.{Report}
 use Rattle.tally_core.specs.declared.counting.Counter.{Counter}
 use Rattle.tally_core.specs.declared.faults.TallyFault.{TallyFault}
 use Rattle.tally_core.specs.declared.faults.TallyFault.TheVariants as fault
@@ -51,6 +54,12 @@ pub record CountsAll (kinds : Kinds) (bytes : List ℕ) (counter : Counter) : Ty
   pub written : AreTrees bytes 0 trees end
   pub no_more : HasNoTree bytes end
   pub counted : CountsTrees kinds trees counter
+
+-- what is left of a counter: its moves, its report, and the entries of its counts
+pub record IsEndOf (counter : Counter) (moves : ℕ) (report : Report) (entries : List Entry) : Type 0 where
+  pub moves_left : counter.moves ≡ moves
+  pub report_left : counter.report ≡ report
+  pub entered : AreEntered (count_in counter.counts) entries
 
 -- some trees of an input were counted, and they have more patterns than this
 pub record CountsMore (kinds : Kinds) (bytes : List ℕ) (most : ℕ) (counter : Counter) : Type 0 where

@@ -2,8 +2,6 @@
 -- them, where all places before it on the way are taken.
 use Rattle.std.specs.Prelude.{◌≡◌, ℕ, zero, suc, ◌+◌, ◌*◌, ◌/◌, ◌%◌, ◌^◌, ◌<◌, ◌==◌, nat_eq, List, length, slice_index_or, if◌then◌else◌}
 use Rattle.std.specs.List.{IsDistinct}
-use Rattle.std.specs.Map.{keys_of}
-use Rattle.tally_core.specs.declared.counters.Count.{Count}
 use Rattle.tally_core.specs.declared.indexes.Slot.{Slot}
 use Rattle.tally_core.specs.declared.looking.Place.{Place}
 use Rattle.tally_core.specs.declared.looking.Place.TheVariants as place
@@ -67,21 +65,21 @@ abbrev pub HasNoRow : List ℕ → ℕ → Type 0
 HasNoRow shapes shape = (row : ℕ) → row < length shapes → slice_index_or shapes row 0 ≡ shape → ⊥
 
 -- each pattern has one row, and each row is noted
-pub record IsIndexed (index : List Slot) (rows : List (ℕ × Count)) : Type 0 where
-  pub once : IsDistinct nat_eq (keys_of rows)
-  pub noted : AreNoted index (keys_of rows) (length rows)
+pub record IsIndexed (index : List Slot) (shapes : List ℕ) : Type 0 where
+  pub once : IsDistinct nat_eq shapes
+  pub noted : AreNoted index shapes (length shapes)
 
 -- what was found at a place of the index: a row of the pattern, or that nothing is noted there
-abbrev pub IsSeen : List Slot → List (ℕ × Count) → ℕ → ℕ → Place → Type 0
-IsSeen index rows shape at (place.Met row) = (row < length rows) × (slice_index_or (keys_of rows) row 0 ≡ shape)
-IsSeen index rows shape at (place.Free free) = (free ≡ at) × ((slot_at index at).above ≡ 0)
+abbrev pub IsSeen : List Slot → List ℕ → ℕ → ℕ → Place → Type 0
+IsSeen index shapes shape at (place.Met row) = (row < length shapes) × (slice_index_or shapes row 0 ≡ shape)
+IsSeen index shapes shape at (place.Free free) = (free ≡ at) × ((slot_at index at).above ≡ 0)
 
 -- something is noted at a place, and no row of the pattern
-pub record IsOther (index : List Slot) (rows : List (ℕ × Count)) (shape at : ℕ) : Type 0 where
+pub record IsOther (index : List Slot) (shapes : List ℕ) (shape at : ℕ) : Type 0 where
   pub taken : 0 < (slot_at index at).above
-  pub other : (row : ℕ) → row < length rows → slice_index_or (keys_of rows) row 0 ≡ shape → slot_at index at ≡ slot_of shape row → ⊥
+  pub other : (row : ℕ) → row < length shapes → slice_index_or shapes row 0 ≡ shape → slot_at index at ≡ slot_of shape row → ⊥
 
 -- what a pattern's way leads to: its row, or the first free place, and then it has no row
-abbrev pub IsFound : List Slot → List (ℕ × Count) → ℕ → Place → Type 0
-IsFound index rows shape (place.Met row) = (row < length rows) × (slice_index_or (keys_of rows) row 0 ≡ shape)
-IsFound index rows shape (place.Free free) = IsFree index shape free × HasNoRow (keys_of rows) shape
+abbrev pub IsFound : List Slot → List ℕ → ℕ → Place → Type 0
+IsFound index shapes shape (place.Met row) = (row < length shapes) × (slice_index_or shapes row 0 ≡ shape)
+IsFound index shapes shape (place.Free free) = IsFree index shape free × HasNoRow shapes shape

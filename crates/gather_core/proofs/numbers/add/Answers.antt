@@ -12,7 +12,7 @@ returns c rows more number numbers is h =
     let row = c.args.row in
     let both = c.with_row-both in
     sums_with rows more number c.args.found sums (record { total = both.result; first = c.earlier.result; stranger = c.or.result; is_large = c.if-sums.result }) row numbers is h
-    (c.earlier.ensures ∙ ap (earlier sums.first) c.first.ensures) (c.or.ensures ∙ ap (λ o. option_or sums.stranger o) c.unlike.ensures)
+    (c.earlier.ensures ∙ ap (earlier sums.first) c.first.ensures.first) (c.or.ensures ∙ ap (λ o. option_or sums.stranger o) c.unlike.ensures)
     (elim c.if-sums.branch [
       | then-sums w ↦ λ fits. let clash : true ≡ false = sym w.if-sums.true ∙ sym w.result-is ∙ fits in absurd cc
       | else-sums w ↦ λ fits. (w.if-sums.false, fitting both.result (with_row sums.total row) both.ensures.some (w.is_none.ensures ∙ ap not (sym w.result-is ∙ fits)))

@@ -53,5 +53,5 @@ returns-clause-ok g c rows high low h first before =
     let sums = sums_total rows number found total (c.in-Some.ensures.total rows high low h) (h.alike number (omega arith) low) (sym c.unlike.ensures ∙ c.in_default-unlike.is) in
     visited_more n rows number first look c.compare-2.new.pass c.args.differs.now c.compare-2.new.differs found
     (told_found n look.seen number found (subst (TellsAt n look.seen number) (sym c.bits_of-found.ensures.bits) c.word_at.ensures.told))
-    (sym sums.stranger) c.compare-2.ensures.later.later.keeps (c.compare-2.ensures.agree rows first (c.first.ensures ∙ sums.first))
+    (sym sums.stranger) c.compare-2.ensures.later.later.keeps (c.compare-2.ensures.agree rows first (c.first.ensures.first ∙ sums.first))
     (visited_later n rows number first c.args.pass.now look c.args.differs.now c.word_at.ensures.later before)

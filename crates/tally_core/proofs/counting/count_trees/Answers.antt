@@ -73,7 +73,7 @@ returns-clause-more c = record {
   end = c.tree.trees.from;
   written = subst (λ bytes. AreTrees bytes 0 c.tree.invariant.counted.trees c.tree.trees.from) c.tree.invariant.bytes c.tree.invariant.counted.written;
   counted = c.tree.invariant.counted.counted;
-  more = omega (arith, c.tree-test.false, ap length c.rows.ensures.rows);
-  once = c.rows.ensures.once;
-  small = c.rows.ensures.small;
+  more = omega (arith, c.tree-test.false, c.len.ensures.len);
+  once = c.len.ensures.once;
+  small = c.len.ensures.small;
 }

@@ -1,6 +1,6 @@
 use Rattle.std.proofs.Common.{ℕ, List, subst}
 use Rattle.std.proofs.lemmas.List.{take_all}
-use Rattle.tally_core.specs.declared.counters.Count.{Count}
+use Rattle.tally_core.specs.Inner.Count.{Count}
 use Rattle.tally_core.specs.Inner.Counter.{count_in, one_pattern, used, IsCountingFault, IsMeetingsFault, CountsMeetings}
 use Rattle.tally_core.specs.Walk.{there_among, played_among}
 use Rattle.tally_core.proofs.Used.{fault-later, passed_up}

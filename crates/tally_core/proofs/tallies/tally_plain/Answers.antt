@@ -1,4 +1,4 @@
-use Rattle.std.proofs.Common.{◌≡◌, nat_eq, ap, subst}
+use Rattle.std.proofs.Common.{◌≡◌, nat_eq, None, ap, subst}
 use Rattle.std.specs.Map.{lookup}
 use Rattle.shape_core.specs.declared.words.Kinds.{Kinds}
 use Rattle.tally_core.specs.Walk.{Walked}
@@ -10,20 +10,20 @@ pub invariant_of-result : goal.invariant_of-result
 invariant_of-result c =
     let kinds : c.begin-walk.result.kinds ≡ c.args.kinds = ap (λ (w : Walked). w.kinds) c.begin-walk.ensures in
     let counted =
-    subst (λ (k : Kinds). CountsGame k c.args.game_record.now 0 (count_in c.new-counts.result) (count_in c.count_game.new.counts) c.in_ok-moves.moves) kinds
-    c.in_ok-moves.ensures.counts in
+    subst (λ (k : Kinds). CountsGame k c.args.game_record.now None (count_in c.new-counts.result) (count_in c.count_game.new.counts) c.in_ok-moves.moves) kinds
+    (rw c.new-unnumbered.ensures at c.in_ok-moves.ensures.counts) in
     record {
       kinds = c.args.kinds;
       game = c.args.game_record.now;
-      tallied = counted_tally c.args.kinds c.args.game_record.now (count_in c.new-counts.result) (count_in c.count_game.new.counts) c.in_ok-moves.moves c.in_ok-entries.entries.items
-          (λ shape. ap (lookup (nat_eq shape)) c.new-counts.ensures) c.in_ok-entries.ensures.entries counted c.in_ok-entries.ensures.shapes c.in_ok-entries.ensures.rises;
+      tallied = counted_tally c.args.kinds c.args.game_record.now (count_in c.new-counts.result) (count_in c.count_game.new.counts) c.in_ok-moves.moves c.entries_of.result.items
+          (λ shape. ap (lookup (nat_eq shape)) c.new-counts.ensures) c.entries_of.ensures.entries counted c.entries_of.ensures.shapes c.entries_of.ensures.rises;
     }
 
 pub returns-clause-tally : goal.returns-clause-tally
 returns-clause-tally c =
     let kinds : c.begin-walk.result.kinds ≡ c.args.kinds = ap (λ (w : Walked). w.kinds) c.begin-walk.ensures in
     let counted =
-    subst (λ (k : Kinds). CountsGame k c.args.game_record.now 0 (count_in c.new-counts.result) (count_in c.count_game.new.counts) c.in_ok-moves.moves) kinds
-    c.in_ok-moves.ensures.counts in
-    counted_tally c.args.kinds c.args.game_record.now (count_in c.new-counts.result) (count_in c.count_game.new.counts) c.in_ok-moves.moves c.in_ok-entries.entries.items
-    (λ shape. ap (lookup (nat_eq shape)) c.new-counts.ensures) c.in_ok-entries.ensures.entries counted c.in_ok-entries.ensures.shapes c.in_ok-entries.ensures.rises
+    subst (λ (k : Kinds). CountsGame k c.args.game_record.now None (count_in c.new-counts.result) (count_in c.count_game.new.counts) c.in_ok-moves.moves) kinds
+    (rw c.new-unnumbered.ensures at c.in_ok-moves.ensures.counts) in
+    counted_tally c.args.kinds c.args.game_record.now (count_in c.new-counts.result) (count_in c.count_game.new.counts) c.in_ok-moves.moves c.entries_of.result.items
+    (λ shape. ap (lookup (nat_eq shape)) c.new-counts.ensures) c.entries_of.ensures.entries counted c.entries_of.ensures.shapes c.entries_of.ensures.rises

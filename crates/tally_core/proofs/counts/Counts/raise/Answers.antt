@@ -1,51 +1,64 @@
-use Rattle.std.proofs.Common.{◌+◌, ◌^◌, ◌<◌, ◌≤◌, ◌≡◌, ◌==◌, ℕ, List, length, Option, Some, cond, ap, sym, subst, ◌∙◌, arith, slice_set, slice_index_or}
+use Rattle.std.proofs.Common.{◌+◌, ◌^◌, ◌<◌, ◌≤◌, ◌≡◌, ℕ, List, length, nat_eq, Option, ap, sym, subst, ◌∙◌, arith, slice_set, slice_index_or, All}
+use Rattle.std.specs.List.{IsDistinct}
 use Rattle.std.specs.Map.{keys_of}
-use Rattle.tally_core.specs.declared.counters.Count.{Count}
-use Rattle.tally_core.specs.Inner.Counter.{count_in, uses_at, one_pattern}
-use Rattle.tally_core.proofs.Used.{again-uses, used_more}
+use Rattle.std.proofs.lemmas.List.{length-map}
+use Rattle.std.proofs.lemmas.List.Elements.{All-get_or}
+use Rattle.shape_dict.specs.declared.entries.Entry.{Entry}
+use Rattle.tally_core.specs.Entries.{IsShape}
+use Rattle.tally_core.specs.Inner.Count.{Count}
+use Rattle.tally_core.specs.Inner.Counter.{count_in, uses_at, one_pattern, used, AreCounts}
+use Rattle.tally_core.specs.Inner.Entries.{pair_of, pairs_of, AreRows}
+use Rattle.tally_core.proofs.Used.{again-uses}
 use Rattle.tally_core.proofs.Lasting.{all-of}
-use Rattle.tally_core.proofs.RowLookups.{lookup-at, lookup-set}
-use Rattle.tally_core.proofs.Ways.{indexed_raised}
+use Rattle.tally_core.proofs.Pairs.{keys_of-pairs, shape_at, count_is, raised_counts, rows_raised}
 use Rattle.tally_core.proofs.counts.Counts.raise.Goals as goal
 
+low_at : (rows : List Entry) (pairs : List (ℕ × Count)) (at : ℕ) → pairs ≡ pairs_of rows → at < length pairs → at < length rows
+low_at rows pairs at seen low = let long = length-map rows pair_of in let same = ap length seen in omega (arith, low, long, same)
+
+shape_is : (rows : List Entry) (pairs : List (ℕ × Count)) (at shape : ℕ) (row : Entry) → pairs ≡ pairs_of rows → at < length rows → row ≡ slice_index_or rows at row →
+    slice_index_or (keys_of pairs) at 0 ≡ shape → row.shape ≡ shape
+shape_is rows pairs at shape row seen low is key =
+    sym (shape_at rows at row low (sym is))
+    ∙ ap (λ (keys : List ℕ). slice_index_or keys at 0) (sym (keys_of-pairs rows)) ∙ ap (λ (list : List (ℕ × Count)). slice_index_or (keys_of list) at 0) (sym seen) ∙ key
+
 pub returns-in_default-clause-fault : goal.returns-in_default-clause-fault
-returns-in_default-clause-fault c game =
+returns-in_default-clause-fault c first =
     let rows = c.self.inside.rows.items in
-    let shape = c.args.shape in
+    let row = c.index.result.now in
     let there = c.args.there in
     let played = c.args.played in
-    let seen : c.args.self.now ≡ rows = sym c.self.view_is in
-    let low : c.args.at < length rows = subst (λ (list : List (ℕ × Count)). c.args.at < length list) seen c.requires.within in
-    let row : slice_index_or (keys_of rows) c.args.at 0 ≡ shape = subst (λ (list : List (ℕ × Count)). slice_index_or (keys_of list) c.args.at 0 ≡ shape) seen c.requires.row in
-    let found = lookup-at rows c.args.at shape c.index.result.now c.self.invariant.once low row in
-    let is : count_in c.args.self.now shape ≡ Some c.index.result.now.1 =
-    ap (λ (list : List (ℕ × Count)). count_in list shape) seen ∙ found ∙ ap (λ (r : ℕ × Count). Some r.1) (sym c.index.ensures) in (
-      shape,
-      rw (again-uses game (one_pattern shape there shape) (one_pattern shape played shape) (count_in c.args.self.now shape), all-of shape there, all-of shape played)
-          (subst (λ (o : Option Count). 2 ^ 64 ≤ uses_at o + there + played + 0) (sym is) (omega (arith, c.in_default.ensures.none))),
+    let seen : c.args.self.now ≡ pairs_of rows = sym c.self.view_is in
+    let low = low_at rows c.args.self.now c.args.at seen c.requires.within in
+    let shape = shape_is rows c.args.self.now c.args.at c.args.shape row seen low c.index.ensures c.requires.row in
+    let count = count_is rows c.args.at there played first row c.self.invariant.indexed.once low (sym c.index.ensures) in
+    let few = again-uses first (one_pattern row.shape there row.shape) (one_pattern row.shape played row.shape) (count_in (pairs_of rows) row.shape) in
+    let large : 2 ^ 64 ≤ uses_at (used first (one_pattern row.shape there) (one_pattern row.shape played) (count_in (pairs_of rows)) row.shape) + 0 =
+    rw (few, all-of row.shape there, all-of row.shape played, count) (omega (arith, c.in_default.ensures.none)) in (
+      row.shape,
+      subst (λ (list : List (ℕ × Count)). 2 ^ 64 ≤ uses_at (used first (one_pattern c.args.shape there) (one_pattern c.args.shape played) (count_in list) row.shape) + 0) (sym seen)
+          (subst (λ (s : ℕ). 2 ^ 64 ≤ uses_at (used first (one_pattern s there) (one_pattern s played) (count_in (pairs_of rows)) row.shape) + 0) shape large),
     )
 
 pub invariant_of-self : goal.invariant_of-self
 invariant_of-self c =
     let rows = c.self.inside.rows.items in
-    let shape = c.args.shape in
-    let seen : c.args.self.now ≡ rows = sym c.self.view_is in
-    let low : c.args.at < length rows = subst (λ (list : List (ℕ × Count)). c.args.at < length list) seen c.requires.within in
-    let row : slice_index_or (keys_of rows) c.args.at 0 ≡ shape = subst (λ (list : List (ℕ × Count)). slice_index_or (keys_of list) c.args.at 0 ≡ shape) seen c.requires.row in
-    indexed_raised c.self.inside.index.items rows c.args.at shape c.in-Some.raised low row c.self.invariant
+    let row = c.index.result.now in
+    let low = low_at rows c.args.self.now c.args.at (sym c.self.view_is) c.requires.within in
+    let shape : c.in-Some.row.shape ≡ row.shape = ap (λ (e : Entry). e.shape) c.in-Some.ensures.some in
+    let is : IsShape row = subst IsShape (sym c.index.ensures) (All-get_or IsShape rows c.args.at row low c.self.invariant.shapes) in
+    rows_raised c.self.inside.index.items rows c.args.at c.in-Some.row row (shape ∙ ap (λ (e : Entry). e.shape) c.index.ensures) (rw shape is) c.self.invariant
 
 pub returns-clause-ok : goal.returns-clause-ok
-returns-clause-ok c game q =
+returns-clause-ok c first =
     let rows = c.self.inside.rows.items in
-    let shape = c.args.shape in
-    let seen : c.args.self.now ≡ rows = sym c.self.view_is in
-    let low : c.args.at < length rows = subst (λ (list : List (ℕ × Count)). c.args.at < length list) seen c.requires.within in
-    let row : slice_index_or (keys_of rows) c.args.at 0 ≡ shape = subst (λ (list : List (ℕ × Count)). slice_index_or (keys_of list) c.args.at 0 ≡ shape) seen c.requires.row in
-    let found = lookup-at rows c.args.at shape c.index.result.now c.self.invariant.once low row in
-    let is : count_in c.args.self.now shape ≡ Some c.index.result.now.1 =
-    ap (λ (list : List (ℕ × Count)). count_in list shape) seen ∙ found ∙ ap (λ (r : ℕ × Count). Some r.1) (sym c.index.ensures) in
-    used_more game shape c.args.there c.args.played c.index.result.now.1 (count_in c.args.self.now) (count_in (slice_set rows c.args.at (shape, c.in-Some.raised))) is
-    (λ key. lookup-set rows c.args.at shape key c.in-Some.raised c.self.invariant.once low row
-    ∙ ap (λ (count : Count). cond (shape == key) (Some count) (count_in rows key)) c.in-Some.ensures.some
-    ∙ ap (λ (list : List (ℕ × Count)). cond (shape == key) (Some (record c.index.result.now.1 { there = c.index.result.now.1.there + c.args.there; played = c.index.result.now.1.played + c.args.played })) (count_in list key)) (sym seen))
-    q
+    let row = c.index.result.now in
+    let there = c.args.there in
+    let played = c.args.played in
+    let seen : c.args.self.now ≡ pairs_of rows = sym c.self.view_is in
+    let low = low_at rows c.args.self.now c.args.at seen c.requires.within in
+    let shape = shape_is rows c.args.self.now c.args.at c.args.shape row seen low c.index.ensures c.requires.row in
+    let raised = raised_counts rows c.args.at there played first row c.self.invariant.indexed.once low (sym c.index.ensures) in
+    subst (λ (list : List (ℕ × Count)). AreCounts (used first (one_pattern c.args.shape there) (one_pattern c.args.shape played) (count_in list)) (count_in (pairs_of (slice_set rows c.args.at c.in-Some.row)))) (sym seen)
+    (subst (λ (s : ℕ). AreCounts (used first (one_pattern s there) (one_pattern s played) (count_in (pairs_of rows))) (count_in (pairs_of (slice_set rows c.args.at c.in-Some.row)))) shape
+    (subst (λ (e : Entry). AreCounts (used first (one_pattern row.shape there) (one_pattern row.shape played) (count_in (pairs_of rows))) (count_in (pairs_of (slice_set rows c.args.at e)))) (sym c.in-Some.ensures.some) raised))

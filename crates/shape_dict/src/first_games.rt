@@ -1,0 +1,64 @@
+//! The game that had a pattern first, which may be unknown, in eight bytes.
+ghost use Rattle.std.specs.Prelude.{◌≡◌, ◌+◌, ◌^◌, ◌<◌, IfSome};
+
+use std::marker::Model;
+
+/// The game that had a pattern first, where it is known: one more than the game, or 0. It takes
+/// half the memory of an `Option<u64>`, and a dictionary has one for each pattern.
+///
+/// Contracts see the game, or None.
+#[derive(Clone, Copy, Debug, PartialEq, Eq)]
+pub struct FirstGame {
+    above: u64,
+}
+
+impl Model for FirstGame {
+    ghost use Rattle.std.specs.Prelude.{ℕ, Option};
+    ghost use Rattle.shape_dict.specs.Inner.FirstGames.{number_of, kept};
+
+    ghost Value = { Option ℕ };
+
+    ghost view = { λ first. number_of first.above };
+
+    ghost inverse = { λ number. record { above = kept number } };
+}
+
+impl FirstGame {
+    ghost use Rattle.std.specs.Prelude.{◌≡◌, ◌+◌, ◌^◌, ◌<◌, ◌≤◌, IfSome, IfNone, IsSomeAnd};
+    ghost use Rattle.std.specs.Option.{option_map};
+
+    /// This game, which must be below 2^64 - 1, or none that is known.
+    pub fn new(game: Option<u64>) -> FirstGame
+        requires { IfSome game (λ game. game + 1 < 2 ^ 64) }
+        ensures { result ≡ game }
+    {
+        match game {
+            None => FirstGame { above: 0 },
+            Some(game) => FirstGame { above: game + 1 },
+        }
+    }
+
+    /// The game, or None where it is unknown.
+    pub fn get(self) -> Option<u64>
+        ensures { result ≡ self }
+    {
+        if self.above == 0 {
+            None
+        } else {
+            Some(self.above - 1)
+        }
+    }
+
+    /// The game where this many more come before it, or None where its number would pass 2^64 - 2.
+    /// One that is unknown stays so.
+    pub fn moved(self, games: u64) -> Option<FirstGame>
+        ensures some { IfSome result (λ first. first ≡ option_map (λ game. game + games) self) }
+        ensures none { IfNone result (IsSomeAnd self (λ game. 2 ^ 64 ≤ game + games + 1)) }
+    {
+        if self.above == 0 {
+            return Some(self);
+        }
+        let above = self.above.checked_add(games)?;
+        Some(FirstGame { above })
+    }
+}
