@@ -1,5 +1,5 @@
 //! `count`: from the bytes of a collection to a text of the dictionary of its games.
-ghost use Rattle.std.specs.Prelude.{◌≡◌, ◌^◌, IfOk, IfErr};
+ghost use Rattle.std.specs.Prelude.{◌^◌, IfOk, IfErr};
 ghost use Rattle.shape_dict.specs.Parts.{joined};
 ghost use Rattle.count_core.specs.Counts.{IsCountText, HasCountText, IsCountRunFault};
 ghost use Rattle.engine_core.specs.Runs.{HasRead, Wrote, IsRunFault};

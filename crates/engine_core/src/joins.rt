@@ -1,5 +1,5 @@
 //! `join`: dictionaries read one after another, and their join.
-ghost use Rattle.std.specs.Prelude.{◌≡◌, ◌<◌, ◌≤◌, ◌^◌, length, IfOk, IfErr, IfSome};
+ghost use Rattle.std.specs.Prelude.{◌≡◌, ◌<◌, ◌≤◌, length, IfOk, IfErr, IfSome};
 ghost use Rattle.engine_core.specs.Inner.Batches.{IsBatch};
 ghost use Rattle.engine_core.specs.Joins.{IsJoinedText, IsJoinText};
 ghost use Rattle.engine_core.specs.Inner.Joins.{IsAdded, IsAddFault};

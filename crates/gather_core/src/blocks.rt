@@ -6,7 +6,7 @@ ghost use Rattle.share_core.specs.Rows.{row_at};
 ghost use Rattle.gather_core.specs.Checking.{all_rows};
 ghost use Rattle.share_core.specs.Totals.{with_row};
 ghost use Rattle.gather_core.specs.Inner.Dealing.{rows_in, AreDealt};
-ghost use Rattle.gather_core.specs.Inner.Blocks.{IsLike, IsEven, AreEven};
+ghost use Rattle.gather_core.specs.Inner.Blocks.{IsLike, AreEven};
 
 use crate::dealing::Dealt;
 use share_core::{KeptRow, Share};

@@ -1,5 +1,5 @@
 //! Where the rows of a share are, by blocks of the table's numbers.
-ghost use Rattle.std.specs.Prelude.{◌≡◌, [], ℕ, ◌^◌, ◌<◌, ◌≤◌, length, OnOk, IfOk};
+ghost use Rattle.std.specs.Prelude.{◌≡◌, [], ℕ, ◌<◌, length, OnOk, IfOk};
 ghost use Rattle.gather_core.specs.Inner.Dealing.{placed_at, noted, IsDealt, AreDealt};
 
 use share_core::Share;

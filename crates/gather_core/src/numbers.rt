@@ -6,7 +6,6 @@ ghost use Rattle.gather_core.specs.Checking.{all_rows};
 ghost use Rattle.gather_core.specs.Inner.Checking.{unlike_of};
 ghost use Rattle.share_core.specs.Totals.{with_row, IsTooMuch};
 ghost use Rattle.gather_core.specs.Inner.Numbers.{none_summed, AreSums};
-ghost use Rattle.gather_core.specs.Inner.Pieces.{total_at, AreAlikeAt};
 
 use shape_core::Word;
 use share_core::{KeptRow, Share};

@@ -1,6 +1,6 @@
 //! Numbers of a table, each visited once, in rising order: whether the rows that shares have of it
 //! are of its pattern, and their least game is the one that is marked.
-ghost use Rattle.std.specs.Prelude.{◌≡◌, ◌+◌, ◌<◌, ◌≤◌, ℕ, List, drop};
+ghost use Rattle.std.specs.Prelude.{◌+◌, ◌<◌, ◌≤◌, ℕ, List, drop};
 ghost use Rattle.std.specs.Prelude.{IfErr, OnOk};
 ghost use Rattle.slot_table.specs.Passes.{IsPassOf};
 ghost use Rattle.share_core.specs.declared.rows.Row.{Row};

@@ -47,7 +47,6 @@ pub(crate) struct BackTo<'q, 'a, 't, O: ProbeOrder> {
 }
 
 impl<'q, 'a, 't, O: ProbeOrder> Promise<Returned<'q, 'a, O>> for BackTo<'q, 'a, 't, O> {
-    ghost use Rattle.std.specs.Prelude.{◌≡◌};
     ghost use Rattle.harvest_core.specs.Working.{IsReturned};
 
     ghost kept_by = { λ p r. IsReturned p.table.now p.kinds p.number p.desk.value p.pass.value r };

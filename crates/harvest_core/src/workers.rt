@@ -1,5 +1,4 @@
 //! A worker: it draws jobs and counts their games until it draws an end.
-ghost use Rattle.std.specs.Prelude.{◌≡◌};
 ghost use Rattle.slot_table.specs.Passes.{IsPassOf};
 ghost use Rattle.harvest_core.specs.Working.{IsReturned};
 

@@ -1,12 +1,11 @@
 //! What a worker has counted, game by game.
-ghost use Rattle.std.specs.Prelude.{◌≡◌, ◌++◌, ◌≤◌, [], ℕ, List, Some, None};
+ghost use Rattle.std.specs.Prelude.{◌≡◌, ◌≤◌, [], ℕ, List, Some, None};
 ghost use Rattle.shape_core.specs.declared.words.Kinds.{Kinds};
-ghost use Rattle.slot_table.specs.declared.entries.Happened.{Happened};
-ghost use Rattle.slot_table.specs.Passes.{IsPassOf, calls_of};
+ghost use Rattle.slot_table.specs.Passes.{IsPassOf};
 ghost use Rattle.job_core.specs.Rising.{past};
 ghost use Rattle.share_core.specs.declared.faults.HarvestFault.{HarvestFault};
 ghost use Rattle.gather_core.specs.Checking.{Stand};
-ghost use Rattle.harvest_core.specs.InTable.{IsInTable, GoesOnInTable};
+ghost use Rattle.harvest_core.specs.InTable.{GoesOnInTable};
 ghost use Rattle.harvest_core.specs.Working.{IsWorked, IsRefused, IsCounted, CallsOfGame};
 ghost use Rattle.harvest_core.specs.Working.{AreOfGame, IsRefusedGame};
 

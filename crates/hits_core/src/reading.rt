@@ -1,14 +1,11 @@
 //! The games of an input, read one tree after another.
-ghost use Rattle.std.specs.Prelude.{◌≡◌, ◌≢◌, ◌∷◌, ◌++◌, ◌<◌, ◌≤◌, [], length, Err, None, IfOk, IfErr, IfSome, IfNone, OnOk};
-ghost use Rattle.sgf_core.specs.Tree.{GameTree};
-ghost use Rattle.sgf_core.specs.Next.{IsNextTree, HasNoTree};
-ghost use Rattle.sgf_core.specs.Limit.{most_bytes};
+ghost use Rattle.std.specs.Prelude.{◌≡◌, ◌≢◌, ◌++◌, ◌<◌, length, Err, None, IfOk, IfErr, IfSome, IfNone, OnOk};
+ghost use Rattle.sgf_core.specs.Next.{HasNoTree};
 ghost use Rattle.go_record.specs.declared.faults.RecordFault.TheVariants as record_fault;
-ghost use Rattle.tally_core.specs.Collection.{games_among};
 ghost use Rattle.tally_core.specs.Inner.Counting.{IsNextFault};
 ghost use Rattle.tally_core.specs.declared.faults.TallyFault.TheVariants as fault;
 ghost use Rattle.hits_core.specs.Hits.{game_of};
-ghost use Rattle.hits_core.specs.Inner.Reading.{IsRecorded, ReadsUpTo, HasReadAll, IsReadFault};
+ghost use Rattle.hits_core.specs.Inner.Reading.{IsRecorded, HasReadAll, IsReadFault};
 
 use crate::games::Game;
 use go_record::{Kind, RecordFault, read_record};

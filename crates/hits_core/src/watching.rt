@@ -1,6 +1,6 @@
 //! The hits of a game where patterns are looked for that were there: for each colour the points
 //! that may have one are kept, and only these are looked at.
-ghost use Rattle.std.specs.Prelude.{◌≡◌, ◌+◌, ◌<◌, ◌^◌, ◌∷◌, [], map, false, ℕ, List, length, IfOk, IfErr, OnOk};
+ghost use Rattle.std.specs.Prelude.{◌≡◌, ◌<◌, ◌∷◌, [], map, false, ℕ, List, IfOk, IfErr, OnOk};
 ghost use Rattle.std.specs.List.{flat_map};
 ghost use Rattle.go_board.specs.Board.{position_of};
 ghost use Rattle.go_board.specs.Point.{IsOn};

@@ -1,7 +1,7 @@
 //! The words that stand first in the lines of a list.
 ghost use Rattle.std.specs.Prelude.{◌≡◌, ◌≢◌, ◌<◌, ℕ, [], length, position, MatchBool, IfOk, IfErr, IfSome, IfNone};
 ghost use Rattle.hits_core.specs.WordLists.{is_line_feed, first_line, other_lines, IsSkipped};
-ghost use Rattle.hits_core.specs.WordLists.{HasWord, AreWordsOf, IsBadLine};
+ghost use Rattle.hits_core.specs.WordLists.{HasWord, AreWordsOf};
 ghost use Rattle.hits_core.specs.Inner.WordLists.{IsListFault};
 
 use shape_core::{Shape, Word};

@@ -1,5 +1,5 @@
 //! The games of an input, one after another.
-ghost use Rattle.std.specs.Prelude.{◌≡◌, ◌≢◌, ◌^◌, ◌+◌, ◌<◌, ◌≤◌, ◌↔◌, ℕ, length, Ok, Err, Some, None, true, false};
+ghost use Rattle.std.specs.Prelude.{◌≡◌, ◌≢◌, ◌+◌, ◌<◌, ◌≤◌, ◌↔◌, length, Ok, Err, Some, None, true, false};
 ghost use Rattle.std.specs.Prelude.{IfOk, IfErr, IfSome, IfNone, IsOk};
 ghost use Rattle.sgf_core.specs.Tree.{GameTree};
 ghost use Rattle.sgf_core.specs.Marks.{marks_of};

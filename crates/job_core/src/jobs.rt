@@ -1,5 +1,5 @@
 //! Jobs: one game of an input each, for one worker.
-ghost use Rattle.std.specs.Prelude.{◌≡◌, ◌^◌, ◌<◌, ℕ};
+ghost use Rattle.std.specs.Prelude.{◌≡◌, ◌<◌};
 ghost use Rattle.job_core.specs.Games.{IsGameOf};
 ghost use Rattle.sgf_core.specs.Limit.{most_bytes};
 
@@ -21,7 +21,7 @@ pub struct Job<'a> {
 }
 
 impl<'a> Model for Job<'a> {
-    ghost use Rattle.std.specs.Prelude.{◌^◌, ◌<◌};
+    ghost use Rattle.std.specs.Prelude.{◌<◌};
     ghost use Rattle.job_core.specs.Games.{WrittenGame, IsGameOf};
     ghost use Rattle.sgf_core.specs.Limit.{most_bytes};
 

@@ -1,8 +1,8 @@
 //! How many moves and how many occasions a game has.
-ghost use Rattle.std.specs.Prelude.{◌≡◌, ◌≤◌, All, IsTrue, ◌↔◌, length};
+ghost use Rattle.std.specs.Prelude.{◌≡◌, ◌≤◌, All};
 ghost use Rattle.go_board.specs.Board.{position_of};
 ghost use Rattle.go_record.specs.Actions.{IsActionOn};
-ghost use Rattle.listing_core.specs.Games.{is_move, moves_in, HasOccasionNumber};
+ghost use Rattle.listing_core.specs.Games.{is_move, moves_in};
 ghost use Rattle.listing_core.specs.Inner.Fronts.{number_of, HasNumberFrom};
 
 use go_board::{Board, Stone};

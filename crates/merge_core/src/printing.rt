@@ -1,5 +1,5 @@
 //! The lines of the join of dictionaries, made range by range in threads.
-ghost use Rattle.std.specs.Prelude.{◌≡◌, ◌≤◌, ◌<◌, ◌+◌, ◌^◌, IfOk, length, vec_len};
+ghost use Rattle.std.specs.Prelude.{◌≡◌, ◌<◌, ◌+◌, ◌^◌, IfOk, vec_len};
 ghost use Rattle.std.specs.Thread.{IsSend, IsSync};
 ghost use Rattle.shape_dict.specs.Inner.Parts.{lines_of};
 ghost use Rattle.merge_core.specs.Inner.Printing.{ArePrinted, IsPrinted};

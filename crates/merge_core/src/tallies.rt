@@ -1,7 +1,6 @@
 //! How many patterns there are, and how often they were played.
 ghost use Rattle.std.specs.Prelude.{◌≡◌, ◌+◌, ◌++◌, ◌∷◌, [], IfOk, IfSome, List, length};
 ghost use Rattle.shape_dict.specs.declared.entries.Entry.{Entry as One};
-ghost use Rattle.merge_core.specs.Entries.{IsSmallUse};
 ghost use Rattle.merge_core.specs.Inner.Ranges.{IsTally};
 ghost use Rattle.merge_core.specs.Inner.Tallies.{IsSum, sums};
 

@@ -1,8 +1,8 @@
 //! Lines of dictionaries, read off the front of bytes.
-ghost use Rattle.std.specs.Prelude.{◌≡◌, ◌++◌, ◌<◌, ◌≤◌, ◌^◌, ℕ, List, length, IfSome, IfNone};
+ghost use Rattle.std.specs.Prelude.{◌≡◌, ◌++◌, ◌<◌, ◌^◌, ℕ, List, IfSome, IfNone};
 ghost use Rattle.std.specs.Prelude.{IsSomeAnd, MatchBool, codes, Option};
 ghost use Rattle.std.specs.Fmt.{decimal};
-ghost use Rattle.shape_dict.specs.Text.{first_text, line_text, line_feed, optional_number};
+ghost use Rattle.shape_dict.specs.Text.{first_text, line_text, line_feed};
 ghost use Rattle.shape_dict.specs.Inner.Parsing.{IsEnded, IsPlain, IsSpelled, MayStand, entry_of_line};
 ghost use Rattle.shape_dict.specs.Reading.{kind_at, IsLine, HasNoLine};
 ghost use Rattle.shape_dict.specs.declared.entries.Entry.{Entry};

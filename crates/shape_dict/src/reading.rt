@@ -110,7 +110,7 @@ fn read_whole(alloc: Global, bytes: &[u8]) -> Result<Dictionary, DictFault>
 }
 
 impl Dictionary {
-    ghost use Rattle.std.specs.Prelude.{◌≡◌, ◌<◌, ◌≤◌, ◌^◌, ℕ, length, take, IfOk, IfErr};
+    ghost use Rattle.std.specs.Prelude.{◌≡◌, ◌<◌, ◌≤◌, ℕ, length, take, IfOk, IfErr};
     ghost use Rattle.std.specs.Prelude.{MatchResult};
     ghost use Rattle.shape_dict.specs.declared.faults.DictFault.TheVariants as fault;
     ghost use Rattle.shape_dict.specs.Contents.{Contents};

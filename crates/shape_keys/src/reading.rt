@@ -1,5 +1,5 @@
 //! Dictionaries read from their texts, in memory of the caller's.
-ghost use Rattle.std.specs.Prelude.{◌≡◌, ◌≢◌, ◌≤◌, ◌⊎◌, ◌++◌, ◌+◌, ◌*◌, ℕ, Ok, length, map, drop};
+ghost use Rattle.std.specs.Prelude.{◌≡◌, ◌≢◌, ◌≤◌, ◌⊎◌, ◌++◌, ◌+◌, ◌*◌, Ok, length, map, drop};
 ghost use Rattle.sgf_core.specs.Limit.{most_bytes};
 ghost use Rattle.shape_dict.specs.Contents.{Contents};
 ghost use Rattle.shape_dict.specs.Reading.{HasNoHeader, IsTextOf};

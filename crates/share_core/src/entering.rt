@@ -1,5 +1,5 @@
 //! A game's patterns are entered into the table, and at last the game is marked at their numbers.
-ghost use Rattle.std.specs.Prelude.{◌≡◌, false, ◌-◌, ◌^◌, ◌<◌, ◌≤◌, ℕ, length, IfSome, IfNone};
+ghost use Rattle.std.specs.Prelude.{◌≡◌, false, ◌-◌, ◌^◌, ◌<◌, ◌≤◌, length, IfSome, IfNone};
 ghost use Rattle.std.specs.Prelude.{IfOk, IfErr, OnOk, OnErr};
 ghost use Rattle.probe_core.specs.Sequential.{IsAbsent, IsFull};
 ghost use Rattle.slot_table.specs.History.{content_of, least_at, IsAtMost};

@@ -1,5 +1,5 @@
 //! Rows for the numbers that a game's patterns have in the table.
-ghost use Rattle.std.specs.Prelude.{◌≡◌, ◌^◌, ◌<◌, ◌≤◌, ℕ, length, take, OnOk, IfErr};
+ghost use Rattle.std.specs.Prelude.{◌^◌, ◌<◌, ◌≤◌, length, take, OnOk, IfErr};
 ghost use Rattle.share_core.specs.Inner.Raising.{AreRowsOf};
 ghost use Rattle.share_core.specs.Inner.Making.{AreBelow, AreNumbered, Gained, IsMakingFault};
 

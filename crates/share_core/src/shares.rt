@@ -1,5 +1,5 @@
 //! Shares: what one worker has counted over the table.
-ghost use Rattle.std.specs.Prelude.{◌≡◌, ◌^◌, ◌≤◌, length, IfOk, IfErr, OnOk, OnErr};
+ghost use Rattle.std.specs.Prelude.{◌≡◌, ◌^◌, ◌≤◌, length, IfErr, OnOk, OnErr};
 ghost use Rattle.sgf_core.specs.Limit.{most_bytes};
 
 use crate::chains::Chains;

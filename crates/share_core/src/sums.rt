@@ -1,5 +1,5 @@
 //! A game's meetings are added to the rows of their patterns.
-ghost use Rattle.std.specs.Prelude.{◌≡◌, ◌+◌, ◌^◌, ◌<◌, ◌≤◌, length, IfSome, IfNone};
+ghost use Rattle.std.specs.Prelude.{◌≡◌, ◌+◌, ◌^◌, ◌<◌, ◌≤◌, IfSome, IfNone};
 ghost use Rattle.sgf_core.specs.Limit.{most_bytes};
 ghost use Rattle.share_core.specs.Raising.{weight_of, weight_among};
 ghost use Rattle.share_core.specs.Inner.Raising.{AreRowsOf, AreRaised};

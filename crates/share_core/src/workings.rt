@@ -34,7 +34,7 @@ fn full(game: u64, word: Word) -> HarvestFault
 }
 
 impl Workings {
-    ghost use Rattle.std.specs.Prelude.{◌≡◌, [], IfOk, IfErr, OnOk};
+    ghost use Rattle.std.specs.Prelude.{◌≡◌, IfOk, IfErr, OnOk};
 
     /// Nothing was counted yet. It takes no memory.
     pub fn begin(alloc: Global, kinds: Kinds) -> Workings

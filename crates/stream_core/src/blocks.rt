@@ -26,7 +26,7 @@ pub(crate) struct Block<R: Read> {
 }
 
 impl<R: Read> Model for Block<R> {
-    ghost use Rattle.std.specs.Prelude.{take, drop, ◌-◌};
+    ghost use Rattle.std.specs.Prelude.{take, drop};
     ghost use Rattle.stream_core.specs.Inner.Blocks.{Held, IsBlock};
 
     ghost Value = { Held };

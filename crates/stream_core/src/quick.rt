@@ -1,5 +1,5 @@
 //! The next line's entry, read with few branches where its numbers are of the common lengths.
-ghost use Rattle.std.specs.Prelude.{◌+◌, ◌≡◌, ◌++◌, ◌∷◌, ◌<◌, ◌≤◌, ◌^◌, ℕ, length, take, true, codes};
+ghost use Rattle.std.specs.Prelude.{◌+◌, ◌≡◌, ◌++◌, ◌∷◌, ◌<◌, ◌≤◌, ◌^◌, length, take, true, codes};
 ghost use Rattle.std.specs.Prelude.{IfSome, IfOk, IfErr};
 ghost use Rattle.std.specs.Fmt.{decimal};
 ghost use Rattle.shape_core.specs.Symmetry.{least_image};

@@ -1,5 +1,5 @@
 //! The trees of a collection, counted one after another.
-ghost use Rattle.std.specs.Prelude.{◌≡◌, ◌≢◌, ℕ, ◌+◌, ◌^◌, ◌<◌, ◌≤◌, ◌∷◌, [], ◌++◌, List, length};
+ghost use Rattle.std.specs.Prelude.{◌≡◌, ◌≢◌, ℕ, ◌+◌, ◌<◌, ◌≤◌, ◌∷◌, [], ◌++◌, List, length};
 ghost use Rattle.std.specs.Prelude.{Ok, None, IfErr, IfOk, IfSome, IfNone, OnOk};
 ghost use Rattle.sgf_core.specs.Tree.{GameTree, main_line_of};
 ghost use Rattle.sgf_core.specs.Marks.{marks_of};

@@ -1,5 +1,5 @@
 //! An index of rows by their patterns: open addressing, each place followed by the next one.
-ghost use Rattle.std.specs.Prelude.{◌≡◌, ◌+◌, ◌<◌, ◌^◌, ◌%◌, ◌/◌, length, slice_set, IfSome, IfOk, OnOk};
+ghost use Rattle.std.specs.Prelude.{◌≡◌, ◌+◌, ◌<◌, ◌^◌, ◌%◌, length, slice_set, IfSome, IfOk, OnOk};
 ghost use Rattle.tally_core.specs.Inner.Index.{mixed_of, home_of, tag_of, next_place, slot_of};
 ghost use Rattle.tally_core.specs.Inner.Index.{IsFree, AreNoted};
 ghost use Rattle.tally_core.specs.Inner.Entries.{shapes_of};

@@ -1,5 +1,5 @@
 //! What a walk knows for one colour to move.
-ghost use Rattle.std.specs.Prelude.{◌≡◌, ◌<◌, ◌^◌, ℕ, length, All, IfOk, IfErr};
+ghost use Rattle.std.specs.Prelude.{◌≡◌, ◌<◌, ℕ, length, All, IfOk, IfErr};
 ghost use Rattle.tally_core.specs.Walk.{shapes_of, there_among};
 ghost use Rattle.tally_core.specs.Inner.Sight.{Fit, PlayedStays};
 ghost use Rattle.tally_core.specs.Inner.Standing.{AreStays, there_with, IsNewSide};
