@@ -24,8 +24,9 @@ use tally_core::{Counted, Settings, count_within};
 /// points then have a new pattern of each kind, so few inputs need more.
 const SLOTS_A_BYTE: usize = 16;
 
-/// In how many threads the entries of a count by one worker are put in order.
-const ALONE_THREADS: usize = 4;
+/// In how many threads the entries of a count by one worker are put in order. Their parts are of
+/// unlike sizes: with one for each of four processors, some wait for the largest.
+const ALONE_THREADS: usize = 8;
 
 /// The exponent of a table that mostly has room for the patterns of this many bytes, but at most
 /// this one.
