@@ -1,7 +1,8 @@
 //! What threads put in order, and counts of no more patterns than wanted, from outside.
 use go_board::Colour;
 use shape_core::{Kinds, Shape, Word, canonical};
-use shape_dict::{Entry, FirstGame, LooseEntries, SAMPLE};
+use shape_dict::{Entry, FirstGame, LooseEntries, SAMPLE, put_in_order};
+use std::process::Abort;
 use std::test::Fail;
 use tally_core::count_within;
 
@@ -14,30 +15,63 @@ fn shape(number: u64) -> Result<Shape, Fail> {
     Ok(canonical(word, Colour::Black))
 }
 
+/// The entry at a place of many, which are in no order.
+fn entry(place: u64) -> Result<Entry, Fail> {
+    let number = place * 7 % MANY;
+    Ok(Entry {
+        shape: shape(number)?,
+        there: number,
+        played: 0,
+        first: FirstGame::new(None),
+    })
+}
+
+/// These are the many entries, and their patterns' words do not fall.
+fn assert_sorted(rt: &impl Abort, sorted: &[Entry]) -> Result<(), Fail> {
+    let mut least = shape(0)?;
+    let mut there: u64 = 0;
+    for entry in sorted {
+        assert!(rt; least <= entry.shape);
+        least = entry.shape;
+        there = there.wrapping_add(entry.there);
+    }
+    assert!(rt; sorted.len() == 5000);
+    // 0 + 1 + .. + 4999
+    assert!(rt; there == 12_497_500);
+    Ok(())
+}
+
 #[test]
 fn many_entries_in_any_order(rt: HostRuntime) -> Result<(), Fail> {
     let sample = [shape(MANY / 2)?; SAMPLE];
     let mut entries = LooseEntries::with_room(rt.alloc(), 0, sample)?;
-    for i in 0..MANY {
-        let number = i * 7 % MANY;
-        entries.push(Entry {
-            shape: shape(number)?,
-            there: number,
-            played: 0,
-            first: FirstGame::new(None),
-        })?;
+    for place in 0..MANY {
+        entries.push(entry(place)?)?;
     }
     let sorted = entries.put_in_order(&rt, 4);
-    let mut least = shape(0)?;
-    let mut there: u64 = 0;
-    for entry in sorted.as_slice() {
-        assert!(&rt; least <= entry.shape);
-        least = entry.shape;
-        there = there.wrapping_add(entry.there);
+    assert_sorted(&rt, sorted.as_slice())
+}
+
+#[test]
+fn a_list_of_many_entries(rt: HostRuntime) -> Result<(), Fail> {
+    let mut entries = Vec::new(rt.alloc());
+    for place in 0..MANY {
+        entries.push(entry(place)?)?;
     }
-    assert!(&rt; sorted.len() == 5000);
-    // 0 + 1 + .. + 4999
-    assert!(&rt; there == 12_497_500);
+    let sorted = put_in_order(&rt, 4, entries);
+    assert_sorted(&rt, sorted.as_slice())
+}
+
+#[test]
+fn first_games_and_those_before_them(rt: HostRuntime) -> Result<(), Fail> {
+    let unknown = FirstGame::new(None);
+    assert!(&rt; unknown.get() == None && unknown.moved(7) == Some(unknown));
+    let fifth = FirstGame::new(Some(4));
+    assert!(&rt; fifth.get() == Some(4));
+    assert!(&rt; fifth.moved(7) == Some(FirstGame::new(Some(11))));
+    // The last that can be told is 2^64 - 2.
+    assert!(&rt; fifth.moved(u64::MAX - 5).and_then(|last| last.get()) == Some(u64::MAX - 1));
+    assert!(&rt; fifth.moved(u64::MAX - 4) == None);
     Ok(())
 }
 
