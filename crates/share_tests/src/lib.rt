@@ -1,4 +1,4 @@
-//! Probes, the table and the shares of workers, tried from outside.
+//! The shares of workers, and dictionaries of several, tried from outside.
 #![tactic(auto)]
 
 #[cfg(test)]
@@ -6,14 +6,8 @@ mod deals;
 #[cfg(test)]
 mod memory;
 #[cfg(test)]
-mod probes;
-#[cfg(test)]
 mod rows;
 #[cfg(test)]
 mod shares;
 #[cfg(test)]
-mod tables;
-#[cfg(test)]
 mod testing;
-#[cfg(test)]
-mod worlds;

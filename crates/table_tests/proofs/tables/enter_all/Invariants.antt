@@ -1,5 +1,5 @@
 use Rattle.slot_table.specs.Passes.{IsPassOf}
-use Rattle.share_tests.proofs.tables.enter_all.Given as goal
+use Rattle.table_tests.proofs.tables.enter_all.Given as goal
 
 abbrev pub invariant-loop-step : goal.invariant-loop-step
 invariant-loop-step g l = IsPassOf l.table l.pass
