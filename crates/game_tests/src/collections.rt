@@ -1,5 +1,5 @@
 //! Collections from outside, through the public calls.
-ghost use Rattle.std.specs.Prelude.{◌≡◌, IfOk, bytes_eq, map, flat_map, []};
+ghost use Rattle.std.specs.Prelude.{◌≡◌, IfOk, bytes_eq, map, flat_map, if◌then◌else◌, []};
 ghost use Rattle.sgf_core.specs.Tree.{GameTree, name_of, main_line_of};
 ghost use Rattle.sgf_core.specs.Marks.{marks_of};
 

@@ -53,12 +53,12 @@ pub(crate) fn shape_of(rt: &impl Abort, bits: u64) -> Shape {
     Shape::of_word(word_of(rt, bits)).expect(rt, "the least of its images")
 }
 
-pub(crate) fn entry_of(rt: &impl Abort, bits: u64, there: u64, played: u64, first: u64) -> Entry {
+pub(crate) fn entry_of(rt: &impl Abort, bits: u64, there: u64, played: u64, first: u32) -> Entry {
     Entry {
         shape: shape_of(rt, bits),
         there,
         played,
-        first: FirstGame::new(Some(first)),
+        first: FirstGame::new(Some(u64::from(first))),
     }
 }
 
