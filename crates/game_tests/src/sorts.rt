@@ -17,7 +17,7 @@ fn shape(number: u64) -> Result<Shape, Fail> {
 
 /// The entry at a place of many, which are in no order.
 fn entry(place: u64) -> Result<Entry, Fail> {
-    let number = place * 7 % MANY;
+    let number = place.wrapping_mul(7) % MANY;
     Ok(Entry {
         shape: shape(number)?,
         there: number,
