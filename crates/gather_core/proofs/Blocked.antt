@@ -1,13 +1,10 @@
 -- Rows of a block of numbers, number by number.
 use Rattle.std.proofs.Common.{◌≡◌, ℕ, ◌+◌, ◌==◌, true, false, cond, not, ◌&&◌, List, [], ◌∷◌, find, Option, Some, None, refl, ap, ap₂, sym, ◌∙◌, arith}
-use Rattle.std.specs.Option.{option_map}
 use Rattle.std.proofs.lemmas.List.Sums.{sum_by-cons}
 use Rattle.share_core.specs.declared.rows.Row.{Row}
-use Rattle.gather_core.specs.declared.numbers.NumberSums.{NumberSums}
 use Rattle.share_core.specs.Rows.{row_of, first_at, earlier, AreOfNumbers}
 use Rattle.gather_core.specs.Checking.{is_shape, is_stranger}
 use Rattle.gather_core.specs.Inner.Totals.{IsTotalAt, IsLargeAt}
-use Rattle.gather_core.specs.Inner.Numbers.{AreSums}
 use Rattle.gather_core.specs.Inner.Blocks.{rows_at}
 use Rattle.gather_core.proofs.Totalled.{at_number}
 
@@ -70,20 +67,17 @@ total_back rows number (Some total) h = record {
   first = h.first ∙ sym (first_same rows number);
 }
 
-large_same : (rows : List Row) (number : ℕ) → IsLargeAt (rows_at number rows) number → IsLargeAt rows number
+pub large_same : (rows : List Row) (number : ℕ) → IsLargeAt (rows_at number rows) number → IsLargeAt rows number
 large_same rows number h =
     let there = sum_same (λ (r : Row). r.there) rows number in
     let played = sum_same (λ (r : Row). r.played) rows number in
     Prim.grind (arith)
 
--- the sums of the rows of a number are those of all rows
-pub sums_same : (rows : List Row) (number : ℕ) (found : Option ℕ) (sums : NumberSums) → AreSums (rows_at number rows) number found sums → AreSums rows number found sums
-sums_same rows number found sums h = record {
-  first = h.first ∙ first_same rows number;
-  stranger = h.stranger ∙ ap (option_map (λ (r : Row). r.shape)) (stranger_same rows number found);
-  total = λ fits. total_same rows number sums.total (h.total fits);
-  large = λ is. large_same rows number (h.large is);
-}
+pub large_back : (rows : List Row) (number : ℕ) → IsLargeAt rows number → IsLargeAt (rows_at number rows) number
+large_back rows number h =
+    let there = sum_same (λ (r : Row). r.there) rows number in
+    let played = sum_same (λ (r : Row). r.played) rows number in
+    Prim.grind (arith)
 
 -- ---- one row
 pub one_number : (row : Row) → AreOfNumbers (row ∷ [])

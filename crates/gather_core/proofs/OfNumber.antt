@@ -1,18 +1,16 @@
 -- The rows of one number, share by share: their sums, their least game, and the first one that is a stranger.
-use Rattle.std.proofs.Common.{◌≡◌, ℕ, ◌+◌, ◌<◌, true, false, List, ◌++◌, length, get_or, take, Option, Some, None, IfSome, IfNone, refl, ap, sym, subst, ◌∙◌, ◌⊎◌, ⊎_elim}
-use Rattle.std.specs.Option.{option_or, is_some}
+use Rattle.std.proofs.Common.{◌≡◌, ℕ, ◌+◌, ◌<◌, List, ◌++◌, length, get_or, take, Option, Some, None, refl, ap, sym, ◌∙◌}
+use Rattle.std.specs.Option.{option_or}
 use Rattle.share_core.specs.declared.rows.Row.{Row}
 use Rattle.gather_core.specs.declared.numbers.NumberSums.{NumberSums}
 use Rattle.share_core.specs.Rows.{row_of, first_at, earlier, AreOfNumbers}
 use Rattle.share_core.specs.Shares.{Held}
 use Rattle.gather_core.specs.Checking.{all_rows, stranger_in}
 use Rattle.gather_core.specs.Inner.Checking.{unlike_of}
-use Rattle.gather_core.specs.Inner.Totals.{IsTotalAt, IsLargeAt}
-use Rattle.share_core.specs.Totals.{with_row, IsTooMuch}
 use Rattle.gather_core.specs.Inner.Numbers.{AreSums}
 use Rattle.share_core.proofs.Raised.{earlier_none}
 use Rattle.gather_core.proofs.Strangers.{asked, more_rows, stranger_append, stranger_of_row}
-use Rattle.gather_core.proofs.Totalled.{first_none, first_one, first_more, total_kept, total_with, large_with, large_more}
+use Rattle.gather_core.proofs.Totalled.{first_none, first_one, first_more}
 
 or_none : (o : Option ℕ) → option_or o None ≡ o
 or_none None = refl
@@ -26,44 +24,17 @@ sums_kept rows more number found sums numbers none h = record {
   stranger = h.stranger ∙ sym (stranger_append rows more number found
       ∙ ap (option_or (stranger_in rows number found)) (stranger_of_row more number found numbers ∙ ap (λ o. asked o found) none)
       ∙ or_none (stranger_in rows number found));
-  total = λ fits. total_kept rows more number sums.total none (h.total fits);
-  large = λ is. large_more rows more number (h.large is);
 }
-
--- one sum more is too large, or was before
-still_large : (rows more : List Row) (number : ℕ) (found : Option ℕ) (sums : NumberSums) (row : Row) → AreOfNumbers more → row_of more number ≡ Some row → AreSums rows number found sums →
-    (sums.is_large ≡ true) ⊎ IsTooMuch sums.total row → IsLargeAt (rows ++ more) number
-still_large rows more number found sums row numbers is h why =
-    elim sums.is_large as (λ b. sums.is_large ≡ b → IsLargeAt (rows ++ more) number) [
-      | true ↦ λ large. large_more rows more number (h.large large)
-      | false ↦ λ fits. ⊎_elim
-          (λ (large : sums.is_large ≡ true). large_more rows more number (h.large large))
-          (λ (many : IsTooMuch sums.total row). large_with rows more number sums.total row numbers is (h.total fits) many)
-          why
-    ] refl
 
 -- a share has a row of it
 pub sums_with : (rows more : List Row) (number : ℕ) (found : Option ℕ) (sums new : NumberSums) (row : Row) → AreOfNumbers more → row_of more number ≡ Some row → AreSums rows number found sums →
-    new.first ≡ earlier sums.first row.first → new.stranger ≡ option_or sums.stranger (unlike_of row found) →
-    (new.is_large ≡ false → (sums.is_large ≡ false) × (new.total ≡ Some (with_row sums.total row))) →
-    (new.is_large ≡ true → (sums.is_large ≡ true) ⊎ IsTooMuch sums.total row) → AreSums (rows ++ more) number found new
-sums_with rows more number found sums new row numbers is h first stranger total large = record {
+    new.first ≡ earlier sums.first row.first → new.stranger ≡ option_or sums.stranger (unlike_of row found) → AreSums (rows ++ more) number found new
+sums_with rows more number found sums new row numbers is h first stranger = record {
   first = first ∙ sym (first_more rows more number ∙ ap (earlier (first_at rows number)) (first_one more number row numbers is) ∙ ap (λ o. earlier o row.first) (sym h.first));
   stranger = stranger ∙ sym (stranger_append rows more number found
       ∙ ap (option_or (stranger_in rows number found)) (stranger_of_row more number found numbers ∙ ap (λ o. asked o found) is)
       ∙ ap (λ o. option_or o (unlike_of row found)) (sym h.stranger));
-  total = λ fits. subst (IsTotalAt (rows ++ more) number) (sym (total fits).1) (total_with rows more number sums.total row numbers is (h.total (total fits).0));
-  large = λ is_large. still_large rows more number found sums row numbers is h (large is_large);
 }
-
--- ---- what a sum of two rows tells
-pub fitting : (both : Option Row) (row : Row) → IfSome both (λ r. r ≡ row) → is_some both ≡ true → both ≡ Some row
-fitting None row h some = absurd cc
-fitting (Some r) row h some = ap (λ x. Some x) h
-
-pub too_much : (both : Option Row) (P : Type 0) → IfNone both P → is_some both ≡ false → P
-too_much None P h none = h
-too_much (Some r) P h none = absurd cc
 
 -- the rows of the shares so far and of the next one
 pub next_rows : (shares : List Held) (i : ℕ) (share : Held) → i < length shares → share ≡ get_or shares i share → all_rows (take i shares) ++ share.rows ≡ all_rows (take (i + 1) shares)

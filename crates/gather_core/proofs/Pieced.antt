@@ -13,11 +13,12 @@ use Rattle.share_core.specs.Rows.{row_of}
 use Rattle.gather_core.specs.Checking.{is_shape, is_stranger, stranger_in}
 use Rattle.gather_core.specs.Inner.Checking.{unlike_of}
 use Rattle.gather_core.specs.Inner.Totals.{IsTotal}
-use Rattle.gather_core.specs.Inner.Numbers.{none_summed, like_sums, AreSums}
-use Rattle.gather_core.specs.Inner.Pieces.{summed_as, total_at, totals_of, AreAlikeAt, AreTotals}
-use Rattle.gather_core.proofs.Blocked.{rows_none, sums_same}
+use Rattle.gather_core.specs.Inner.Numbers.{none_summed, AreSums}
+use Rattle.gather_core.specs.Inner.Blocks.{AreAlikeAt}
+use Rattle.gather_core.specs.Inner.Pieces.{summed_as, total_at, totals_of, AreTotals}
+use Rattle.gather_core.proofs.Evened.{stranger_none}
 use Rattle.gather_core.proofs.Stood.{like_one, like_all}
-use Rattle.gather_core.proofs.Totalled.{found_in}
+use Rattle.gather_core.proofs.Totalled.{found_in, first_none}
 
 -- ---- one number
 no_total : (all : List Row) (number : ℕ) → row_of all number ≡ None → total_at all number ≡ None
@@ -152,10 +153,8 @@ no_first_total all number high rest low other h =
 -- no rows are together what nothing is
 pub sums_nothing : (all : List Row) (number : ℕ) (found : Option ℕ) → None ≡ total_at all number → AreSums all number found none_summed
 sums_nothing all number found is =
-    let none = rows_none all number (no_row all number (row_of all number) (sym is)) in
-    sums_same all number found none_summed
-    (subst (λ (rows : List Row). AreSums rows number found none_summed) (sym none)
-    (record { first = refl; stranger = refl; total = λ fits. refl; large = λ is_large. absurd cc }))
+    let none = no_row all number (row_of all number) (sym is) in
+    record { first = sym (first_none all number none); stranger = sym (stranger_none all number found none) }
 
 -- ---- a total and the pattern that a table has
 like_found : (found : Option ℕ) (shape : ℕ) → cond (is_shape found shape) None (Some shape) ≡ None → found ≡ Some shape
@@ -167,9 +166,9 @@ like_found found shape none =
 
 -- a total of the pattern that is asked for is what the rows are together
 pub sums_total : (all : List Row) (number : ℕ) (found : Option ℕ) (total : Row) → Some total ≡ total_at all number → AreAlikeAt all number → unlike_of total found ≡ None →
-    AreSums all number found (like_sums (Some total) total.first false)
+    AreSums all number found (record { first = total.first; stranger = None })
 sums_total all number found total is alike none =
-    elim (row_of all number) as (λ o. row_of all number ≡ o → Some total ≡ option_map (summed_as all number) o → AreSums all number found (like_sums (Some total) total.first false)) [
+    elim (row_of all number) as (λ o. row_of all number ≡ o → Some total ≡ option_map (summed_as all number) o → AreSums all number found (record { first = total.first; stranger = None })) [
       | None ↦ λ nothing e. absurd cc
       | Some row ↦ λ some e.
           let it : total ≡ summed_as all number row = cc in
@@ -178,15 +177,6 @@ sums_total all number found total is alike none =
           record {
             first = ap (λ (r : Row). r.first) it;
             stranger = sym (subst (λ f. stranger_in all number f ≡ None) asked (alike row some));
-            total = λ fits. record {
-              first_row = row;
-              found = some;
-              shape = shape;
-              there = ap (λ (r : Row). r.there) it;
-              played = ap (λ (r : Row). r.played) it;
-              first = ap (λ (r : Row). r.first) it;
-            };
-            large = λ large. absurd cc;
           }
     ] refl is
 
@@ -236,3 +226,18 @@ next_begin high span first from next place is more =
     let longer : (place + 1) * span ≡ place * span + 1 * span = add-mul place 1 span in
     let one = one-mul span in
     omega arith
+
+-- a piece's totals, also where it would begin after the last number
+pub totals_within : (rows : List Row) (high low span : ℕ) (totals : List Row) → AreTotals rows low (min high (low + span)) totals → AreTotals rows (min high low) (min high (low + span)) totals
+totals_within rows high low span totals h = ⊎_elim
+    (λ (past : high < low).
+    let none : min high (low + span) - low ≡ 0 = omega arith in
+    let nothing : min high (low + span) - min high low ≡ 0 = omega arith in
+    record {
+      totals_are = h.totals_are ∙ ap (totals_of rows low) none ∙ ap (totals_of rows (min high low)) (sym nothing);
+      alike = λ number over under. absurd (omega arith);
+    })
+    (λ (before : low ≤ high).
+    let same : low ≡ min high low = omega arith in
+    subst (λ k. AreTotals rows k (min high (low + span)) totals) same h)
+    (cases_lt high low)

@@ -99,7 +99,7 @@ found_later (row ∷ rows) more number none =
     let other = not_head row rows number none in
     ap (λ b. cond b (Some row) (row_of (rows ++ more) number)) other ∙ found_later rows more number (tail_none row rows number other none)
 
-found_before : (rows more : List Row) (number : ℕ) (found : Row) → row_of rows number ≡ Some found → row_of (rows ++ more) number ≡ Some found
+pub found_before : (rows more : List Row) (number : ℕ) (found : Row) → row_of rows number ≡ Some found → row_of (rows ++ more) number ≡ Some found
 found_before [] more number found is = absurd cc
 found_before (row ∷ rows) more number found is =
     elim (row.number == number) as (λ b. cond b (Some row) (row_of rows number) ≡ Some found → cond b (Some row) (row_of (rows ++ more) number) ≡ Some found)

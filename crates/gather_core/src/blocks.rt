@@ -1,12 +1,13 @@
 //! The rows of a block of numbers, those of all shares, and the totals of its numbers.
-ghost use Rattle.std.specs.Prelude.{◌≡◌, ◌<◌, ◌++◌, ◌∷◌, [], ℕ, List, All, None, map, length};
-ghost use Rattle.std.specs.Prelude.{IfSome, IsTrue, OnOk, slice_index_or};
+ghost use Rattle.std.specs.Prelude.{◌≡◌, ◌+◌, ◌<◌, ◌++◌, ◌∷◌, [], ℕ, List, All, None, map, length};
+ghost use Rattle.std.specs.Prelude.{IfSome, IfNone, IsTrue, OnOk, slice_index_or};
+ghost use Rattle.std.specs.Bool.{OnFalse};
 ghost use Rattle.share_core.specs.declared.rows.Row.{Row};
 ghost use Rattle.share_core.specs.Rows.{row_at};
 ghost use Rattle.gather_core.specs.Checking.{all_rows};
 ghost use Rattle.share_core.specs.Totals.{with_row};
 ghost use Rattle.gather_core.specs.Inner.Dealing.{rows_in, AreDealt};
-ghost use Rattle.gather_core.specs.Inner.Blocks.{IsLike, AreEven};
+ghost use Rattle.gather_core.specs.Inner.Blocks.{IsLike, IsUnlike, AreEven, HasOdd};
 
 use crate::dealing::Dealt;
 use share_core::{KeptRow, Share};
@@ -48,7 +49,8 @@ pub(crate) fn collect(
 /// A total, if there is one, with what a row of its pattern counts besides; None where the row is
 /// of another pattern or a sum passes 2^64 - 1.
 fn with_like(total: Option<KeptRow>, row: KeptRow) -> Option<KeptRow>
-    ensures { IfSome result (λ both. (both ≡ with_row total row) × IsLike total row) }
+    ensures some { IfSome result (λ both. (both ≡ with_row total row) × IsLike total row) }
+    ensures none { IfNone result (IsUnlike total row) }
 {
     let Some(total) = total else {
         return Some(row);
@@ -66,6 +68,8 @@ fn add_one(totals: &mut [Option<KeptRow>], from: usize, row: KeptRow) -> bool
     ensures long { length totals.new ≡ length totals.old }
     ensures added { IsTrue result → (rows : List Row) → AreEven rows from totals.old
         → AreEven (rows ++ row ∷ []) from totals.new }
+    ensures odd { OnFalse result ((rows : List Row) → AreEven rows from totals.old
+        → HasOdd (rows ++ row ∷ []) from (from + length totals.old)) }
 {
     let number = row.number();
     if number < from || number - from >= totals.len() {
@@ -93,11 +97,13 @@ fn clear(totals: &mut [Option<KeptRow>])
 pub(crate) fn add_up_rows(rows: &[KeptRow], from: usize, totals: &mut [Option<KeptRow>]) -> bool
     ensures long { length totals.new ≡ length totals.old }
     ensures even { IsTrue result → AreEven rows.now from totals.new }
+    ensures odd { OnFalse result (HasOdd rows.now from (from + length totals.old)) }
 {
     clear(totals);
-    let mut goes = true;
     for row in rows {
-        goes = add_one(totals, from, *row) && goes;
+        if !add_one(totals, from, *row) {
+            return false;
+        }
     }
-    goes
+    true
 }

@@ -1,5 +1,5 @@
 //! Shares put together to a dictionary.
-ghost use Rattle.std.specs.Prelude.{◌≡◌, ◌<◌, All, None, OnOk, IfOk, IfErr, false};
+ghost use Rattle.std.specs.Prelude.{◌≡◌, ◌<◌, All, OnOk, IfOk, IfErr};
 ghost use Rattle.slot_table.specs.Passes.{IsPassOf};
 ghost use Rattle.gather_core.specs.Agreeing.{AskedAll};
 ghost use Rattle.gather_core.specs.Checking.{all_rows, Stand};
@@ -7,10 +7,9 @@ ghost use Rattle.gather_core.specs.Covering.{all_games, Covers};
 ghost use Rattle.share_core.specs.Entering.{AsksOnly};
 ghost use Rattle.gather_core.specs.Gathering.{IsGathered};
 ghost use Rattle.gather_core.specs.GatherFaults.{IsGatherFault};
-ghost use Rattle.gather_core.specs.Inner.Visiting.{IsNumbersFault};
 
 use crate::adding_up::add_up;
-use crate::agreeing::{Differs, marks_fault};
+use crate::agreeing::marks_fault;
 use crate::covering::check_games;
 use crate::rounds::visit_all;
 use crate::standing::check_beyond;
@@ -21,21 +20,6 @@ use share_core::{HarvestFault, Share};
 use slot_table::{Pass, SlotTable};
 use std::alloc::Global;
 use std::thread::Threads;
-
-/// What is wrong with the numbers where each row is of the table's pattern: a mark that differs
-/// comes before a sum too large.
-fn check_numbers(differs: Option<Differs>, is_large: bool) -> Result<(), HarvestFault>
-    ensures ok { OnOk result ((differs ≡ None) × (is_large ≡ false)) }
-    ensures fault { IfErr result (IsNumbersFault differs is_large) }
-{
-    if let Some(differs) = differs {
-        return Err(marks_fault(differs));
-    }
-    if is_large {
-        return Err(HarvestFault::Overflow);
-    }
-    Ok(())
-}
 
 /// The dictionary of shares that have each number below `games` as a game once together: for each
 /// pattern the sums of all rows, and the least game. A pattern that was never there is left out.
@@ -80,6 +64,8 @@ pub fn gather<R: Threads + Sync, O: ProbeOrder>(
     check_games(alloc, games, shares)?;
     let visited = visit_all(rt, alloc, table, pass, shares)?;
     check_beyond(shares, table.capacity().slots())?;
-    check_numbers(visited.differs, visited.listed.is_large)?;
+    if let Some(differs) = visited.differs {
+        return Err(marks_fault(differs));
+    }
     add_up(rt, kinds, games, visited.listed, shares)
 }

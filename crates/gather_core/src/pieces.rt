@@ -1,11 +1,13 @@
-//! Ranges of a table's numbers in pieces, each with the totals of its numbers, which threads make.
+//! The totals of ranges of a table's numbers, in pieces, which threads make.
 ghost use Rattle.std.specs.Prelude.{◌≡◌, ℕ, ◌+◌, ◌*◌, ◌^◌, ◌<◌, ◌≤◌, min, drop, length, List};
-ghost use Rattle.std.specs.Prelude.{OnOk, IfOk};
+ghost use Rattle.std.specs.Prelude.{OnOk, IfOk, IfErr};
 ghost use Rattle.share_core.specs.declared.rows.Row.{Row};
 ghost use Rattle.gather_core.specs.Checking.{all_rows};
+ghost use Rattle.gather_core.specs.declared.pieces.Unmade.TheVariants.{Memory};
 ghost use Rattle.gather_core.specs.Inner.Dealing.{block_of, AreDealt};
 ghost use Rattle.gather_core.specs.Inner.Blocks.{AreEven};
-ghost use Rattle.gather_core.specs.Inner.Pieces.{total_at, AreTotals, IsPiece, ArePieces};
+ghost use Rattle.gather_core.specs.Inner.Pieces.{total_at, AreTotals, IsUnmade, IsPiece};
+ghost use Rattle.gather_core.specs.Inner.Pieces.{ArePieces};
 
 use crate::blocks::{add_up_rows, collect};
 use crate::dealing::{Dealt, SHIFT};
@@ -13,54 +15,69 @@ use share_core::{KeptRow, Share};
 use std::alloc::{AllocError, Global};
 use std::thread::{Threads, map_indices};
 
-/// A range of numbers: for each that has rows their total, numbers rising. It is odd where some
-/// number of the range has rows of several patterns, or a sum passes 2^64 - 1; then the totals have
-/// no meaning.
-#[derive(Drop)]
-pub(crate) struct Piece {
-    pub rows: Vec<KeptRow>,
-    pub is_odd: bool,
+/// Why the totals of a range of numbers were not made.
+#[derive(Clone, Copy)]
+pub(crate) enum Unmade {
+    /// Memory was refused.
+    Memory,
+    /// Some number of the range has rows of several patterns, or a sum of its rows passes 2^64 - 1.
+    Odd,
 }
 
-/// Adds the totals of a number and those after it to the piece of the numbers before it.
-fn add_totals(piece: &mut Piece, from: usize, totals: &[Option<KeptRow>]) -> Result<(), AllocError>
+impl From<AllocError> for Unmade {
+    ghost from_gives = { λ _ why. why ≡ Memory };
+
+    fn from(_: AllocError) -> Unmade {
+        Unmade::Memory
+    }
+}
+
+/// Adds the totals of a number and those after it to those of the numbers before them.
+fn add_totals(
+    piece: &mut Vec<KeptRow>,
+    from: usize,
+    totals: &[Option<KeptRow>],
+) -> Result<(), AllocError>
     requires { from + length totals.now ≤ 2 ^ 32 }
-    ensures same { piece.new.is_odd ≡ piece.old.is_odd }
-    ensures added { OnOk result ((all : List Row) → (first : ℕ) → AreEven all from totals.now
-        → first ≤ from → IsPiece all first from piece.old
-        → IsPiece all first (from + length totals.now) piece.new) }
+    ensures { OnOk result ((all : List Row) → (first : ℕ) → AreEven all from totals.now
+        → first ≤ from → AreTotals all first from piece.old.items
+        → AreTotals all first (from + length totals.now) piece.new.items) }
 {
     for (i, total) in totals.iter().enumerate() {
         if let Some(total) = total {
-            piece.rows.push(total.at(from + i))?;
+            piece.push(total.at(from + i))?;
         }
     }
     Ok(())
 }
 
-/// Adds the totals of numbers of one block to the piece of the numbers before them: as many as
-/// there is room for.
+/// Adds the totals of numbers of one block to those of the numbers before them: as many as there is
+/// room for.
 fn add_block(
-    piece: &mut Piece,
+    piece: &mut Vec<KeptRow>,
     shares: &[Share],
     dealt: &[Result<Dealt, AllocError>],
     from: usize,
     rows: &mut Vec<KeptRow>,
     totals: &mut [Option<KeptRow>],
-) -> Result<(), AllocError>
+) -> Result<(), Unmade>
     requires dealt { (count : ℕ) × AreDealt shares.now count dealt.now × (block_of from < count) }
     requires block { (place : ℕ) → place < length totals.old
         → block_of (from + place) ≡ block_of from }
     requires few { from + length totals.old ≤ 2 ^ 32 }
     ensures long { length totals.new ≡ length totals.old }
     ensures added { OnOk result ((first : ℕ) → first ≤ from
-        → IsPiece (all_rows shares.now) first from piece.old
-        → IsPiece (all_rows shares.now) first (from + length totals.old) piece.new) }
+        → AreTotals (all_rows shares.now) first from piece.old.items
+        → AreTotals (all_rows shares.now) first (from + length totals.old) piece.new.items) }
+    ensures why { IfErr result
+        (IsUnmade (all_rows shares.now) from (from + length totals.old)) }
 {
     collect(shares, dealt, from >> SHIFT, rows)?;
-    let goes = add_up_rows(rows.as_slice(), from, totals);
-    piece.is_odd = piece.is_odd || !goes;
-    add_totals(piece, from, totals)
+    if !add_up_rows(rows.as_slice(), from, totals) {
+        return Err(Unmade::Odd);
+    }
+    add_totals(piece, from, totals)?;
+    Ok(())
 }
 
 /// The end of a number's block, or this other number where that is less.
@@ -85,27 +102,25 @@ fn no_totals(alloc: Global, count: usize) -> Result<Vec<Option<KeptRow>>, AllocE
     Ok(totals)
 }
 
-/// The piece of the numbers from one up to another. It takes memory for a total of each number, of
-/// which the system gives what is used, and for the rows and totals of one block of numbers.
+/// The totals of the numbers from one up to another, of those that have rows, numbers rising. It
+/// takes memory for a total of each number, of which the system gives what is used, and for the
+/// rows and totals of one block of numbers.
 fn piece_of(
     alloc: Global,
     shares: &[Share],
     dealt: &[Result<Dealt, AllocError>],
     from: usize,
     high: usize,
-) -> Result<Piece, AllocError>
+) -> Result<Vec<KeptRow>, Unmade>
     requires order { from ≤ high }
     requires high { high < 2 ^ 32 }
     requires dealt { (count : ℕ) × AreDealt shares.now count dealt.now
         × (high ≤ count * 2 ^ 13) }
-    ensures { IfOk result (IsPiece (all_rows shares.now) from high) }
+    ensures { IsPiece (all_rows shares.now) from high result }
 {
     let mut made = no_totals(alloc, (high - from).min(1 << SHIFT))?;
     let mut rows = Vec::new(alloc);
-    let mut piece = Piece {
-        rows: Vec::with_capacity(alloc, high - from)?,
-        is_odd: false,
-    };
+    let mut piece = Vec::with_capacity(alloc, high - from)?;
     let totals = made.as_mut_slice();
     let mut low = from;
     while low < high {
@@ -117,8 +132,8 @@ fn piece_of(
     Ok(piece)
 }
 
-/// The piece at a place of the numbers from one up to another, where each piece has this many, and
-/// the last one those that are left.
+/// The totals of the piece at a place of the numbers from one up to another, where each piece has
+/// this many numbers, and the last one those that are left.
 fn piece_at(
     alloc: Global,
     shares: &[Share],
@@ -127,21 +142,21 @@ fn piece_at(
     high: usize,
     span: usize,
     place: usize,
-) -> Result<Piece, AllocError>
+) -> Result<Vec<KeptRow>, Unmade>
     requires high { high < 2 ^ 32 }
     requires dealt { (count : ℕ) × AreDealt shares.now count dealt.now
         × (high ≤ count * 2 ^ 13) }
     requires span { span < 2 ^ 32 }
     requires place { from + place * span < high }
-    ensures { IfOk result (IsPiece (all_rows shares.now) (from + place * span)
-        (min high (from + place * span + span))) }
+    ensures { IsPiece (all_rows shares.now) (from + place * span)
+        (min high (from + place * span + span)) result }
 {
     let low = from + place * span;
     piece_of(alloc, shares, dealt, low, high.min(low + span))
 }
 
-/// The numbers from one up to another in pieces of this many, in order. Threads make them, and each
-/// may be refused memory. One piece is made by this thread.
+/// The totals of the numbers from one up to another in pieces of this many numbers, in order.
+/// Threads make them. One piece is made by this thread.
 pub(crate) fn pieces<R: Threads + Sync>(
     rt: &R,
     alloc: Global,
@@ -150,7 +165,7 @@ pub(crate) fn pieces<R: Threads + Sync>(
     from: usize,
     high: usize,
     span: usize,
-) -> Result<Vec<Result<Piece, AllocError>>, AllocError>
+) -> Result<Vec<Result<Vec<KeptRow>, Unmade>>, AllocError>
     requires dealt { (count : ℕ) × AreDealt shares.now count dealt.now
         × (high ≤ count * 2 ^ 13) }
     requires order { from ≤ high }

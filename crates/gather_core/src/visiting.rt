@@ -6,20 +6,21 @@ ghost use Rattle.slot_table.specs.Passes.{IsPassOf};
 ghost use Rattle.share_core.specs.declared.rows.Row.{Row};
 ghost use Rattle.gather_core.specs.Checking.{all_rows};
 ghost use Rattle.share_core.specs.Entering.{AsksOnly};
-ghost use Rattle.gather_core.specs.Inner.Pieces.{AreTotals, IsPiece};
+ghost use Rattle.gather_core.specs.Inner.Blocks.{HasOdd};
+ghost use Rattle.gather_core.specs.Inner.Pieces.{AreTotals};
 ghost use Rattle.gather_core.specs.Inner.Visiting.{IsVisit, EndsVisit};
 
-use crate::agreeing::{Differs, compare};
+use crate::agreeing::{Differs, compare, marks_fault};
 use crate::numbers::{sums_at, unlike};
-use crate::pieces::{Piece, next_total};
-use crate::standing::{bits_of, word_of};
+use crate::pieces::next_total;
+use crate::standing::{bits_of, check_beyond, word_of};
 use probe_core::ProbeOrder;
 use share_core::{HarvestFault, KeptRow, Share};
 use slot_table::{Pass, SlotTable};
 
 /// Looks at a number, and compares the patterns and the least games of its rows with the table's.
 /// The rows are looked for in the shares.
-fn visit_odd<O: ProbeOrder>(
+fn visit_rows<O: ProbeOrder>(
     table: &SlotTable<O>,
     pass: &mut Pass<O>,
     shares: &[Share],
@@ -46,7 +47,7 @@ fn visit_odd<O: ProbeOrder>(
 
 /// The same where the totals from a place on are those of this number and later ones; the place
 /// goes on past the number.
-fn visit_even<O: ProbeOrder>(
+fn visit_total<O: ProbeOrder>(
     table: &SlotTable<O>,
     pass: &mut Pass<O>,
     totals: &[KeptRow],
@@ -80,35 +81,43 @@ fn visit_even<O: ProbeOrder>(
     Ok(())
 }
 
-/// Looks at the numbers from one up to another. Their rows are looked for in the shares.
+/// What is wrong with shares where some number from this one on has rows of several patterns, or a
+/// sum of its rows is too large: rows of another pattern than the table has at their number come
+/// first, then a mark that differs, and then the sum. The rows are looked for in the shares.
 #[tactic(auto, using(share_core::proofs::Entered::calls_self))]
-fn visit_odd_piece<O: ProbeOrder>(
+pub(crate) fn fault_from<O: ProbeOrder>(
     table: &SlotTable<O>,
     pass: &mut Pass<O>,
     shares: &[Share],
     from: usize,
-    high: usize,
-    differs: &mut Option<Differs>,
-) -> Result<(), HarvestFault>
+    differs: Option<Differs>,
+) -> HarvestFault
     requires pass { IsPassOf table.now pass.old }
-    requires order { from ≤ high }
-    requires high { high ≤ table.now.slots }
+    requires odd { HasOdd (all_rows shares.now) from table.now.slots }
     ensures pass { IsPassOf table.now pass.new }
     ensures later { AsksOnly table.now.slots pass.old pass.new }
-    ensures ok { OnOk result (IsVisit table.now.slots (all_rows shares.now) from high
-        pass.old pass.new differs.old differs.new) }
-    ensures fault { IfErr result
-        (EndsVisit table.now.slots (all_rows shares.now) from pass.old pass.new differs.old) }
+    ensures fault { EndsVisit table.now.slots (all_rows shares.now) from
+        pass.old pass.new differs result }
 {
-    for number in from..high {
-        visit_odd(table, pass, shares, number, differs)?;
+    let slots = table.capacity().slots();
+    let mut differs = differs;
+    for number in from..slots {
+        if let Err(fault) = visit_rows(table, pass, shares, number, &mut differs) {
+            return fault;
+        }
     }
-    Ok(())
+    if let Err(fault) = check_beyond(shares, slots) {
+        return fault;
+    }
+    match differs {
+        Some(differs) => marks_fault(differs),
+        None => HarvestFault::Overflow,
+    }
 }
 
-/// The same where these are the totals of the numbers.
+/// Looks at the numbers from one up to another, of which these are the totals.
 #[tactic(auto, using(share_core::proofs::Entered::calls_self))]
-fn visit_even_piece<O: ProbeOrder>(
+pub(crate) fn visit_totals<O: ProbeOrder>(
     table: &SlotTable<O>,
     pass: &mut Pass<O>,
     totals: &[KeptRow],
@@ -128,36 +137,7 @@ fn visit_even_piece<O: ProbeOrder>(
 {
     let mut next = 0;
     for number in from..high {
-        visit_even(table, pass, totals, &mut next, number, differs)?;
+        visit_total(table, pass, totals, &mut next, number, differs)?;
     }
     Ok(())
-}
-
-/// Looks at the numbers of a piece, from one up to another.
-pub(crate) fn visit_piece<O: ProbeOrder>(
-    table: &SlotTable<O>,
-    pass: &mut Pass<O>,
-    shares: &[Share],
-    piece: &Piece,
-    from: usize,
-    high: usize,
-    differs: &mut Option<Differs>,
-) -> Result<(), HarvestFault>
-    requires pass { IsPassOf table.now pass.old }
-    requires order { from ≤ high }
-    requires high { high ≤ table.now.slots }
-    requires piece { IsPiece (all_rows shares.now) from high piece.now }
-    ensures pass { IsPassOf table.now pass.new }
-    ensures later { AsksOnly table.now.slots pass.old pass.new }
-    ensures ok { OnOk result (IsVisit table.now.slots (all_rows shares.now) from high
-        pass.old pass.new differs.old differs.new) }
-    ensures fault { IfErr result
-        (EndsVisit table.now.slots (all_rows shares.now) from pass.old pass.new differs.old) }
-{
-    if piece.is_odd {
-        visit_odd_piece(table, pass, shares, from, high, differs)
-    } else {
-        let totals = piece.rows.as_slice();
-        visit_even_piece(table, pass, totals, from, high, differs)
-    }
 }

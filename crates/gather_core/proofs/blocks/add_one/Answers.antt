@@ -1,11 +1,12 @@
-use Rattle.std.proofs.Common.{◌≡◌, ◌+◌, ◌-◌, ◌<◌, ◌∷◌, [], ◌++◌, ℕ, true, false, List, length, get_or, Option, Some, None, IfSome, sym, subst, ◌∙◌, arith}
+use Rattle.std.proofs.Common.{◌≡◌, ◌+◌, ◌-◌, ◌<◌, ◌∷◌, [], ◌++◌, ℕ, true, false, List, length, get_or, Option, Some, None, IfSome, IfNone, sym, subst, ◌∙◌, arith}
 use Rattle.std.specs.Prelude.{slice_set}
 use Rattle.std.proofs.lemmas.List.{length-set, get_or_default}
+use Rattle.std.proofs.lemmas.Bool.{OnFalse_from}
 use Rattle.std.specs.Option.{is_some}
 use Rattle.share_core.specs.declared.rows.Row.{Row}
 use Rattle.share_core.specs.Totals.{with_row}
 use Rattle.gather_core.specs.Inner.Blocks.{IsLike, AreEven}
-use Rattle.gather_core.proofs.Evened.{evens_other, evens_with}
+use Rattle.gather_core.proofs.Evened.{evens_other, evens_with, odds_with}
 use Rattle.gather_core.proofs.blocks.add_one.Goals as goal
 use Rattle.gather_core.proofs.blocks.add_one.Goals.{then-is_some, else-is_some, then-number-from-via-then-number-from, then-number-from-via-else-number-from+then-number-from-2}
 
@@ -26,6 +27,24 @@ with_both (Some both) total row rows from at totals some h same inside is even p
     let long = length-set totals at (Some both) in
     evens_with rows from at totals row total both same inside is h.0 h.1 even place (omega arith)
 
+-- the total is as it was where the row does not go with it
+none_with : (both : Option Row) (P : Type 0) → IfNone both P → is_some both ≡ false → P
+none_with None P h none = h
+none_with (Some b) P h none = absurd cc
+
+pub returns-clause-odd : goal.returns-clause-odd
+returns-clause-odd c =
+    OnFalse_from c.is_some-2.result _ (λ none rows h.
+    let totals = c.args.totals.now in
+    let from = c.args.from in
+    let at = c.number-number.result - from in
+    let low = c.if-number-from.false in
+    let inside : at < length totals = (let l = c.if-number-from-2.false in omega arith) in
+    let same : c.args.row.number ≡ from + at = (let is = c.number-number.ensures in omega arith) in
+    let read : c.index-totals-number.result ≡ get_or totals at None = c.index-totals-number.is ∙ get_or_default totals at c.index-totals-number.result None inside in
+    let unlike = none_with c.with_like-both.result _ c.with_like-both.ensures.none (sym c.is_some-2.ensures ∙ none) in
+    odds_with rows from at totals c.args.row c.index-totals-number.result same inside read unlike h)
+
 pub returns-clause-added : goal.returns-clause-added
 returns-clause-added c is_so rows h =
     let totals = c.args.totals.now in
@@ -39,6 +58,6 @@ returns-clause-added c is_so rows h =
     elim c.if-is_some.branch [
       | then-is_some w ↦
           subst (AreEven (rows ++ c.args.row ∷ []) from) (sym w.totals-is)
-          (with_both c.with_like-both.result c.index-totals-number.result c.args.row rows from at totals some c.with_like-both.ensures same inside read h)
+          (with_both c.with_like-both.result c.index-totals-number.result c.args.row rows from at totals some c.with_like-both.ensures.some same inside read h)
       | else-is_some w ↦ let clash : true ≡ false = sym some ∙ sym c.is_some.ensures ∙ w.if-is_some.false in absurd cc
     ]

@@ -1,4 +1,4 @@
-use Rattle.std.proofs.Common.{◌≡◌, take, length, IsTrue}
+use Rattle.std.proofs.Common.{◌≡◌, take, length}
 use Rattle.gather_core.specs.Inner.Blocks.{AreEven}
 use Rattle.gather_core.proofs.blocks.add_up_rows.Given as goal
 
@@ -6,5 +6,5 @@ use Rattle.gather_core.proofs.blocks.add_up_rows.Given as goal
 abbrev pub invariant-loop-row : goal.invariant-loop-row
 invariant-loop-row l = record {
   long : length l.totals ≡ length l.fn.totals;
-  even : IsTrue l.goes → AreEven (take l.row-index l.rows) l.from l.totals;
+  even : AreEven (take l.row-index l.rows) l.from l.totals;
 }

@@ -6,8 +6,24 @@ use Rattle.gather_core.specs.Gathering.{all_moves}
 use Rattle.gather_core.specs.Inner.Totals.{AreEntriesOf}
 use Rattle.gather_core.specs.GatherFaults.{IsGatherFault}
 use Rattle.gather_core.specs.Inner.Visiting.{AgreeBelow}
-use Rattle.gather_core.proofs.Agreed.{all_below, one_each, stand_below, beyond_table, numbers_fault, anyway}
+use Rattle.gather_core.proofs.Agreed.{all_below, one_each, stand_below, beyond_table, visit_fault, anyway}
 use Rattle.gather_core.proofs.gathering.gather.Goals as goal
+
+pub returns-in_err-visited-clause-fault : goal.returns-in_err-visited-clause-fault
+returns-in_err-visited-clause-fault g c =
+    let p = err_from_is_err_and c.from_residual-in_err-visited.result c.from_residual-in_err-visited.ensures.1 in
+    rw (p.1, p.2) (visit_fault c.args.table.now.slots c.args.games c.args.shares.now c.args.pass.now c.visit_all.new.pass c.in_err-visited.field-0.0
+    c.in_ok-check_games.ensures.ok c.visit_all.ensures.pass.legal c.in_err-visited.ensures.fault)
+
+pub returns-in-Some-clause-fault : goal.returns-in-Some-clause-fault
+returns-in-Some-clause-fault g c =
+    let n = c.args.table.now.slots in
+    let rows = all_rows c.args.shares.now in
+    let new = c.visit_all.new.pass in
+    let visited = c.in_ok-visited.ensures.ok in
+    let slots = c.slots.ensures.value ∙ c.capacity.ensures.slots in
+    subst (IsGatherFault n c.args.games c.args.shares.now c.args.pass.now new) (sym c.marks_fault.ensures)
+    (c.in_ok-check_games.ensures.ok, stand_below n c.slots.result new.seen rows slots c.in_ok-check_beyond.ensures.ok visited.stand, subst (AgreeBelow n rows n c.args.pass.now new) c.in-Some.is visited.agree)
 
 pub returns-in_err-check_beyond-clause-fault : goal.returns-in_err-check_beyond-clause-fault
 returns-in_err-check_beyond-clause-fault g c =
@@ -16,18 +32,6 @@ returns-in_err-check_beyond-clause-fault g c =
     rw (p.1, p.2) (beyond_table c.args.table.now.slots c.slots.result c.args.games c.args.shares.now c.args.pass.now c.visit_all.new.pass c.in_err-check_beyond.field-0.0 slots
     c.in_ok-check_games.ensures.ok c.in_ok-visited.ensures.ok.stand c.in_err-check_beyond.ensures.fault)
 
-pub returns-in_err-check_numbers-clause-fault : goal.returns-in_err-check_numbers-clause-fault
-returns-in_err-check_numbers-clause-fault g c =
-    let n = c.args.table.now.slots in
-    let rows = all_rows c.args.shares.now in
-    let new = c.visit_all.new.pass in
-    let visited = c.in_ok-visited.ensures.ok in
-    let slots = c.slots.ensures.value ∙ c.capacity.ensures.slots in
-    let stand = stand_below n c.slots.result new.seen rows slots c.in_ok-check_beyond.ensures.ok visited.stand in
-    let p = err_from_is_err_and c.from_residual-in_err-check_numbers.result c.from_residual-in_err-check_numbers.ensures.1 in
-    rw (p.1, p.2) (numbers_fault n c.args.games c.args.shares.now c.args.pass.now new c.in_ok-visited.visited.differs c.in_ok-visited.visited.listed.is_large c.in_err-check_numbers.field-0.0
-    c.in_ok-check_games.ensures.ok stand (one_each n new.seen rows c.visit_all.ensures.pass.legal stand) visited.agree c.in_ok-visited.ensures.listed.large c.in_err-check_numbers.ensures.fault)
-
 pub add_up-requires-clause-entries : goal.add_up-requires-clause-entries
 add_up-requires-clause-entries g c =
     let n = c.args.table.now.slots in
@@ -35,8 +39,8 @@ add_up-requires-clause-entries g c =
     let new = c.visit_all.new.pass in
     let slots = c.slots.ensures.value ∙ c.capacity.ensures.slots in
     let stand = stand_below n c.slots.result new.seen rows slots c.in_ok-check_beyond.ensures.ok c.in_ok-visited.ensures.ok.stand in
-    let made : AreEntriesOf rows c.in_ok-visited.visited.listed.entries =
-    (n, c.in_ok-visited.ensures.listed.entries (one_each n new.seen rows c.visit_all.ensures.pass.legal stand) c.in_ok-check_numbers.ensures.ok.1, all_below n new.seen rows stand) in
+    let made : AreEntriesOf rows c.in_ok-visited.visited.listed =
+    (n, c.in_ok-visited.ensures.listed (one_each n new.seen rows c.visit_all.ensures.pass.legal stand), all_below n new.seen rows stand) in
     λ κs lives. made
 
 pub returns-clause-stand : goal.returns-clause-stand
@@ -54,6 +58,6 @@ returns-clause-fault g c =
     let new = c.visit_all.new.pass in
     let slots = c.slots.ensures.value ∙ c.capacity.ensures.slots in
     let stand = stand_below n c.slots.result new.seen rows slots c.in_ok-check_beyond.ensures.ok c.in_ok-visited.ensures.ok.stand in
-    let asked = subst (AgreeBelow n rows n c.args.pass.now new) c.in_ok-check_numbers.ensures.ok.0 c.in_ok-visited.ensures.ok.agree in
+    let asked = subst (AgreeBelow n rows n c.args.pass.now new) c.in_default.is c.in_ok-visited.ensures.ok.agree in
     IfErr-weaker c.add_up.result (λ found. (found ≡ fault.Overflow) × (2 ^ 64 ≤ all_moves shares)) (IsGatherFault n c.args.games shares c.args.pass.now new)
     (λ found f. subst (IsGatherFault n c.args.games shares c.args.pass.now new) (sym f.0) (c.in_ok-check_games.ensures.ok, stand, asked, inr (inr f.1))) c.add_up.ensures.fault

@@ -1,12 +1,10 @@
-use Rattle.std.proofs.Common.{◌≡◌, ◌+◌, ◌≤◌, ℕ, List}
+use Rattle.std.proofs.Common.{◌+◌, ◌≤◌, ℕ, List}
 use Rattle.share_core.specs.declared.rows.Row.{Row}
 use Rattle.gather_core.specs.Inner.Blocks.{AreEven}
-use Rattle.gather_core.specs.Inner.Pieces.{IsPiece}
+use Rattle.gather_core.specs.Inner.Pieces.{AreTotals}
 use Rattle.gather_core.proofs.pieces.add_totals.Given as goal
 
 -- the totals so far were added
 abbrev pub invariant-loop-i : goal.invariant-loop-i
-invariant-loop-i l = record {
-  same : l.piece.is_odd ≡ l.fn.piece.is_odd;
-  added : (all : List Row) → (first : ℕ) → AreEven all l.from l.totals → first ≤ l.from → IsPiece all first l.from l.fn.piece → IsPiece all first (l.from + l.i) l.piece;
-}
+invariant-loop-i l =
+    (all : List Row) → (first : ℕ) → AreEven all l.from l.totals → first ≤ l.from → AreTotals all first l.from l.fn.piece.items → AreTotals all first (l.from + l.i) l.piece.items

@@ -1,6 +1,6 @@
 use Rattle.std.proofs.Common.{◌≡◌, ◌+◌, ◌-◌, length, take, drop, length-append, length-take, length-drop, subst, arith}
 use Rattle.gather_core.specs.Checking.{all_rows}
-use Rattle.gather_core.specs.Inner.Pieces.{IsPiece}
+use Rattle.gather_core.specs.Inner.Pieces.{AreTotals}
 use Rattle.gather_core.proofs.pieces.piece_of.Goals as goal
 
 pub loop-low-preserved : goal.loop-low-preserved
@@ -24,5 +24,5 @@ loop-low-preserved c =
           let joined = length-append c.add_block.new.totals (drop (next - low) totals) in
           let left = length-drop (next - low) totals in
           omega arith;
-      made = subst (λ k. IsPiece (all_rows c.args.shares.now) c.args.from k c.add_block.new.piece) end (c.in_ok-add_block.ensures.added c.args.from after before.made);
+      made = subst (λ k. AreTotals (all_rows c.args.shares.now) c.args.from k c.add_block.new.piece.items) end (c.in_ok-add_block.ensures.added c.args.from after before.made);
     }

@@ -1,6 +1,6 @@
 use Rattle.std.proofs.Common.{◌≡◌, ◌≤◌, ◌-◌, min, length}
 use Rattle.gather_core.specs.Checking.{all_rows}
-use Rattle.gather_core.specs.Inner.Pieces.{IsPiece}
+use Rattle.gather_core.specs.Inner.Pieces.{AreTotals}
 use Rattle.gather_core.proofs.pieces.piece_of.Given as goal
 
 -- the numbers of the blocks so far are in the piece
@@ -9,7 +9,7 @@ invariant-loop-low l = record {
   after : l.from ≤ l.low;
   within : l.low ≤ l.high;
   room : length l.totals ≡ min (l.high - l.from) 8192;
-  made : IsPiece (all_rows l.shares) l.from l.low l.piece;
+  made : AreTotals (all_rows l.shares) l.from l.low l.piece.items;
 }
 
 -- the numbers that are left

@@ -4,14 +4,14 @@ use Rattle.gather_core.specs.Checking.{all_rows}
 use Rattle.gather_core.specs.Inner.Visiting.{IsVisitFault}
 use Rattle.share_core.proofs.Entered.{calls_seen, calls_through}
 use Rattle.gather_core.proofs.Visits.{told_found, stranger_found, visited_later, visited_more}
-use Rattle.gather_core.proofs.visiting.visit_odd.Goals as goal
+use Rattle.gather_core.proofs.visiting.visit_rows.Goals as goal
 
 pub returns-in-Some-clause-fault : goal.returns-in-Some-clause-fault
 returns-in-Some-clause-fault g c first h =
     let n = c.args.table.now.slots in
     let rows = all_rows c.args.shares.now in
     let seen = c.word_at.new.pass.seen in
-    subst (IsVisitFault n seen rows) (sym c.stranger.ensures)
+    subst (IsVisitFault n rows first c.word_at.new.pass) (sym c.stranger.ensures)
     (stranger_found n c.args.pass.now.seen seen rows c.args.number c.in-Some.held c.bits_of-found.result c.word_of.result c.sums_at-sums.result.stranger
     c.word_at.ensures.later.keeps (c.bits_of-found.ensures.bits ∙ c.word_at.ensures.key) c.word_of.ensures c.in-Some.is c.sums_at-sums.ensures.stranger h.stand)
 

@@ -2,7 +2,7 @@ use Rattle.slot_table.specs.Passes.{IsPassOf}
 use Rattle.gather_core.specs.Checking.{all_rows}
 use Rattle.share_core.specs.Entering.{AsksOnly}
 use Rattle.gather_core.specs.Inner.Visiting.{IsVisit}
-use Rattle.gather_core.proofs.visiting.visit_odd_piece.Given as goal
+use Rattle.gather_core.proofs.visiting.fault_from.Given as goal
 
 -- the numbers so far were visited
 abbrev pub invariant-loop-number : goal.invariant-loop-number

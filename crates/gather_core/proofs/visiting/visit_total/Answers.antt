@@ -4,7 +4,7 @@ use Rattle.gather_core.specs.Inner.Visiting.{IsVisitFault}
 use Rattle.share_core.proofs.Entered.{calls_seen, calls_through}
 use Rattle.gather_core.proofs.Pieced.{sums_nothing, sums_total, stranger_total}
 use Rattle.gather_core.proofs.Visits.{told_found, stranger_found, visited_later, visited_more}
-use Rattle.gather_core.proofs.visiting.visit_even.Goals as goal
+use Rattle.gather_core.proofs.visiting.visit_total.Goals as goal
 
 pub returns-in_default-clause-later : goal.returns-in_default-clause-later
 returns-in_default-clause-later g c =
@@ -32,7 +32,7 @@ returns-in-Some-unlike-clause-fault g c rows high low h first before =
     let found = c.bits_of-found.result in
     let held = c.in-Some-unlike.held in
     let total = c.in-Some.total in
-    subst (IsVisitFault n seen rows) (sym c.stranger.ensures)
+    subst (IsVisitFault n rows first c.word_at.new.pass) (sym c.stranger.ensures)
     (stranger_found n c.args.pass.now.seen seen rows number held found c.word_of.result (Some held)
     c.word_at.ensures.later.keeps (c.bits_of-found.ensures.bits ∙ c.word_at.ensures.key) c.word_of.ensures refl
     (stranger_total rows number found total held (c.in-Some.ensures.total rows high low h) (sym c.unlike.ensures ∙ c.in-Some-unlike.is)) before.stand)

@@ -4,7 +4,7 @@ use Rattle.share_core.specs.declared.rows.Row.{Row}
 use Rattle.share_core.specs.Entering.{AsksOnly}
 use Rattle.gather_core.specs.Inner.Pieces.{AreTotals}
 use Rattle.gather_core.specs.Inner.Visiting.{IsVisit}
-use Rattle.gather_core.proofs.visiting.visit_even_piece.Given as goal
+use Rattle.gather_core.proofs.visiting.visit_totals.Given as goal
 
 -- the numbers so far were visited, and the totals of the others are left
 abbrev pub invariant-loop-number : goal.invariant-loop-number
