@@ -8,7 +8,7 @@ ghost use Rattle.gather_core.specs.Inner.Totals.{AreEntriesOf};
 ghost use Rattle.gather_core.specs.Gathering.{AreWithin, all_moves, IsGathered};
 
 use shape_core::{Kinds, kinds_stay};
-use shape_dict::{Dictionary, LooseEntries};
+use shape_dict::{Dictionary, Entry, put_in_order};
 use share_core::{HarvestFault, Share};
 use std::thread::Threads;
 use tally_core::has_diamonds;
@@ -41,13 +41,13 @@ pub(crate) fn add_up<R: Threads + Sync>(
     rt: &R,
     kinds: Kinds,
     games: u64,
-    listed: LooseEntries,
+    listed: Vec<Entry>,
     shares: &[Share],
 ) -> Result<Dictionary, HarvestFault>
     requires kinds { All (λ share. share.kinds ≡ kinds) shares.now }
     requires within { AreWithin games shares.now }
     requires covers { Covers games (all_games shares.now) }
-    requires entries { AreEntriesOf (all_rows shares.now) listed }
+    requires entries { AreEntriesOf (all_rows shares.now) listed.items }
     ensures ok { IfOk result (IsGathered kinds games shares.now) }
     ensures fault { IfErr result (λ found. (found ≡ fault.Overflow)
         × (2 ^ 64 ≤ all_moves shares.now)) }
@@ -55,6 +55,6 @@ pub(crate) fn add_up<R: Threads + Sync>(
     // A canonical word is of the kind that was looked at.
     kinds_stay();
     let moves = moves_of(shares)?;
-    let entries = listed.put_in_order(rt, shares.len());
+    let entries = put_in_order(rt, shares.len(), listed);
     Ok(Dictionary::new(games, moves, entries, has_diamonds(kinds)))
 }

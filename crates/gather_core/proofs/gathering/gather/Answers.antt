@@ -39,7 +39,7 @@ add_up-requires-clause-entries g c =
     let new = c.visit_all.new.pass in
     let slots = c.slots.ensures.value ∙ c.capacity.ensures.slots in
     let stand = stand_below n c.slots.result new.seen rows slots c.in_ok-check_beyond.ensures.ok c.in_ok-visited.ensures.ok.stand in
-    let made : AreEntriesOf rows c.in_ok-visited.visited.listed =
+    let made : AreEntriesOf rows c.in_ok-visited.visited.listed.items =
     (n, c.in_ok-visited.ensures.listed (one_each n new.seen rows c.visit_all.ensures.pass.legal stand), all_below n new.seen rows stand) in
     λ κs lives. made
 
