@@ -1,7 +1,7 @@
 //! What threads put in order, and counts of no more patterns than wanted, from outside.
 use go_board::Colour;
 use shape_core::{Kinds, Shape, Word, canonical};
-use shape_dict::{Entry, FirstGame, LooseEntries, SAMPLE, put_in_order};
+use shape_dict::{Entry, FirstGame, put_in_order};
 use std::process::Abort;
 use std::test::Fail;
 use tally_core::count_within;
@@ -39,17 +39,6 @@ fn assert_sorted(rt: &impl Abort, sorted: &[Entry]) -> Result<(), Fail> {
     // 0 + 1 + .. + 4999
     assert!(rt; there == 12_497_500);
     Ok(())
-}
-
-#[test]
-fn many_entries_in_any_order(rt: HostRuntime) -> Result<(), Fail> {
-    let sample = [shape(MANY / 2)?; SAMPLE];
-    let mut entries = LooseEntries::with_room(rt.alloc(), 0, sample)?;
-    for place in 0..MANY {
-        entries.push(entry(place)?)?;
-    }
-    let sorted = entries.put_in_order(&rt, 4);
-    assert_sorted(&rt, sorted.as_slice())
 }
 
 #[test]
