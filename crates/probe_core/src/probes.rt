@@ -78,6 +78,27 @@ impl<O: ProbeOrder> Probe<O> {
         }
     }
 
+    /// A call before its load of the place that its key has at an index. It takes no memory.
+    ///
+    /// The index must be below the number of slots. That the places before it were passed is for
+    /// the caller to know.
+    pub fn at(order: &O, call: Call, index: usize) -> Probe<O>
+        requires { index < 2 ^ O.exponent order.now }
+        ensures order { result.order ≡ order.now }
+        ensures machine { result.machine ≡ record {
+          call = call;
+          index = index;
+          swaps = false;
+        } }
+    {
+        Probe {
+            order: *order,
+            call,
+            index,
+            swaps: false,
+        }
+    }
+
     /// The next step: a load, or a compare-exchange from 0 to the key and 1 more. Its place is
     /// below the number of slots. It takes no memory.
     pub fn wants(&self) -> Want

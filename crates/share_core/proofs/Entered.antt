@@ -1,5 +1,5 @@
 -- Passes that enter patterns and mark games, one call after another.
-use Rattle.std.proofs.Common.{◌≡◌, ℕ, ◌<◌, ◌≤◌, ◌⊎◌, false, List, [], ◌∷◌, ◌++◌, length, Some, None, ap, sym, subst, ◌∙◌, arith, length-append, inl, inr, ⊎_elim, Contains}
+use Rattle.std.proofs.Common.{◌≡◌, ℕ, ◌<◌, ◌≤◌, ◌⊎◌, false, List, [], ◌∷◌, ◌++◌, length, ap, sym, subst, ◌∙◌, arith, length-append, inl, inr, ⊎_elim, Contains, refl, slice_index}
 use Rattle.std.proofs.Math.ListN.{get_or-append}
 use Rattle.std.proofs.Math.Seq.{get_or-append_seam}
 use Rattle.std.proofs.lemmas.Bool.{cases_lt}
@@ -10,15 +10,20 @@ use Rattle.probe_core.specs.declared.calls.Answer.TheVariants as answer
 use Rattle.probe_core.specs.declared.calls.Call.TheVariants as asked
 use Rattle.slot_table.specs.declared.entries.Happened.{Happened}
 use Rattle.slot_table.specs.declared.entries.Happened.TheVariants as call
-use Rattle.slot_table.specs.History.{Keeps}
+use Rattle.slot_table.specs.History.{Keeps, IsLegal, Begins, Tells, content_of}
+use Rattle.slot_table.specs.Batches.{AreTold}
+use Rattle.slot_table.proofs.Lasting.{tells_stay}
+use Rattle.probe_core.specs.Sequential.{IsAbsent}
+use Rattle.tally_core.specs.Walk.{shapes_of}
+use Rattle.std.proofs.lemmas.List.{length-map, get_or-map}
 use Rattle.slot_table.specs.Passes.{Known, IsLater, calls_of}
 use Rattle.slot_table.proofs.Later.{later_self, later_through}
-use Rattle.share_core.specs.declared.making.Entered.{Entered}
+use Rattle.share_core.specs.declared.entering.Entered.{Entered}
 use Rattle.tally_core.specs.declared.meetings.Meeting.{Meeting}
 use Rattle.share_core.specs.Inner.Raising.{meeting_at}
-use Rattle.share_core.specs.Inner.Making.{entered_at}
+use Rattle.share_core.specs.Inner.Making.{answer_at, entered_at}
 use Rattle.share_core.specs.Entering.{IsCall, CallsOnly}
-use Rattle.share_core.specs.Inner.Entering.{IsAnswer, IsEnteredAs, IsKeptAt, IsNoted, IsEntered, AreEntered}
+use Rattle.share_core.specs.Inner.Entering.{IsEntered, AreEntered, AreEnteredAs, IsRefused}
 
 -- ---- which calls a pass made
 both_all : (P : Happened → Type 0) (made more : List Happened) → AllByRecursion P made → AllByRecursion P more → AllByRecursion P (made ++ more)
@@ -78,10 +83,6 @@ entered_kept n game shape seen history entered keeps h = record {
   marked = λ early. keeps.marks entered.number game (h.marked early);
 }
 
-pub all_kept : (n game : ℕ) (seen history : List Happened) (meetings : List Meeting) (entered : List Entered) → Keeps n seen history → AreEntered n seen game meetings entered → AreEntered n history game meetings entered
-all_kept n game seen history meetings entered keeps h i inside =
-    entered_kept n game (meeting_at meetings i).shape seen history (entered_at entered i) keeps (h i inside)
-
 -- one more was entered
 pub entered_more : (n game : ℕ) (seen history : List Happened) (meetings : List Meeting) (entered : List Entered) (one : Entered) (shape : ℕ) → Keeps n seen history →
     shape ≡ (meeting_at meetings (length entered)).shape →
@@ -100,48 +101,49 @@ entered_more n game seen history meetings entered one shape keeps same h new i i
     (subst (λ s. IsEntered n history game s one) same new)))
     (cases_lt i (length entered))
 
--- what is kept of an answer is kept beside one more
-kept_at_more : (entered : List Entered) (one : Entered) (place : ℕ) (found : Answer) → IsKeptAt entered place found → IsKeptAt (entered ++ one ∷ []) place found
-kept_at_more entered one place (answer.Number number) h =
+-- ---- what was answered
+-- the shape at a place of a list of meetings
+pub shape_at : (meetings : List Meeting) (i : ℕ) → i < length meetings → slice_index (shapes_of meetings) i ≡ (meeting_at meetings i).shape
+shape_at meetings i inside = get_or-map (λ (m : Meeting). m.shape) meetings i (record { shape = 0; there = 0; played = 0 }) 0 inside
+
+-- the answer for a meeting tells
+pub told_at : (n : ℕ) (seen : List Happened) (meetings : List Meeting) (answers : List Answer) (i : ℕ) (found : Answer) → AreTold n seen (shapes_of meetings) answers → i < length meetings →
+    answer_at answers i ≡ found → Tells n seen (asked.Enter (meeting_at meetings i).shape) found
+told_at n seen meetings answers i found told inside is =
+    let long = length-map meetings (λ (m : Meeting). m.shape) in
+    subst (Tells n seen (asked.Enter (meeting_at meetings i).shape)) is
+    (subst (λ key. Tells n seen (asked.Enter key) (answer_at answers i)) (shape_at meetings i inside) (told i (omega (arith, long, inside))))
+
+-- what was answered tells later too
+pub told_later : (n : ℕ) (seen history : List Happened) (keys : List ℕ) (answers : List Answer) → IsLegal n history → Begins seen history → AreTold n seen keys answers → AreTold n history keys answers
+told_later n seen history keys answers legal begins told i inside = tells_stay n seen history (slice_index keys i) (answer_at answers i) legal begins (told i inside)
+
+-- the numbers of the first meetings, and of one more
+pub numbers_more : (answers : List Answer) (entered : List Entered) (one : Entered) → AreEnteredAs answers entered → answer_at answers (length entered) ≡ answer.Number one.number →
+    AreEnteredAs answers (entered ++ one ∷ [])
+numbers_more answers entered one h last i inside =
     let none : Entered = record { number = 0; late = false } in
     let long = length-append entered (one ∷ []) in
-    let low = h.0 in
-    ((let wide : place < length (entered ++ one ∷ []) = omega arith in wide), ap (λ (e : Entered). e.number) (get_or-append entered (one ∷ []) none place low) ∙ h.1)
-kept_at_more entered one place answer.Absent h = tt
-kept_at_more entered one place answer.Full h = tt
+    ⊎_elim
+    (λ (low : i < length entered). h i low ∙ sym (ap (λ (e : Entered). answer.Number e.number) (get_or-append entered (one ∷ []) none i low)))
+    (λ (high : length entered ≤ i).
+    let at : i ≡ length entered = omega arith in
+    ap (answer_at answers) at ∙ last ∙ sym (ap (λ (e : Entered). answer.Number e.number) (ap (entered_at (entered ++ one ∷ [])) at ∙ get_or-append_seam entered one [] none)))
+    (cases_lt i (length entered))
 
-pub noted_more : (meetings : List Meeting) (entered : List Entered) (one : Entered) (key : ℕ) (found : Answer) → IsNoted meetings entered key found → IsNoted meetings (entered ++ one ∷ []) key found
-noted_more meetings entered one key found h = record { place = h.place; within = h.within; shape_is = h.shape_is; kept = kept_at_more entered one h.place found h.kept }
-
--- the answer for the meeting that was entered last is kept at the end
-kept_last : (entered : List Entered) (one : Entered) (found : Answer) → IsAnswer (Some one) found → IsKeptAt (entered ++ one ∷ []) (length entered) found
-kept_last entered one (answer.Number number) same =
-    let none : Entered = record { number = 0; late = false } in
-    let long = length-append entered (one ∷ []) in
-    ((let wide : length entered < length (entered ++ one ∷ []) = omega arith in wide), ap (λ (e : Entered). e.number) (get_or-append_seam entered one [] none) ∙ same)
-kept_last entered one answer.Absent same = tt
-kept_last entered one answer.Full same = tt
-
-pub noted_last : (meetings : List Meeting) (entered : List Entered) (one : Entered) (shape key : ℕ) (found : Answer) → length entered < length meetings →
-    shape ≡ (meeting_at meetings (length entered)).shape → IsEnteredAs shape (Some one) key found → IsNoted meetings (entered ++ one ∷ []) key found
-noted_last meetings entered one shape key found inside same h = record {
-  place = length entered;
-  within = inside;
-  shape_is = sym (h.0 ∙ same);
-  kept = kept_last entered one found h.1;
-}
-
--- where no number was answered, none has to be kept
-kept_none : (entered : List Entered) (place : ℕ) (found : Answer) → IsAnswer None found → IsKeptAt entered place found
-kept_none entered place (answer.Number number) none = absurd none
-kept_none entered place answer.Absent none = tt
-kept_none entered place answer.Full none = tt
-
-pub noted_none : (meetings : List Meeting) (entered : List Entered) (place shape key : ℕ) (found : Answer) → place < length meetings →
-    shape ≡ (meeting_at meetings place).shape → IsEnteredAs shape None key found → IsNoted meetings entered key found
-noted_none meetings entered place shape key found inside same h = record {
-  place = place;
-  within = inside;
-  shape_is = sym (h.0 ∙ same);
-  kept = kept_none entered place found h.1;
-}
+-- where an answer is no number, it tells that the key has none and that none is free
+pub refused_at : (n : ℕ) (seen : List Happened) (meetings : List Meeting) (answers : List Answer) (entered : List Entered) (i shape : ℕ) (found : Answer) → AreTold n seen (shapes_of meetings) answers →
+    i < length meetings → answer_at answers i ≡ found → ((number : ℕ) → found ≡ answer.Number number → ⊥) → length entered ≡ i → AreEnteredAs answers entered → shape ≡ (meeting_at meetings i).shape →
+    IsRefused n seen meetings answers shape
+refused_at n seen meetings answers entered i shape (answer.Number number) told inside is none count numbers same = absurd (none number refl)
+refused_at n seen meetings answers entered i shape answer.Absent told inside is none count numbers same = absurd (told_at n seen meetings answers i answer.Absent told inside is)
+refused_at n seen meetings answers entered i shape answer.Full told inside is none count numbers same =
+    let tells = told_at n seen meetings answers i answer.Full told inside is in
+    record {
+      place = i;
+      within = inside;
+      shape_is = same;
+      before = λ j low. ((entered_at entered j).number, numbers j (omega (arith, low, count)));
+      absent = subst (IsAbsent (content_of n seen)) (sym same) tells.0;
+      full = tells.1;
+    }

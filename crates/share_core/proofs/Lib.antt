@@ -1,6 +1,7 @@
 mod Indexed
 mod Chained
 pub mod Raised
+mod Read
 mod Made
 pub mod Entered
 mod Prepared

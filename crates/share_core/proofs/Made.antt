@@ -1,49 +1,56 @@
 -- Rows that are made for one number after another.
-use Rattle.std.proofs.Common.{◌≡◌, ℕ, ◌+◌, ◌<◌, ◌≤◌, List, [], ◌∷◌, ◌++◌, length, take, refl, ap, sym, subst, ◌∙◌, arith, append_assoc, length-append, length-take, ⊎_elim}
+use Rattle.std.proofs.Common.{◌≡◌, ℕ, ◌+◌, ◌<◌, ◌≤◌, List, [], ◌∷◌, ◌++◌, length, refl, ap, sym, subst, ◌∙◌, arith, append_assoc, length-append, ⊎_elim}
 use Rattle.std.proofs.Math.ListN.{get_or-append}
 use Rattle.std.proofs.Math.Seq.{get_or-append_seam}
-use Rattle.std.proofs.lemmas.List.{get_or-take}
 use Rattle.std.proofs.lemmas.Bool.{cases_lt}
 use Rattle.std.specs.Prelude.{slice_index}
 use Rattle.share_core.specs.declared.rows.Row.{Row}
-use Rattle.share_core.specs.declared.making.Entered.{Entered}
 use Rattle.tally_core.specs.declared.meetings.Meeting.{Meeting}
 use Rattle.share_core.specs.Rows.{row_at, blank}
-use Rattle.std.proofs.Common.{ap₂, suc}
+use Rattle.std.proofs.Common.{suc}
 use Rattle.std.proofs.lemmas.List.Sums.{sum_by-cons, sum_by-append}
 use Rattle.share_core.specs.Raising.{weight_of}
-use Rattle.share_core.specs.Inner.Raising.{AreRowsOf, meeting_at}
+use Rattle.share_core.specs.Inner.Raising.{meeting_at}
 use Rattle.std.proofs.Common.{Some}
 use Rattle.share_core.specs.declared.faults.HarvestFault.{HarvestFault}
 use Rattle.share_core.specs.declared.faults.HarvestFault.TheVariants as fault
 use Rattle.share_core.specs.Making.{HasRow}
-use Rattle.share_core.specs.Inner.Making.{IsMade, Gained, IsRowFault, IsMakingFault, AreNumbered, entered_at}
+use Rattle.share_core.specs.Inner.Making.{IsMade, IsMadeFor, IsRowAt, AreRowed, Gained, IsRowFault, IsFaultFor, IsMakingFault, answer_at}
+use Rattle.probe_core.specs.declared.calls.Answer.{Answer}
+use Rattle.probe_core.specs.declared.calls.Answer.TheVariants as answer
+
+-- a row counts nothing yet, and is of a meeting and its number
+abbrev IsGainedAt : List Meeting → List Answer → Row → Type 0
+IsGainedAt meetings answers row = (i : ℕ) × (i < length answers) × (answer_at answers i ≡ answer.Number row.number) × (row ≡ blank row.number (meeting_at meetings i).shape)
 
 -- one more row
-gained_row : (meetings : List Meeting) (entered : List Entered) (old rows new : List Row) (i : ℕ) → i < length entered →
-    new ≡ rows ++ blank (entered_at entered i).number (meeting_at meetings i).shape ∷ [] → Gained meetings entered old rows → Gained meetings entered old new
-gained_row meetings entered old rows new i inside is h =
-    let row = blank (entered_at entered i).number (meeting_at meetings i).shape in
+gained_row : (meetings : List Meeting) (answers : List Answer) (old rows new : List Row) (i number : ℕ) → i < length answers → answer_at answers i ≡ answer.Number number →
+    new ≡ rows ++ blank number (meeting_at meetings i).shape ∷ [] → Gained meetings answers old rows → Gained meetings answers old new
+gained_row meetings answers old rows new i number inside answered is h =
+    let row = blank number (meeting_at meetings i).shape in
     record {
       fresh = h.fresh ++ row ∷ [];
       rows = is ∙ ap (λ (rs : List Row). rs ++ row ∷ []) h.rows ∙ append_assoc old h.fresh (row ∷ []);
       each = λ k before. ⊎_elim
           (λ (low : k < length h.fresh).
-          let old_one = h.each k low in
-          (old_one.0, old_one.1, get_or-append h.fresh (row ∷ []) (blank 0 0) k low ∙ old_one.2))
+          let same = get_or-append h.fresh (row ∷ []) (blank 0 0) k low in
+          subst (IsGainedAt meetings answers) (sym same) (h.each k low))
           (λ (high : length h.fresh ≤ k).
           let long = length-append h.fresh (row ∷ []) in
           let last : k ≡ length h.fresh = omega arith in
-          (i, inside, ap (row_at (h.fresh ++ row ∷ [])) last ∙ get_or-append_seam h.fresh row [] (blank 0 0)))
+          subst (IsGainedAt meetings answers) (sym (ap (row_at (h.fresh ++ row ∷ [])) last ∙ get_or-append_seam h.fresh row [] (blank 0 0))) (i, inside, answered, refl))
           (cases_lt k (length h.fresh));
     }
 
-pub gained_more : (meetings : List Meeting) (entered : List Entered) (old rows new : List Row) (i place : ℕ) → i < length entered →
-    IsMade (entered_at entered i).number (meeting_at meetings i).shape place rows new → Gained meetings entered old rows → Gained meetings entered old new
-gained_more meetings entered old rows new i place inside made h =
-    ⊎_elim (λ (same : new ≡ rows). subst (λ (rs : List Row). Gained meetings entered old rs) (sym same) h)
-    (λ more. gained_row meetings entered old rows new i inside more h)
+-- the row of one meeting more, where it got a number
+pub gained_more : (meetings : List Meeting) (answers : List Answer) (old rows new : List Row) (i place : ℕ) (found : Answer) → i < length answers → answer_at answers i ≡ found →
+    IsMadeFor found (meeting_at meetings i).shape place rows new → Gained meetings answers old rows → Gained meetings answers old new
+gained_more meetings answers old rows new i place (answer.Number number) inside answered made h =
+    ⊎_elim (λ (same : new ≡ rows). subst (λ (rs : List Row). Gained meetings answers old rs) (sym same) h)
+    (λ more. gained_row meetings answers old rows new i number inside answered more h)
     made.rows
+gained_more meetings answers old rows new i place answer.Absent inside answered made h = subst (λ (rs : List Row). Gained meetings answers old rs) (sym made) h
+gained_more meetings answers old rows new i place answer.Full inside answered made h = subst (λ (rs : List Row). Gained meetings answers old rs) (sym made) h
 
 -- a row that was there is as it was
 kept_row : (number shape place : ℕ) (rows new : List Row) → IsMade number shape place rows new → (p : ℕ) → p < length rows → row_at new p ≡ row_at rows p
@@ -58,71 +65,57 @@ longer number shape place rows new made =
     (λ more. let e = ap length more in let l = length-append rows (blank number shape ∷ []) in omega arith)
     made.rows
 
--- the rows of the meetings so far, and of one more
-pub rows_more : (meetings : List Meeting) (places : List ℕ) (rows new : List Row) (i number place : ℕ) → i < length meetings →
-    IsMade number (meeting_at meetings i).shape place rows new → AreRowsOf (take i meetings) places rows →
-    AreRowsOf (take (i + 1) meetings) (places ++ place ∷ []) new
-rows_more meetings places rows new i number place inside made h =
-    let shape = (meeting_at meetings i).shape in
-    let none : Meeting = record { shape = 0; there = 0; played = 0 } in
-    let wide = longer number shape place rows new made in
-    let front = length-take i meetings in
-    let front_more = length-take (i + 1) meetings in
-    let more = length-append places (place ∷ []) in
-    let each = h.each in
-    let so_far : length places ≡ i = omega arith in
-    let old_place = λ (j : ℕ) (low : j < length places). get_or-append places (place ∷ []) 0 j low in
-    let new_place = get_or-append_seam places place [] 0 in
+-- no row was lost or changed
+stays_at : (found : Answer) (shape place : ℕ) (rows new : List Row) → IsMadeFor found shape place rows new → (p number other : ℕ) → IsRowAt rows p number other → IsRowAt new p number other
+stays_at (answer.Number n) shape place rows new made p number other h =
+    let same = kept_row n shape place rows new made p h.within in
+    let wide = longer n shape place rows new made in
     record {
-      each = omega arith;
-      within = λ j before. ⊎_elim
-          (λ (low : j < length places). let w = h.within j low in let e = old_place j low in omega arith)
-          (λ (high : length places ≤ j).
-          let last : j ≡ length places = omega arith in
-          let e = ap (slice_index (places ++ place ∷ [])) last ∙ new_place in
-          let w = made.within in omega arith)
-          (cases_lt j (length places));
-      of_shape = λ j before. ⊎_elim
-          (λ (low : j < length places).
-          ap (λ p. (row_at new p).shape) (old_place j low)
-          ∙ ap (λ (r : Row). r.shape) (kept_row number shape place rows new made (slice_index places j) (h.within j low))
-          ∙ h.of_shape j low
-          ∙ ap (λ (m : Meeting). m.shape) (get_or-take i meetings j none (omega arith) ∙ sym (get_or-take (i + 1) meetings j none (omega arith))))
-          (λ (high : length places ≤ j).
-          let last : j ≡ length places = omega arith in
-          let at : j ≡ i = omega arith in
-          ap (λ p. (row_at new p).shape) (ap (slice_index (places ++ place ∷ [])) last ∙ new_place)
-          ∙ made.shape_is
-          ∙ sym (ap (λ (m : Meeting). m.shape) (get_or-take (i + 1) meetings j none (omega arith) ∙ ap (meeting_at meetings) at)))
-          (cases_lt j (length places));
+      within = (let low = h.within in omega (arith, wide, low));
+      number_is = ap (λ (r : Row). r.number) same ∙ h.number_is;
+      shape_is = ap (λ (r : Row). r.shape) same ∙ h.shape_is;
     }
+stays_at answer.Absent shape place rows new made p number other h = subst (λ (rs : List Row). IsRowAt rs p number other) (sym made) h
+stays_at answer.Full shape place rows new made p number other h = subst (λ (rs : List Row). IsRowAt rs p number other) (sym made) h
 
--- a fault at one number is one of them all
-pub making_fault : (meetings : List Meeting) (entered : List Entered) (rows : List Row) (i number shape : ℕ) (found : HarvestFault) → i < length entered →
-    number ≡ (entered_at entered i).number → shape ≡ (meeting_at meetings i).shape → IsRowFault number shape rows found → IsMakingFault meetings entered rows found
-making_fault meetings entered rows i number shape fault.Memory inside n s h = tt
-making_fault meetings entered rows i number shape (fault.Stranger at (Some held) (Some other)) inside n s h =
-    (i, inside, h.0 ∙ n, h.1 ∙ s, λ same. h.2 (same ∙ h.1), subst (λ k. HasRow rows k held) (sym h.0) h.3)
-making_fault meetings entered rows i number shape _ inside n s h = absurd h
+made_at : (found : Answer) (shape place number : ℕ) (rows new : List Row) → IsMadeFor found shape place rows new → found ≡ answer.Number number → IsRowAt new place number shape
+made_at (answer.Number n) shape place number rows new made is =
+    let same : n ≡ number = cc in
+    record { within = made.within; number_is = made.number_is ∙ same; shape_is = made.shape_is }
+made_at answer.Absent shape place number rows new made is = let clash : answer.Absent ≡ answer.Number number = is in absurd cc
+made_at answer.Full shape place number rows new made is = let clash : answer.Full ≡ answer.Number number = is in absurd cc
 
--- the rows so far, and of one more, are of the numbers that were entered
-pub numbered_more : (entered : List Entered) (places : List ℕ) (rows new : List Row) (i shape place : ℕ) → length places ≡ i →
-    ((j : ℕ) → j < length places → slice_index places j < length rows) →
-    IsMade (entered_at entered i).number shape place rows new → AreNumbered entered places rows → AreNumbered entered (places ++ place ∷ []) new
-numbered_more entered places rows new i shape place so_far inside made h j before =
-    let number = (entered_at entered i).number in
+-- the rows of the meetings so far, and of one more
+pub rowed_more : (meetings : List Meeting) (answers : List Answer) (places : List ℕ) (rows new : List Row) (i place : ℕ) (found : Answer) → length places ≡ i → answer_at answers i ≡ found →
+    IsMadeFor found (meeting_at meetings i).shape place rows new → AreRowed meetings answers places rows → AreRowed meetings answers (places ++ place ∷ []) new
+rowed_more meetings answers places rows new i place found so_far answered made h j number before is =
     let more = length-append places (place ∷ []) in
+    let shape = (meeting_at meetings i).shape in
     ⊎_elim
     (λ (low : j < length places).
-    ap (λ p. (row_at new p).number) (get_or-append places (place ∷ []) 0 j low)
-    ∙ ap (λ (r : Row). r.number) (kept_row number shape place rows new made (slice_index places j) (inside j low))
-    ∙ h j low)
+    subst (λ p. IsRowAt new p number (meeting_at meetings j).shape) (sym (get_or-append places (place ∷ []) 0 j low))
+    (stays_at found shape place rows new made (slice_index places j) number (meeting_at meetings j).shape (h j number low is)))
     (λ (high : length places ≤ j).
     let last : j ≡ length places = omega arith in
-    ap (λ p. (row_at new p).number) (ap (slice_index (places ++ place ∷ [])) last ∙ get_or-append_seam places place [] 0)
-    ∙ made.number_is
-    ∙ ap (λ k. (entered_at entered k).number) (sym (last ∙ so_far)))
+    let at : j ≡ i = omega arith in
+    subst (λ p. IsRowAt new p number (meeting_at meetings j).shape) (sym (ap (slice_index (places ++ place ∷ [])) last ∙ get_or-append_seam places place [] 0))
+    (subst (λ k. IsRowAt new place number (meeting_at meetings k).shape) (sym at)
+    (made_at found shape place number rows new made (sym answered ∙ ap (answer_at answers) (sym at) ∙ is))))
     (cases_lt j (length places))
+
+-- a fault at one number is one of them all
+number_fault : (meetings : List Meeting) (answers : List Answer) (rows : List Row) (i number : ℕ) (one : HarvestFault) → i < length answers → answer_at answers i ≡ answer.Number number →
+    IsRowFault number (meeting_at meetings i).shape rows one → IsMakingFault meetings answers rows one
+number_fault meetings answers rows i number fault.Memory inside answered h = tt
+number_fault meetings answers rows i number (fault.Stranger at (Some held) (Some other)) inside answered h =
+    (i, inside, answered ∙ ap answer.Number (sym h.0), h.1, λ same. h.2 (same ∙ h.1), subst (λ k. HasRow rows k held) (sym h.0) h.3)
+number_fault meetings answers rows i number _ inside answered h = absurd h
+
+pub making_fault : (meetings : List Meeting) (answers : List Answer) (rows : List Row) (i : ℕ) (found : Answer) (one : HarvestFault) → i < length answers → answer_at answers i ≡ found →
+    IsFaultFor found (meeting_at meetings i).shape rows one → IsMakingFault meetings answers rows one
+making_fault meetings answers rows i (answer.Number number) one inside answered h = number_fault meetings answers rows i number one inside answered h
+making_fault meetings answers rows i answer.Absent one inside answered h = absurd h
+making_fault meetings answers rows i answer.Full one inside answered h = absurd h
 
 -- ---- rows that count nothing
 pub light : (fresh : List Row) → ((k : ℕ) → k < length fresh → row_at fresh k ≡ blank (row_at fresh k).number (row_at fresh k).shape) → weight_of fresh ≡ 0
@@ -134,11 +127,11 @@ light (row ∷ fresh) h =
     omega arith
 
 -- rows that were made weigh nothing
-pub same_weight : (meetings : List Meeting) (entered : List Entered) (old new : List Row) → Gained meetings entered old new → weight_of new ≡ weight_of old
-same_weight meetings entered old new h =
+pub same_weight : (meetings : List Meeting) (answers : List Answer) (old new : List Row) → Gained meetings answers old new → weight_of new ≡ weight_of old
+same_weight meetings answers old new h =
     let total = ap weight_of h.rows in
     let parts = sum_by-append (λ (r : Row). r.there + r.played) old h.fresh in
     let none = light h.fresh (λ k inside.
     let made = h.each k inside in
-    made.2 ∙ ap₂ (λ n s. blank n s) (sym (ap (λ (r : Row). r.number) made.2)) (sym (ap (λ (r : Row). r.shape) made.2))) in
+    made.3 ∙ ap (blank (row_at h.fresh k).number) (sym (ap (λ (r : Row). r.shape) made.3))) in
     omega arith

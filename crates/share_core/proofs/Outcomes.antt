@@ -17,7 +17,7 @@ use Rattle.tally_core.specs.Occasions.{Occasion}
 use Rattle.tally_core.specs.Counts.{kinds_of, there_in}
 use Rattle.tally_core.specs.Walk.{IsWalk}
 use Rattle.share_core.specs.declared.rows.Row.{Row}
-use Rattle.share_core.specs.declared.making.Entered.{Entered}
+use Rattle.share_core.specs.declared.entering.Entered.{Entered}
 use Rattle.share_core.specs.declared.faults.HarvestFault.{HarvestFault}
 use Rattle.share_core.specs.declared.faults.HarvestFault.TheVariants as fault
 use Rattle.share_core.specs.Rows.{row_at, blank}

@@ -1,28 +1,75 @@
 //! A game's patterns are entered into the table, and at last the game is marked at their numbers.
-ghost use Rattle.std.specs.Prelude.{◌≡◌, false, ◌-◌, ◌^◌, ◌<◌, ◌≤◌, length, IfSome, IfNone};
+ghost use Rattle.std.specs.Prelude.{◌≡◌, false, ◌-◌, ◌^◌, ◌<◌, length, IfSome, IfNone};
 ghost use Rattle.std.specs.Prelude.{IfOk, IfErr, OnOk, OnErr};
-ghost use Rattle.probe_core.specs.Sequential.{IsAbsent, IsFull};
-ghost use Rattle.slot_table.specs.History.{content_of, least_at, IsAtMost};
+ghost use Rattle.slot_table.specs.Batches.{entered, AreMade, AreTold};
+ghost use Rattle.slot_table.specs.History.{least_at, IsAtMost};
 ghost use Rattle.slot_table.specs.Passes.{IsPassOf};
-ghost use Rattle.share_core.specs.Inner.Entering.{IsEntered, AreEntered, IsRefused, AreMarked};
-ghost use Rattle.share_core.specs.Entering.{EntersOnly};
-ghost use Rattle.share_core.specs.Inner.Entering.{IsEnteredAs, IsNoted, IsMetIn};
+ghost use Rattle.tally_core.specs.Walk.{shapes_of};
+ghost use Rattle.share_core.specs.Entering.{AsksOnly};
+ghost use Rattle.share_core.specs.Inner.Entering.{AreEntered, AreEnteredAs, IsRefused, AreMarked};
 ghost use Rattle.share_core.specs.Inner.Entering.{MarksOnly, IsMarkAt, IsMarkAmong};
 ghost use Rattle.share_core.specs.declared.faults.HarvestFault.TheVariants as fault;
 
-use crate::ahead::{BLOCK, look_ahead};
 use crate::faults::HarvestFault;
-use crate::making::Entered;
 use probe_core::{Answer, Key, ProbeOrder};
 use shape_core::Shape;
 use slot_table::{Pass, SlotTable};
 use tally_core::Meeting;
 
+/// What a pattern has in the table: its number, and whether a game has to be marked there, since
+/// the least game that was marked is none or a later one.
+#[derive(Clone, Copy)]
+pub(crate) struct Entered {
+    pub number: usize,
+    pub late: bool,
+}
+
 /// The key of a pattern: its canonical word.
-pub(crate) fn key_of(shape: Shape) -> Key
+fn key_of(shape: Shape) -> Key
     ensures { result ≡ shape }
 {
     Key::new(shape.word().bits()).unwrap()
+}
+
+/// Lists the keys of a game's patterns, in place of those of the game before.
+fn list_keys(keys: &mut Vec<Key>, meetings: &[Meeting]) -> Result<(), HarvestFault>
+    ensures keys { OnOk result (keys.new.items ≡ shapes_of meetings.now) }
+    ensures fault { IfErr result (λ found. found ≡ fault.Memory) }
+{
+    keys.clear();
+    for meeting in meetings {
+        keys.push(key_of(meeting.shape))?;
+    }
+    Ok(())
+}
+
+/// Enters the patterns of a game. The keys and the answers of the game before give way to those of
+/// this one.
+///
+/// # Errors
+///
+/// `Memory` where memory was refused; then nothing was entered.
+pub(crate) fn enter_all<O: ProbeOrder>(
+    table: &SlotTable<O>,
+    pass: &mut Pass<O>,
+    keys: &mut Vec<Key>,
+    answers: &mut Vec<Answer>,
+    meetings: &[Meeting],
+) -> Result<(), HarvestFault>
+    requires { IsPassOf table.now pass.old }
+    ensures pass { IsPassOf table.now pass.new }
+    ensures made { OnOk result (AreMade table.now.slots
+        (entered (shapes_of meetings.now) answers.new.items) pass.old pass.new) }
+    ensures told { OnOk result
+        (AreTold table.now.slots pass.new.seen (shapes_of meetings.now) answers.new.items) }
+    ensures length { OnOk result (length answers.new.items ≡ length meetings.now) }
+    ensures same { OnErr result (pass.new ≡ pass.old) }
+    ensures fault { IfErr result (λ found. found ≡ fault.Memory) }
+{
+    list_keys(keys, meetings)?;
+    answers.resize(meetings.len(), Answer::Absent)?;
+    table.enter_all(pass, keys.as_slice(), answers.as_mut_slice());
+    Ok(())
 }
 
 /// Whether a game is to be marked where this was the least that was.
@@ -35,62 +82,41 @@ fn is_late(first: Option<u64>, game: u64) -> bool
     }
 }
 
-/// The number of a pattern, which it is given where it has none and one is free; None where none is
-/// free.
-fn enter_one<O: ProbeOrder>(
-    table: &SlotTable<O>,
-    pass: &mut Pass<O>,
-    shape: Shape,
-    game: u64,
-) -> Option<Entered>
-    requires { IsPassOf table.now pass.old }
-    ensures pass { IsPassOf table.now pass.new }
-    ensures later { EntersOnly table.now.slots (IsEnteredAs shape result) pass.old pass.new }
-    ensures some { IfSome result (IsEntered table.now.slots pass.new.seen game shape) }
-    ensures absent { IfNone result (IsAbsent (content_of table.now.slots pass.new.seen) shape) }
-    ensures full { IfNone result (IsFull (content_of table.now.slots pass.new.seen)) }
-{
-    match table.enter(pass, key_of(shape)) {
-        Answer::Number(number) => {
-            let late = is_late(table.first(pass, number), game);
-            Some(Entered { number, late })
-        }
-        Answer::Absent | Answer::Full => None,
-    }
-}
-
-/// Enters the patterns of a game in their order, block by block, each after a look ahead. Where no
-/// number is free for one, that is the answer, and those before it have their numbers.
-pub(crate) fn enter_all<O: ProbeOrder>(
+/// Notes the numbers that a game's patterns got, and where the game has to be marked. Where one got
+/// none, the answer is the first such.
+///
+/// # Errors
+///
+/// `Memory` where memory was refused.
+pub(crate) fn note_all<O: ProbeOrder>(
     table: &SlotTable<O>,
     pass: &mut Pass<O>,
     entered: &mut Vec<Entered>,
+    answers: &[Answer],
     meetings: &[Meeting],
     game: u64,
 ) -> Result<Option<Shape>, HarvestFault>
-    requires { IsPassOf table.now pass.old }
+    requires pass { IsPassOf table.now pass.old }
+    requires length { length answers.now ≡ length meetings.now }
+    requires told { AreTold table.now.slots pass.old.seen (shapes_of meetings.now) answers.now }
     ensures pass { IsPassOf table.now pass.new }
-    ensures noted { OnOk result
-        (EntersOnly table.now.slots (IsNoted meetings.now entered.new.items) pass.old pass.new) }
-    ensures met { OnErr result (EntersOnly table.now.slots
-        (λ key _. IsMetIn meetings.now key) pass.old pass.new) }
-    ensures few { length entered.new.items ≤ length meetings.now }
-    ensures each { AreEntered table.now.slots pass.new.seen game meetings.now entered.new.items }
+    ensures asks { AsksOnly table.now.slots pass.old pass.new }
+    ensures each { OnOk result
+        (AreEntered table.now.slots pass.new.seen game meetings.now entered.new.items) }
+    ensures numbers { OnOk result (AreEnteredAs answers.now entered.new.items) }
     ensures all { IfOk result (λ refused. IfNone refused
         (length entered.new.items ≡ length meetings.now)) }
     ensures refused { IfOk result (λ refused. IfSome refused
-        (IsRefused table.now.slots pass.new.seen meetings.now entered.new.items)) }
+        (IsRefused table.now.slots pass.new.seen meetings.now answers.now)) }
     ensures fault { IfErr result (λ found. found ≡ fault.Memory) }
 {
     entered.clear();
-    for (i, meeting) in meetings.iter().enumerate() {
-        if i % BLOCK == 0 {
-            look_ahead(table, &meetings[i..]);
-        }
-        let Some(one) = enter_one(table, pass, meeting.shape, game) else {
-            return Ok(Some(meeting.shape));
+    for (i, answer) in answers.iter().enumerate() {
+        let Answer::Number(number) = *answer else {
+            return Ok(Some(meetings[i].shape));
         };
-        entered.push(one)?;
+        let late = is_late(table.first(pass, number), game);
+        entered.push(Entered { number, late })?;
     }
     Ok(None)
 }

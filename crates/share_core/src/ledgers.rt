@@ -1,14 +1,15 @@
 //! What a share has counted: its games, their moves, and the rows of their patterns.
-ghost use Rattle.std.specs.Prelude.{◌≡◌, ◌^◌, ◌≤◌, ◌<◌, length, OnOk, OnErr, IfErr, take};
+ghost use Rattle.std.specs.Prelude.{◌≡◌, ◌^◌, ◌≤◌, ◌<◌, length, OnOk, OnErr, IfErr};
 ghost use Rattle.sgf_core.specs.Limit.{most_bytes};
 ghost use Rattle.share_core.specs.Inner.Ledgers.{CountsIn, IsCountFault};
-ghost use Rattle.share_core.specs.Inner.Making.{AreBelow, AreNumbered, Gained, IsMakingFault};
+ghost use Rattle.share_core.specs.Inner.Making.{AreBelow, AreRowed, Gained, IsMakingFault};
 ghost use Rattle.share_core.specs.Inner.Raising.{AreRowsOf};
 
 use crate::faults::HarvestFault;
-use crate::making::{Entered, make_all};
+use crate::making::make_all;
 use crate::rows::Rows;
 use crate::sums::{raise_all, weight};
+use probe_core::Answer;
 use std::alloc::Global;
 use std::marker::Model;
 use tally_core::Meeting;
@@ -73,7 +74,7 @@ impl Ledger {
         &self.rows
     }
 
-    /// Makes rows for the meetings of a game that were entered, where their numbers have none.
+    /// Makes rows for the meetings of a game that got numbers, where these have none.
     ///
     /// # Errors
     ///
@@ -85,19 +86,19 @@ impl Ledger {
         places: &mut Vec<usize>,
         slots: usize,
         meetings: &[Meeting],
-        entered: &[Entered],
+        answers: &[Answer],
     ) -> Result<(), HarvestFault>
-        requires few { length entered.now ≤ length meetings.now }
-        requires numbers { AreBelow slots entered.now }
+        requires length { length answers.now ≡ length meetings.now }
+        requires numbers { AreBelow slots answers.now }
         requires slots { slots ≤ 2 ^ 22 }
-        ensures gained { Gained meetings.now entered.now self.old.rows self.new.rows }
+        ensures gained { Gained meetings.now answers.now self.old.rows self.new.rows }
         ensures same { self.new ≡ record self.old { rows = self.new.rows } }
-        ensures rows { OnOk result (AreRowsOf (take (length entered.now) meetings.now)
-            places.new.items self.new.rows) }
-        ensures numbered { OnOk result (AreNumbered entered.now places.new.items self.new.rows) }
-        ensures fault { IfErr result (IsMakingFault meetings.now entered.now self.new.rows) }
+        ensures rowed { OnOk result
+            (AreRowed meetings.now answers.now places.new.items self.new.rows) }
+        ensures length { OnOk result (length places.new.items ≡ length meetings.now) }
+        ensures fault { IfErr result (IsMakingFault meetings.now answers.now self.new.rows) }
     {
-        make_all(&mut self.rows, places, slots, meetings, entered)
+        make_all(&mut self.rows, places, slots, meetings, answers)
     }
 
     /// Counts a game below 2^28 whose meetings have their rows at these places.

@@ -1,53 +1,75 @@
 //! Rows for the numbers that a game's patterns have in the table.
-ghost use Rattle.std.specs.Prelude.{◌^◌, ◌<◌, ◌≤◌, length, take, OnOk, IfErr};
-ghost use Rattle.share_core.specs.Inner.Raising.{AreRowsOf};
-ghost use Rattle.share_core.specs.Inner.Making.{AreBelow, AreNumbered, Gained, IsMakingFault};
+ghost use Rattle.std.specs.Prelude.{◌≡◌, ◌^◌, ◌≤◌, length, IfOk, IfErr, OnOk, OnErr};
+ghost use Rattle.probe_core.specs.declared.calls.Answer.TheVariants as answer;
+ghost use Rattle.share_core.specs.Inner.Making.{IsBelow, AreBelow, IsMadeFor, IsFaultFor};
+ghost use Rattle.share_core.specs.Inner.Making.{AreRowed, Gained, IsMakingFault};
 
 use crate::faults::HarvestFault;
 use crate::rows::Rows;
+use probe_core::Answer;
+use shape_core::Shape;
 use tally_core::Meeting;
 
-/// What a pattern has in the table: its number, and whether a game has to be marked there, since
-/// the least game that was marked is none or a later one.
-#[derive(Clone, Copy)]
-pub(crate) struct Entered {
-    pub number: usize,
-    pub late: bool,
+/// Whether a row is needed for what was answered, as far as the index alone tells.
+fn looks_new(rows: &Rows, answer: Answer) -> bool {
+    match answer {
+        Answer::Number(number) => rows.looks_new(number),
+        Answer::Absent | Answer::Full => false,
+    }
 }
 
 /// How many of these numbers need a row, as far as the index alone tells. It has no branch that
 /// depends on the index, so no look waits for the one before it. Their lines of memory come
 /// together, and `make` finds them in a cache.
-fn count_new(rows: &Rows, entered: &[Entered]) -> usize {
+fn count_new(rows: &Rows, answers: &[Answer]) -> usize {
     let mut count = 0;
-    for one in entered {
-        count += rows.looks_new(one.number) as usize;
+    for answer in answers {
+        count += looks_new(rows, *answer) as usize;
     }
     count
 }
 
-/// The places of the rows of the first meetings, as many as have numbers. A row is made where there
+/// The place of a number's row, which is made where there is none, and then counts nothing. Where
+/// no number was answered it is any place.
+fn make_one(
+    rows: &mut Rows,
+    slots: usize,
+    answer: Answer,
+    shape: Shape,
+) -> Result<usize, HarvestFault>
+    requires number { IsBelow slots answer }
+    requires slots { slots ≤ 2 ^ 22 }
+    ensures ok { IfOk result (λ place. IsMadeFor answer shape place rows.old rows.new) }
+    ensures fault { IfErr result (IsFaultFor answer shape rows.old) }
+    ensures same { OnErr result (rows.new ≡ rows.old) }
+{
+    match answer {
+        Answer::Number(number) => rows.make(slots, number, shape),
+        Answer::Absent | Answer::Full => Ok(0),
+    }
+}
+
+/// The places of the rows of a game's meetings, where these got numbers. A row is made where there
 /// is none, and then counts nothing.
 pub(crate) fn make_all(
     rows: &mut Rows,
     places: &mut Vec<usize>,
     slots: usize,
     meetings: &[Meeting],
-    entered: &[Entered],
+    answers: &[Answer],
 ) -> Result<(), HarvestFault>
-    requires few { length entered.now ≤ length meetings.now }
-    requires numbers { AreBelow slots entered.now }
+    requires length { length answers.now ≡ length meetings.now }
+    requires numbers { AreBelow slots answers.now }
     requires slots { slots ≤ 2 ^ 22 }
-    ensures gained { Gained meetings.now entered.now rows.old rows.new }
-    ensures rows { OnOk result (AreRowsOf (take (length entered.now) meetings.now) places.new.items
-        rows.new) }
-    ensures numbered { OnOk result (AreNumbered entered.now places.new.items rows.new) }
-    ensures fault { IfErr result (IsMakingFault meetings.now entered.now rows.new) }
+    ensures gained { Gained meetings.now answers.now rows.old rows.new }
+    ensures rowed { OnOk result (AreRowed meetings.now answers.now places.new.items rows.new) }
+    ensures length { OnOk result (length places.new.items ≡ length meetings.now) }
+    ensures fault { IfErr result (IsMakingFault meetings.now answers.now rows.new) }
 {
-    rows.reserve(count_new(rows, entered))?;
+    rows.reserve(count_new(rows, answers))?;
     places.clear();
-    for (i, one) in entered.iter().enumerate() {
-        let place = rows.make(slots, one.number, meetings[i].shape)?;
+    for (i, answer) in answers.iter().enumerate() {
+        let place = make_one(rows, slots, *answer, meetings[i].shape)?;
         let Ok(()) = places.push(place) else {
             return Err(HarvestFault::Memory);
         };

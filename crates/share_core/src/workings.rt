@@ -7,21 +7,23 @@ ghost use Rattle.share_core.specs.Entering.{EntersOnly};
 ghost use Rattle.share_core.specs.Inner.Preparing.{IsPrepared};
 ghost use Rattle.share_core.specs.declared.faults.HarvestFault.TheVariants as fault;
 
-use crate::entering::enter_all;
+use crate::entering::{Entered, enter_all, note_all};
 use crate::faults::HarvestFault;
 use crate::ledgers::Ledger;
-use crate::making::Entered;
 use go_record::Record;
-use probe_core::ProbeOrder;
+use probe_core::{Answer, Key, ProbeOrder};
 use shape_core::{Kinds, Word};
 use slot_table::{Pass, SlotTable};
 use std::alloc::Global;
 use tally_core::Walk;
 
-/// The walk of a game, the numbers of its meetings, and the places of their rows.
+/// The walk of a game, the keys of its meetings and what was answered to them, their numbers, and
+/// the places of their rows.
 #[derive(Drop)]
 pub(crate) struct Workings {
     pub walk: Walk,
+    keys: Vec<Key>,
+    answers: Vec<Answer>,
     pub entered: Vec<Entered>,
     pub places: Vec<usize>,
 }
@@ -42,6 +44,8 @@ impl Workings {
     {
         Workings {
             walk: Walk::begin(alloc, kinds),
+            keys: Vec::new(alloc),
+            answers: Vec::new(alloc),
             entered: Vec::new(alloc),
             places: Vec::new(alloc),
         }
@@ -81,10 +85,11 @@ impl Workings {
     {
         let moves = self.walk.walk(game_record)?;
         let meetings = self.walk.meetings();
-        let refused = enter_all(table, pass, &mut self.entered, meetings, game)?;
-        let entered = self.entered.as_slice();
+        enter_all(table, pass, &mut self.keys, &mut self.answers, meetings)?;
+        let answers = self.answers.as_slice();
+        let refused = note_all(table, pass, &mut self.entered, answers, meetings, game)?;
         let slots = table.capacity().slots();
-        ledger.make_rows(&mut self.places, slots, meetings, entered)?;
+        ledger.make_rows(&mut self.places, slots, meetings, answers)?;
         match refused {
             Some(shape) => Err(full(game, shape.word())),
             None => Ok(moves),

@@ -73,7 +73,7 @@ calls_added seen (e ∷ added) =
     ∙ ap (λ (t : List Happened). e ∷ t) rest'
 
 -- what a pass shows of the view of its seat
-abbrev known_of : {O : Type 0} → TableId → View O → Known O
+abbrev pub known_of : {O : Type 0} → TableId → View O → Known O
 known_of table view = record { table = table; order = view.order; seen = view.seen; mine = view.mine; stake = view.stake }
 
 -- a seat whose step made these calls is later by them

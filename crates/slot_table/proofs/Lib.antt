@@ -15,3 +15,7 @@ pub mod Later
 pub mod Meetings
 pub mod Leasts
 pub mod Enters
+pub mod Lasting
+mod Batching
+mod Packing
+pub mod Entered

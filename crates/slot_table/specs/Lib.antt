@@ -4,3 +4,5 @@ pub mod Stakes
 pub mod Passes
 pub mod Rule
 pub mod Telling
+pub mod Batches
+pub mod Inner

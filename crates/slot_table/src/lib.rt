@@ -2,10 +2,10 @@
 //! step again.
 #![tactic(auto)]
 
+mod batches;
 mod entries;
 mod faults;
 pub mod laws;
-mod looking;
 mod passes;
 mod steps;
 mod tables;

@@ -6,7 +6,9 @@ ghost use Rattle.slot_table.specs.declared.entries.Happened.TheVariants as entry
 ghost use Rattle.slot_table.specs.History.{content_of, least_at, Tells, IsAtMost};
 ghost use Rattle.slot_table.specs.Rule.{parted};
 ghost use Rattle.slot_table.specs.Stakes.{half_of};
-ghost use Rattle.slot_table.specs.Telling.{IsSeatAt, IsSearch, Turned, Grown, Called, Joined};
+ghost use Rattle.slot_table.specs.Telling.{IsSeatAt, IsSearch, Stepped, Turned, Grown, Called};
+ghost use Rattle.slot_table.specs.Telling.{Joined};
+ghost use Rattle.slot_table.specs.Inner.Batches.{loads_at};
 
 use crate::views::{Ask, Cut, First, Glue, Looked, Marked, Place, Shown, Told};
 use probe_core::{Answer, Call, Key, Probe, ProbeOrder, Turn, Want};
@@ -33,6 +35,27 @@ fn turn<A: Ask, O: ProbeOrder>(shared: &Shown<O>, seat: &mut Place<O>, probe: Pr
     probe.told(found)
 }
 
+/// Takes the steps of a probe to its call's end.
+pub(crate) fn run<O: ProbeOrder>(shared: &Shown<O>, seat: &mut Place<O>, probe: Probe<O>) -> Answer
+    requires seat { IsSeatAt O.exponent shared.now seat.old }
+    requires order { probe.order ≡ shared.now.key }
+    requires search { IsSearch (2 ^ O.exponent shared.now.key) (O.place_of shared.now.key)
+        probe.machine seat.old.me.0.seen }
+    ensures seat { IsSeatAt O.exponent shared.now seat.new }
+    ensures called { Called (2 ^ O.exponent shared.now.key) seat.old.me.0
+        (entry.Asked probe.machine.call result) seat.new.me.0 }
+    ensures told { Tells (2 ^ O.exponent shared.now.key) seat.new.me.0.seen probe.machine.call
+        result }
+{
+    let mut probe = probe;
+    loop {
+        match turn::<Brand, O>(shared, seat, probe) {
+            Turn::On(next) => probe = next,
+            Turn::Done(answer) => return answer,
+        }
+    }
+}
+
 /// Takes the steps of a call to its end.
 pub(crate) fn asked<O: ProbeOrder>(
     shared: &Shown<O>,
@@ -48,13 +71,27 @@ pub(crate) fn asked<O: ProbeOrder>(
         seat.new.me.0 }
     ensures told { Tells (2 ^ O.exponent shared.now.key) seat.new.me.0.seen call result }
 {
-    let mut probe = Probe::begin(order, call);
-    loop {
-        match turn::<Brand, O>(shared, seat, probe) {
-            Turn::On(next) => probe = next,
-            Turn::Done(answer) => return answer,
-        }
-    }
+    run(shared, seat, Probe::begin(order, call))
+}
+
+/// Loads the slot at the place that a key has at an index, as a step of the key's `Enter`.
+pub(crate) fn look<A: Ask, O: ProbeOrder>(
+    shared: &Shown<O>,
+    seat: &mut Place<O>,
+    order: &O,
+    key: Key,
+    index: usize,
+) -> u64
+    requires seat { IsSeatAt O.exponent shared.now seat.old }
+    requires order { order.now ≡ shared.now.key }
+    requires machine { A.machine ≡ loads_at key index }
+    requires search { IsSearch (2 ^ O.exponent shared.now.key) (O.place_of shared.now.key)
+        (loads_at key index) seat.old.me.0.seen }
+    ensures seat { IsSeatAt O.exponent shared.now seat.new }
+    ensures stepped { Stepped (2 ^ O.exponent shared.now.key) (loads_at key index)
+        (O.place_of shared.now.key key index) result seat.old.me.0 seat.new.me.0 }
+{
+    shared.load::<Told<A>>(seat, 2 * order.place(key, index))
 }
 
 /// Loads a slot word for no call.

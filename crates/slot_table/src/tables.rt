@@ -8,15 +8,18 @@ ghost use Rattle.slot_table.specs.declared.entries.Happened.TheVariants as entry
 ghost use Rattle.slot_table.specs.History.{content_of, least_at, Tells, TellsAt, IsAtMost};
 ghost use Rattle.slot_table.specs.Passes.{IsPassOf, IsLater, IsAlone, calls_of, Saw, Made, Met};
 ghost use Rattle.slot_table.specs.Stakes.{halved, half_of};
+ghost use Rattle.slot_table.specs.Telling.{PassedOthers, entries_of};
+ghost use Rattle.slot_table.specs.Inner.Batches.{followed, IsLooked, rest_of, IsAnswerOf};
 
+use crate::batches::Look;
 use crate::faults::SlotFault;
 use crate::passes::Pass;
 use crate::steps;
 use crate::views::Words;
 use atomic_table::Table;
-use probe_core::{Answer, Call, Capacity, Key, ProbeOrder};
+use probe_core::{Answer, Call, Capacity, Key, Probe, ProbeOrder, Turn};
 use std::alloc::{AllocError, Global};
-use std::marker::Model;
+use std::marker::{Brand, Model};
 
 /// A table of numbers for keys, shared by threads. This is the project's own.
 ///
@@ -154,13 +157,49 @@ impl<O: ProbeOrder> SlotTable<O> {
         self.ask(pass, Call::LookUp(key))
     }
 
-    /// Whether the slot at the place that a key has at an index holds another key, by one load of
-    /// which no pass knows.
-    pub(crate) fn is_passed(&self, key: Key, i: usize) -> bool
-        requires { i < self.now.slots }
+    /// Takes the load of the key's `enter` at an index.
+    pub(crate) fn look(&self, pass: &mut Pass<O>, key: Key, index: usize) -> Look
+        requires pass { IsPassOf self.now pass.old }
+        requires index { index < self.now.slots }
+        requires passed { PassedOthers (O.place_of self.now.order key)
+            (content_of self.now.slots pass.old.seen) key index }
+        ensures pass { IsPassOf self.now pass.new }
+        ensures later { IsLater self.now.slots pass.old
+            (entries_of (call.Enter key) (followed self.now.slots
+            (O.place_of self.now.order) key result)) pass.new }
+        ensures alone { IsAlone pass.new }
+        ensures looked { IsLooked self.now.slots (O.place_of self.now.order)
+            pass.new.seen key result }
     {
-        let found = self.words.shared.peek(2 * self.order.place(key, i));
-        found != 0 && found != key.bits() + 1
+        let word = steps::look::<Brand, O>(
+            &self.words.shared,
+            &mut pass.seat,
+            &self.order,
+            key,
+            index,
+        );
+        Look { index, word }
+    }
+
+    /// The answer of the key's `enter`, of which this was the last look: it ended there, or goes on
+    /// from there to its end.
+    pub(crate) fn go_on(&self, pass: &mut Pass<O>, key: Key, look: Look) -> Answer
+        requires pass { IsPassOf self.now pass.old }
+        requires looked { IsLooked self.now.slots (O.place_of self.now.order)
+            pass.old.seen key look }
+        ensures pass { IsPassOf self.now pass.new }
+        ensures later { IsLater self.now.slots pass.old
+            (rest_of key (followed self.now.slots (O.place_of self.now.order)
+            key look) result) pass.new }
+        ensures answer { IsAnswerOf (followed self.now.slots
+            (O.place_of self.now.order) key look) result }
+        ensures told { Tells self.now.slots pass.new.seen (call.Enter key) result }
+    {
+        let probe = Probe::at(&self.order, Call::Enter(key), look.index);
+        match probe.told(look.word) {
+            Turn::On(next) => steps::run(&self.words.shared, &mut pass.seat, next),
+            Turn::Done(answer) => answer,
+        }
     }
 
     /// The key that has this number, or None where the number is free, by one load. It takes no

@@ -67,20 +67,29 @@ fn an_absent_key_takes_no_number(rt: HostRuntime) -> Result<(), Fail> {
     Ok(())
 }
 
+/// What four keys get that are entered together.
+fn enter_four<O: ProbeOrder>(
+    table: &SlotTable<O>,
+    pass: &mut Pass<O>,
+    keys: &[Key; 4],
+) -> [Answer; 4]
+    requires { IsPassOf table.now pass.old }
+    ensures { IsPassOf table.now pass.new }
+{
+    let mut answers = [Answer::Absent; 4];
+    table.enter_all(pass, keys, &mut answers);
+    answers
+}
+
 #[test]
-fn a_look_ahead_changes_nothing(rt: HostRuntime) -> Result<(), Fail> {
+fn keys_are_entered_together(rt: HostRuntime) -> Result<(), Fail> {
     let capacity = capacity_of(&rt, 1);
     let (table, mut pass) = SlotTable::new(rt.alloc(), Linear { capacity })?;
-    let (five, six) = (key_of(&rt, 5), key_of(&rt, 6));
-    table.look_ahead(&mut [five, six]);
-    assert!(&rt; table.look_up(&mut pass, five) == Answer::Absent);
-    let first = table.enter(&mut pass, six);
-    table.look_ahead(&mut [five, six, five]);
-    assert!(&rt; table.look_up(&mut pass, five) == Answer::Absent);
-    assert!(&rt; table.look_up(&mut pass, six) == first);
-    assert!(&rt; table.enter(&mut pass, five) != first);
-    table.look_ahead(&mut []);
-    assert!(&rt; table.look_up(&mut pass, six) == first);
+    let (five, six, seven) = (key_of(&rt, 5), key_of(&rt, 6), key_of(&rt, 7));
+    let [first, second, again, full] = enter_four(&table, &mut pass, &[five, six, five, seven]);
+    assert!(&rt; first == Answer::Number(0));
+    assert!(&rt; (second, again, full) == (Answer::Number(1), first, Answer::Full));
+    assert!(&rt; table.look_up(&mut pass, six) == second);
     Ok(())
 }
 

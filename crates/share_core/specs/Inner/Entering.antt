@@ -1,15 +1,15 @@
 -- What the definitions of `Entering` serve inside the crate.
-use Rattle.std.specs.Prelude.{◌≡◌, ℕ, ◌<◌, List, length, false, Option, Some, None}
+use Rattle.std.specs.Prelude.{◌≡◌, ℕ, ◌<◌, List, length, false}
 use Rattle.probe_core.specs.declared.calls.Answer.{Answer}
 use Rattle.probe_core.specs.declared.calls.Answer.TheVariants as answer
 use Rattle.probe_core.specs.Sequential.{IsNumber, IsAbsent, IsFull}
 use Rattle.slot_table.specs.declared.entries.Happened.{Happened}
 use Rattle.slot_table.specs.History.{content_of, least_at, IsAtMost}
 use Rattle.slot_table.specs.Passes.{Known}
-use Rattle.share_core.specs.declared.making.Entered.{Entered}
+use Rattle.share_core.specs.declared.entering.Entered.{Entered}
 use Rattle.tally_core.specs.declared.meetings.Meeting.{Meeting}
 use Rattle.share_core.specs.Inner.Raising.{meeting_at}
-use Rattle.share_core.specs.Inner.Making.{entered_at}
+use Rattle.share_core.specs.Inner.Making.{answer_at, entered_at}
 use Rattle.share_core.specs.Entering.{CallsOnly}
 
 -- it marked such games at such numbers alone, and entered nothing
@@ -25,34 +25,6 @@ abbrev pub IsMarkAmong : List Entered → ℕ → ℕ → ℕ → Type 0
 IsMarkAmong entered game number marked = (marked ≡ game)
     × ((place : ℕ) × (place < length entered) × ((entered_at entered place).number ≡ number))
 
--- what was answered is this number, or none
-abbrev pub IsAnswer : Option Entered → Answer → Type 0
-IsAnswer None (answer.Number number) = ⊥
-IsAnswer (Some entered) (answer.Number number) = entered.number ≡ number
-IsAnswer entered answer.Absent = Unit {0}
-IsAnswer entered answer.Full = Unit {0}
-
--- this pattern was entered, and got this number, or none
-abbrev pub IsEnteredAs : ℕ → Option Entered → ℕ → Answer → Type 0
-IsEnteredAs shape entered key found = (key ≡ shape) × IsAnswer entered found
-
--- a key is the pattern of one of these meetings
-abbrev pub IsMetIn : List Meeting → ℕ → Type 0
-IsMetIn meetings key = (place : ℕ) × (place < length meetings) × ((meeting_at meetings place).shape ≡ key)
-
--- where a number was answered, it is kept at this place
-abbrev pub IsKeptAt : List Entered → ℕ → Answer → Type 0
-IsKeptAt entered place (answer.Number number) = (place < length entered) × ((entered_at entered place).number ≡ number)
-IsKeptAt entered place answer.Absent = Unit {0}
-IsKeptAt entered place answer.Full = Unit {0}
-
--- a key is the pattern of one of these meetings, and the number that was answered, if one was, is kept for this meeting
-pub record IsNoted (meetings : List Meeting) (entered : List Entered) (key : ℕ) (found : Answer) : Type 0 where
-  pub place : ℕ
-  pub within : place < length meetings
-  pub shape_is : (meeting_at meetings place).shape ≡ key
-  pub kept : IsKeptAt entered place found
-
 -- after a history of a table of n numbers the pattern has this number; where that need not be marked, a game that is no
 -- later was marked there
 pub record IsEntered (n : ℕ) (seen : List Happened) (game shape : ℕ) (entered : Entered) : Type 0 where
@@ -65,10 +37,16 @@ abbrev pub AreEntered : ℕ → List Happened → ℕ → List Meeting → List 
 AreEntered n seen game meetings entered = (i : ℕ) → i < length entered
     → IsEntered n seen game (meeting_at meetings i).shape (entered_at entered i)
 
--- the pattern of the meeting after those that have numbers has none, and no number is free
-pub record IsRefused (n : ℕ) (seen : List Happened) (meetings : List Meeting) (entered : List Entered) (shape : ℕ) : Type 0 where
-  pub within : length entered < length meetings
-  pub shape_is : shape ≡ (meeting_at meetings (length entered)).shape
+-- these are the numbers that were answered for the first meetings
+abbrev pub AreEnteredAs : List Answer → List Entered → Type 0
+AreEnteredAs answers entered = (i : ℕ) → i < length entered → answer_at answers i ≡ answer.Number (entered_at entered i).number
+
+-- the pattern is the first of these meetings for which no number was answered; it has none, and no number is free
+pub record IsRefused (n : ℕ) (seen : List Happened) (meetings : List Meeting) (answers : List Answer) (shape : ℕ) : Type 0 where
+  pub place : ℕ
+  pub within : place < length meetings
+  pub shape_is : shape ≡ (meeting_at meetings place).shape
+  pub before : (i : ℕ) → i < place → (number : ℕ) × (answer_at answers i ≡ answer.Number number)
   pub absent : IsAbsent (content_of n seen) shape
   pub full : IsFull (content_of n seen)
 

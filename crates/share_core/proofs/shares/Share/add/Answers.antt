@@ -4,7 +4,7 @@ use Rattle.shape_core.specs.declared.words.Kinds.{Kinds}
 use Rattle.tally_core.specs.declared.meetings.Meeting.{Meeting}
 use Rattle.tally_core.specs.Walk.{IsWalk, IsAmong}
 use Rattle.share_core.specs.declared.rows.Row.{Row}
-use Rattle.share_core.specs.declared.making.Entered.{Entered}
+use Rattle.share_core.specs.declared.entering.Entered.{Entered}
 use Rattle.share_core.specs.Inner.Raising.{AreRowsOf}
 use Rattle.share_core.specs.Inner.Making.{AreNumbered}
 use Rattle.share_core.specs.Entering.{CallsOnly, EntersOnly}

@@ -1,0 +1,228 @@
+//! Keys that are entered together: the lines of memory of all come at once.
+ghost use Rattle.std.specs.Prelude.{◌≡◌, ℕ, ◌^◌, ◌<◌, ◌≤◌, true, length};
+ghost use Rattle.slot_table.specs.Batches.{entered, AreMade, AreTold};
+ghost use Rattle.slot_table.specs.Inner.Batches.{look_at, ended, AreLooked, AreChosen, ArePassed};
+ghost use Rattle.slot_table.specs.Inner.Batches.{IsPassed};
+ghost use Rattle.slot_table.specs.Passes.{IsPassOf, IsAlone, Known};
+
+use crate::passes::Pass;
+use crate::tables::SlotTable;
+use probe_core::{Answer, Key, ProbeOrder};
+
+/// How many keys are looked at together: few enough that their lines stay in the nearest caches
+/// until their calls end.
+const BLOCK: usize = 128;
+
+/// At how many places of a key is looked at most before any free place is taken. In a table that is
+/// nearly full some keys have more before their own: their calls go on one by one.
+const ROUNDS: usize = 64;
+
+/// The last look of a key's call: the index of the place that was loaded, and the word there.
+#[derive(Clone, Copy)]
+pub(crate) struct Look {
+    /// The index.
+    pub(crate) index: usize,
+    /// The word.
+    pub(crate) word: u64,
+}
+
+/// Whether a look met another key, and the key has a place after it.
+fn is_passed(key: Key, look: Look, slots: usize) -> bool
+    requires { look.index < slots }
+    ensures { result ≡ true → IsPassed slots key look }
+{
+    look.word != 0 && look.word != key.bits() + 1 && look.index + 1 != slots
+}
+
+/// All places of a block.
+fn all_places() -> [usize; BLOCK]
+    ensures length { length result ≡ BLOCK }
+    ensures chosen { (count : ℕ) → count ≤ BLOCK → AreChosen count result count }
+{
+    let mut places = [0; BLOCK];
+    for i in 0..BLOCK {
+        places[i] = i;
+    }
+    places
+}
+
+/// Keeps of the first places those whose looks met other keys; the answer is how many they are. It
+/// has no branch that depends on a slot.
+fn keep_passed(
+    keys: &[Key],
+    looks: &[Look],
+    left: &mut [usize],
+    count: usize,
+    slots: usize,
+) -> usize
+    requires chosen { AreChosen (length keys.now) left.old count }
+    requires count { count ≤ length left.old }
+    requires long { length keys.now ≤ length looks.now }
+    requires within { (i : ℕ) → i < length keys.now → (look_at looks.now i).index < slots }
+    ensures few { result ≤ count }
+    ensures length { length left.new ≡ length left.old }
+    ensures chosen { AreChosen (length keys.now) left.new result }
+    ensures passed { ArePassed slots keys.now looks.now left.new 0 result }
+{
+    let mut kept = 0;
+    for i in 0..count {
+        let place = left[i];
+        left[kept] = place;
+        kept += is_passed(keys[place], looks[place], slots) as usize;
+    }
+    kept
+}
+
+impl<O: ProbeOrder> SlotTable<O> {
+    /// Looks at the first place of each key. No step waits for what an earlier one found, so the
+    /// loads overlap.
+    fn look_first(&self, pass: &mut Pass<O>, keys: &[Key], looks: &mut [Look])
+        requires pass { IsPassOf self.now pass.old }
+        requires slots { 0 < self.now.slots }
+        requires long { length keys.now ≤ length looks.old }
+        ensures pass { IsPassOf self.now pass.new }
+        ensures length { length looks.new ≡ length looks.old }
+        ensures made { AreMade self.now.slots
+            (ended self.now.slots (O.place_of self.now.order) keys.now looks.new)
+            pass.old pass.new }
+        ensures alone { 0 < length keys.now → IsAlone pass.new }
+        ensures looked { AreLooked self.now.slots (O.place_of self.now.order)
+            pass.new.seen keys.now looks.new (length keys.now) }
+    {
+        for i in 0..keys.len() {
+            looks[i] = self.look(pass, keys[i], 0);
+        }
+    }
+
+    /// Looks at the next place of each of the keys at the places that are left. Here too the loads
+    /// overlap.
+    fn look_again(
+        &self,
+        pass: &mut Pass<O>,
+        keys: &[Key],
+        looks: &mut [Look],
+        left: &[usize],
+        count: usize,
+    )
+        requires pass { IsPassOf self.now pass.old }
+        requires long { length keys.now ≤ length looks.old }
+        requires count { count ≤ length left.now }
+        requires looked { AreLooked self.now.slots (O.place_of self.now.order)
+            pass.old.seen keys.now looks.old (length keys.now) }
+        requires chosen { AreChosen (length keys.now) left.now count }
+        requires passed { ArePassed self.now.slots keys.now looks.old left.now 0
+            count }
+        ensures pass { IsPassOf self.now pass.new }
+        ensures length { length looks.new ≡ length looks.old }
+        ensures made { (first : Known O) → AreMade self.now.slots
+            (ended self.now.slots (O.place_of self.now.order) keys.now looks.old)
+            first pass.old → AreMade self.now.slots
+            (ended self.now.slots (O.place_of self.now.order) keys.now looks.new)
+            first pass.new }
+        ensures alone { IsAlone pass.old → IsAlone pass.new }
+        ensures looked { AreLooked self.now.slots (O.place_of self.now.order)
+            pass.new.seen keys.now looks.new (length keys.now) }
+    {
+        for i in 0..count {
+            let place = left[i];
+            looks[place] = self.look(pass, keys[place], looks[place].index + 1);
+        }
+    }
+
+    /// Looks at the first places of all keys of a block, then at the second places of those that
+    /// met another key, and so on. No free place is taken in between.
+    fn look_at_all(&self, pass: &mut Pass<O>, keys: &[Key], looks: &mut [Look])
+        requires pass { IsPassOf self.now pass.old }
+        requires block { length keys.now ≤ BLOCK }
+        requires long { length keys.now ≤ length looks.old }
+        ensures pass { IsPassOf self.now pass.new }
+        ensures length { length looks.new ≡ length looks.old }
+        ensures made { AreMade self.now.slots
+            (ended self.now.slots (O.place_of self.now.order) keys.now looks.new)
+            pass.old pass.new }
+        ensures alone { 0 < length keys.now → IsAlone pass.new }
+        ensures looked { AreLooked self.now.slots (O.place_of self.now.order)
+            pass.new.seen keys.now looks.new (length keys.now) }
+    {
+        let slots = self.capacity().slots();
+        self.look_first(pass, keys, looks);
+        let mut left = all_places();
+        let mut count = keys.len();
+        for _ in 1..ROUNDS {
+            count = keep_passed(keys, looks, &mut left, count, slots);
+            if count == 0 {
+                break;
+            }
+            self.look_again(pass, keys, looks, &left, count);
+        }
+    }
+
+    /// Brings the calls of looks to their ends, in the order of the keys.
+    fn end_all(&self, pass: &mut Pass<O>, keys: &[Key], looks: &[Look], answers: &mut [Answer])
+        requires pass { IsPassOf self.now pass.old }
+        requires long { length keys.now ≤ length looks.now }
+        requires length { length keys.now ≡ length answers.old }
+        requires looked { AreLooked self.now.slots (O.place_of self.now.order)
+            pass.old.seen keys.now looks.now (length keys.now) }
+        ensures pass { IsPassOf self.now pass.new }
+        ensures length { length answers.new ≡ length keys.now }
+        ensures made { (first : Known O) → AreMade self.now.slots
+            (ended self.now.slots (O.place_of self.now.order) keys.now looks.now)
+            first pass.old → AreMade self.now.slots
+            (entered keys.now answers.new) first pass.new }
+        ensures alone { IsAlone pass.old → IsAlone pass.new }
+        ensures told { AreTold self.now.slots pass.new.seen keys.now answers.new }
+    {
+        for i in 0..keys.len() {
+            answers[i] = self.go_on(pass, keys[i], looks[i]);
+        }
+    }
+
+    /// Enters the keys of a block.
+    fn enter_block(&self, pass: &mut Pass<O>, keys: &[Key], answers: &mut [Answer])
+        requires pass { IsPassOf self.now pass.old }
+        requires block { length keys.now ≤ BLOCK }
+        requires length { length keys.now ≡ length answers.old }
+        ensures pass { IsPassOf self.now pass.new }
+        ensures made { AreMade self.now.slots (entered keys.now answers.new)
+            pass.old pass.new }
+        ensures alone { 0 < length keys.now → IsAlone pass.new }
+        ensures told { AreTold self.now.slots pass.new.seen keys.now answers.new }
+        ensures length { length answers.new ≡ length keys.now }
+    {
+        let mut looks = [Look { index: 0, word: 0 }; BLOCK];
+        self.look_at_all(pass, keys, &mut looks);
+        self.end_all(pass, keys, &looks, answers);
+    }
+
+    /// Enters each of these keys by a call of its own, as `enter` does, and puts the answer at the
+    /// place of its key: the key's number, or `Full` where none was free. It takes no memory and
+    /// waits for no other thread.
+    ///
+    /// Looking is entering: the first places of all keys are loaded, then the second places of
+    /// those that met another key, and so on, and so the slots' lines of memory come together. A
+    /// key that is found has its number by that load. The others take a free place or go on after
+    /// all looks of their block, in the order of the keys. So the calls end in another order than
+    /// the keys have. A key may stand at several places, and after a `Full` the later keys are
+    /// entered all the same.
+    ///
+    /// The pass must be of this table, and there must be as many answers as keys. What the answers
+    /// hold before is not read.
+    pub fn enter_all(&self, pass: &mut Pass<O>, keys: &[Key], answers: &mut [Answer])
+        requires pass { IsPassOf self.now pass.old }
+        requires length { length keys.now ≡ length answers.old }
+        ensures pass { IsPassOf self.now pass.new }
+        ensures made { AreMade self.now.slots (entered keys.now answers.new)
+            pass.old pass.new }
+        ensures alone { 0 < length keys.now → IsAlone pass.new }
+        ensures told { AreTold self.now.slots pass.new.seen keys.now answers.new }
+        ensures length { length answers.new ≡ length keys.now }
+    {
+        let mut start = 0;
+        while start < keys.len() {
+            let end = start + BLOCK.min(keys.len() - start);
+            self.enter_block(pass, &keys[start..end], &mut answers[start..end]);
+            start = end;
+        }
+    }
+}
