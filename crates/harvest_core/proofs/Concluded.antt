@@ -8,7 +8,7 @@ use Rattle.std.proofs.lemmas.Option.{same_Some}
 use Rattle.std.proofs.lemmas.List.Elements.{recursion_from_All, All-weaker, Contains-append_cases, Contains-push_cases}
 use Rattle.shape_core.specs.declared.words.Kinds.{Kinds}
 use Rattle.tally_core.specs.declared.collections.Counted.{Counted}
-use Rattle.tally_core.specs.declared.reports.Report.{Report}
+use Rattle.game_core.specs.declared.reports.Report.{Report}
 use Rattle.probe_core.specs.Sequential.{IsNumber, IsFree, IsAbsent, IsFull}
 use Rattle.probe_core.specs.declared.calls.Call.TheVariants as asked
 use Rattle.probe_core.specs.declared.calls.Answer.TheVariants as answer
@@ -16,7 +16,7 @@ use Rattle.slot_table.specs.declared.entries.Happened.{Happened}
 use Rattle.slot_table.specs.declared.entries.Happened.TheVariants as call
 use Rattle.slot_table.specs.History.{content_of, least_at, IsAtMost, IsLegal, Keeps}
 use Rattle.slot_table.specs.Passes.{Known, IsLater, calls_of}
-use Rattle.job_core.specs.Games.{HasReadAll}
+use Rattle.game_core.specs.Games.{HasReadAll}
 use Rattle.share_core.specs.declared.rows.Row.{Row}
 use Rattle.share_core.specs.declared.faults.HarvestFault.{HarvestFault}
 use Rattle.share_core.specs.declared.faults.HarvestFault.TheVariants as fault

@@ -6,8 +6,8 @@ use Rattle.std.specs.Result.{result_err}
 use Rattle.job_core.specs.Rising.{past}
 use Rattle.job_core.proofs.Orders.{past_on}
 use Rattle.job_core.specs.declared.hands.Hand.{Hand}
-use Rattle.job_core.specs.declared.jobs.Item.TheVariants.{Job}
-use Rattle.job_core.specs.Games.{WrittenGame}
+use Rattle.job_core.specs.declared.items.Item.TheVariants.{Job}
+use Rattle.game_core.specs.Games.{WrittenGame}
 use Rattle.job_core.specs.Rule.{putting}
 use Rattle.gather_core.specs.Covering.{times_of}
 use Rattle.share_core.specs.declared.faults.HarvestFault.{HarvestFault}

@@ -2,10 +2,10 @@
 use Rattle.std.proofs.Common.{◌≡◌, ℕ, suc, ◌<◌, ◌≤◌, ◌⊎◌, List, [], ◌∷◌, ◌++◌, Some, None, refl, ap, sym, subst, ◌∙◌, append_assoc, append-nil, ⊎_elim, arith, Contains}
 use Rattle.std.proofs.lemmas.List.Elements.{Contains-push, Contains-append_left}
 use Rattle.shape_core.specs.declared.words.Kinds.{Kinds}
-use Rattle.job_core.specs.Games.{WrittenGame}
+use Rattle.game_core.specs.Games.{WrittenGame}
 use Rattle.job_core.specs.Rising.{Rising, past}
 use Rattle.job_core.specs.declared.hands.Hand.{Hand}
-use Rattle.job_core.specs.declared.jobs.Item.TheVariants.{Job, End}
+use Rattle.job_core.specs.declared.items.Item.TheVariants.{Job, End}
 use Rattle.job_core.specs.Rule.{drawing, Draws}
 use Rattle.job_core.proofs.Turns.{drawn_rises}
 use Rattle.job_core.proofs.Orders.{past_on, rising_end}

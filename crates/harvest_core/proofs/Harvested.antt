@@ -22,17 +22,18 @@ use Rattle.shape_dict.specs.declared.entries.Entry.{Entry}
 use Rattle.shape_dict.specs.Contents.{Contents, entry_of}
 use Rattle.tally_core.specs.Occasions.{AreOccasions}
 use Rattle.tally_core.specs.Counts.{Replayed}
-use Rattle.tally_core.specs.Collection.{AreTrees, AreReplayed}
+use Rattle.game_core.specs.Collection.{AreTrees}
+use Rattle.tally_core.specs.Collection.{AreReplayed}
 use Rattle.tally_core.specs.Counted.{IsCounted}
-use Rattle.tally_core.specs.declared.reports.Report.{Report}
+use Rattle.game_core.specs.declared.reports.Report.{Report}
 use Rattle.tally_core.specs.Inner.Entries.{shapes_of}
 use Rattle.tally_core.proofs.RisingEntries.{each_is_found}
 use Rattle.probe_core.specs.Sequential.{Table, IsNumber}
 use Rattle.slot_table.specs.declared.entries.Happened.{Happened}
 use Rattle.slot_table.specs.History.{content_of, IsLegal}
 use Rattle.slot_table.proofs.Contents.{number_below, one_key}
-use Rattle.job_core.specs.Games.{HasReadAll}
-use Rattle.job_core.proofs.OneGame.{games_of, one_game}
+use Rattle.game_core.specs.Games.{HasReadAll}
+use Rattle.game_core.proofs.OneGame.{games_of, one_game}
 use Rattle.share_core.specs.declared.rows.Row.{Row}
 use Rattle.share_core.specs.Rows.{there_of, played_of, first_of}
 use Rattle.gather_core.specs.Checking.{all_rows, Stand}

@@ -16,9 +16,10 @@ use Rattle.go_record.specs.declared.records.Kind.TheVariants as kind
 use Rattle.go_record.proofs.Few.{few as few_actions}
 use Rattle.shape_core.specs.declared.words.Kinds.{Kinds}
 use Rattle.tally_core.specs.Counts.{Replayed, kinds_of, there_in, played_in}
-use Rattle.tally_core.specs.Collection.{AreTrees, record_of_tree, games_among, AreReplayed}
+use Rattle.game_core.specs.Collection.{AreTrees, record_of_tree, games_among}
+use Rattle.tally_core.specs.Collection.{AreReplayed}
 use Rattle.tally_core.specs.Games.{there_sum, played_sum}
-use Rattle.tally_core.specs.declared.reports.Report.{Report}
+use Rattle.game_core.specs.declared.reports.Report.{Report}
 use Rattle.tally_core.proofs.Bounded.{there-few, played-few}
 use Rattle.share_core.specs.declared.faults.HarvestFault.TheVariants as fault
 use Rattle.share_core.specs.Rows.{there_of, played_of}
@@ -29,10 +30,10 @@ use Rattle.share_core.specs.Shares.{Held, Added}
 use Rattle.share_core.specs.Adding.{IsTooLarge}
 use Rattle.gather_core.proofs.Numbered.{numbers_of}
 use Rattle.gather_core.proofs.Gathered.{there_gathered, played_gathered, moves_gathered}
-use Rattle.job_core.specs.Games.{HasReadAll}
+use Rattle.game_core.specs.Games.{HasReadAll}
 use Rattle.job_core.specs.Rising.{Rising, past}
 use Rattle.job_core.proofs.Orders.{rising_down}
-use Rattle.job_core.proofs.OneGame.{games_of}
+use Rattle.game_core.proofs.OneGame.{games_of}
 use Rattle.harvest_core.specs.Working.{IsGame, IsWorked, IsRefusal}
 use Rattle.harvest_core.specs.Harvest.{IsRead}
 use Rattle.harvest_core.proofs.Sized.{sized}

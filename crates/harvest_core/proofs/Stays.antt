@@ -2,9 +2,9 @@
 use Rattle.std.proofs.Common.{◌≡◌, ℕ, ◌⊎◌, List, ap, sym, subst, ◌∙◌, ⊎_elim}
 use Rattle.shape_core.specs.declared.words.Kinds.{Kinds}
 use Rattle.slot_table.specs.Passes.{Numbers}
-use Rattle.job_core.specs.Games.{WrittenGame}
+use Rattle.game_core.specs.Games.{WrittenGame}
 use Rattle.job_core.specs.declared.hands.Hand.{Hand}
-use Rattle.job_core.specs.declared.jobs.Item.TheVariants.{Job}
+use Rattle.job_core.specs.declared.items.Item.TheVariants.{Job}
 use Rattle.job_core.specs.Rule.{putting}
 use Rattle.harvest_core.specs.declared.workers.Worker.{Worker}
 use Rattle.harvest_core.specs.declared.working.Worked.{Worked}

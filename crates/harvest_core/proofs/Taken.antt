@@ -9,9 +9,9 @@ use Rattle.slot_table.specs.Passes.{Numbers, Known, IsPassOf, Met, calls_of}
 use Rattle.slot_table.proofs.Meetings.{met_calls}
 use Rattle.job_core.specs.declared.hands.Hand.{Hand}
 use Rattle.job_core.specs.Rule.{taking_up, all_parts}
-use Rattle.job_core.specs.Games.{HasReadAll}
+use Rattle.game_core.specs.Games.{HasReadAll}
 use Rattle.slot_table.specs.Stakes.{IsAsMuch}
-use Rattle.tally_core.specs.declared.reports.Report.{Report}
+use Rattle.game_core.specs.declared.reports.Report.{Report}
 use Rattle.share_core.specs.Shares.{Held}
 use Rattle.gather_core.specs.Covering.{times_of, all_games}
 use Rattle.share_core.specs.declared.faults.HarvestFault.{HarvestFault}

@@ -11,9 +11,9 @@ use Rattle.shape_core.specs.declared.words.Kinds.{Kinds}
 use Rattle.shape_dict.specs.declared.entries.Entry.{Entry}
 use Rattle.tally_core.specs.Counted.{IsCounted, IsCountFault}
 use Rattle.tally_core.specs.declared.collections.Counted.{Counted}
-use Rattle.tally_core.specs.declared.reports.Report.{Report}
+use Rattle.game_core.specs.declared.reports.Report.{Report}
 use Rattle.tally_core.specs.declared.faults.TallyFault.TheVariants as tally
-use Rattle.job_core.specs.Games.{HasReadAll}
+use Rattle.game_core.specs.Games.{HasReadAll}
 use Rattle.share_core.specs.declared.faults.HarvestFault.{HarvestFault}
 use Rattle.share_core.specs.declared.faults.HarvestFault.TheVariants as fault
 use Rattle.harvest_core.specs.Working.{IsPatternIn, IsPatternOfGame, IsCallIn}

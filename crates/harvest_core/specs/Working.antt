@@ -2,7 +2,7 @@
 use Rattle.std.specs.Prelude.{◌≡◌, ℕ, ◌+◌, ◌≤◌, ◌^◌, ◌*◌, ◌⊎◌, List, [], ◌∷◌, ◌++◌, length, All, Contains, Option, Some, None}
 use Rattle.go_record.specs.Actions.{Actions}
 use Rattle.shape_core.specs.declared.words.Kinds.{Kinds}
-use Rattle.job_core.specs.Games.{IsGameOf}
+use Rattle.game_core.specs.Games.{IsGameOf}
 use Rattle.job_core.specs.Rising.{Rising, past}
 use Rattle.job_core.specs.declared.hands.Hand.{Hand}
 use Rattle.share_core.specs.declared.rows.Row.{Row}

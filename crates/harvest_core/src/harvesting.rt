@@ -13,7 +13,7 @@ ghost use Rattle.gather_core.specs.Checking.{all_rows};
 ghost use Rattle.gather_core.specs.Covering.{all_games};
 ghost use Rattle.share_core.specs.Entering.{AsksOnly};
 ghost use Rattle.gather_core.specs.GatherFaults.{IsGatherFault};
-ghost use Rattle.job_core.specs.Games.{HasReadAll};
+ghost use Rattle.game_core.specs.Games.{HasReadAll};
 ghost use Rattle.harvest_core.specs.InTable.{IsFullOf};
 ghost use Rattle.harvest_core.specs.Working.{IsWorked, IsRefusal};
 ghost use Rattle.harvest_core.specs.Harvest.{IsRead, IsHarvest, IsHarvestFault, IsHarvestRefused};

@@ -2,9 +2,9 @@
 //! that the queue hands back.
 ghost use Rattle.std.specs.Prelude.{◌≡◌, ◌+◌, ◌≤◌, ◌⊎◌, ◌↔◌, [], true, None};
 ghost use Rattle.std.specs.Prelude.{IsTrue, IfErr, OnOk};
-ghost use Rattle.job_core.specs.declared.jobs.Item.TheVariants as item;
+ghost use Rattle.job_core.specs.declared.items.Item.TheVariants as item;
 ghost use Rattle.shape_core.specs.declared.words.Kinds.{Kinds};
-ghost use Rattle.job_core.specs.Games.{HasReadAll};
+ghost use Rattle.game_core.specs.Games.{HasReadAll};
 ghost use Rattle.job_core.specs.Rising.{past};
 ghost use Rattle.job_core.specs.Rule.{MayPut, putting};
 ghost use Rattle.job_core.specs.Inner.Rule.{IsInStep};

@@ -30,7 +30,8 @@ use Rattle.shape_core.specs.Field.{Includes}
 use Rattle.shape_dict.specs.Contents.{Contents, entry_of}
 use Rattle.tally_core.specs.Occasions.{Occasion, is_empty, occasion_of, HasOccasions, AreOccasions}
 use Rattle.tally_core.specs.Counts.{Replayed, kinds_of, points_of, patterns_at, patterns_there, patterns_played}
-use Rattle.tally_core.specs.Collection.{AreTrees, record_of_tree, games_among, AreReplayed}
+use Rattle.game_core.specs.Collection.{AreTrees, record_of_tree, games_among}
+use Rattle.tally_core.specs.Collection.{AreReplayed}
 use Rattle.tally_core.specs.Games.{there_sum, played_sum, first_game, IsDictionaryOf}
 use Rattle.tally_core.specs.Counted.{IsCounted}
 use Rattle.tally_core.specs.declared.collections.Counted.{Counted}

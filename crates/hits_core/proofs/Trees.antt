@@ -1,21 +1,26 @@
--- Games of trees, one tree after another.
-use Rattle.std.proofs.Common.{◌≡◌, ℕ, ◌+◌, ◌≤◌, List, [], ◌∷◌, ◌++◌, length, Result, Ok, Err, refl, ap, ap₂, sym, subst, ◌∙◌, arith, append_assoc, length-append}
+-- Games of trees, one game after another.
+use Rattle.std.proofs.Common.{◌≡◌, ℕ, ◌+◌, List, [], ◌∷◌, ◌++◌, length, map, Result, Ok, Err, refl, ap, ap₂, sym, subst, ◌∙◌, arith, append_assoc, length-append}
 use Rattle.std.proofs.lemmas.List.{append-nil}
 use Rattle.sgf_core.specs.Tree.{GameTree}
 use Rattle.sgf_core.specs.Next.{IsNextTree}
-use Rattle.sgf_core.specs.Limit.{most_bytes}
 use Rattle.sgf_core.specs.declared.faults.SgfFault.TheVariants as sgf
+use Rattle.sgf_core.proofs.OneAnswer.{same_next}
+use Rattle.go_record.specs.Actions.{Actions}
 use Rattle.go_record.specs.declared.records.Kind.{Kind}
 use Rattle.go_record.specs.declared.records.Kind.TheVariants as kind
 use Rattle.go_record.specs.declared.faults.RecordFault.{RecordFault}
-use Rattle.tally_core.specs.Collection.{AreTrees, record_of_tree, games_among}
-use Rattle.tally_core.specs.Inner.Counting.{IsNextFault}
-use Rattle.tally_core.specs.declared.faults.TallyFault.{TallyFault}
-use Rattle.tally_core.specs.declared.faults.TallyFault.TheVariants as fault
+use Rattle.game_core.specs.Collection.{AreTrees, record_of_tree, games_among}
+use Rattle.game_core.specs.Games.{IsGameOf}
+use Rattle.game_core.specs.Games as of_core
+use Rattle.game_core.specs.Faults.{IsGamesFault}
+use Rattle.game_core.specs.declared.faults.GamesFault.{GamesFault}
+use Rattle.game_core.specs.declared.faults.GamesFault.TheVariants as games_fault
+use Rattle.game_core.specs.declared.reports.Report.{Report}
+use Rattle.game_core.proofs.OneGame.{games_of, as_many}
+use Rattle.tally_core.specs.Faults.{reading_fault}
 use Rattle.hits_core.specs.declared.games.Game.{Game}
-use Rattle.hits_core.specs.declared.reading.Recorded.{Recorded}
 use Rattle.hits_core.specs.Hits.{game_of, AreGames}
-use Rattle.hits_core.specs.Inner.Reading.{IsRecorded, ReadsUpTo, IsReadFault}
+use Rattle.hits_core.specs.Inner.Reading.{ReadsUpTo, HasReadAll, IsReadFault}
 
 -- a tree is as many games either way
 pub one-game : (recorded : Result Kind RecordFault) (number at : ℕ) → length (game_of recorded number at) ≡ length (games_among (recorded ∷ []))
@@ -27,6 +32,59 @@ pub games-are-of-trees : (bytes : List ℕ) (number from : ℕ) (trees : List Ga
 games-are-of-trees bytes number from [] end games h = h.0
 games-are-of-trees bytes number from (tree ∷ trees) end games h =
     (h.0, h.1, h.3, games-are-of-trees bytes (number + length (games_among (record_of_tree tree ∷ []))) h.1 trees end h.2 h.4)
+
+-- the games of a tree in front are counted apart
+counted-apart : (recorded : Result Kind RecordFault) (records : List (Result Kind RecordFault)) →
+    length (games_among (recorded ∷ records)) ≡ length (games_among (recorded ∷ [])) + length (games_among records)
+counted-apart (Ok (kind.Go game)) records = omega arith
+counted-apart (Ok kind.Other) records = omega arith
+counted-apart (Err found) records = omega arith
+
+-- there are as many games as the trees are
+number-of-games : (bytes : List ℕ) (number from : ℕ) (trees : List GameTree) (end : ℕ) (games : List Game) → AreGames bytes number from trees end games → length games ≡ length (games_of trees)
+number-of-games bytes number from [] end games h = ap length h.1
+number-of-games bytes number from (tree ∷ trees) end games h =
+    let r = record_of_tree tree in
+    let rest = number-of-games bytes (number + length (games_among (r ∷ []))) h.1 trees end h.2 h.4 in
+    ap length h.5 ∙ length-append (game_of r number h.0) h.2 ∙ ap₂ (λ m n. m + n) (one-game r number h.0) rest ∙ sym (counted-apart r (map record_of_tree trees))
+
+none-in-front : (recorded : Result Kind RecordFault) (records : List (Result Kind RecordFault)) (number at : ℕ) → length (games_among (recorded ∷ records)) ≡ 0 →
+    (game_of recorded number at ≡ []) × (length (games_among records) ≡ 0)
+none-in-front (Ok (kind.Go game)) records number at none = absurd (omega (arith, none))
+none-in-front (Ok kind.Other) records number at none = (refl, none)
+none-in-front (Err found) records number at none = (refl, none)
+
+no-games : (bytes : List ℕ) (number from : ℕ) (trees : List GameTree) (end : ℕ) → AreTrees bytes from trees end → length (games_of trees) ≡ 0 → AreGames bytes number from trees end []
+no-games bytes number from [] end h none = (h, refl)
+no-games bytes number from (tree ∷ trees) end h none =
+    let r = record_of_tree tree in
+    let front = none-in-front r (map record_of_tree trees) number h.0 none in
+    (h.0, h.1, [], h.2, no-games bytes (number + length (games_among (r ∷ []))) h.1 trees end h.3 front.1, sym (ap (λ games. games ++ []) front.0))
+
+empty : (games : List Game) → length games ≡ 0 → games ≡ []
+empty [] none = refl
+empty (game ∷ games) none = absurd (omega (arith, none))
+
+-- where the first trees of an input have as many games either way, these are the games of both
+pub other-trees : (bytes : List ℕ) (number from : ℕ) (trees others : List GameTree) (end stop : ℕ) (games : List Game) → AreGames bytes number from trees end games →
+    AreTrees bytes from others stop → length (games_of trees) ≡ length (games_of others) → AreGames bytes number from others stop games
+other-trees bytes number from [] others end stop games h is same =
+    subst (AreGames bytes number from others stop) (sym h.1) (no-games bytes number from others stop is (sym same))
+other-trees bytes number from (tree ∷ trees) [] end stop games h is same =
+    (is, empty games (number-of-games bytes number from (tree ∷ trees) end games h ∙ same))
+other-trees bytes number from (tree ∷ trees) (other ∷ others) end stop games h is same =
+    let one = same_next bytes from h.0 h.1 tree is.0 is.1 other h.3 is.2 in
+    let r = record_of_tree tree in
+    let many : length (games_of (tree ∷ trees)) ≡ length (games_of (tree ∷ others)) = same ∙ ap (λ q. length (games_of (q ∷ others))) (sym one.2) in
+    subst (λ q. AreGames bytes number from (q ∷ others) stop games) one.2 (
+      h.0,
+      h.1,
+      h.2,
+      h.3,
+      other-trees bytes (number + length (games_among (r ∷ []))) h.1 trees others end stop h.2 h.4 (subst (λ f. AreTrees bytes f others stop) (sym one.1) is.3)
+          (as_many r (map record_of_tree trees) (map record_of_tree others) many),
+      h.5,
+    )
 
 -- a tree more was read
 games-push : (bytes : List ℕ) (number from : ℕ) (trees : List GameTree) (end : ℕ) (games : List Game) (at next : ℕ) (tree : GameTree) → AreGames bytes number from trees end games →
@@ -59,26 +117,39 @@ games-push bytes number from (first ∷ trees) end games at next tree h is =
 pub reads-none : (bytes : List ℕ) → ReadsUpTo bytes 0 []
 reads-none bytes = record { trees = []; of_trees = (refl, refl) }
 
-pub reads-on : (bytes : List ℕ) (from : ℕ) (games new : List Game) (read : Recorded) → ReadsUpTo bytes from games → IsRecorded bytes from read →
-    new ≡ games ++ game_of read.recorded (length games) read.at → ReadsUpTo bytes read.end new
-reads-on bytes from games new read reads is grown = record {
-  trees = reads.trees ++ is.tree ∷ [];
-  of_trees = subst (AreGames bytes 0 0 (reads.trees ++ is.tree ∷ []) read.end)
-      (sym (grown ∙ ap₂ (λ r n. games ++ game_of r n read.at) is.recorded_so (omega arith)))
-      (games-push bytes 0 0 reads.trees from games read.at read.end is.tree reads.of_trees is.next);
-}
+-- a game more was read
+pub reads-on : (bytes : List ℕ) (from : ℕ) (games new : List Game) (game at stop : ℕ) (actions : Actions) → ReadsUpTo bytes from games → IsGameOf bytes game at stop actions →
+    game ≡ length games → new ≡ games ++ record { number = game; place = at; recorded = actions } ∷ [] → ReadsUpTo bytes stop new
+reads-on bytes from games new game at stop actions reads is number grown =
+    let many = number-of-games bytes 0 0 reads.trees from games reads.of_trees in
+    let before = other-trees bytes 0 0 reads.trees is.before from is.from games reads.of_trees is.written (sym many ∙ sym number ∙ is.numbered) in
+    let same : game ≡ 0 + length games = omega (arith, number) in
+    record {
+      trees = is.before ++ is.tree ∷ [];
+      of_trees = subst (AreGames bytes 0 0 (is.before ++ is.tree ∷ []) stop)
+          (sym (grown ∙ ap (λ n. games ++ record { number = n; place = at; recorded = actions } ∷ []) same ∙ ap (λ r. games ++ game_of r (0 + length games) at) (sym is.is_go)))
+          (games-push bytes 0 0 is.before is.from games at stop is.tree before is.next);
+    }
 
--- why there is no next tree is why the input was not read
-pub read-fault : (bytes : List ℕ) (from : ℕ) (games : List Game) (found : TallyFault) → length bytes ≤ most_bytes → ReadsUpTo bytes from games →
-    IsNextFault bytes from found → IsReadFault bytes found
-read-fault bytes from games fault.Memory few reads is = tt
-read-fault bytes from games fault.BadSettings few reads is = absurd is
-read-fault bytes from games fault.Overflow few reads is = absurd is
-read-fault bytes from games (fault.Sgf (sgf.Truncated at)) few reads is =
-    (few, record { trees = reads.trees; end = from; written = games-are-of-trees bytes 0 0 reads.trees from games reads.of_trees; fault = is })
-read-fault bytes from games (fault.Sgf (sgf.BadByte at)) few reads is =
-    (few, record { trees = reads.trees; end = from; written = games-are-of-trees bytes 0 0 reads.trees from games reads.of_trees; fault = is })
-read-fault bytes from games (fault.Sgf (sgf.NoValue at)) few reads is =
-    (few, record { trees = reads.trees; end = from; written = games-are-of-trees bytes 0 0 reads.trees from games reads.of_trees; fault = is })
-read-fault bytes from games (fault.Sgf sgf.TooLarge) few reads is = absurd is
-read-fault bytes from games (fault.Sgf sgf.Memory) few reads is = absurd is
+-- no game is left
+pub reads-all : (bytes : List ℕ) (from : ℕ) (games : List Game) (report : Report) → ReadsUpTo bytes from games → of_core.HasReadAll bytes report → report.games ≡ length games → HasReadAll bytes games
+reads-all bytes from games report reads all number =
+    let many = number-of-games bytes 0 0 reads.trees from games reads.of_trees in
+    record {
+      few = all.small;
+      end = all.end;
+      read = record {
+        trees = all.trees;
+        of_trees = other-trees bytes 0 0 reads.trees all.trees from all.end games reads.of_trees all.written (sym many ∙ sym number ∙ all.reported.games);
+      };
+      no_more = all.no_more;
+    }
+
+-- why no next game comes is why the input was not read
+pub read-fault : (bytes : List ℕ) (found : GamesFault) → IsGamesFault bytes found → IsReadFault bytes (reading_fault found)
+read-fault bytes games_fault.Memory is = tt
+read-fault bytes (games_fault.Sgf sgf.TooLarge) is = is
+read-fault bytes (games_fault.Sgf sgf.Memory) is = is
+read-fault bytes (games_fault.Sgf (sgf.Truncated at)) is = is
+read-fault bytes (games_fault.Sgf (sgf.BadByte at)) is = is
+read-fault bytes (games_fault.Sgf (sgf.NoValue at)) is = is

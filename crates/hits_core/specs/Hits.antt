@@ -10,7 +10,7 @@ use Rattle.go_record.specs.declared.records.Kind.TheVariants as kind
 use Rattle.go_record.specs.declared.faults.RecordFault.{RecordFault}
 use Rattle.tally_core.specs.Occasions.{Occasion, is_empty}
 use Rattle.tally_core.specs.Counts.{points_of}
-use Rattle.tally_core.specs.Collection.{record_of_tree, games_among}
+use Rattle.game_core.specs.Collection.{record_of_tree, games_among}
 use Rattle.hits_core.specs.declared.games.Game.{Game}
 use Rattle.hits_core.specs.declared.hits.Hit.{Hit}
 use Rattle.hits_core.specs.declared.searches.Sought.{Sought}

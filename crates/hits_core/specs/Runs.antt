@@ -5,7 +5,7 @@ use Rattle.sgf_core.specs.Tree.{GameTree}
 use Rattle.sgf_core.specs.Next.{HasNoTree}
 use Rattle.sgf_core.specs.Limit.{most_bytes}
 use Rattle.sgf_core.specs.declared.faults.SgfFault.TheVariants as sgf
-use Rattle.tally_core.specs.Counted.{HasFault}
+use Rattle.game_core.specs.Faults.{HasFault}
 use Rattle.engine_core.specs.declared.boards.Outcome.{Outcome}
 use Rattle.engine_core.specs.declared.boards.Outcome.TheVariants as outcome
 use Rattle.engine_core.specs.declared.faults.RunFault.{RunFault}

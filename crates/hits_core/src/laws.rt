@@ -6,7 +6,7 @@ ghost use Rattle.shape_core.specs.Field.{Includes};
 ghost use Rattle.shape_core.specs.Word.{kind_of};
 ghost use Rattle.shape_core.specs.declared.words.Kinds.{Kinds};
 ghost use Rattle.shape_dict.specs.Contents.{entry_of};
-ghost use Rattle.tally_core.specs.Collection.{AreTrees};
+ghost use Rattle.game_core.specs.Collection.{AreTrees};
 ghost use Rattle.tally_core.specs.Counted.{IsCounted};
 ghost use Rattle.tally_core.specs.declared.collections.Counted.{Counted};
 ghost use Rattle.hits_core.specs.Agreement.{times_hit, times_counted};

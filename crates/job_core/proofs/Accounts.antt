@@ -5,10 +5,10 @@ use Rattle.std.proofs.lemmas.List.Sums.{sum_by_push}
 use mathlib.Core.Option.{some}
 use lib.ListN.{get_elem?}
 use Rattle.atomic_table.specs.Seated.{TableId}
-use Rattle.job_core.specs.declared.jobs.Item.{Item}
-use Rattle.job_core.specs.declared.jobs.Item.TheVariants.{Job, End}
+use Rattle.job_core.specs.declared.items.Item.{Item}
+use Rattle.job_core.specs.declared.items.Item.TheVariants.{Job, End}
 use Rattle.job_core.specs.declared.hands.Hand.{Hand}
-use Rattle.job_core.specs.Games.{WrittenGame}
+use Rattle.game_core.specs.Games.{WrittenGame}
 use Rattle.job_core.specs.Times.{times_of}
 use Rattle.job_core.specs.Rule.{all_parts, reader, worker, spent, putting, drawing, lending, taking_up}
 use Rattle.job_core.specs.Queue.{games_in, ends_in, JobsFirst, all_drawn, times_put, times_drawn, Fits, LosesNothing}

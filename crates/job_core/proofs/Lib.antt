@@ -2,6 +2,4 @@ pub mod Orders
 pub mod Sums
 mod Accounts
 mod Rules
-mod Reports
-pub mod OneGame
 pub mod Turns

@@ -1,8 +1,8 @@
 -- Rising numbers, and queued jobs, at their ends.
 use Rattle.std.proofs.Common.{◌≡◌, ℕ, suc, ◌≤◌, List, [], ◌∷◌, ◌++◌, refl, arith}
-use Rattle.job_core.specs.declared.jobs.Item.{Item}
-use Rattle.job_core.specs.declared.jobs.Item.TheVariants.{Job, End}
-use Rattle.job_core.specs.Games.{WrittenGame}
+use Rattle.job_core.specs.declared.items.Item.{Item}
+use Rattle.job_core.specs.declared.items.Item.TheVariants.{Job, End}
+use Rattle.game_core.specs.Games.{WrittenGame}
 use Rattle.job_core.specs.Rising.{Rising, past}
 use Rattle.job_core.specs.Queue.{Queued}
 

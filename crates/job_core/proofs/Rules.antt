@@ -6,8 +6,8 @@ use lib.ListN.{get_elem?}
 use Rattle.crossbeam_queue.specs.Fifo.{Pushes, Pops, Forks, Merges, Learns}
 use Rattle.crossbeam_queue.proofs.Lists.{at_set, at_snoc, set_else}
 use Rattle.atomic_table.specs.Seated.{TableId}
-use Rattle.job_core.specs.declared.jobs.Item.{Item}
-use Rattle.job_core.specs.declared.jobs.Item.TheVariants.{Job, End}
+use Rattle.job_core.specs.declared.items.Item.{Item}
+use Rattle.job_core.specs.declared.items.Item.TheVariants.{Job, End}
 use Rattle.job_core.specs.declared.hands.Hand.{Hand}
 use Rattle.job_core.specs.Rising.{Rising, past}
 use Rattle.job_core.specs.Rule.{all_parts, blank, spent, reader, worker, putting, drawing, lending, taking_up, Draws, MayPut}

@@ -1,9 +1,9 @@
 -- A reader's desk and its games, from one game to the next, and what a worker draws in one call.
 use Rattle.std.proofs.Common.{◌≡◌, ℕ, suc, List, [], ◌∷◌, ◌++◌, sym, subst, ◌∙◌, ap, arith, append_assoc}
 use Rattle.job_core.specs.declared.hands.Hand.{Hand}
-use Rattle.job_core.specs.declared.jobs.Item.TheVariants.{Job}
-use Rattle.job_core.specs.Games.{WrittenGame}
-use Rattle.job_core.specs.Reading.{Reading, IsNextGame}
+use Rattle.job_core.specs.declared.items.Item.TheVariants.{Job}
+use Rattle.game_core.specs.Games.{WrittenGame}
+use Rattle.game_core.specs.Reading.{Reading, IsNextGame}
 use Rattle.job_core.specs.Rising.{Rising, past}
 use Rattle.job_core.specs.Rule.{putting, Draws}
 use Rattle.job_core.specs.Inner.Rule.{IsInStep}

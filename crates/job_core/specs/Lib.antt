@@ -1,5 +1,3 @@
-pub mod Games
-pub mod Reading
 pub mod Rising
 pub mod Times
 pub mod Which

@@ -2,8 +2,8 @@
 use Rattle.std.specs.Prelude.{◌≡◌, ◌⊎◌, ℕ, ◌+◌, ◌<◌, ◌≤◌, suc, true, false, List, [], ◌∷◌, ◌++◌, sum_by}
 use mathlib.Core.Option.{some}
 use lib.ListN.{get_elem?}
-use Rattle.job_core.specs.declared.jobs.Item.{Item}
-use Rattle.job_core.specs.declared.jobs.Item.TheVariants.{Job, End}
+use Rattle.job_core.specs.declared.items.Item.{Item}
+use Rattle.job_core.specs.declared.items.Item.TheVariants.{Job, End}
 use Rattle.job_core.specs.declared.hands.Hand.{Hand}
 use Rattle.job_core.specs.Rising.{Rising, past}
 use Rattle.job_core.specs.Times.{times_of}

@@ -1,8 +1,8 @@
 -- What the passes of the queue know, and how that changes.
 use Rattle.std.specs.Prelude.{◌≡◌, ℕ, ◌+◌, ◌-◌, ◌≤◌, suc, true, false, List, [], ◌∷◌, ◌++◌, ⊤}
 use Rattle.atomic_table.specs.Seated.{TableId}
-use Rattle.job_core.specs.declared.jobs.Item.{Item}
-use Rattle.job_core.specs.declared.jobs.Item.TheVariants.{Job, End}
+use Rattle.job_core.specs.declared.items.Item.{Item}
+use Rattle.job_core.specs.declared.items.Item.TheVariants.{Job, End}
 use Rattle.job_core.specs.declared.hands.Hand.{Hand}
 use Rattle.job_core.specs.Rising.{Rising, past}
 use Rattle.job_core.specs.Which.{nowhere}

@@ -1,7 +1,7 @@
 //! What the passes of the queue know, and its rule.
 ghost use Rattle.std.specs.Prelude.{◌≡◌, ⊤};
 
-use crate::jobs::Item;
+use crate::items::Item;
 use crossbeam_queue::protocol::{Join, Lesson, Outcome, Protocol, Split};
 use crossbeam_queue::{Pass, RuledArrayQueue};
 use std::collections::LinkedList;

@@ -1,26 +1,9 @@
 //! Laws of jobs, for proofs in the crates above. Each is a function that does nothing, and its
 //! contract is the law.
-ghost use Rattle.std.specs.Prelude.{◌≡◌, ℕ, ◌<◌, ◌++◌, List, Some, length, map, slice_get};
-ghost use Rattle.sgf_core.specs.Tree.{GameTree};
-ghost use Rattle.sgf_core.specs.Next.{HasNoTree};
-ghost use Rattle.go_record.specs.Actions.{Actions};
-ghost use Rattle.tally_core.specs.Collection.{AreTrees, record_of_tree, games_among};
-ghost use Rattle.job_core.specs.Games.{IsGameOf};
+ghost use Rattle.std.specs.Prelude.{ℕ, ◌++◌, List};
 ghost use Rattle.job_core.specs.Rising.{Rising, past};
 
-/// An input has one list of trees, so the record of a job is that of the game of its number: among
-/// all trees, and among the first of them where they have a game of that number.
-pub fn a_number_is_of_one_game()
-    ensures all { (bytes : List ℕ) (trees : List GameTree) (end game at stop : ℕ)
-        → (actions : Actions)
-        → AreTrees bytes 0 trees end → HasNoTree bytes end → IsGameOf bytes game at stop actions
-        → slice_get (games_among (map record_of_tree trees)) game ≡ Some actions }
-    ensures first { (bytes : List ℕ) (trees : List GameTree) (end game at stop : ℕ)
-        → (actions : Actions)
-        → AreTrees bytes 0 trees end → game < length (games_among (map record_of_tree trees))
-        → IsGameOf bytes game at stop actions
-        → slice_get (games_among (map record_of_tree trees)) game ≡ Some actions }
-{}
+pub use game_core::a_number_is_of_one_game;
 
 /// The end of a list of rising numbers rises, from the end of its front on. So the games that a
 /// worker draws in one call rise, whatever its pass drew before.

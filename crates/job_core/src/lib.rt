@@ -1,14 +1,12 @@
-//! The games of a collection as jobs, and the queue that hands them to workers. No thread is
-//! started here.
+//! The queue that hands the games of a collection to workers as jobs. No thread is started here.
 #![tactic(auto)]
 
-mod games;
 mod hands;
-mod jobs;
+mod items;
 pub mod laws;
 mod queues;
 
-pub use games::Games;
+pub use game_core::{Games, Job};
 pub use hands::{Jobs, Seat};
-pub use jobs::{Item, Job};
+pub use items::Item;
 pub use queues::{Desk, new_queue};

@@ -10,7 +10,7 @@ ghost use Rattle.job_core.specs.Queue.{all_drawn};
 ghost use Rattle.job_core.specs.Times.{times_of};
 
 use crate::hands::{Cut, Input, Jobs, Joined, Names, Puts, Seat, Settles, Takes};
-use crate::jobs::Item;
+use crate::items::Item;
 use std::alloc::Global;
 use std::marker::{Brand, Model};
 use std::sync::Wait;

@@ -8,10 +8,12 @@ use Rattle.go_record.specs.declared.records.Kind.{Kind}
 use Rattle.go_record.specs.declared.records.Kind.TheVariants as kind
 use Rattle.go_record.specs.declared.faults.RecordFault.{RecordFault}
 use Rattle.shape_core.specs.declared.words.Kinds.{Kinds}
-use Rattle.tally_core.specs.Collection.{AreTrees, record_of_tree, games_among, others_among, refused_among, AreReplayed}
+use Rattle.game_core.specs.Collection.{AreTrees, record_of_tree, games_among, others_among, refused_among}
+use Rattle.tally_core.specs.Collection.{AreReplayed}
 use Rattle.go_record.specs.Actions.{Actions, AreOnBoard}
 use Rattle.tally_core.specs.Counts.{Replayed}
-use Rattle.tally_core.specs.Counted.{IsCounted, IsReport}
+use Rattle.game_core.specs.Reports.{IsReport}
+use Rattle.tally_core.specs.Counted.{IsCounted}
 use Rattle.tally_core.specs.declared.collections.Counted.{Counted}
 use Rattle.listing_core.specs.declared.lines.Line.{Line}
 use Rattle.listing_core.specs.declared.lines.What.{What}

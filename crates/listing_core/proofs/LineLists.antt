@@ -10,7 +10,7 @@ use Rattle.shape_dict.specs.Text.{line_feed}
 use Rattle.go_record.specs.declared.records.Kind.{Kind}
 use Rattle.go_record.specs.declared.records.Kind.TheVariants as kind
 use Rattle.go_record.specs.declared.faults.RecordFault.{RecordFault}
-use Rattle.tally_core.specs.Collection.{record_of_tree, games_among, AreTrees}
+use Rattle.game_core.specs.Collection.{record_of_tree, games_among, AreTrees}
 use Rattle.listing_core.specs.declared.lines.Line.{Line}
 use Rattle.listing_core.specs.Lines.{line_text, number_text, bounds_text, what_text}
 use Rattle.listing_core.specs.Listing.{number_of, AreLines}

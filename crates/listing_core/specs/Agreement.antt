@@ -1,6 +1,6 @@
 -- What the lines of a listing say together, against what `count` reports.
 use Rattle.std.specs.Prelude.{◌≡◌, ℕ, Bool, true, false, List, count_by}
-use Rattle.tally_core.specs.declared.reports.Report.{Report}
+use Rattle.game_core.specs.declared.reports.Report.{Report}
 use Rattle.listing_core.specs.declared.lines.Line.{Line}
 use Rattle.listing_core.specs.declared.lines.What.{What}
 use Rattle.listing_core.specs.declared.lines.What.TheVariants as what

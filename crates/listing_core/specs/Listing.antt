@@ -12,7 +12,7 @@ use Rattle.go_record.specs.declared.faults.RecordFault.TheVariants as record_fau
 use Rattle.sgf_core.specs.declared.faults.SgfFault.TheVariants as sgf
 use Rattle.engine_core.specs.declared.faults.RunFault.{RunFault}
 use Rattle.engine_core.specs.declared.faults.RunFault.TheVariants as fault
-use Rattle.tally_core.specs.Collection.{record_of_tree, games_among}
+use Rattle.game_core.specs.Collection.{record_of_tree, games_among}
 use Rattle.listing_core.specs.declared.lines.Line.{Line}
 use Rattle.listing_core.specs.declared.lines.What.{What}
 use Rattle.listing_core.specs.declared.lines.What.TheVariants as what

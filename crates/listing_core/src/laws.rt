@@ -3,7 +3,7 @@ ghost use Rattle.std.specs.Prelude.{◌≡◌, ℕ, List, sum_by};
 ghost use Rattle.sgf_core.specs.Tree.{GameTree};
 ghost use Rattle.sgf_core.specs.Next.{HasNoTree};
 ghost use Rattle.shape_core.specs.declared.words.Kinds.{Kinds};
-ghost use Rattle.tally_core.specs.Collection.{AreTrees};
+ghost use Rattle.game_core.specs.Collection.{AreTrees};
 ghost use Rattle.tally_core.specs.Counted.{IsCounted};
 ghost use Rattle.tally_core.specs.declared.collections.Counted.{Counted};
 ghost use Rattle.listing_core.specs.declared.lines.Line.{Line};

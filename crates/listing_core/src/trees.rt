@@ -7,7 +7,7 @@ ghost use Rattle.go_record.specs.Record.{record_of};
 ghost use Rattle.go_record.specs.declared.records.Kind.{Kind};
 ghost use Rattle.go_record.specs.declared.records.Kind.TheVariants as kind;
 ghost use Rattle.go_record.specs.declared.faults.RecordFault.{RecordFault};
-ghost use Rattle.tally_core.specs.Collection.{record_of_tree, games_among};
+ghost use Rattle.game_core.specs.Collection.{record_of_tree, games_among};
 ghost use Rattle.listing_core.specs.Listing.{IsWhat, number_of, HasTree};
 ghost use Rattle.listing_core.specs.Inner.Reading.{IsLineOf, IsTreeStep, IsStep};
 

@@ -3,8 +3,8 @@ use Rattle.std.specs.Prelude.{◌≡◌, ℕ, ◌⊎◌, List, length, map, sum_
 use Rattle.std.specs.List.{AllByRecursion}
 use Rattle.shape_core.specs.declared.words.Kinds.{Kinds}
 use Rattle.tally_core.specs.Occasions.{AreOccasions}
-use Rattle.tally_core.specs.declared.reports.Report.{Report}
-use Rattle.job_core.specs.Games.{WrittenGame, HasReadAll}
+use Rattle.game_core.specs.declared.reports.Report.{Report}
+use Rattle.game_core.specs.Games.{WrittenGame, HasReadAll}
 use Rattle.tally_core.specs.declared.faults.TallyFault.{TallyFault}
 use Rattle.tally_core.specs.Counted.{IsCountFault}
 use Rattle.share_core.specs.Shares.{Held, Added, IsShareOf}

@@ -2,9 +2,11 @@
 ghost use Rattle.std.specs.Prelude.{◌≡◌};
 ghost use Rattle.share_bench.specs.declared.faults.BenchFault.TheVariants as fault;
 ghost use Rattle.share_core.specs.Faults.{same_fault};
+ghost use Rattle.tally_core.specs.Faults.{reading_fault};
 ghost use Rattle.share_core.specs.declared.faults.HarvestFault.TheVariants as count;
 
 use engine_core::RunFault;
+use game_core::GamesFault;
 use go_board::BoardFault;
 use share_core::HarvestFault;
 use std::alloc::AllocError;
@@ -67,6 +69,14 @@ impl From<TallyFault> for BenchFault {
 
     fn from(found: TallyFault) -> BenchFault {
         BenchFault::Count(HarvestFault::of_tally(found))
+    }
+}
+
+impl From<GamesFault> for BenchFault {
+    ghost from_gives = { λ found result. result ≡ fault.Count (same_fault (reading_fault found)) };
+
+    fn from(found: GamesFault) -> BenchFault {
+        BenchFault::Count(HarvestFault::of_tally(TallyFault::from(found)))
     }
 }
 

@@ -2,6 +2,7 @@
 ghost use Rattle.std.specs.Prelude.{◌≡◌};
 ghost use Rattle.share_core.specs.declared.faults.HarvestFault.TheVariants.{Memory};
 
+use game_core::GamesFault;
 use sgf_core::SgfFault;
 use shape_core::Word;
 use slot_table::SlotFault;
@@ -118,5 +119,16 @@ impl From<TallyFault> for HarvestFault {
 
     fn from(found: TallyFault) -> HarvestFault {
         HarvestFault::of_tally(found)
+    }
+}
+
+impl From<GamesFault> for HarvestFault {
+    ghost use Rattle.tally_core.specs.Faults.{reading_fault};
+    ghost use Rattle.share_core.specs.Faults.{same_fault};
+
+    ghost from_gives = { λ found fault. fault ≡ same_fault (reading_fault found) };
+
+    fn from(found: GamesFault) -> HarvestFault {
+        HarvestFault::of_tally(TallyFault::from(found))
     }
 }

@@ -27,7 +27,7 @@ pub mod RisingDictionary
 pub mod Gathered
 pub mod PlayedThere
 pub mod PutTogether
-pub mod Trees
+pub mod NextGame
 pub mod MorePatterns
 pub mod RowLookups
 pub mod Ways

@@ -1,4 +1,4 @@
--- Some trees that were counted have as many patterns as the map in which they were counted.
+-- Some games that were counted have as many patterns as the map in which they were counted.
 use Rattle.std.proofs.Common.{◌≡◌, ℕ, ◌<◌, nat_lt, true, false, cond, List, Some, None, refl, sym, ◌∙◌, arith, Contains}
 use Rattle.std.specs.Cmp.{nat_eq_equiv}
 use Rattle.std.specs.Map.{keys_of}
@@ -24,20 +24,20 @@ positive n given count is =
 pub has_more : (kinds : Kinds) (bytes : List ℕ) (most : ℕ) (counter : Counter) → CountsMore kinds bytes most counter → HasMore kinds bytes most
 has_more kinds bytes most counter h =
     let pairs = counter.counts in
-    let games = h.counted.games in
+    let games = h.up_to.games in
     let long = length-keys_of pairs in
     let more = h.more in
     record {
-      trees = h.trees;
-      end = h.end;
+      trees = h.up_to.trees;
+      end = h.up_to.end;
       games = games;
-      written = h.written;
-      replayed = h.counted.replayed;
+      written = h.up_to.written;
+      replayed = h.up_to.replayed;
       shapes = keys_of pairs;
       more = omega (arith, long, more);
       different = AllPairs-from_IsDistinct Decides-eqb (keys_of pairs) h.once;
       there = All-map (λ (shape : ℕ). 0 < there_sum kinds games shape) (λ (p : ℕ × Count). p.0) pairs
           (All-weaker (Contains pairs) (λ (p : ℕ × Count). 0 < there_sum kinds games p.0)
-          (λ p in'. positive (there_sum kinds games p.0) _ p.1 (sym (h.counted.counted.counted p.0) ∙ lookup-from_Contains nat_eq_equiv p.0 p.1 pairs h.once in'))
+          (λ p in'. positive (there_sum kinds games p.0) _ p.1 (sym (h.up_to.counted.counted p.0) ∙ lookup-from_Contains nat_eq_equiv p.0 p.1 pairs h.once in'))
           pairs (All-contains_itself pairs));
     }

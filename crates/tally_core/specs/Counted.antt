@@ -1,26 +1,20 @@
 -- What a collection is counted as: the dictionary of its games, and how many of its trees are games, are of other games,
 -- and have a fault.
-use Rattle.std.specs.Prelude.{◌≡◌, ◌≢◌, ℕ, ◌<◌, ◌≤◌, List, length, map, All, AllPairs}
+use Rattle.std.specs.Prelude.{◌≢◌, ℕ, ◌<◌, ◌≤◌, List, length, map, All, AllPairs}
 use Rattle.sgf_core.specs.Tree.{GameTree}
 use Rattle.sgf_core.specs.Next.{HasNoTree}
-use Rattle.sgf_core.specs.Reading.{IsFaultAt}
-use Rattle.sgf_core.specs.declared.faults.SgfFault.{SgfFault}
 use Rattle.sgf_core.specs.declared.faults.SgfFault.TheVariants as sgf
+use Rattle.game_core.specs.Collection.{AreTrees, record_of_tree, games_among}
+use Rattle.game_core.specs.Reports.{IsReport}
+use Rattle.game_core.specs.Faults.{HasFault}
 use Rattle.shape_core.specs.declared.words.Kinds.{Kinds}
 use Rattle.tally_core.specs.Counts.{Replayed}
 use Rattle.tally_core.specs.Games.{there_sum, IsDictionaryOf}
-use Rattle.tally_core.specs.Collection.{AreTrees, record_of_tree, games_among, others_among, refused_among, AreReplayed}
+use Rattle.tally_core.specs.Collection.{AreReplayed}
 use Rattle.tally_core.specs.declared.collections.Counted.{Counted}
-use Rattle.tally_core.specs.declared.reports.Report.{Report}
 use Rattle.tally_core.specs.declared.faults.TallyFault.{TallyFault}
 use Rattle.tally_core.specs.declared.faults.TallyFault.TheVariants as fault
 use Rattle.sgf_core.specs.Limit.{most_bytes}
-
--- how many of these trees are of each sort
-pub record IsReport (trees : List GameTree) (report : Report) : Type 0 where
-  pub games : report.games ≡ length (games_among (map record_of_tree trees))
-  pub others : report.others ≡ others_among (map record_of_tree trees)
-  pub refused : report.refused ≡ refused_among (map record_of_tree trees)
 
 -- the input's trees, all of them, were counted
 pub record IsCounted (kinds : Kinds) (bytes : List ℕ) (counted : Counted) : Type 0 where
@@ -45,13 +39,6 @@ pub record HasMore (kinds : Kinds) (bytes : List ℕ) (most : ℕ) : Type 0 wher
   pub more : most < length shapes
   pub different : AllPairs (λ one other. one ≢ other) shapes
   pub there : All (λ shape. 0 < there_sum kinds games shape) shapes
-
--- after trees that can be read, the next one has this fault of syntax
-pub record HasFault (bytes : List ℕ) (found : SgfFault) : Type 0 where
-  pub trees : List GameTree
-  pub end : ℕ
-  pub written : AreTrees bytes 0 trees end
-  pub fault : IsFaultAt bytes end found
 
 -- why a collection was not counted: its size or its syntax, or memory was wanting. No count of an input that is not too
 -- large passes 2 ^ 64 - 1.

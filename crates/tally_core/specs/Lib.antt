@@ -6,5 +6,6 @@ pub mod Walk
 pub mod Entries
 pub mod Tally
 pub mod Limits
+pub mod Faults
 pub mod Counted
 pub mod Inner

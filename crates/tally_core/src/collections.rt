@@ -10,13 +10,12 @@ ghost use Rattle.tally_core.specs.declared.counting.Counter.{Counter};
 ghost use Rattle.tally_core.specs.declared.faults.TallyFault.TheVariants as fault;
 ghost use Rattle.sgf_core.specs.Limit.{most_bytes};
 
-use crate::counting::{Counter, count_trees};
+use crate::counting::{Counter, count_games};
 use crate::dictionaries::{entries_of, entries_within};
 use crate::faults::TallyFault;
 use crate::gathering::dictionary_of;
-use crate::reports::Report;
 use crate::walks::Walk;
-use sgf_core::Trees;
+use game_core::{Games, Report};
 use shape_core::Kinds;
 use shape_dict::{Dictionary, Entry};
 use std::alloc::Global;
@@ -37,42 +36,41 @@ fn likely_patterns(bytes: usize, most: usize) -> usize {
     (bytes / 2).saturating_mul(3).min(most).min(1 << 22)
 }
 
-/// Counts the trees of a collection, unless they have more patterns than `most`: then it is None,
-/// at the first tree with which there are.
+/// Counts the games of a collection, with a report on its trees, unless they have more patterns
+/// than `most`: then it is None, at the first game with which there are.
 fn counter_of(
     alloc: Global,
     kinds: Kinds,
     most: usize,
     bytes: &[u8],
-) -> Result<Option<Counter>, TallyFault>
-    ensures counted { IfOk result (λ found. IfSome found (CountsAll kinds bytes.now)) }
-    ensures small { OnOk result (length bytes.now ≤ most_bytes) }
+) -> Result<Option<(Counter, Report)>, TallyFault>
+    ensures counted { IfOk result (λ found.
+        IfSome found (λ all. CountsAll kinds bytes.now all.1 all.0)) }
     ensures more { IfOk result (λ found. IfNone found (HasMore kinds bytes.now most)) }
     ensures few { IfOk result (λ found. IfNone found (most < 2 ^ 63)) }
     ensures fault { IfErr result (IsCountFault bytes.now) }
     ensures large { most_bytes < length bytes.now
         → IfErr result (λ found. found ≡ fault.Sgf sgf.TooLarge) }
 {
-    let mut trees = Trees::new(bytes).map_err(TallyFault::Sgf)?;
+    let mut games = Games::new(bytes)?;
     let mut counter = Counter::new(alloc, likely_patterns(bytes.len(), most));
     let mut walk = Walk::begin(alloc, kinds);
-    let all = count_trees(alloc, &mut walk, &mut counter, &mut trees, most)?;
+    let all = count_games(alloc, &mut walk, &mut counter, &mut games, most)?;
     if !all {
         return Ok(None);
     }
-    Ok(Some(counter))
+    Ok(Some((counter, games.report())))
 }
 
 /// What a collection is counted as whose trees were all counted, with these moves and this report,
 /// and whose patterns have these entries. It takes no memory.
 fn counted_of(kinds: Kinds, moves: u64, report: Report, entries: Vec<Entry>) -> Counted
-    requires counted { (bytes : List ℕ) × (counter : Counter) × CountsAll kinds bytes counter
-        × IsEndOf counter moves report entries.items }
+    requires counted { (bytes : List ℕ) × (counter : Counter)
+        × CountsAll kinds bytes report counter × IsEndOf counter moves entries.items }
     requires shapes { All IsShape entries.items }
     requires rises { IsStrictlyIncreasing (map (λ entry. entry.shape) entries.items) }
-    ensures { (bytes : List ℕ) → length bytes ≤ most_bytes
-        → (counter : Counter) → CountsAll kinds bytes counter
-        → IsEndOf counter moves report entries.items → IsCounted kinds bytes result }
+    ensures { (bytes : List ℕ) (counter : Counter) → CountsAll kinds bytes report counter
+        → IsEndOf counter moves entries.items → IsCounted kinds bytes result }
 {
     let dictionary = dictionary_of(kinds, report.games, moves, entries);
     Counted { dictionary, report }
@@ -105,14 +103,10 @@ pub fn count_within<R: Threads + Sync>(
     ensures large { most_bytes < length bytes.now
         → IfErr result (λ found. found ≡ fault.Sgf sgf.TooLarge) }
 {
-    let Some(counter) = counter_of(alloc, kinds, most, bytes)? else {
+    let Some((counter, report)) = counter_of(alloc, kinds, most, bytes)? else {
         return Ok(None);
     };
-    let Counter {
-        counts,
-        moves,
-        report,
-    } = counter;
+    let Counter { counts, moves } = counter;
     let entries = entries_within(rt, counts, threads);
     Ok(Some(counted_of(kinds, moves, report, entries)))
 }
@@ -134,10 +128,7 @@ pub fn count_plain(alloc: Global, kinds: Kinds, bytes: &[u8]) -> Result<Counted,
         → IfErr result (λ found. found ≡ fault.Sgf sgf.TooLarge) }
 {
     // A map has at most 2^63 patterns.
-    let Counter {
-        counts,
-        moves,
-        report,
-    } = counter_of(alloc, kinds, usize::MAX, bytes)?.unwrap();
+    let (counter, report) = counter_of(alloc, kinds, usize::MAX, bytes)?.unwrap();
+    let Counter { counts, moves } = counter;
     Ok(counted_of(kinds, moves, report, entries_of(counts)))
 }

@@ -2,6 +2,7 @@
 ghost use Rattle.std.specs.Prelude.{◌≡◌};
 ghost use Rattle.tally_core.specs.declared.faults.TallyFault.TheVariants.{Memory};
 
+use game_core::GamesFault;
 use go_board::BoardFault;
 use sgf_core::SgfFault;
 use std::alloc::{AllocError, AllocFailed};
@@ -46,6 +47,19 @@ impl From<BoardFault> for TallyFault {
     fn from(fault: BoardFault) -> TallyFault {
         match fault {
             BoardFault::Memory => TallyFault::Memory,
+        }
+    }
+}
+
+impl From<GamesFault> for TallyFault {
+    ghost use Rattle.tally_core.specs.Faults.{reading_fault};
+
+    ghost from_gives = { λ found fault. fault ≡ reading_fault found };
+
+    fn from(found: GamesFault) -> TallyFault {
+        match found {
+            GamesFault::Sgf(fault) => TallyFault::Sgf(fault),
+            GamesFault::Memory => TallyFault::Memory,
         }
     }
 }

@@ -1,4 +1,5 @@
-//! The examples of the pages of `sgf_core`, `go_board`, `go_record` and `tally_core`.
+//! The examples of the pages of `sgf_core`, `go_board`, `go_record`, `game_core` and `tally_core`.
+use game_core::{Games, GamesFault};
 use go_board::{Board, Colour, Point, Size, Stone};
 use go_record::{Kind, Record, read_record, replay};
 use sgf_core::{Tree, Trees};
@@ -53,6 +54,26 @@ fn go_record(rt: HostRuntime) -> Result<(), Fail> {
         replay(&mut board, record.actions());
         assert!(rt; board.cell(Point { column: 1, row: 0 }) == Stone::White);
     }
+    Ok(())
+}
+
+/// The number of the next game and its place, where there is one.
+fn next_game(
+    alloc: Global,
+    games: &mut Games<'_>,
+) -> Result<Option<(u64, usize, usize)>, GamesFault> {
+    match games.next_job(alloc)? {
+        Some(job) => Ok(Some((job.game(), job.at(), job.end()))),
+        None => Ok(None),
+    }
+}
+
+#[test]
+fn game_core(rt: HostRuntime) -> Result<(), Fail> {
+    let mut games = Games::new(b"(;SZ[1];B[aa])(;GM[2])")?;
+    assert!(rt; next_game(rt.alloc(), &mut games) == Ok(Some((0, 0, 14))));
+    assert!(rt; next_game(rt.alloc(), &mut games) == Ok(None));
+    assert!(rt; games.report().others == 1);
     Ok(())
 }
 

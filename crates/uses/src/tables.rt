@@ -1,8 +1,9 @@
 //! The examples of the pages of `probe_core`, `slot_table` and `job_core`.
-use job_core::Games;
+use job_core::{Desk, Games, Item, new_queue};
 use probe_core::{Answer, Capacity, Key, OddStep, SoloTable};
 use slot_table::SlotTable;
 use std::alloc::Global;
+use std::sync::Wait;
 use std::test::Fail;
 use tally_core::TallyFault;
 
@@ -28,22 +29,23 @@ fn slot_table(rt: HostRuntime) -> Result<(), Fail> {
     Ok(())
 }
 
-/// The number of the next game and its place, where there is one.
-fn next_game(
-    alloc: Global,
-    games: &mut Games<'_>,
-) -> Result<Option<(u64, usize, usize)>, TallyFault> {
-    match games.next_job(alloc)? {
-        Some(job) => Ok(Some((job.game(), job.at(), job.end()))),
-        None => Ok(None),
+/// Hands the first game of an input through a queue of one place: its number, as it is drawn.
+fn hand_first<R: Wait>(rt: &R, alloc: Global, input: &[u8]) -> Result<Option<u64>, TallyFault> {
+    let mut games = Games::new(input)?;
+    let (queue, pass) = new_queue(alloc, 1)?;
+    let mut desk = Desk::open(&queue, pass, input);
+    let mut own = desk.another();
+    if let Some(job) = games.next_job(alloc)? {
+        let _ = desk.put(rt, Item::Job(job));
+    }
+    match own.draw(rt) {
+        Some(Item::Job(job)) => Ok(Some(job.game())),
+        Some(Item::End) | None => Ok(None),
     }
 }
 
 #[test]
 fn job_core(rt: HostRuntime) -> Result<(), Fail> {
-    let mut games = Games::new(b"(;SZ[1];B[aa])(;GM[2])")?;
-    assert!(rt; next_game(rt.alloc(), &mut games) == Ok(Some((0, 0, 14))));
-    assert!(rt; next_game(rt.alloc(), &mut games) == Ok(None));
-    assert!(rt; games.report().others == 1);
+    assert!(rt; hand_first(&rt, rt.alloc(), b"(;GM[2])(;SZ[1];B[aa])") == Ok(Some(0)));
     Ok(())
 }

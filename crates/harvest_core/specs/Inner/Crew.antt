@@ -9,7 +9,7 @@ use Rattle.slot_table.specs.declared.entries.Happened.{Happened}
 use Rattle.slot_table.specs.History.{Keeps}
 use Rattle.slot_table.specs.Passes.{Numbers, Known, IsPassOf, calls_of}
 use Rattle.slot_table.specs.Stakes.{IsAsMuch}
-use Rattle.job_core.specs.Games.{HasReadAll}
+use Rattle.game_core.specs.Games.{HasReadAll}
 use Rattle.job_core.specs.Rule.{reader, worker, all_parts}
 use Rattle.job_core.specs.declared.hands.Hand.{Hand}
 use Rattle.gather_core.specs.Covering.{all_games, times_of}

@@ -3,7 +3,7 @@ use Rattle.std.specs.Prelude.{◌≡◌, ℕ, nat_lt, if◌then◌else◌, List,
 use Rattle.tally_core.specs.Counted.{IsCountFault}
 use Rattle.tally_core.specs.declared.faults.TallyFault.TheVariants as tally
 use Rattle.slot_table.specs.Passes.{IsPassOf}
-use Rattle.job_core.specs.Games.{HasReadAll}
+use Rattle.game_core.specs.Games.{HasReadAll}
 use Rattle.gather_core.specs.Covering.{times_of}
 use Rattle.share_core.specs.declared.faults.HarvestFault.{HarvestFault}
 use Rattle.share_core.specs.declared.faults.HarvestFault.TheVariants as fault

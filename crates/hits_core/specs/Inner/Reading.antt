@@ -1,24 +1,14 @@
 -- Games that were read.
 use Rattle.std.specs.Prelude.{◌≡◌, ℕ, ◌<◌, ◌≤◌, List, length}
 use Rattle.sgf_core.specs.Tree.{GameTree}
-use Rattle.sgf_core.specs.Next.{IsNextTree, HasNoTree}
+use Rattle.sgf_core.specs.Next.{HasNoTree}
 use Rattle.sgf_core.specs.Limit.{most_bytes}
 use Rattle.sgf_core.specs.declared.faults.SgfFault.TheVariants as sgf
-use Rattle.tally_core.specs.Collection.{record_of_tree}
-use Rattle.tally_core.specs.Counted.{HasFault}
+use Rattle.game_core.specs.Faults.{HasFault}
 use Rattle.tally_core.specs.declared.faults.TallyFault.{TallyFault}
 use Rattle.tally_core.specs.declared.faults.TallyFault.TheVariants as fault
 use Rattle.hits_core.specs.declared.games.Game.{Game}
-use Rattle.hits_core.specs.declared.reading.Recorded.{Recorded}
 use Rattle.hits_core.specs.Hits.{AreGames}
-
--- the tree that is next from a place on, with its record
-pub record IsRecorded (bytes : List ℕ) (from : ℕ) (read : Recorded) : Type 0 where
-  pub tree : GameTree
-  pub next : IsNextTree bytes from read.at read.end tree
-  pub recorded_so : read.recorded ≡ record_of_tree tree
-  pub forward : from < read.end
-  pub in_input : read.end ≤ length bytes
 
 -- these are the games of the trees up to a place
 pub record ReadsUpTo (bytes : List ℕ) (place : ℕ) (games : List Game) : Type 0 where

@@ -3,9 +3,9 @@ use Rattle.std.specs.Prelude.{◌≡◌, ℕ, ◌<◌, ◌≤◌, true, Option}
 use Rattle.crossbeam_queue.specs.declared.array_queue.Doing.{Doing}
 use Rattle.crossbeam_queue.specs.declared.array_queue.Slotted.{Slotted}
 use Rattle.crossbeam_queue.specs.Passes.{Pass, view, IsPassOf}
-use Rattle.job_core.specs.declared.jobs.Item.{Item}
+use Rattle.job_core.specs.declared.items.Item.{Item}
 use Rattle.job_core.specs.declared.hands.Hand.{Hand}
-use Rattle.job_core.specs.Reading.{Reading}
+use Rattle.game_core.specs.Reading.{Reading}
 use Rattle.job_core.specs.Rising.{past}
 use Rattle.job_core.specs.Which.{id_of}
 use Rattle.job_core.specs.Queue.{times_put, times_drawn}

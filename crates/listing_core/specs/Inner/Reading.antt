@@ -7,7 +7,7 @@ use Rattle.sgf_core.specs.Reading.{Reading, IsFaultAt}
 use Rattle.sgf_core.specs.Written.{WrittenTree}
 use Rattle.go_record.specs.declared.records.Kind.{Kind}
 use Rattle.go_record.specs.declared.faults.RecordFault.{RecordFault}
-use Rattle.tally_core.specs.Collection.{record_of_tree, games_among}
+use Rattle.game_core.specs.Collection.{record_of_tree, games_among}
 use Rattle.listing_core.specs.declared.lines.Line.{Line}
 use Rattle.listing_core.specs.declared.listings.Ending.{Ending}
 use Rattle.listing_core.specs.declared.trees.Step.{Step}

@@ -1,9 +1,9 @@
 use Rattle.std.proofs.Common.{◌≡◌, List, [], append-nil, sym, subst}
 use Rattle.slot_table.specs.declared.entries.Happened.{Happened}
 use Rattle.slot_table.proofs.Later.{later_self}
-use Rattle.job_core.specs.Games.{WrittenGame}
-use Rattle.job_core.specs.declared.jobs.Item.{Item}
-use Rattle.job_core.specs.declared.jobs.Item.TheVariants.{Job}
+use Rattle.game_core.specs.Games.{WrittenGame}
+use Rattle.job_core.specs.declared.items.Item.{Item}
+use Rattle.job_core.specs.declared.items.Item.TheVariants.{Job}
 use Rattle.harvest_core.specs.InTable.{IsInTable}
 use Rattle.harvest_core.specs.Working.{IsWorked, IsRefused, CallsIn}
 use Rattle.harvest_core.proofs.CallsIn.{game_in_input, no_calls_in}

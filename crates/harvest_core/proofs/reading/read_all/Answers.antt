@@ -3,8 +3,8 @@ use Rattle.slot_table.specs.Passes.{Numbers, IsPassOf}
 use Rattle.slot_table.proofs.Later.{later_self}
 use Rattle.gather_core.specs.Checking.{Stand}
 use Rattle.job_core.specs.Rising.{past}
-use Rattle.job_core.specs.declared.jobs.Item.TheVariants.{Job}
-use Rattle.job_core.specs.Reading.{IsNextGame, HasNoGame}
+use Rattle.job_core.specs.declared.items.Item.TheVariants.{Job}
+use Rattle.game_core.specs.Reading.{IsNextGame, HasNoGame}
 use Rattle.job_core.specs.Rule.{putting}
 use Rattle.job_core.specs.Inner.Rule.{IsInStep}
 use Rattle.job_core.proofs.Turns.{in_step_put, in_step_back}

@@ -3,8 +3,8 @@ use Rattle.std.specs.Prelude.{IsSome}
 use Rattle.std.proofs.lemmas.Bool.{false≢true}
 use Rattle.slot_table.proofs.Later.{later_self}
 use Rattle.job_core.specs.declared.hands.Hand.{Hand}
-use Rattle.job_core.specs.declared.jobs.Item.{Item}
-use Rattle.job_core.specs.declared.jobs.Item.TheVariants.{Job, End}
+use Rattle.job_core.specs.declared.items.Item.{Item}
+use Rattle.job_core.specs.declared.items.Item.TheVariants.{Job, End}
 use Rattle.job_core.specs.Rule.{drawing, Draws}
 use Rattle.harvest_core.specs.Working.{IsWorked, IsRefused, HasDrawn}
 use Rattle.harvest_core.proofs.Drawn.{IsCountedBy, drawn_none, drawn_above, drawn_more}

@@ -1,32 +1,40 @@
-use Rattle.std.proofs.Common.{◌≡◌, ◌≤◌, ◌∙◌, IfSome, ap, sym, subst, arith, length, rules}
-use Rattle.sgf_core.specs.Limit.{most_bytes}
-use Rattle.sgf_core.specs.Reading.{Reading}
-use Rattle.tally_core.proofs.Used.{passed_up}
-use Rattle.tally_core.specs.Inner.Counting.{IsNextFault}
-use Rattle.hits_core.specs.Inner.Reading.{IsRecorded, ReadsUpTo, IsReadFault}
-use Rattle.hits_core.proofs.Trees.{reads-on, read-fault}
+use Rattle.std.proofs.Common.{◌≡◌, ◌+◌, ◌∷◌, [], ◌++◌, ◌∙◌, IfSome, IfNone, ap, ap₂, sym, subst, arith, length, length-append}
+use Rattle.game_core.specs.Games.{IsGameOf, HasReadAll}
+use Rattle.game_core.specs.Reading.{IsNextGame, HasNoGame}
+use Rattle.hits_core.specs.declared.games.Game.{Game}
+use Rattle.hits_core.specs.Inner.Reading.{ReadsUpTo}
+use Rattle.hits_core.proofs.Trees.{reads-on, reads-all}
 use Rattle.hits_core.proofs.reading.read_games.Goals as goal
 
 pub loop-games-preserved : goal.loop-games-preserved
 loop-games-preserved c =
     let is = c.loop-games.invariant in
-    let before = c.loop-games.trees in
-    let read : IsRecorded before.bytes before.from c.in-Some.read = subst (λ o. IfSome o (IsRecorded before.bytes before.from)) c.in-Some.is c.in_ok-read.ensures.tree in
-    let after = subst (λ o. IfSome o (λ read. c.next_tree.new.trees ≡ record before { from = read.end })) c.in-Some.is c.in_ok-read.ensures.after in
-    let bytes = ap (λ (r : Reading). r.bytes) after in
-    let from = ap (λ (r : Reading). r.from) after in
+    let input = c.args.input.now in
+    let job = c.in-Some.job in
+    let before = c.loop-games.reader in
+    let after = c.next_job.new.self in
+    let kept = c.into_record.result in
+    let games = c.loop-games.games.items in
+    let new = c.push.new.self.items in
+    let next : IsNextGame before after job = subst (λ o. IfSome o (IsNextGame before after)) c.in-Some.is c.in_ok-job.ensures.job in
+    let game : Game = record { number = job.game; place = job.at; recorded = kept } in
+    let grown : new ≡ games ++ game ∷ [] =
+    c.in_ok-push.ensures.items ∙ ap₂ (λ n p. games ++ record { number = n; place = p; recorded = kept } ∷ []) c.game.ensures.number c.at.ensures in
+    let longer : length new ≡ length games + 1 = ap length grown ∙ length-append games (game ∷ []) in
     record {
-      bytes = bytes ∙ is.bytes;
-      in_input = omega (arith, from, read.in_input, ap length bytes);
-      reads = subst (λ place. ReadsUpTo c.args.input.now place c.push_game.new.games.items) (sym from)
-          (reads-on c.args.input.now before.from c.loop-games.games.items c.push_game.new.games.items c.in-Some.read is.reads
-          (subst (λ bytes. IsRecorded bytes before.from c.in-Some.read) is.bytes read) c.in_ok-push_game.ensures.games);
+      bytes = c.next_job.ensures.bytes ∙ is.bytes;
+      number = omega (arith, next.counted, is.number, longer);
+      reads = subst (λ place. ReadsUpTo input place new) (sym next.ends)
+          (reads-on input before.from games new job.game job.at job.end kept is.reads
+          (subst (λ bytes. IsGameOf bytes job.game job.at job.end kept) (next.bytes ∙ is.bytes) c.into_record.ensures.game) (next.game ∙ is.number) grown);
     }
 
-pub returns-in_err-read-clause-fault : goal.returns-in_err-read-clause-fault
-returns-in_err-read-clause-fault c =
-    let found = c.in_err-read.field-0.0 in
+pub returns-clause-games : goal.returns-clause-games
+returns-clause-games c =
     let is = c.loop-games.invariant in
-    let few : length c.args.input.now ≤ most_bytes = search rules in
-    passed_up c.from_residual-in_err-read.result found (IsReadFault c.args.input.now) c.from_residual-in_err-read.ensures.1
-    (read-fault c.args.input.now c.loop-games.trees.from c.loop-games.games.items found few is.reads (subst (λ bytes. IsNextFault bytes c.loop-games.trees.from found) is.bytes c.in_err-read.ensures.fault))
+    let input = c.args.input.now in
+    let before = c.loop-games.reader in
+    let after = c.next_job.new.self in
+    let none = subst (λ o. IfNone o (HasNoGame before after)) c.in_default.is c.in_ok-job.ensures.none in
+    reads-all input before.from c.loop-games.games.items after.report is.reads
+    (subst (λ bytes. HasReadAll bytes after.report) (c.next_job.ensures.bytes ∙ is.bytes) none.all) (none.games ∙ is.number)

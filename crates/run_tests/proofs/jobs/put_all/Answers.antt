@@ -1,5 +1,5 @@
 use Rattle.std.proofs.Common.{IfSome, subst}
-use Rattle.job_core.specs.Reading.{IsNextGame}
+use Rattle.game_core.specs.Reading.{IsNextGame}
 use Rattle.job_core.proofs.Turns.{in_step_put}
 use Rattle.run_tests.proofs.jobs.put_all.Goals as goal
 

@@ -1,6 +1,6 @@
 use Rattle.std.proofs.Common.{◌≡◌, ◌++◌, ◌∷◌, [], ℕ, List, IfSome, subst, sym, ap, ◌∙◌}
 use Rattle.job_core.specs.declared.hands.Hand.{Hand}
-use Rattle.job_core.specs.Reading.{IsNextGame}
+use Rattle.game_core.specs.Reading.{IsNextGame}
 use Rattle.job_core.proofs.Turns.{in_step_put}
 use Rattle.run_tests.proofs.jobs.put_until_full.Goals as goal
 

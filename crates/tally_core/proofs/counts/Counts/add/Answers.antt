@@ -1,4 +1,4 @@
-use Rattle.std.proofs.Common.{◌+◌, ◌<◌, ◌≡◌, ℕ, List, OnOk, IfErr, ap, sym, subst, ◌∙◌, arith, slice_index_or}
+use Rattle.std.proofs.Common.{◌+◌, ◌<◌, ℕ, List, OnOk, IfErr, ap, sym, subst, ◌∙◌, arith, slice_index_or}
 use Rattle.std.specs.Map.{keys_of}
 use Rattle.shape_dict.specs.declared.entries.Entry.{Entry}
 use Rattle.tally_core.specs.Inner.Count.{Count}

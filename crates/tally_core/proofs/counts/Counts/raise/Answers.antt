@@ -1,5 +1,4 @@
-use Rattle.std.proofs.Common.{◌+◌, ◌^◌, ◌<◌, ◌≤◌, ◌≡◌, ℕ, List, length, nat_eq, Option, ap, sym, subst, ◌∙◌, arith, slice_set, slice_index_or, All}
-use Rattle.std.specs.List.{IsDistinct}
+use Rattle.std.proofs.Common.{◌+◌, ◌^◌, ◌<◌, ◌≤◌, ◌≡◌, ℕ, List, length, ap, sym, subst, ◌∙◌, arith, slice_set, slice_index_or}
 use Rattle.std.specs.Map.{keys_of}
 use Rattle.std.proofs.lemmas.List.{length-map}
 use Rattle.std.proofs.lemmas.List.Elements.{All-get_or}
@@ -7,7 +6,7 @@ use Rattle.shape_dict.specs.declared.entries.Entry.{Entry}
 use Rattle.tally_core.specs.Entries.{IsShape}
 use Rattle.tally_core.specs.Inner.Count.{Count}
 use Rattle.tally_core.specs.Inner.Counter.{count_in, uses_at, one_pattern, used, AreCounts}
-use Rattle.tally_core.specs.Inner.Entries.{pair_of, pairs_of, AreRows}
+use Rattle.tally_core.specs.Inner.Entries.{pair_of, pairs_of}
 use Rattle.tally_core.proofs.Used.{again-uses}
 use Rattle.tally_core.proofs.Lasting.{all-of}
 use Rattle.tally_core.proofs.Pairs.{keys_of-pairs, shape_at, count_is, raised_counts, rows_raised}

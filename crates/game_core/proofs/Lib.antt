@@ -1,0 +1,2 @@
+pub mod OneTree
+pub mod OneGame

@@ -1,0 +1,6 @@
+pub mod Collection
+pub mod Reports
+pub mod Games
+pub mod Faults
+pub mod Reading
+pub mod Inner
