@@ -1,12 +1,12 @@
 //! The rows of a share, one after another.
 ghost use Rattle.slot_table.specs.Passes.{IsPassOf};
 
+use crate::testing::{
+    ALONE, EMPTY, ONE_POINT, TAKEN, TWO_POINTS, first_share, order_of, refusal_of, shape_of,
+};
 use probe_core::ProbeOrder;
 use shape_core::Kinds;
 use share_core::{Row, Share};
-use share_samples::{
-    ALONE, EMPTY, ONE_POINT, TAKEN, TWO_POINTS, first_share, order_of, refusal_of, shape_of,
-};
 use slot_table::{Pass, SlotTable};
 use std::alloc::Global;
 use std::process::Abort;

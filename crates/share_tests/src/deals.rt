@@ -4,13 +4,13 @@ ghost use Rattle.shape_core.specs.declared.words.Kinds.TheVariants as kinds;
 ghost use Rattle.slot_table.specs.Passes.{IsPassOf};
 ghost use Rattle.sgf_core.specs.Limit.{most_bytes};
 
+use crate::testing::{order_of, record_of};
 use gather_core::gather;
 use go_record::Record;
 use probe_core::{OddStep, ProbeOrder};
 use shape_core::Kinds;
 use shape_dict::{Dictionary, Text};
 use share_core::{HarvestFault, Share};
-use share_samples::{order_of, record_of};
 use slot_table::{Pass, SlotTable};
 use std::alloc::Global;
 use std::test::Fail;

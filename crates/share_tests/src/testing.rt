@@ -1,7 +1,4 @@
-//! What the tests of shares, and of what is gathered from them, are made of: games, tables' orders,
-//! patterns, and shares.
-#![tactic(auto)]
-
+//! What the tests share: games, tables' orders, patterns, and shares.
 ghost use Rattle.std.specs.Prelude.{◌≡◌, ◌<◌, ◌∷◌, [], IfOk};
 ghost use Rattle.shape_core.specs.declared.words.Kinds.TheVariants as kinds;
 ghost use Rattle.slot_table.specs.Passes.{IsPassOf};
@@ -19,22 +16,21 @@ use std::process::Abort;
 use std::test::Fail;
 
 /// One move on a board of one point: one pattern.
-pub const ONE_POINT: &[u8] = b"(;SZ[1];B[aa])";
+pub(crate) const ONE_POINT: &[u8] = b"(;SZ[1];B[aa])";
 
 /// Two moves on a board of two points: two patterns.
-pub const TWO_POINTS: &[u8] = b"(;SZ[2:1];B[aa];W[ba])";
+pub(crate) const TWO_POINTS: &[u8] = b"(;SZ[2:1];B[aa];W[ba])";
 
 /// The pattern of `ONE_POINT`.
-pub const ALONE: u64 = 0x3fffffcffffff;
+pub(crate) const ALONE: u64 = 0x3fffffcffffff;
 
-/// The pattern of `TWO_POINTS` that the game meets first.
-pub const EMPTY: u64 = 0x3fff3fcffffff;
+/// The patterns of `TWO_POINTS`, in the order in which the game meets them.
+pub(crate) const EMPTY: u64 = 0x3fff3fcffffff;
 
-/// The one that it meets then.
-pub const TAKEN: u64 = 0x3fffbfcffffff;
+pub(crate) const TAKEN: u64 = 0x3fffbfcffffff;
 
 /// The game that is the first tree, if memory was found for it.
-pub fn record_of(alloc: Global, bytes: &[u8]) -> Option<Record> {
+pub(crate) fn record_of(alloc: Global, bytes: &[u8]) -> Option<Record> {
     let mut trees = Trees::new(bytes).ok()?;
     let tree = trees.next_tree(alloc).ok()??;
     match read_record(alloc, &tree).ok()? {
@@ -44,23 +40,20 @@ pub fn record_of(alloc: Global, bytes: &[u8]) -> Option<Record> {
 }
 
 /// The order of a table of 2^k numbers.
-pub fn order_of(rt: &impl Abort, k: u32) -> OddStep {
+pub(crate) fn order_of(rt: &impl Abort, k: u32) -> OddStep {
     let capacity = Capacity::new(k).expect(rt, "an exponent up to 22");
     OddStep { capacity }
 }
 
-/// The word of these bits, which has to be one.
-pub fn word_of(rt: &impl Abort, bits: u64) -> Word {
+pub(crate) fn word_of(rt: &impl Abort, bits: u64) -> Word {
     Word::new(bits).expect(rt, "a pattern's word")
 }
 
-/// The pattern whose word has these bits; the word has to be the least of its images.
-pub fn shape_of(rt: &impl Abort, bits: u64) -> Shape {
+pub(crate) fn shape_of(rt: &impl Abort, bits: u64) -> Shape {
     Shape::of_word(word_of(rt, bits)).expect(rt, "the least of its images")
 }
 
-/// The entry of the pattern whose word has these bits.
-pub fn entry_of(rt: &impl Abort, bits: u64, there: u64, played: u64, first: u32) -> Entry {
+pub(crate) fn entry_of(rt: &impl Abort, bits: u64, there: u64, played: u64, first: u32) -> Entry {
     Entry {
         shape: shape_of(rt, bits),
         there,
@@ -70,7 +63,7 @@ pub fn entry_of(rt: &impl Abort, bits: u64, there: u64, played: u64, first: u32)
 }
 
 /// A share of this game alone.
-pub fn share_of<O: ProbeOrder>(
+pub(crate) fn share_of<O: ProbeOrder>(
     alloc: Global,
     table: &SlotTable<O>,
     pass: &mut Pass<O>,
@@ -89,7 +82,7 @@ pub fn share_of<O: ProbeOrder>(
 }
 
 /// A share of the game that is written here, under the number 0.
-pub fn first_share<O: ProbeOrder>(
+pub(crate) fn first_share<O: ProbeOrder>(
     alloc: Global,
     table: &SlotTable<O>,
     pass: &mut Pass<O>,
@@ -106,7 +99,7 @@ pub fn first_share<O: ProbeOrder>(
 }
 
 /// Adds the game that is written here, and answers the fault, if there is one.
-pub fn refusal_of<O: ProbeOrder>(
+pub(crate) fn refusal_of<O: ProbeOrder>(
     alloc: Global,
     share: &mut Share,
     table: &SlotTable<O>,
