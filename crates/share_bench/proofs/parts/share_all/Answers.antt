@@ -1,9 +1,22 @@
-use Rattle.std.proofs.Common.{◌<◌, ◌++◌, ◌∷◌, ◌∙◌, [], ℕ, length, subst}
+use Rattle.std.proofs.Common.{rules, ◌<◌, ◌++◌, ◌∷◌, ◌∙◌, [], ℕ, length, ap, subst, sym}
 use Rattle.go_record.specs.Actions.{Actions}
 use Rattle.share_core.specs.Adding.{IsAdded}
+use Rattle.share_core.specs.Shares.{Held, IsShareOf}
 use Rattle.share_core.proofs.Added.{share_of_more}
 use Rattle.share_bench.proofs.Games.{added_of, taken_more}
 use Rattle.share_bench.proofs.parts.share_all.Goals as goal
+
+pub loop-job-init : goal.loop-job-init
+loop-job-init g c =
+    record {
+      pass = c.requires;
+      share = record {
+        added = [];
+        games = search rules;
+        is_of = subst (IsShareOf []) (sym c.begin-share.ensures) (search rules);
+        counts = ap (λ (held : Held). held.kinds) c.begin-share.ensures;
+      };
+    }
 
 pub loop-job-preserved : goal.loop-job-preserved
 loop-job-preserved g c =
