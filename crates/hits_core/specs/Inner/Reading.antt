@@ -1,5 +1,5 @@
 -- Games that were read.
-use Rattle.std.specs.Prelude.{◌≡◌, ℕ, ◌<◌, ◌≤◌, List, length}
+use Rattle.std.specs.Prelude.{ℕ, ◌<◌, ◌≤◌, List, length}
 use Rattle.sgf_core.specs.Tree.{GameTree}
 use Rattle.sgf_core.specs.Next.{HasNoTree}
 use Rattle.sgf_core.specs.Limit.{most_bytes}
