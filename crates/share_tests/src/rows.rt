@@ -1,15 +1,14 @@
 //! The rows of a share, one after another.
 ghost use Rattle.slot_table.specs.Passes.{IsPassOf};
 
-use crate::testing::{
-    ALONE, EMPTY, ONE_POINT, TAKEN, TWO_POINTS, first_share, order_of, refusal_of, shape_of,
-};
 use probe_core::ProbeOrder;
 use shape_core::Kinds;
 use share_core::{Row, Share};
+use share_samples::{
+    ALONE, EMPTY, ONE_POINT, TAKEN, TWO_POINTS, add_written, first_share, shape_of, table_of,
+};
 use slot_table::{Pass, SlotTable};
 use std::alloc::Global;
-use std::process::Abort;
 use std::test::Fail;
 
 /// Whether these rows have one that is this but for its number.
@@ -22,14 +21,15 @@ fn has_row(rows: &[Row], wanted: Row) -> bool {
     })
 }
 
-fn row_of(rt: &impl Abort, bits: u64, there: u64, played: u64, first: u64) -> Row {
-    Row {
+/// A row of the pattern whose word has these bits, if there is one.
+fn row_of(bits: u64, there: u64, played: u64, first: u64) -> Option<Row> {
+    Some(Row {
         number: 0,
-        shape: shape_of(rt, bits),
+        shape: shape_of(bits)?,
         there,
         played,
         first: Some(first),
-    }
+    })
 }
 
 /// The rows of a share, as they come.
@@ -62,32 +62,29 @@ fn share_of_both<O: ProbeOrder>(
     requires { IsPassOf table.now pass.old }
 {
     let mut share = Share::begin(alloc, 0, Kinds::Squares);
-    let two = refusal_of(alloc, &mut share, table, pass, 1, TWO_POINTS)?;
-    let one = refusal_of(alloc, &mut share, table, pass, 0, ONE_POINT)?;
-    if two.is_none() && one.is_none() {
-        Ok(share)
-    } else {
-        Err(Fail::from("a game was refused"))
-    }
+    add_written(alloc, &mut share, table, pass, 1, TWO_POINTS).ok_or("no record")??;
+    add_written(alloc, &mut share, table, pass, 0, ONE_POINT).ok_or("no record")??;
+    Ok(share)
 }
 
 /// The rows of that share, but for their numbers.
-fn rows_of_both(rt: &impl Abort) -> [Row; 3] {
-    [
-        row_of(rt, EMPTY, 2, 1, 1),
-        row_of(rt, TAKEN, 1, 1, 1),
-        row_of(rt, ALONE, 1, 1, 0),
-    ]
+fn rows_of_both() -> Option<[Row; 3]> {
+    Some([
+        row_of(EMPTY, 2, 1, 1)?,
+        row_of(TAKEN, 1, 1, 1)?,
+        row_of(ALONE, 1, 1, 0)?,
+    ])
 }
 
 #[test]
 fn rows_come_by_rising_numbers(rt: HostRuntime) -> Result<(), Fail> {
     let alloc = rt.alloc();
-    let (table, mut pass) = SlotTable::new(alloc, order_of(&rt, 4))?;
+    let wanted = rows_of_both().ok_or("no rows")?;
+    let (table, mut pass) = table_of(alloc, 4).ok_or("no table")?;
     let share = share_of_both(alloc, &table, &mut pass)?;
     let rows = rows_of(alloc, &share)?;
     assert!(rt; rows.len() == 3 && is_rising(&rows));
-    for row in rows_of_both(&rt) {
+    for row in wanted {
         assert!(rt; has_row(&rows, row));
     }
     Ok(())
@@ -107,8 +104,8 @@ fn ends_after(share: &Share, many: usize) -> bool {
 #[test]
 fn no_row_comes_after_the_last(rt: HostRuntime) -> Result<(), Fail> {
     let alloc = rt.alloc();
-    let (table, mut pass) = SlotTable::new(alloc, order_of(&rt, 4))?;
-    let share = first_share(alloc, &table, &mut pass, ONE_POINT)?;
+    let (table, mut pass) = table_of(alloc, 4).ok_or("no table")?;
+    let share = first_share(alloc, &table, &mut pass, ONE_POINT).ok_or("no share")?;
     assert!(rt; ends_after(&share, 1));
     assert!(rt; ends_after(&Share::begin(alloc, 0, Kinds::Squares), 0));
     Ok(())
@@ -118,7 +115,7 @@ fn no_row_comes_after_the_last(rt: HostRuntime) -> Result<(), Fail> {
 #[test]
 fn each_row_is_found_by_its_number(rt: HostRuntime) -> Result<(), Fail> {
     let alloc = rt.alloc();
-    let (table, mut pass) = SlotTable::new(alloc, order_of(&rt, 7))?;
+    let (table, mut pass) = table_of(alloc, 7).ok_or("no table")?;
     let share = share_of_both(alloc, &table, &mut pass)?;
     assert!(rt; share.games() == [1, 0].as_slice() && share.moves() == 3);
     for row in rows_of(alloc, &share)? {

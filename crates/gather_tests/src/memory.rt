@@ -6,13 +6,13 @@ ghost use Rattle.shape_core.specs.declared.words.Kinds.TheVariants as kinds;
 ghost use Rattle.slot_table.specs.Passes.{IsPassOf};
 ghost use Rattle.sgf_core.specs.Limit.{most_bytes};
 
-use crate::testing::{entry_of, order_of, record_of};
 use gather_core::gather;
 use go_record::Record;
 use probe_core::ProbeOrder;
 use shape_core::Kinds;
 use shape_dict::{Dictionary, Entry};
 use share_core::{HarvestFault, Row, Share};
+use share_samples::{entry_of, record_of, table_of};
 use slot_table::{Pass, SlotTable};
 use std::alloc::Global;
 use std::process::Abort;
@@ -144,21 +144,22 @@ fn gather_or_keep<O: ProbeOrder>(
 
 /// The counts of both games, in which an empty point was next to an empty one twice each, once next
 /// to the other colour, and once next to its own; by squares, and by diamonds.
-fn wanted_of(rt: &impl Abort) -> [Entry; 6] {
-    [
-        entry_of(rt, 0x3fff3fcffffff, 4, 2, 0),
-        entry_of(rt, 0x3fff7fcffffff, 1, 1, 0),
-        entry_of(rt, 0x3fffbfcffffff, 1, 1, 1),
-        entry_of(rt, 0x7ffcffcffffff, 4, 2, 0),
-        entry_of(rt, 0x7ffdffcffffff, 1, 1, 0),
-        entry_of(rt, 0x7ffeffcffffff, 1, 1, 1),
-    ]
+fn wanted_of() -> Option<[Entry; 6]> {
+    Some([
+        entry_of(0x3fff3fcffffff, 4, 2, 0)?,
+        entry_of(0x3fff7fcffffff, 1, 1, 0)?,
+        entry_of(0x3fffbfcffffff, 1, 1, 1)?,
+        entry_of(0x7ffcffcffffff, 4, 2, 0)?,
+        entry_of(0x7ffdffcffffff, 1, 1, 0)?,
+        entry_of(0x7ffeffcffffff, 1, 1, 1)?,
+    ])
 }
 
 #[test]
 fn memory_is_found_or_named(rt: HostRuntime) -> Result<(), Fail> {
     let alloc = rt.alloc();
-    let Ok((table, mut pass)) = SlotTable::new(alloc, order_of(&rt, 4)) else {
+    let wanted = wanted_of().ok_or("no entries")?;
+    let Some((table, mut pass)) = table_of(alloc, 4) else {
         return Ok(());
     };
     let Some(share) = share_of_both(&rt, alloc, &table, &mut pass) else {
@@ -169,6 +170,6 @@ fn memory_is_found_or_named(rt: HostRuntime) -> Result<(), Fail> {
         return Ok(());
     };
     assert_eq!(rt; (dictionary.games(), dictionary.moves()), (2, 4));
-    assert!(rt; dictionary.entries() == wanted_of(&rt).as_slice());
+    assert!(rt; dictionary.entries() == wanted.as_slice());
     Ok(())
 }

@@ -4,13 +4,13 @@ ghost use Rattle.shape_core.specs.declared.words.Kinds.TheVariants as kinds;
 ghost use Rattle.slot_table.specs.Passes.{IsPassOf};
 ghost use Rattle.sgf_core.specs.Limit.{most_bytes};
 
-use crate::testing::{order_of, record_of};
 use gather_core::gather;
 use go_record::Record;
-use probe_core::{OddStep, ProbeOrder};
+use probe_core::ProbeOrder;
 use shape_core::Kinds;
 use shape_dict::{Dictionary, Text};
 use share_core::{HarvestFault, Share};
+use share_samples::{record_of, table_of};
 use slot_table::{Pass, SlotTable};
 use std::alloc::Global;
 use std::test::Fail;
@@ -120,14 +120,13 @@ fn gather_three<R: Threads + Sync, O: ProbeOrder>(
 fn gathered_of<R: Threads + Sync>(
     rt: &R,
     alloc: Global,
-    order: OddStep,
     records: &[Record],
     dealt: &[usize],
 ) -> Result<Dictionary, HarvestFault>
     requires few { length records.now ≤ most_bytes }
     requires dealt { length dealt.now ≡ length records.now }
 {
-    let Ok((table, mut pass)) = SlotTable::new(alloc, order) else {
+    let Some((table, mut pass)) = table_of(alloc, 8) else {
         return Err(HarvestFault::Memory);
     };
     gather_three(rt, alloc, &table, &mut pass, records, dealt)
@@ -164,7 +163,7 @@ fn each_way_gives_the_dictionary_of_one_thread(rt: HostRuntime) -> Result<(), Fa
     assert_eq!(rt; wanted.games(), 6);
     assert!(&rt; records.len() == 6);
     for way in WAYS {
-        let gathered = gathered_of(&rt, alloc, order_of(&rt, 8), &records, &way)?;
+        let gathered = gathered_of(&rt, alloc, &records, &way)?;
         assert!(rt; are_alike(&gathered, &wanted));
     }
     Ok(())
@@ -298,7 +297,7 @@ fn threads_meet_and_others_go_on(rt: HostRuntime) -> Result<(), Fail> {
     let records = twenty_of(alloc)?;
     assert!(&rt; records.len() == 20);
     let dealt = [0, 1, 2, 3, 1, 2, 3, 0, 2, 3, 0, 1, 3, 0, 1, 2, 0, 1, 2, 3];
-    let (table, pass) = SlotTable::new(alloc, order_of(&rt, 3))?;
+    let (table, pass) = table_of(alloc, 3).ok_or("no table")?;
     let gathered = four_of(&rt, alloc, &table, pass, &records, &dealt)?;
     let mut text = Vec::new(alloc);
     gathered.write(Text::Three, &mut text)?;

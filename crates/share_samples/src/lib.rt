@@ -1,0 +1,118 @@
+//! What the tests of shares, and of what is gathered from them, are made of: games, tables,
+//! patterns, and shares.
+#![tactic(auto)]
+
+ghost use Rattle.std.specs.Prelude.{◌≡◌, ◌<◌, ◌∷◌, [], IfOk, IfSome};
+ghost use Rattle.shape_core.specs.declared.words.Kinds.TheVariants as kinds;
+ghost use Rattle.slot_table.specs.Passes.{IsPassOf};
+ghost use Rattle.sgf_core.specs.Limit.{most_bytes};
+
+use go_record::{Kind, Record, read_record};
+use probe_core::{Capacity, OddStep, ProbeOrder};
+use sgf_core::Trees;
+use shape_core::{Kinds, Shape, Word};
+use shape_dict::{Entry, FirstGame};
+use share_core::{HarvestFault, Share};
+use slot_table::{Pass, SlotTable};
+use std::alloc::Global;
+
+/// One move on a board of one point: one pattern.
+pub const ONE_POINT: &[u8] = b"(;SZ[1];B[aa])";
+
+/// Two moves on a board of two points: two patterns.
+pub const TWO_POINTS: &[u8] = b"(;SZ[2:1];B[aa];W[ba])";
+
+/// The pattern of `ONE_POINT`.
+pub const ALONE: u64 = 0x3fffffcffffff;
+
+/// The pattern of `TWO_POINTS` that the game meets first.
+pub const EMPTY: u64 = 0x3fff3fcffffff;
+
+/// The one that it meets then.
+pub const TAKEN: u64 = 0x3fffbfcffffff;
+
+/// The game that is the first tree, if memory was found for it.
+pub fn record_of(alloc: Global, bytes: &[u8]) -> Option<Record> {
+    let mut trees = Trees::new(bytes).ok()?;
+    let tree = trees.next_tree(alloc).ok()??;
+    match read_record(alloc, &tree).ok()? {
+        Kind::Go(record) => Some(record),
+        Kind::Other => None,
+    }
+}
+
+/// A table of 2^k numbers with its first pass, if k is at most 22 and memory was found for it.
+pub fn table_of(alloc: Global, k: u32) -> Option<(SlotTable<OddStep>, Pass<OddStep>)>
+    ensures { IfSome result (λ r. IsPassOf r.0 r.1) }
+{
+    let capacity = Capacity::new(k)?;
+    SlotTable::new(alloc, OddStep { capacity }).ok()
+}
+
+/// The pattern whose word has these bits, if the word is the least of its images.
+pub fn shape_of(bits: u64) -> Option<Shape> {
+    Shape::of_word(Word::new(bits)?)
+}
+
+/// The entry of the pattern whose word has these bits, if there is one.
+pub fn entry_of(bits: u64, there: u64, played: u64, first: u32) -> Option<Entry> {
+    Some(Entry {
+        shape: shape_of(bits)?,
+        there,
+        played,
+        first: FirstGame::new(Some(u64::from(first))),
+    })
+}
+
+/// A share of this game alone.
+pub fn share_of<O: ProbeOrder>(
+    alloc: Global,
+    table: &SlotTable<O>,
+    pass: &mut Pass<O>,
+    game: u64,
+    record: &Record,
+) -> Result<Share, HarvestFault>
+    requires pass { IsPassOf table.now pass.old }
+    requires game { game < most_bytes }
+    ensures pass { IsPassOf table.now pass.new }
+    ensures kinds { IfOk result (λ share. share.kinds ≡ kinds.Squares) }
+    ensures games { IfOk result (λ share. share.games ≡ game ∷ []) }
+{
+    let mut share = Share::begin(alloc, 0, Kinds::Squares);
+    share.add(table, pass, game, record)?;
+    Ok(share)
+}
+
+/// A share of the game that is written here, under the number 0, if nothing refused it.
+pub fn first_share<O: ProbeOrder>(
+    alloc: Global,
+    table: &SlotTable<O>,
+    pass: &mut Pass<O>,
+    bytes: &[u8],
+) -> Option<Share>
+    requires { IsPassOf table.now pass.old }
+    ensures pass { IsPassOf table.now pass.new }
+    ensures kinds { IfSome result (λ share. share.kinds ≡ kinds.Squares) }
+    ensures games { IfSome result (λ share. share.games ≡ 0 ∷ []) }
+{
+    let record = record_of(alloc, bytes)?;
+    share_of(alloc, table, pass, 0, &record).ok()
+}
+
+/// Adds the game that is written here to a share, and answers what came of it; None where there
+/// was no memory for the game's record, so that nothing was added.
+pub fn add_written<O: ProbeOrder>(
+    alloc: Global,
+    share: &mut Share,
+    table: &SlotTable<O>,
+    pass: &mut Pass<O>,
+    game: u64,
+    bytes: &[u8],
+) -> Option<Result<(), HarvestFault>>
+    requires pass { IsPassOf table.now pass.old }
+    requires game { game < most_bytes }
+    ensures { IsPassOf table.now pass.new }
+{
+    let record = record_of(alloc, bytes)?;
+    Some(share.add(table, pass, game, &record))
+}
