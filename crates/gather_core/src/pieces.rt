@@ -4,7 +4,7 @@ ghost use Rattle.std.specs.Prelude.{OnOk, IfOk, IfErr};
 ghost use Rattle.share_core.specs.declared.rows.Row.{Row};
 ghost use Rattle.gather_core.specs.Checking.{all_rows};
 ghost use Rattle.gather_core.specs.declared.pieces.Unmade.TheVariants.{Memory};
-ghost use Rattle.gather_core.specs.Inner.Dealing.{block_of, AreDealt};
+ghost use Rattle.gather_core.specs.Inner.Dealing.{block_of, AreDealt, AreDealtBelow};
 ghost use Rattle.gather_core.specs.Inner.Blocks.{AreEven};
 ghost use Rattle.gather_core.specs.Inner.Pieces.{total_at, AreTotals, IsUnmade, IsPiece};
 ghost use Rattle.gather_core.specs.Inner.Pieces.{ArePieces};
@@ -114,8 +114,7 @@ fn piece_of(
 ) -> Result<Vec<KeptRow>, Unmade>
     requires order { from ≤ high }
     requires high { high < 2 ^ 32 }
-    requires dealt { (count : ℕ) × AreDealt shares.now count dealt.now
-        × (high ≤ count * 2 ^ 13) }
+    requires dealt { AreDealtBelow shares.now high dealt.now }
     ensures { IsPiece (all_rows shares.now) from high result }
 {
     let mut made = no_totals(alloc, (high - from).min(1 << SHIFT))?;
@@ -144,8 +143,7 @@ fn piece_at(
     place: usize,
 ) -> Result<Vec<KeptRow>, Unmade>
     requires high { high < 2 ^ 32 }
-    requires dealt { (count : ℕ) × AreDealt shares.now count dealt.now
-        × (high ≤ count * 2 ^ 13) }
+    requires dealt { AreDealtBelow shares.now high dealt.now }
     requires span { span < 2 ^ 32 }
     requires place { from + place * span < high }
     ensures { IsPiece (all_rows shares.now) (from + place * span)
@@ -166,8 +164,7 @@ pub(crate) fn pieces<R: Threads + Sync>(
     high: usize,
     span: usize,
 ) -> Result<Vec<Result<Vec<KeptRow>, Unmade>>, AllocError>
-    requires dealt { (count : ℕ) × AreDealt shares.now count dealt.now
-        × (high ≤ count * 2 ^ 13) }
+    requires dealt { AreDealtBelow shares.now high dealt.now }
     requires order { from ≤ high }
     requires high { high < 2 ^ 32 }
     requires some { 0 < span }

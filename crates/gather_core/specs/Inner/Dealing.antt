@@ -1,5 +1,5 @@
 -- Where the rows of shares are, by blocks of numbers.
-use Rattle.std.specs.Prelude.{◌≡◌, ℕ, ◌<◌, ◌==◌, if◌then◌else◌, List, [], ◌∷◌, ◌++◌, map, length, slice_index_or, All, Result, IfOk}
+use Rattle.std.specs.Prelude.{◌≡◌, ℕ, ◌*◌, ◌^◌, ◌<◌, ◌≤◌, ◌==◌, if◌then◌else◌, List, [], ◌∷◌, ◌++◌, map, length, slice_index_or, All, Result, IfOk}
 use Rattle.std.specs.List.{filter}
 use Rattle.std.specs.Global.{Vec}
 use Rattle.std.specs.declared.alloc.AllocError.{AllocError}
@@ -36,3 +36,7 @@ pub record AreDealt (shares : List Held) (count : ℕ) (dealt : List (Result Dea
   pub long : length dealt ≡ length shares
   pub each : (i : ℕ) (share : Held) (d : Result Dealt AllocError) → i < length shares
       → IfOk (slice_index_or dealt i d) (IsDealt (slice_index_or shares i share).rows count)
+
+-- they were dealt to so many blocks that these have all numbers below this one
+abbrev pub AreDealtBelow : List Held → ℕ → List (Result Dealt AllocError) → Type 0
+AreDealtBelow shares high dealt = (count : ℕ) × AreDealt shares count dealt × (high ≤ count * 2 ^ 13)
