@@ -1,5 +1,5 @@
 -- Totals of numbers, one number after another.
-use Rattle.std.proofs.Common.{◌≡◌, ℕ, zero, suc, ◌+◌, ◌-◌, ◌*◌, min, ◌<◌, ◌≤◌, ◌==◌, ◌&&◌, not, true, false, cond, find, List, [], ◌∷◌, ◌++◌, get_or, length, drop, Option, Some, None, refl, ap, sym, subst, ◌∙◌, arith, append-nil, add-one, ⊎_elim}
+use Rattle.std.proofs.Common.{◌≡◌, ℕ, zero, suc, ◌+◌, ◌-◌, ◌*◌, min, ◌<◌, ◌≤◌, List, [], ◌∷◌, ◌++◌, get_or, length, drop, Option, Some, None, refl, ap, sym, subst, ◌∙◌, arith, append-nil, add-one, ⊎_elim}
 use Rattle.std.specs.List.{filter_map, cons_option}
 use Rattle.std.specs.Option.{option_map}
 use Rattle.std.proofs.Math.Seq.{drop-cons}
@@ -10,7 +10,7 @@ use Rattle.std.proofs.lemmas.List.Elements.{filter_map-append}
 use Rattle.shape_core.specs.Word.{count_from}
 use Rattle.share_core.specs.declared.rows.Row.{Row}
 use Rattle.share_core.specs.Rows.{row_of}
-use Rattle.gather_core.specs.Checking.{is_shape, is_stranger, stranger_in}
+use Rattle.gather_core.specs.Checking.{stranger_in}
 use Rattle.gather_core.specs.Inner.Checking.{unlike_of}
 use Rattle.gather_core.specs.Inner.Totals.{IsTotal}
 use Rattle.gather_core.specs.Inner.Numbers.{none_summed, AreSums}
@@ -21,9 +21,6 @@ use Rattle.gather_core.proofs.Stood.{like_one, like_all}
 use Rattle.gather_core.proofs.Totalled.{found_in, first_none}
 
 -- ---- one number
-no_total : (all : List Row) (number : ℕ) → row_of all number ≡ None → total_at all number ≡ None
-no_total all number none = ap (option_map (summed_as all number)) none
-
 -- and back
 no_row : (all : List Row) (number : ℕ) (o : Option Row) → option_map (summed_as all number) o ≡ None → o ≡ None
 no_row all number None h = refl
@@ -31,11 +28,7 @@ no_row all number (Some row) h = absurd cc
 
 number_of : (all : List Row) (number : ℕ) (o : Option Row) (total : Row) → option_map (summed_as all number) o ≡ Some total → total.number ≡ number
 number_of all number None total h = absurd cc
-number_of all number (Some row) total h = let it : summed_as all number row ≡ total = cc in sym (ap (λ (r : Row). r.number) it)
-
--- a number without rows has no rows of several patterns
-alike_none : (all : List Row) (number : ℕ) → row_of all number ≡ None → AreAlikeAt all number
-alike_none all number none row is = absurd cc
+number_of all number (Some row) total h = Prim.grind (arith)
 
 -- where no row is of another pattern than some one, all are of one
 alike_with : (all : List Row) (number : ℕ) (found : Option ℕ) → stranger_in all number found ≡ None → AreAlikeAt all number
@@ -46,10 +39,6 @@ alike_with all number found none row is =
 -- the total that was added up is that of the number
 total_is : (all : List Row) (number : ℕ) (total : Row) → IsTotal all number total → total_at all number ≡ Some (record total { number = number })
 total_is all number total h =
-    let shape = h.shape in
-    let there = h.there in
-    let played = h.played in
-    let first = h.first in
     ap (option_map (summed_as all number)) h.found ∙ cc
 
 -- ---- more numbers
@@ -72,49 +61,28 @@ totals_more all from number low =
 
 -- the numbers before this one are, and it is too
 alike_more : (all : List Row) (from number : ℕ) → AreAlikeAt all number → ((k : ℕ) → from ≤ k → k < number → AreAlikeAt all k) → (k : ℕ) → from ≤ k → k < number + 1 → AreAlikeAt all k
-alike_more all from number here before k low high = ⊎_elim
-    (λ (less : k < number). before k low less)
-    (λ (last : number ≤ k). let same : number ≡ k = omega arith in subst (AreAlikeAt all) same here)
-    (cases_lt k number)
+alike_more all from number here before k low high = Prim.grind (arith, before k, here)
 
 -- a number without rows adds nothing
 pub totals_none : (all : List Row) (from number : ℕ) (totals : List Row) → from ≤ number → row_of all number ≡ None → AreTotals all from number totals → AreTotals all from (number + 1) totals
 totals_none all from number totals low none h = record {
-  totals_are = h.totals_are ∙ sym (totals_more all from number low
-      ∙ ap (λ o. totals_of all from (number - from) ++ cons_option o []) (no_total all number none)
-      ∙ append-nil (totals_of all from (number - from)));
-  alike = alike_more all from number (alike_none all number none) h.alike;
+  totals_are = Prim.grind (arith, h.totals_are, totals_more all from number, append-nil (totals_of all from (number - from)));
+  alike = alike_more all from number (λ row is. absurd cc) h.alike;
 }
 
 -- one with rows of one pattern adds its total
 pub totals_some : (all : List Row) (from number : ℕ) (totals : List Row) (found : Option ℕ) (total row : Row) → row ≡ record total { number = number } → from ≤ number →
     stranger_in all number found ≡ None → IsTotal all number total → AreTotals all from number totals → AreTotals all from (number + 1) (totals ++ row ∷ [])
 totals_some all from number totals found total row made low none is h = record {
-  totals_are = ap (λ (ts : List Row). ts ++ row ∷ []) h.totals_are ∙ sym (totals_more all from number low
-      ∙ ap (λ o. totals_of all from (number - from) ++ cons_option o []) (total_is all number total is ∙ ap (λ x. Some x) (sym made)));
+  totals_are = Prim.grind (arith, h.totals_are, made, totals_more all from number, total_is all number total is);
   alike = alike_more all from number (alike_with all number found none) h.alike;
-}
-
--- before the first number there is nothing
-pub totals_begin : (all : List Row) (from : ℕ) → AreTotals all from from []
-totals_begin all from = record {
-  totals_are = let none : from - from ≡ 0 = omega arith in ap (totals_of all from) (sym none);
-  alike = λ number low high. absurd (omega arith);
 }
 
 -- ---- one total after another
 -- the numbers of totals are no lesser than the first number
 from_on : (all : List Row) (from count : ℕ) (row : Row) (rest : List Row) → row ∷ rest ≡ totals_of all from count → from ≤ row.number
 from_on all from zero row rest is = absurd cc
-from_on all from (suc count) row rest is =
-    elim (total_at all from) as (λ o. total_at all from ≡ o → row ∷ rest ≡ cons_option o (totals_of all (suc from) count) → from ≤ row.number) [
-      | None ↦ λ none e. let deep = from_on all (suc from) count row rest e in omega arith
-      | Some total ↦ λ some e.
-          let it : row ≡ total = cc in
-          let same = number_of all from (row_of all from) total some in
-          let number = ap (λ (r : Row). r.number) it in
-          omega arith
-    ] refl is
+from_on all from (suc count) row rest is = Prim.grind (arith, number_of all from (row_of all from), from_on all (suc from) count row rest)
 
 -- the totals of this number and later ones
 begin_with : (all : List Row) (number high : ℕ) (rest : List Row) → number < high → AreTotals all number high rest → rest ≡ cons_option (total_at all number) (totals_of all (suc number) (high - (number + 1)))
@@ -134,11 +102,8 @@ pub first_total : (all : List Row) (number high : ℕ) (rest : List Row) (row : 
 first_total all number high rest row tail low is same h =
     let all_are = sym is ∙ begin_with all number high rest low h in
     elim (total_at all number) as (λ o. row ∷ tail ≡ cons_option o (totals_of all (suc number) (high - (number + 1))) → (Some row ≡ o) × AreTotals all (number + 1) high tail) [
-      | None ↦ λ e. let deep = from_on all (suc number) (high - (number + 1)) row tail e in absurd (omega arith)
-      | Some total ↦ λ e.
-          let it : row ≡ total = cc in
-          let others : tail ≡ totals_of all (suc number) (high - (number + 1)) = cc in
-          (ap (λ x. Some x) it, later all number high rest tail h others)
+      | None ↦ λ e. absurd (Prim.grind (arith, from_on all (suc number) (high - (number + 1)) row tail e))
+      | Some total ↦ λ e. (cc, later all number high rest tail h cc)
     ] all_are
 
 -- the number has none
@@ -157,13 +122,6 @@ sums_nothing all number found is =
     record { first = sym (first_none all number none); stranger = sym (stranger_none all number found none) }
 
 -- ---- a total and the pattern that a table has
-like_found : (found : Option ℕ) (shape : ℕ) → cond (is_shape found shape) None (Some shape) ≡ None → found ≡ Some shape
-like_found found shape none =
-    elim (is_shape found shape) as (λ b. is_shape found shape ≡ b → cond b None (Some shape) ≡ None → found ≡ Some shape) [
-      | true ↦ λ same e. like_one found shape (ap not same)
-      | false ↦ λ other e. absurd cc
-    ] refl none
-
 -- a total of the pattern that is asked for is what the rows are together
 pub sums_total : (all : List Row) (number : ℕ) (found : Option ℕ) (total : Row) → Some total ≡ total_at all number → AreAlikeAt all number → unlike_of total found ≡ None →
     AreSums all number found (record { first = total.first; stranger = None })
@@ -172,29 +130,13 @@ sums_total all number found total is alike none =
       | None ↦ λ nothing e. absurd cc
       | Some row ↦ λ some e.
           let it : total ≡ summed_as all number row = cc in
-          let shape = ap (λ (r : Row). r.shape) it in
-          let asked : Some row.shape ≡ found = sym (like_found found total.shape none ∙ ap (λ x. Some x) shape) in
-          record {
-            first = ap (λ (r : Row). r.first) it;
-            stranger = sym (subst (λ f. stranger_in all number f ≡ None) asked (alike row some));
-          }
+          let asked : Some row.shape ≡ found = Prim.grind (arith, like_one found total.shape, ap (λ (r : Row). r.shape) it) in
+          record { first = ap (λ (r : Row). r.first) it; stranger = sym (subst (λ f. stranger_in all number f ≡ None) asked (alike row some)) }
     ] refl is
 
 first_stranger : (rows : List Row) (number : ℕ) (found : Option ℕ) (row : Row) (held : ℕ) → row_of rows number ≡ Some row → unlike_of row found ≡ Some held → stranger_in rows number found ≡ Some held
 first_stranger [] number found row held is unlike = absurd cc
-first_stranger (r ∷ rows) number found row held is unlike =
-    elim (r.number == number) as (λ b. cond b (Some r) (row_of rows number) ≡ Some row →
-    option_map (λ (x : Row). x.shape) (cond (b && not (is_shape found r.shape)) (Some r) (find (is_stranger number found) rows)) ≡ Some held) [
-      | true ↦ λ e.
-          let it : r ≡ row = cc in
-          let same : cond (is_shape found r.shape) None (Some r.shape) ≡ Some held = ap (λ (x : Row). unlike_of x found) it ∙ unlike in
-          elim (is_shape found r.shape) as (λ t. cond t None (Some r.shape) ≡ Some held →
-          option_map (λ (x : Row). x.shape) (cond (not t) (Some r) (find (is_stranger number found) rows)) ≡ Some held) [
-            | true ↦ λ none. absurd cc
-            | false ↦ λ some. some
-          ] same
-      | false ↦ λ e. first_stranger rows number found row held e unlike
-    ] is
+first_stranger (r ∷ rows) number found row held is unlike = Prim.grind (arith, first_stranger rows number found row held)
 
 -- a total of another pattern is a stranger
 pub stranger_total : (all : List Row) (number : ℕ) (found : Option ℕ) (total : Row) (held : ℕ) → Some total ≡ total_at all number → unlike_of total found ≡ Some held →
@@ -203,41 +145,32 @@ stranger_total all number found total held is unlike =
     elim (row_of all number) as (λ o. row_of all number ≡ o → Some total ≡ option_map (summed_as all number) o → Some held ≡ stranger_in all number found) [
       | None ↦ λ nothing e. absurd cc
       | Some row ↦ λ some e.
-          let it : total ≡ summed_as all number row = cc in
-          sym (first_stranger all number found row held some (sym (ap (λ (r : Row). unlike_of r found) it) ∙ unlike))
+          let same : total.shape ≡ row.shape = ap (λ (r : Row). r.shape) (let it : total ≡ summed_as all number row = cc in it) in
+          sym (first_stranger all number found row held some (Prim.grind (arith)))
     ] refl is
 
 -- ---- a place in totals
 -- past the last one no total is left
 pub nothing_left : (rows : List Row) (next number : ℕ) → length rows ≤ next → (row : Row) (tail : List Row) → drop next rows ≡ row ∷ tail → row.number ≡ number → ⊥
-nothing_left rows next number past row tail is same =
-    let none : drop next rows ≡ [] = drop_all next rows past in
-    absurd cc
+nothing_left rows next number past row tail is same = absurd (cc (drop_all next rows past))
 
 pub next_of : (rows : List Row) (next : ℕ) (row : Row) → next < length rows → row ≡ get_or rows next row → drop next rows ≡ row ∷ drop (next + 1) rows
 next_of rows next row inside is =
     drop-cons rows next row inside ∙ ap (λ (r : Row). r ∷ drop (suc next) rows) (sym is) ∙ ap (λ k. row ∷ drop k rows) (sym (add-one next))
 
--- ---- what tests tell
-
 -- ---- where pieces begin
 pub next_begin : (high span first from next place : ℕ) → from ≡ min high (first + place * span) → next ≡ min high (from + span) → next ≡ min high (first + (place + 1) * span)
-next_begin high span first from next place is more =
-    let longer : (place + 1) * span ≡ place * span + 1 * span = add-mul place 1 span in
-    let one = one-mul span in
-    omega arith
+next_begin high span first from next place is more = Prim.grind (arith, add-mul place 1 span, one-mul span)
 
 -- a piece's totals, also where it would begin after the last number
 pub totals_within : (rows : List Row) (high low span : ℕ) (totals : List Row) → AreTotals rows low (min high (low + span)) totals → AreTotals rows (min high low) (min high (low + span)) totals
 totals_within rows high low span totals h = ⊎_elim
     (λ (past : high < low).
-    let none : min high (low + span) - low ≡ 0 = omega arith in
-    let nothing : min high (low + span) - min high low ≡ 0 = omega arith in
+    let none : min high (low + span) - low ≡ min high (low + span) - min high low = omega arith in
+    let nothing : min high (low + span) - low ≡ 0 = omega arith in
     record {
-      totals_are = h.totals_are ∙ ap (totals_of rows low) none ∙ ap (totals_of rows (min high low)) (sym nothing);
+      totals_are = Prim.grind (arith, h.totals_are, ap (totals_of rows low) nothing, ap (totals_of rows (min high low)) (sym none ∙ nothing));
       alike = λ number over under. absurd (omega arith);
     })
-    (λ (before : low ≤ high).
-    let same : low ≡ min high low = omega arith in
-    subst (λ k. AreTotals rows k (min high (low + span)) totals) same h)
+    (λ (before : low ≤ high). subst (λ k. AreTotals rows k (min high (low + span)) totals) (let same : low ≡ min high low = omega arith in same) h)
     (cases_lt high low)

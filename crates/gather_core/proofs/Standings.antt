@@ -1,6 +1,7 @@
--- Rows of patterns that a table has at their numbers, before and after a game was added to their share or refused.
-use Rattle.std.proofs.Common.{◌≡◌, ℕ, ◌<◌, List, ◌++◌, length, Option, Some, None, ap, sym, subst, ◌∙◌, arith, length-append, ⊎_elim, Contains}
-use Rattle.std.proofs.lemmas.List.{get_or_default, length-map}
+-- Rows of patterns that a table has at their numbers, before and after a game was added to their
+-- share or refused.
+use Rattle.std.proofs.Common.{◌≡◌, ℕ, List, ◌++◌, Option, Some, None, ap, sym, subst, ◌∙◌, arith, ⊎_elim, Contains}
+use Rattle.std.proofs.lemmas.List.{get_or_default, map-append}
 use Rattle.std.proofs.lemmas.List.Elements.{Contains-get_or, Contains-append_cases}
 use Rattle.go_record.specs.Actions.{Actions}
 use Rattle.shape_core.specs.declared.words.Kinds.{Kinds}
@@ -10,10 +11,11 @@ use Rattle.slot_table.specs.History.{content_of, Keeps}
 use Rattle.share_core.specs.declared.rows.Row.{Row}
 use Rattle.share_core.specs.declared.faults.HarvestFault.TheVariants as fault
 use Rattle.share_core.specs.Rows.{row_at, blank}
-use Rattle.share_core.specs.Raising.{Numbered, numbered_of}
+use Rattle.share_core.specs.Raising.{Numbered}
 use Rattle.share_core.specs.Shares.{Held}
 use Rattle.share_core.specs.Adding.{AreFresh, HasGrown, IsKept, IsAddFault}
 use Rattle.gather_core.specs.Checking.{Stand}
+use Rattle.share_core.proofs.Raised.{same_length}
 
 -- what is in a list is at some place of it
 at_place : (P : Row → Type 0) (rows : List Row) (row : Row) (there : Contains rows row) → P (row_at rows there.0) → P row
@@ -27,25 +29,17 @@ stand_both n seen history kinds actions rows fresh keeps made stand row among = 
     (λ (new : Contains fresh row). at_place (λ (r : Row). IsNumber (content_of n history) r.shape r.number) fresh row new (made new.0 new.1).2)
     (Contains-append_cases rows fresh row among)
 
-length-numbered : (rows : List Row) → length (numbered_of rows) ≡ length rows
-length-numbered rows = length-map rows (λ (row : Row). (let x : Numbered = record { number = row.number; shape = row.shape } in x))
-
 pub stand_grown : (n : ℕ) (seen history : List Happened) (actions : Actions) (old new : Held) → Keeps n seen history → HasGrown n history actions old new → Stand n seen old.rows → Stand n history new.rows
 stand_grown n seen history actions old new keeps grown stand row among =
     let P : Row → Type 0 = λ r. IsNumber (content_of n history) r.shape r.number in
     let both = stand_both n seen history old.kinds actions old.rows grown.fresh keeps grown.made stand in
     let all = old.rows ++ grown.fresh in
+    let numbered = λ (r : Row). (let x : Numbered = record { number = r.number; shape = r.shape } in x) in
+    let long = same_length new.rows all (grown.numbered ∙ sym (map-append numbered old.rows grown.fresh)) in
     let place = among.0 in
     let low = among.1 in
-    let sum = ap length grown.numbered in
-    let parts = length-append (numbered_of old.rows) (numbered_of grown.fresh) in
-    let one = length-numbered new.rows in
-    let two = length-numbered old.rows in
-    let three = length-numbered grown.fresh in
-    let long = length-append old.rows grown.fresh in
-    let inside : place < length all = omega arith in
     at_place P new.rows row among (⊎_elim
-    (λ (same : row_at new.rows place ≡ row_at all place). subst P (sym same) (both (row_at all place) (Contains-get_or all place (blank 0 0) inside)))
+    (λ (same : row_at new.rows place ≡ row_at all place). subst P (sym same) (both (row_at all place) (Contains-get_or all place (blank 0 0) (omega arith))))
     (λ (stands : P (row_at new.rows place)). stands)
     (grown.stands place low))
 
@@ -55,7 +49,7 @@ stand_kept n seen history actions old new keeps kept stand =
 
 -- a number has one key
 one_key : (n : ℕ) (seen : List Happened) (key other number : ℕ) → IsNumber (content_of n seen) key number → IsNumber (content_of n seen) other number → key ≡ other
-one_key n seen key other number h k = let same : Some key ≡ Some other = sym h.stands ∙ k.stands in cc
+one_key n seen key other number h k = Prim.grind (arith, h.stands, k.stands)
 
 pub no_stranger : (n : ℕ) (seen : List Happened) (game : ℕ) (actions : Actions) (old new : Held) (number : ℕ) (of_share of_table : Option ℕ) → Stand n seen new.rows →
     IsAddFault n seen game actions old new (fault.Stranger number of_share of_table) → ⊥

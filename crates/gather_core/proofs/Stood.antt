@@ -1,42 +1,44 @@
--- Rows that are compared with what a table has, number by number.
-use Rattle.std.proofs.Common.{◌≡◌, ℕ, ◌+◌, ◌<◌, ◌≤◌, ◌==◌, Bool, true, false, not, ◌&&◌, cond, zero, suc, List, [], ◌∷◌, length, get_or, find, Option, Some, None, refl, ap, sym, subst, ◌∙◌, arith, Contains, ⊎_elim}
+-- Rows that are compared with what a table has, number by number, and shares that agree with it,
+-- ready to be added up.
+use Rattle.std.proofs.Common.{◌≡◌, ℕ, ◌+◌, ◌<◌, ◌≤◌, ◌==◌, Bool, true, false, not, ◌&&◌, zero, suc, List, [], ◌∷◌, length, get_or, find, Option, Some, None, ap, sym, subst, ◌∙◌, arith, Contains, ⊎_elim, refl, inl, inr, All}
 use Rattle.std.specs.Option.{option_map}
 use Rattle.std.proofs.Math.ListN.{get_or-eq_default}
 use Rattle.std.proofs.lemmas.Bool.{cases_lt}
 use Rattle.std.proofs.lemmas.Bool.Decides.{nat_tests}
 use Rattle.probe_core.specs.Sequential.{IsNumber}
 use Rattle.slot_table.specs.declared.entries.Happened.{Happened}
-use Rattle.slot_table.specs.History.{content_of}
+use Rattle.slot_table.specs.History.{content_of, IsLegal}
 use Rattle.slot_table.proofs.Histories.{length-content}
 use Rattle.share_core.specs.declared.rows.Row.{Row}
 use Rattle.share_core.specs.declared.faults.HarvestFault.{HarvestFault}
 use Rattle.share_core.specs.declared.faults.HarvestFault.TheVariants as fault
-use Rattle.gather_core.specs.Checking.{stranger_in, is_stranger, is_shape, shape_at, Stand, StandBelow}
+use Rattle.gather_core.specs.Checking.{stranger_in, is_stranger, is_shape, shape_at, Stand, StandBelow, all_rows}
 use Rattle.gather_core.specs.Inner.Checking.{IsFound, IsStandFault, IsBeyondFault}
-use Rattle.share_core.specs.Rows.{AreBelow}
+use Rattle.share_core.specs.Rows.{AreBelow, blank}
+use Rattle.std.specs.Prelude.{Result, Ok, Err, OnOk}
+use Rattle.std.proofs.lemmas.List.Elements.{All-from_get_or, Contains-get_or, Contains-append_right, Contains-append_left, Contains-push}
+use Rattle.slot_table.specs.Passes.{Known}
+use Rattle.slot_table.proofs.Contents.{one_number, one_key, number_below}
+use Rattle.share_core.specs.declared.faults.HarvestFault.TheVariants as fault
+use Rattle.share_core.specs.Shares.{Held}
+use Rattle.gather_core.specs.Covering.{all_games, Covers}
+use Rattle.gather_core.specs.Inner.Gathering.{AreOneEach}
+use Rattle.gather_core.specs.GatherFaults.{IsGatherFault}
+use Rattle.gather_core.specs.Inner.Blocks.{AreAlikeAt}
+use Rattle.gather_core.specs.Inner.Visiting.{IsVisitFault, AreVisited}
+use Rattle.gather_core.specs.declared.agreeing.Differs.{Differs}
+use Rattle.gather_core.proofs.Totalled.{large_pattern, found_in}
 
 -- ---- no stranger is found
 none_found : (p : Row → Bool) (rows : List Row) (k : ℕ) (d : Row) → k < length rows → option_map (λ (r : Row). r.shape) (find p rows) ≡ None → p (get_or rows k d) ≡ false
 none_found p [] k d low none = absurd (omega arith)
-none_found p (row ∷ rows) zero d low none =
-    elim (p row) as (λ b. option_map (λ (r : Row). r.shape) (cond b (Some row) (find p rows)) ≡ None → b ≡ false) [
-      | true ↦ λ some. absurd cc
-      | false ↦ λ rest. refl
-    ] none
-none_found p (row ∷ rows) (suc k) d low none =
-    elim (p row) as (λ b. option_map (λ (r : Row). r.shape) (cond b (Some row) (find p rows)) ≡ None → p (get_or rows k d) ≡ false) [
-      | true ↦ λ some. absurd cc
-      | false ↦ λ rest. none_found p rows k d (omega arith) rest
-    ] none
+none_found p (row ∷ rows) zero d low none = Prim.grind (arith)
+none_found p (row ∷ rows) (suc k) d low none = Prim.grind (arith, none_found p rows k d)
 
 -- what a test of a pattern tells
 pub like_one : (found : Option ℕ) (shape : ℕ) → not (is_shape found shape) ≡ false → found ≡ Some shape
 like_one None shape h = absurd cc
-like_one (Some one) shape h =
-    elim (one == shape) as (λ b. (one == shape) ≡ b → not b ≡ false → Some one ≡ Some shape) [
-      | true ↦ λ same e. ap (λ x. Some x) (let equal : one ≡ shape = Prim.grind (arith, nat_tests) in equal)
-      | false ↦ λ other e. absurd cc
-    ] refl h
+like_one (Some one) shape h = Prim.grind (arith, nat_tests)
 
 -- a row of the number is then of the pattern
 pub like_all : (rows : List Row) (number : ℕ) (found : Option ℕ) (row : Row) → stranger_in rows number found ≡ None → Contains rows row → row.number ≡ number → found ≡ Some row.shape
@@ -47,9 +49,6 @@ like_all rows number found row none among same =
     like_one found row.shape (sym (ap (λ b. b && not (is_shape found row.shape)) test) ∙ here)
 
 -- ---- number by number
-number_told : (n : ℕ) (seen : List Happened) (number : ℕ) (found : Option ℕ) (shape : ℕ) → IsFound n seen number found → found ≡ Some shape → IsNumber (content_of n seen) shape number
-number_told n seen number found shape told is = subst (IsFound n seen number) is told
-
 pub stand_more : (n : ℕ) (seen : List Happened) (rows : List Row) (number : ℕ) (found : Option ℕ) → IsFound n seen number found →
     stranger_in rows number found ≡ None → StandBelow n seen rows number → StandBelow n seen rows (number + 1)
 stand_more n seen rows number found told none h row among low = ⊎_elim
@@ -57,11 +56,8 @@ stand_more n seen rows number found told none h row among low = ⊎_elim
     (λ (last : number ≤ row.number).
     let same : row.number ≡ number = omega arith in
     subst (IsNumber (content_of n seen) row.shape) (sym same)
-    (number_told n seen number found row.shape told (like_all rows number found row none among same)))
+    (subst (IsFound n seen number) (like_all rows number found row none among same) told))
     (cases_lt row.number number)
-
-pub stand_all : (n : ℕ) (seen : List Happened) (rows : List Row) → AreBelow n rows → StandBelow n seen rows n → Stand n seen rows
-stand_all n seen rows below h row among = h row among (below row among)
 
 -- a number that is none of the table's shows nothing
 pub nothing_at : (n : ℕ) (seen : List Happened) (number : ℕ) → n ≤ number → None ≡ shape_at n seen number
@@ -80,3 +76,67 @@ beyond_fault n seen rows (fault.Stranger number of_share None) h f = record {
       (cases_lt row.number n);
 }
 beyond_fault n seen rows _ h f = absurd f
+
+-- ---- all rows
+-- rows of the patterns of a table are of numbers below its own
+pub all_below : (n : ℕ) (seen : List Happened) (rows : List Row) → Stand n seen rows → All (λ (row : Row). row.number < n) rows
+all_below n seen rows stand =
+    All-from_get_or (λ (row : Row). row.number < n) rows (blank 0 0) (λ i inside.
+    let row = get_or rows i (blank 0 0) in
+    number_below n seen row.shape row.number (stand row (Contains-get_or rows i (blank 0 0) inside)))
+
+-- and two of them are of one number exactly where they are of one pattern
+pub one_each : (n : ℕ) (seen : List Happened) (rows : List Row) → IsLegal n seen → Stand n seen rows → AreOneEach rows
+one_each n seen rows legal stand one other first second = (
+  λ number. one_key n seen one.shape other.shape one.number (stand one first) (subst (IsNumber (content_of n seen) other.shape) (sym number) (stand other second)),
+  λ shape. one_number n seen one.shape one.number other.number legal (stand one first) (subst (λ s. IsNumber (content_of n seen) s other.number) (sym shape) (stand other second)),
+)
+
+-- ---- after all numbers
+-- no row is of a number beyond the table's
+pub all_stand : {O : Type 0} {n slots : ℕ} {rows : List Row} {first new : Known O} {differs : Option Differs} → slots ≡ n → AreBelow slots rows →
+    AreVisited n rows n first new differs → Stand n new.seen rows
+all_stand {n = n} {rows = rows} {new = new} same below h = λ row among. h.stand row among (subst (λ k. AreBelow k rows) same below row among)
+
+-- or some is
+pub beyond_visited : {O : Type 0} (n slots : ℕ) (rows : List Row) (first new : Known O) (found : HarvestFault) → slots ≡ n → StandBelow n new.seen rows n → IsBeyondFault slots rows found →
+    IsVisitFault n rows first new found
+beyond_visited n slots rows first new (fault.Stranger number of_share None) same h f =
+    beyond_fault n new.seen rows (fault.Stranger number of_share None) h (subst (λ k. IsBeyondFault k rows (fault.Stranger number of_share None)) same f)
+beyond_visited n slots rows first new _ same h f = absurd f
+
+pub beyond_table : {O : Type 0} (n slots games : ℕ) (shares : List Held) (first new : Known O) (found : HarvestFault) → slots ≡ n → Covers games (all_games shares) →
+    StandBelow n new.seen (all_rows shares) n → IsBeyondFault slots (all_rows shares) found → IsGatherFault n games shares first new found
+beyond_table n slots games shares first new (fault.Stranger number of_share None) same covers h f =
+    (covers, beyond_visited n slots (all_rows shares) first new (fault.Stranger number of_share None) same h f)
+beyond_table n slots games shares first new _ same covers h f = absurd f
+
+-- what ends a visit is what is told
+pub visit_fault : {O : Type 0} (n games : ℕ) (shares : List Held) (first new : Known O) (found : HarvestFault) → Covers games (all_games shares) → IsLegal n new.seen →
+    IsVisitFault n (all_rows shares) first new found → IsGatherFault n games shares first new found
+visit_fault n games shares first new fault.Memory covers legal h = tt
+visit_fault n games shares first new (fault.Stranger number of_share of_table) covers legal h = (covers, h)
+visit_fault n games shares first new (fault.Marks number of_shares of_table) covers legal h = (covers, h.0, h.1)
+visit_fault n games shares first new fault.Overflow covers legal h =
+    let large = large_pattern (all_rows shares) h.2.0 (one_each n new.seen (all_rows shares) legal h.0) h.2.1 in
+    (covers, h.0, h.1, ⊎_elim (λ there. inl there) (λ played. inr (inl played)) large)
+visit_fault n games shares first new _ covers legal h = absurd h
+
+-- ---- rows of a number that are all of the table's pattern
+no_strangers : (rows : List Row) (number shape : ℕ) → ((row : Row) → Contains rows row → row.number ≡ number → row.shape ≡ shape) → stranger_in rows number (Some shape) ≡ None
+no_strangers [] number shape like = refl
+no_strangers (row ∷ rows) number shape like =
+    let here = like row (Contains-append_left (row ∷ []) rows row (Contains-push [] row)) in
+    Prim.grind (arith, nat_tests, here, no_strangers rows number shape (λ r among. like r (Contains-append_right (row ∷ []) rows r among)))
+
+pub stand_alike : (n : ℕ) (seen : List Happened) (rows : List Row) → Stand n seen rows → (number : ℕ) → AreAlikeAt rows number
+stand_alike n seen rows stand number row is =
+    let found = found_in rows number row is in
+    no_strangers rows number row.shape (λ r among same.
+    one_key n seen r.shape row.shape number (subst (IsNumber (content_of n seen) r.shape) same (stand r among))
+    (subst (IsNumber (content_of n seen) row.shape) found.1 (stand row found.0)))
+
+-- what holds anyway holds where a call answers well
+pub anyway : {T E : Type 0} {P : Type 0} (r : Result T E) → P → OnOk r P
+anyway (Ok x) p = p
+anyway (Err e) p = tt

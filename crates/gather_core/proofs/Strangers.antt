@@ -1,32 +1,36 @@
--- Rows of which one is of another pattern than was asked for.
-use Rattle.std.proofs.Common.{◌≡◌, ℕ, ◌+◌, ◌<◌, ◌==◌, true, false, not, ◌&&◌, cond, suc, List, [], ◌∷◌, ◌++◌, length, get_or, take, find, Option, Some, None, refl, ap, subst, ◌∙◌, arith, append-nil}
-use Rattle.std.specs.Option.{option_map, option_or}
+-- Rows of which one is of another pattern than was asked for, and the rows of one number, share by
+-- share.
+use Rattle.std.proofs.Common.{◌≡◌, ℕ, ◌+◌, ◌<◌, suc, List, [], ◌∷◌, ◌++◌, length, get_or, take, find, Option, Some, None, refl, ap, subst, ◌∙◌, arith, append-nil, sym}
+use Rattle.std.specs.Option.{option_or}
 use Rattle.std.proofs.lemmas.Bool.Decides.{nat_tests}
 use Rattle.std.proofs.lemmas.List.{take_more}
 use Rattle.std.proofs.lemmas.List.Folds.{find-append}
 use Rattle.std.proofs.lemmas.Grind.{flat_map-append}
 use Rattle.share_core.specs.declared.rows.Row.{Row}
-use Rattle.share_core.specs.Rows.{row_of, AreOfNumbers}
+use Rattle.share_core.specs.Rows.{row_of, AreOfNumbers, first_at, earlier}
 use Rattle.share_core.specs.Inner.Rows.{HasNoRow}
-use Rattle.share_core.specs.Shares.{Held}
-use Rattle.gather_core.specs.Checking.{all_rows, is_shape, is_stranger, stranger_in}
+use Rattle.gather_core.specs.Checking.{is_stranger, stranger_in}
 use Rattle.gather_core.specs.Inner.Checking.{unlike_of}
 use Rattle.share_core.proofs.Found.{tail_numbers, others_differ}
+use Rattle.gather_core.specs.declared.numbers.NumberSums.{NumberSums}
+use Rattle.gather_core.specs.Inner.Numbers.{AreSums}
+use Rattle.share_core.proofs.Raised.{earlier_none}
+use Rattle.gather_core.proofs.Totalled.{first_none, first_one, first_more}
+use Rattle.std.specs.List.{flat_map}
 
--- ---- the rows of one share more
-pub more_rows : (shares : List Held) (i : ℕ) (d : Held) → i < length shares → all_rows (take (i + 1) shares) ≡ all_rows (take i shares) ++ (get_or shares i d).rows
-more_rows shares i d inside =
-    ap all_rows (take_more shares i d inside) ∙ flat_map-append (λ (s : Held). s.rows) (take i shares) (get_or shares i d ∷ [])
-    ∙ ap (λ (rs : List Row). all_rows (take i shares) ++ rs) (append-nil (get_or shares i d).rows)
+-- what lists give, and the next one
+pub flat_map_next : {X Y : Type 0} (f : X → List Y) (xs : List X) (i : ℕ) (x : X) → i < length xs → x ≡ get_or xs i x →
+    flat_map f (take (i + 1) xs) ≡ flat_map f (take i xs) ++ f x
+flat_map_next f xs i x inside is =
+    ap (flat_map f) (take_more xs i x inside) ∙ flat_map-append f (take i xs) (get_or xs i x ∷ [])
+    ∙ ap (λ ys. flat_map f (take i xs) ++ ys) (append-nil (f (get_or xs i x)) ∙ ap f (sym is))
 
 -- ---- strangers
 no_stranger : (rows : List Row) (number : ℕ) (found : Option ℕ) → HasNoRow rows number → find (is_stranger number found) rows ≡ None
 no_stranger [] number found h = refl
 no_stranger (row ∷ rows) number found h =
     let differ = h 0 (omega arith) in
-    let test : (row.number == number) ≡ false = Prim.grind (arith, nat_tests) in
-    ap (λ b. cond (b && not (is_shape found row.shape)) (Some row) (find (is_stranger number found) rows)) test
-    ∙ no_stranger rows number found (λ place low same. h (suc place) (omega arith) same)
+    Prim.grind (arith, nat_tests, no_stranger rows number found (λ place low same. h (suc place) (omega arith) same))
 
 -- what is asked of one row
 abbrev pub asked : Option Row → Option ℕ → Option ℕ
@@ -37,25 +41,24 @@ asked (Some row) found = unlike_of row found
 pub stranger_of_row : (rows : List Row) (number : ℕ) (found : Option ℕ) → AreOfNumbers rows → stranger_in rows number found ≡ asked (row_of rows number) found
 stranger_of_row [] number found h = refl
 stranger_of_row (row ∷ rows) number found h =
-    elim (row.number == number) as (λ b. (row.number == number) ≡ b →
-    option_map (λ (r : Row). r.shape) (cond (b && not (is_shape found row.shape)) (Some row) (find (is_stranger number found) rows))
-    ≡ asked (cond b (Some row) (row_of rows number)) found) [
-      | true ↦ λ same.
-          let equal : row.number ≡ number = Prim.grind (arith, nat_tests) in
-          let none = no_stranger rows number found (subst (HasNoRow rows) equal (others_differ row rows h)) in
-          elim (is_shape found row.shape) as (λ t.
-          option_map (λ (r : Row). r.shape) (cond (not t) (Some row) (find (is_stranger number found) rows)) ≡ cond t None (Some row.shape)) [
-            | true ↦ ap (option_map (λ (r : Row). r.shape)) none
-            | false ↦ refl
-          ]
-      | false ↦ λ other. stranger_of_row rows number found (tail_numbers row rows h)
-    ] refl
-
-or_map : (a b : Option Row) → option_map (λ (r : Row). r.shape) (option_or a b) ≡ option_or (option_map (λ (r : Row). r.shape) a) (option_map (λ (r : Row). r.shape) b)
-or_map None b = refl
-or_map (Some a) b = refl
+    let none = λ (same : row.number ≡ number). no_stranger rows number found (subst (HasNoRow rows) same (others_differ row rows h)) in
+    Prim.grind (arith, nat_tests, none, stranger_of_row rows number found (tail_numbers row rows h))
 
 pub stranger_append : (rows more : List Row) (number : ℕ) (found : Option ℕ) → stranger_in (rows ++ more) number found ≡ option_or (stranger_in rows number found) (stranger_in more number found)
-stranger_append rows more number found =
-    ap (option_map (λ (r : Row). r.shape)) (find-append (is_stranger number found) rows more)
-    ∙ or_map (find (is_stranger number found) rows) (find (is_stranger number found) more)
+stranger_append rows more number found = Prim.grind (arith, find-append (is_stranger number found) rows more)
+
+-- a share has no row of the number
+pub sums_kept : (rows more : List Row) (number : ℕ) (found : Option ℕ) (sums : NumberSums) → AreOfNumbers more → row_of more number ≡ None → AreSums rows number found sums →
+    AreSums (rows ++ more) number found sums
+sums_kept rows more number found sums numbers none h = record {
+  first = h.first ∙ Prim.grind (arith, first_more rows more number, first_none more number none, earlier_none (first_at rows number));
+  stranger = h.stranger ∙ Prim.grind (arith, stranger_append rows more number found, stranger_of_row more number found numbers);
+}
+
+-- a share has a row of it
+pub sums_with : (rows more : List Row) (number : ℕ) (found : Option ℕ) (sums new : NumberSums) (row : Row) → AreOfNumbers more → row_of more number ≡ Some row → AreSums rows number found sums →
+    new.first ≡ earlier sums.first row.first → new.stranger ≡ option_or sums.stranger (unlike_of row found) → AreSums (rows ++ more) number found new
+sums_with rows more number found sums new row numbers is h first stranger = record {
+  first = Prim.grind (arith, first, h.first, first_more rows more number, first_one more number row numbers is);
+  stranger = Prim.grind (arith, stranger, h.stranger, stranger_append rows more number found, stranger_of_row more number found numbers);
+}

@@ -1,7 +1,7 @@
 -- A table and the rows of shares, number by number.
 use Rattle.std.specs.Prelude.{Result, Ok, Err, OnOk}
-use Rattle.std.proofs.Common.{◌≡◌, ℕ, ◌+◌, ◌<◌, ◌≤◌, IfSome, Contains, arith, false, List, [], ◌∷◌, ◌++◌, Option, Some, None, refl, ap, sym, subst, ◌∙◌, add-one, append-nil}
-use Rattle.std.specs.Option.{is_some}
+use Rattle.std.proofs.Common.{◌≡◌, ℕ, ◌+◌, ◌<◌, ◌≤◌, IfSome, Contains, arith, false, List, [], ◌∷◌, ◌++◌, Option, Some, None, refl, ap, sym, subst, ◌∙◌, add-one, append-nil, true, eqb}
+use Rattle.std.specs.Option.{is_some, option_eq}
 use Rattle.std.proofs.lemmas.List.Elements.{Contains-append_left}
 use Rattle.slot_table.specs.declared.entries.Happened.{Happened}
 use Rattle.slot_table.specs.declared.entries.Happened.TheVariants as call
@@ -13,16 +13,27 @@ use Rattle.share_core.specs.declared.rows.Row.{Row}
 use Rattle.gather_core.specs.declared.agreeing.Differs.{Differs}
 use Rattle.share_core.specs.Rows.{first_at}
 use Rattle.gather_core.specs.Agreeing.{agreeing_firsts}
-use Rattle.gather_core.specs.Checking.{stranger_in, shape_at, StandBelow, IsStranger}
+use Rattle.gather_core.specs.Checking.{stranger_in, shape_at, IsStranger}
 use Rattle.gather_core.specs.Inner.Checking.{IsFound}
 use Rattle.gather_core.specs.Inner.Visiting.{AgreeBelow, AreVisited}
 use Rattle.gather_core.proofs.Stood.{stand_more}
+use Rattle.std.proofs.lemmas.Option.{IfSome_then}
+use Rattle.std.proofs.lemmas.Bool.Decides.{nat_tests}
+use Rattle.share_core.specs.Entering.{AsksOnly}
+use Rattle.share_core.proofs.Entered.{calls_through, calls_seen}
 
 -- ---- one number
 -- the pattern that a table tells is the number's
-pub told_found : (n : ℕ) (seen : List Happened) (number : ℕ) (found : Option ℕ) → TellsAt n seen number found → IsFound n seen number found
+told_found : (n : ℕ) (seen : List Happened) (number : ℕ) (found : Option ℕ) → TellsAt n seen number found → IsFound n seen number found
 told_found n seen number None told = tt
 told_found n seen number (Some shape) told = told
+
+-- what asks for least games alone, and then again, and what asks nothing
+pub asks_through : {O : Type 0} {n : ℕ} {one other third : Known O} → AsksOnly n one other → AsksOnly n other third → AsksOnly n one third
+asks_through {n = n} {one = one} {other = other} {third = third} h k = calls_through n (λ _ _. ⊥) (λ _ _. ⊥) one other third h k
+
+pub asks_seen : {O : Type 0} {n : ℕ} {old new : Known O} → IsLater n old [] new → AsksOnly n old new
+asks_seen {n = n} {old = old} {new = new} later = calls_seen n (λ _ _. ⊥) (λ _ _. ⊥) old new later
 
 -- ---- least games
 -- what was asked up to this number and at it
@@ -44,18 +55,16 @@ agree_more n rows number first old new (Some differs) of_table none later same h
 least_marked : (number : ℕ) (seen : List Happened) (of_table : Option ℕ) → of_table ≡ least_at number seen → IfSome of_table (λ game. Contains seen (call.Marked number game))
 least_marked number seen None is = tt
 least_marked number seen (Some game) is =
-    let was = (marked_games number game seen).0 (subst (λ o. IsAtMost o game) is (let low : game ≤ game = omega arith in low)) in
+    let was = (marked_games number game seen).0 (subst (λ o. IsAtMost o game) is (omega arith)) in
     let least : game ≤ was.0 = subst (λ o. IsAtMost o was.0) (sym is) ((marked_games number was.0 seen).1 (was.0, (let low : was.0 ≤ was.0 = omega arith in low), was.2)) in
-    let low = was.1 in
     let same : was.0 ≡ game = omega arith in
     subst (λ g. Contains seen (call.Marked number g)) same was.2
 
 -- and what was marked is so in what is seen later
 still_marked : {O : Type 0} (n number : ℕ) (made : List Happened) (old new : Known O) (of_table : Option ℕ) → IsLater n old made new →
     IfSome of_table (λ game. Contains old.seen (call.Marked number game)) → IfSome of_table (λ game. Contains new.seen (call.Marked number game))
-still_marked n number made old new None later h = tt
-still_marked n number made old new (Some game) later h =
-    subst (λ (seen : List Happened). Contains seen (call.Marked number game)) (sym later.begins.1) (Contains-append_left old.seen later.begins.0 (call.Marked number game) h)
+still_marked n number made old new of_table later h =
+    IfSome_then of_table h (λ game was. subst (λ (seen : List Happened). Contains seen (call.Marked number game)) (sym later.begins.1) (Contains-append_left old.seen later.begins.0 (call.Marked number game) was))
 
 -- and where it does not
 pub differs_here : {O : Type 0} (n : ℕ) (rows : List Row) (number high : ℕ) (first old new : Known O) (before : Option Differs) (of_shares of_table : Option ℕ) → is_some before ≡ false →
@@ -82,36 +91,38 @@ looked n rows high first old new (Some differs) later h =
     )
 
 -- ---- one number
-pub stranger_found : (n : ℕ) (seen history : List Happened) (rows : List Row) (number held : ℕ) (found of_table stranger : Option ℕ) → Keeps n seen history → found ≡ shape_at n history number →
-    of_table ≡ found → stranger ≡ Some held → stranger ≡ stranger_in rows number found → StandBelow n seen rows number → IsStranger n history rows number (Some held) of_table
-stranger_found n seen history rows number held found of_table stranger keeps told same some is stand = record {
+pub stranger_found : {O : Type 0} {n : ℕ} {rows : List Row} {number : ℕ} {first old look : Known O} {before : Option Differs} →
+    AreVisited n rows number first old before → IsLater n old [] look → (held : ℕ) (found of_table stranger : Option ℕ) →
+    found ≡ shape_at n look.seen number → of_table ≡ found → stranger ≡ Some held → stranger ≡ stranger_in rows number found →
+    IsStranger n look.seen rows number (Some held) of_table
+stranger_found {rows = rows} {number = number} h later held found of_table stranger told same some is = record {
   first = sym some ∙ is ∙ ap (stranger_in rows number) (sym same);
   some = (held, refl);
   table = same ∙ told;
-  least = λ row among low. keeps.numbers row.shape row.number (stand row among low);
+  least = λ row among low. later.keeps.numbers row.shape row.number (h.stand row among low);
 }
 
--- a look changes nothing of what is known of lesser numbers
-pub visited_later : {O : Type 0} (n : ℕ) (rows : List Row) (high : ℕ) (first old look : Known O) (differs : Option Differs) → IsLater n old [] look →
-    AreVisited n rows high first old differs → AreVisited n rows high first look differs
-visited_later n rows high first old look differs later h = record {
-  stand = λ row among low. later.keeps.numbers row.shape row.number (h.stand row among low);
-  agree = looked n rows high first old look differs later h.agree;
-}
-
--- a number without a stranger
-pub visited_more : {O : Type 0} (n : ℕ) (rows : List Row) (number : ℕ) (first look new : Known O) (before after : Option Differs) (found : Option ℕ) →
-    IsFound n look.seen number found → stranger_in rows number found ≡ None → Keeps n look.seen new.seen →
-    (AgreeBelow n rows number first look before → AgreeBelow n rows (number + 1) first new after) →
-    AreVisited n rows number first look before → AreVisited n rows (number + 1) first new after
-visited_more n rows number first look new before after found told none keeps agree h = record {
-  stand =
-      let here = stand_more n look.seen rows number found told none h.stand in
-      λ row among low. keeps.numbers row.shape row.number (here row among low);
-  agree = agree h.agree;
-}
+-- a number without a stranger. The look at it changes nothing of what is known of lesser numbers
+pub visited_more : {O : Type 0} {n : ℕ} {rows : List Row} {number : ℕ} {first old look new : Known O} {before after : Option Differs} →
+    AreVisited n rows number first old before → IsLater n old [] look → (found : Option ℕ) → TellsAt n look.seen number found →
+    stranger_in rows number found ≡ None → Keeps n look.seen new.seen →
+    (AgreeBelow n rows number first look before → AgreeBelow n rows (number + 1) first new after) → AreVisited n rows (number + 1) first new after
+visited_more {n = n} {rows = rows} {number = number} {first = first} {old = old} {look = look} {before = before} h later found told none keeps agree =
+    let before_it = λ (row : Row) (among : Contains rows row) (low : row.number < number). later.keeps.numbers row.shape row.number (h.stand row among low) in
+    let here = stand_more n look.seen rows number found (told_found n look.seen number found told) none before_it in
+    record {
+      stand = λ row among low. keeps.numbers row.shape row.number (here row among low);
+      agree = agree (looked n rows number first old look before later h.agree);
+    }
 
 -- what two clauses give where a call answers well
 pub both_ok : {T E : Type 0} {P Q R : Type 0} (r : Result T E) → (P → Q → R) → OnOk r P → OnOk r Q → OnOk r R
 both_ok (Ok x) f p q = f p q
 both_ok (Err e) f p q = tt
+
+-- ---- least games that are compared
+pub games_agree : (one other : Option ℕ) → true ≡ option_eq eqb one other → one ≡ other
+games_agree one other h = Prim.grind (arith, nat_tests)
+
+pub games_differ : (one other : Option ℕ) → false ≡ option_eq eqb one other → one ≡ other → ⊥
+games_differ one other h same = Prim.grind (arith, nat_tests)

@@ -1,5 +1,5 @@
-use Rattle.std.proofs.Common.{◌+◌, ◌<◌, length, ap, subst, arith}
-use Rattle.std.proofs.lemmas.List.Sums.{sum_by_more, sum_by-take-le}
+use Rattle.std.proofs.Common.{◌<◌, length, ap, subst, arith}
+use Rattle.std.proofs.lemmas.List.Sums.{sum_by_more}
 use Rattle.std.proofs.lemmas.List.Elements.{All-more}
 use Rattle.share_core.specs.Shares.{Held, IsShare}
 use Rattle.gather_core.proofs.adding_up.moves_of.Goals as goal
@@ -14,23 +14,6 @@ loop-share-preserved c =
       sum =
           let step = sum_by_more (λ (s : Held). s.moves) shares i share inside in
           let same = ap (λ (s : Held). s.moves) c.share-item.is in
-          let before = c.loop-share.invariant.sum in
-          let more = c.in-Some.ensures in
-          let moves = c.moves.ensures in
           omega arith;
       shares = All-more IsShare shares i share inside c.loop-share.invariant.shares (subst IsShare c.share-item.is c.games.ensures.share);
     }
-
-pub returns-in_default-clause-large : goal.returns-in_default-clause-large
-returns-in_default-clause-large c =
-    let shares = c.args.shares.now in
-    let i = c.loop-share.share-index in
-    let share = c.share-item.result in
-    let inside : i < length shares = c.loop-share-test.true in
-    let step = sum_by_more (λ (s : Held). s.moves) shares i share inside in
-    let same = ap (λ (s : Held). s.moves) c.share-item.is in
-    let few = sum_by-take-le (λ (s : Held). s.moves) shares (i + 1) in
-    let before = c.loop-share.invariant.sum in
-    let large = c.in_default.ensures in
-    let moves = c.moves.ensures in
-    omega arith

@@ -1,14 +1,6 @@
-use Rattle.std.proofs.Common.{◌+◌, ◌∷◌, [], sym, ◌∙◌}
-use Rattle.slot_table.specs.declared.entries.Happened.TheVariants as call
-use Rattle.gather_core.proofs.Firsts.{games_agree, games_differ}
-use Rattle.gather_core.proofs.Visits.{agree_more, differs_here}
+use Rattle.std.proofs.Common.{◌+◌, sym, ◌∙◌}
+use Rattle.gather_core.proofs.Visits.{games_agree, games_differ, agree_more, differs_here}
 use Rattle.gather_core.proofs.agreeing.compare.Goals as goal
-
-pub returns-then-eq-clause-later : goal.returns-then-eq-clause-later
-returns-then-eq-clause-later g c = record { made = call.First c.args.number c.first-of_table.result ∷ []; later = c.first-of_table.ensures.later; only = (tt, tt) }
-
-pub returns-clause-later : goal.returns-clause-later
-returns-clause-later g c = record { made = call.First c.args.number c.first-of_table.result ∷ []; later = c.first-of_table.ensures.later; only = (tt, tt) }
 
 pub returns-then-eq-clause-agree : goal.returns-then-eq-clause-agree
 returns-then-eq-clause-agree g c rows first shares h =

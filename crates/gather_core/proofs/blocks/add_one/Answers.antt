@@ -1,4 +1,4 @@
-use Rattle.std.proofs.Common.{◌≡◌, ◌+◌, ◌-◌, ◌<◌, ◌∷◌, [], ◌++◌, ℕ, true, false, List, length, get_or, Option, Some, None, IfSome, IfNone, sym, subst, ◌∙◌, arith}
+use Rattle.std.proofs.Common.{◌≡◌, ◌+◌, ◌-◌, ◌<◌, ◌∷◌, [], ◌++◌, ℕ, true, false, List, length, get_or, Option, Some, None, IfSome, IfNone, sym, ◌∙◌, arith}
 use Rattle.std.specs.Prelude.{slice_set}
 use Rattle.std.proofs.lemmas.List.{length-set, get_or_default}
 use Rattle.std.proofs.lemmas.Bool.{OnFalse_from}
@@ -38,9 +38,8 @@ returns-clause-odd c =
     let totals = c.args.totals.now in
     let from = c.args.from in
     let at = c.number-number.result - from in
-    let low = c.if-number-from.false in
-    let inside : at < length totals = (let l = c.if-number-from-2.false in omega arith) in
-    let same : c.args.row.number ≡ from + at = (let is = c.number-number.ensures in omega arith) in
+    let inside : at < length totals = omega arith in
+    let same : c.args.row.number ≡ from + at = omega arith in
     let read : c.index-totals-number.result ≡ get_or totals at None = c.index-totals-number.is ∙ get_or_default totals at c.index-totals-number.result None inside in
     let unlike = none_with c.with_like-both.result _ c.with_like-both.ensures.none (sym c.is_some-2.ensures ∙ none) in
     odds_with rows from at totals c.args.row c.index-totals-number.result same inside read unlike h)
@@ -50,14 +49,12 @@ returns-clause-added c is_so rows h =
     let totals = c.args.totals.now in
     let from = c.args.from in
     let at = c.number-number.result - from in
-    let low = c.if-number-from.false in
-    let inside : at < length totals = (let l = c.if-number-from-2.false in omega arith) in
+    let inside : at < length totals = omega arith in
     let some : is_some c.with_like-both.result ≡ true = sym c.is_some-2.ensures ∙ is_so in
-    let same : c.args.row.number ≡ from + at = (let is = c.number-number.ensures in omega arith) in
+    let same : c.args.row.number ≡ from + at = omega arith in
     let read : c.index-totals-number.result ≡ get_or totals at None = c.index-totals-number.is ∙ get_or_default totals at c.index-totals-number.result None inside in
     elim c.if-is_some.branch [
       | then-is_some w ↦
-          subst (AreEven (rows ++ c.args.row ∷ []) from) (sym w.totals-is)
-          (with_both c.with_like-both.result c.index-totals-number.result c.args.row rows from at totals some c.with_like-both.ensures.some same inside read h)
+          rw w.totals-is (with_both c.with_like-both.result c.index-totals-number.result c.args.row rows from at totals some c.with_like-both.ensures.some same inside read h)
       | else-is_some w ↦ let clash : true ≡ false = sym some ∙ sym c.is_some.ensures ∙ w.if-is_some.false in absurd cc
     ]

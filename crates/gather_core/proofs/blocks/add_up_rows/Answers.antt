@@ -1,8 +1,8 @@
-use Rattle.std.proofs.Common.{◌≡◌, ℕ, ◌+◌, ◌∷◌, [], ◌++◌, List, length, take, drop, ap, sym, subst, ◌∙◌}
+use Rattle.std.proofs.Common.{◌≡◌, ◌+◌, ◌∷◌, [], ◌++◌, List, length, take, drop, subst, ◌∙◌}
 use Rattle.std.proofs.lemmas.Bool.{OnFalse_at}
 use Rattle.std.proofs.lemmas.List.{take_more, take-append-drop}
 use Rattle.share_core.specs.declared.rows.Row.{Row}
-use Rattle.gather_core.specs.Inner.Blocks.{AreEven, HasOdd}
+use Rattle.gather_core.specs.Inner.Blocks.{HasOdd}
 use Rattle.gather_core.proofs.Evened.{odds_more}
 use Rattle.gather_core.proofs.blocks.add_up_rows.Goals as goal
 
@@ -10,11 +10,10 @@ pub loop-row-preserved : goal.loop-row-preserved
 loop-row-preserved c =
     let rows = c.args.rows.now in
     let i = c.loop-row.row-index in
-    let row = c.row-item.result in
-    let next : take i rows ++ row ∷ [] ≡ take (i + 1) rows = ap (λ (r : Row). take i rows ++ r ∷ []) c.row-item.is ∙ sym (take_more rows i row c.loop-row-test.true) in
     record {
       long = c.add_one.ensures.long ∙ c.loop-row.invariant.long;
-      even = subst (λ (rs : List Row). AreEven rs c.args.from c.add_one.new.totals) next (c.add_one.ensures.added c.if-not-add_one.false (take i rows) c.loop-row.invariant.even);
+      even = rw (take_more rows i c.row-item.result c.loop-row-test.true, ← c.row-item.is)
+          (c.add_one.ensures.added c.if-not-add_one.false (take i rows) c.loop-row.invariant.even);
     }
 
 pub returns-then-not-add_one-clause-odd : goal.returns-then-not-add_one-clause-odd
@@ -22,9 +21,8 @@ returns-then-not-add_one-clause-odd c =
     let rows = c.args.rows.now in
     let i = c.loop-row.row-index in
     let row = c.row-item.result in
-    let next : take i rows ++ row ∷ [] ≡ take (i + 1) rows = ap (λ (r : Row). take i rows ++ r ∷ []) c.row-item.is ∙ sym (take_more rows i row c.loop-row-test.true) in
     let odd = OnFalse_at c.if-not-add_one.true c.add_one.ensures.odd (take i rows) c.loop-row.invariant.even in
-    let so_far = subst (λ (rs : List Row). HasOdd rs c.args.from (c.args.from + length c.loop-row.totals)) next odd in
-    let all = odds_more (take (i + 1) rows) (drop (i + 1) rows) c.args.from (c.args.from + length c.loop-row.totals) so_far in
-    subst (λ (n : ℕ). HasOdd rows c.args.from (c.args.from + n)) c.loop-row.invariant.long
-    (subst (λ (rs : List Row). HasOdd rs c.args.from (c.args.from + length c.loop-row.totals)) (take-append-drop (i + 1) rows) all)
+    let all = odds_more (take i rows ++ row ∷ []) (drop (i + 1) rows) c.args.from (c.args.from + length c.loop-row.totals) odd in
+    let whole : (take i rows ++ row ∷ []) ++ drop (i + 1) rows ≡ rows =
+    rw (c.row-item.is, ← take_more rows i row c.loop-row-test.true) (take-append-drop (i + 1) rows) in
+    rw (← c.loop-row.invariant.long) (subst (λ (rs : List Row). HasOdd rs c.args.from (c.args.from + length c.loop-row.totals)) whole all)

@@ -1,5 +1,5 @@
 use Rattle.gather_core.proofs.Visits.{both_ok}
-use Rattle.gather_core.proofs.Listings.{listed_totals}
+use Rattle.gather_core.proofs.Ordered.{listed_totals}
 use Rattle.gather_core.proofs.listing.list_totals.Goals as goal
 
 pub returns : goal.returns

@@ -2,9 +2,8 @@ use Rattle.std.proofs.Common.{◌≡◌, ℕ, ◌+◌, ◌-◌, List, length, su
 use Rattle.std.proofs.lemmas.Bool.{OnFalse_at}
 use Rattle.share_core.specs.declared.rows.Row.{Row}
 use Rattle.gather_core.specs.Checking.{all_rows}
-use Rattle.gather_core.specs.Inner.Dealing.{block_of, rows_in}
-use Rattle.gather_core.specs.Inner.Blocks.{AreEven, HasOdd}
-use Rattle.gather_core.specs.Inner.Pieces.{AreTotals}
+use Rattle.gather_core.specs.Inner.Dealing.{block_of}
+use Rattle.gather_core.specs.Inner.Blocks.{HasOdd}
 use Rattle.gather_core.proofs.Evened.{evens_in, odds_in}
 use Rattle.gather_core.proofs.pieces.add_block.Goals as goal
 
@@ -26,7 +25,6 @@ returns-clause-added c first low before =
     let from = c.args.from in
     let totals = c.add_up_rows.new.totals in
     let long = c.add_up_rows.ensures.long in
-    let evens : AreEven (rows_in (block_of from) all) from totals =
-    subst (λ (rows : List Row). AreEven rows from totals) (c.as_slice.ensures.value ∙ c.in_ok-collect.ensures) (c.add_up_rows.ensures.even c.if-not-add_up_rows.false) in
+    let evens = rw (c.as_slice.ensures.value, c.in_ok-collect.ensures) at (c.add_up_rows.ensures.even c.if-not-add_up_rows.false) in
     let are = evens_in all (block_of from) from totals (λ place inside. c.requires.block place (omega arith)) evens in
-    subst (λ n. AreTotals all first (from + n) c.add_totals.new.piece.items) long (c.in_ok-add_totals.ensures all first are low before)
+    rw (← long) (c.in_ok-add_totals.ensures all first are low before)

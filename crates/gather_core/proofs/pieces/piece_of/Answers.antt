@@ -11,16 +11,13 @@ loop-low-preserved c =
     let before = c.loop-low.invariant in
     let after = before.after in
     let room = before.room in
-    let up = c.block_end-next.ensures.after in
     let within = c.block_end-next.ensures.within in
-    let few = c.block_end-next.ensures.few in
     let taken = length-take (next - low) totals in
     let end : low + length (take (next - low) totals) ≡ next = omega arith in
     record {
       after = omega arith;
       within = within;
       room =
-          let long = c.in_ok-add_block.ensures.long in
           let joined = length-append c.add_block.new.totals (drop (next - low) totals) in
           let left = length-drop (next - low) totals in
           omega arith;

@@ -1,23 +1,21 @@
-use Rattle.std.proofs.Common.{List, take, ap, subst, arith, Contains, ⊎_elim}
+use Rattle.std.proofs.Common.{List, take, subst, arith, Contains, ⊎_elim}
 use Rattle.std.proofs.lemmas.List.{take_all}
 use Rattle.std.proofs.lemmas.List.Elements.{Contains-append_cases}
-use Rattle.share_core.specs.declared.rows.Row.{Row}
 use Rattle.share_core.specs.Shares.{Held}
 use Rattle.gather_core.specs.Checking.{all_rows}
 use Rattle.share_core.specs.Rows.{AreBelow}
-use Rattle.gather_core.proofs.Strangers.{more_rows}
+use Rattle.gather_core.proofs.Strangers.{flat_map_next}
 use Rattle.gather_core.proofs.standing.are_within.Goals as goal
 
 pub loop-share-preserved : goal.loop-share-preserved
 loop-share-preserved c row among =
     let i = c.loop-share.share-index in
     let shares = c.args.shares.now in
-    let share = c.share-item.result in
-    let rows = subst (λ (rs : List Row). AreBelow c.end.result rs) (ap (λ (s : Held). s.rows) c.share-item.is) c.end.ensures in
+    let more = rw (flat_map_next (λ (s : Held). s.rows) shares i c.share-item.result c.loop-share-test.true c.share-item.is) at among in
     ⊎_elim
     (λ (old : Contains (all_rows (take i shares)) row). c.loop-share.invariant row old)
-    (λ new. let below = rows row new in let end = c.if-end-slots.false in omega arith)
-    (Contains-append_cases (all_rows (take i shares)) _ row (subst (λ (rs : List Row). Contains rs row) (more_rows shares i share (omega arith)) among))
+    (λ new. let below = c.end.ensures row new in omega arith)
+    (Contains-append_cases (all_rows (take i shares)) _ row more)
 
 pub returns : goal.returns
 returns c is_true =

@@ -1,12 +1,11 @@
 use Rattle.std.proofs.Common.{◌≡◌, subst, arith}
 use Rattle.std.proofs.lemmas.Result.{err_from_is_err_and}
 use Rattle.gather_core.specs.Inner.Visiting.{AreVisited}
-use Rattle.share_core.proofs.Entered.{calls_through}
+use Rattle.gather_core.proofs.Visits.{asks_through}
 use Rattle.gather_core.proofs.visiting.visit_totals.Goals as goal
 
 pub returns-in_err-visit_total-clause-later : goal.returns-in_err-visit_total-clause-later
-returns-in_err-visit_total-clause-later g c =
-    calls_through c.args.table.now.slots (λ _ _. ⊥) (λ _ _. ⊥) c.args.pass.now c.loop-number.pass c.visit_total.new.pass c.loop-number.invariant.later c.visit_total.ensures.later
+returns-in_err-visit_total-clause-later g c = asks_through c.loop-number.invariant.later c.visit_total.ensures.later
 
 pub returns-in_err-visit_total-clause-fault : goal.returns-in_err-visit_total-clause-fault
 returns-in_err-visit_total-clause-fault g c =
@@ -18,7 +17,7 @@ pub loop-number-preserved : goal.loop-number-preserved
 loop-number-preserved g c =
     record {
       pass = c.visit_total.ensures.pass;
-      later = calls_through c.args.table.now.slots (λ _ _. ⊥) (λ _ _. ⊥) c.args.pass.now c.loop-number.pass c.visit_total.new.pass c.loop-number.invariant.later c.visit_total.ensures.later;
+      later = asks_through c.loop-number.invariant.later c.visit_total.ensures.later;
       rest = λ rows all. c.visit_total.ensures.rest rows c.args.high c.loop-number-test.true (c.loop-number.invariant.rest rows all);
       visited = λ rows all first h. c.in_ok-visit_total.ensures.ok rows c.args.high c.loop-number-test.true (c.loop-number.invariant.rest rows all) first (c.loop-number.invariant.visited rows all first h);
     }
