@@ -37,6 +37,6 @@ pub record AreDealt (shares : List Held) (count : ℕ) (dealt : List (Result Dea
   pub each : (i : ℕ) (share : Held) (d : Result Dealt AllocError) → i < length shares
       → IfOk (slice_index_or dealt i d) (IsDealt (slice_index_or shares i share).rows count)
 
--- they were dealt to so many blocks that these have all numbers below this one
+-- they were dealt, and the blocks together have all numbers below this one
 abbrev pub AreDealtBelow : List Held → ℕ → List (Result Dealt AllocError) → Type 0
 AreDealtBelow shares high dealt = (count : ℕ) × AreDealt shares count dealt × (high ≤ count * 2 ^ 13)
