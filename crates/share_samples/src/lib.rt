@@ -2,14 +2,18 @@
 //! patterns, and shares.
 #![tactic(auto)]
 
-ghost use Rattle.std.specs.Prelude.{◌≡◌, ◌<◌, ◌∷◌, [], IfOk, IfSome};
+ghost use Rattle.std.specs.Prelude.{◌≡◌, ◌^◌, ◌<◌, ◌∷◌, [], Some, SomeIff};
+ghost use Rattle.std.specs.Prelude.{IfOk, IfErr, OnOk, IfSome, IfNone};
+ghost use Rattle.sgf_core.specs.Limit.{most_bytes};
+ghost use Rattle.go_record.specs.Actions.{Actions};
 ghost use Rattle.shape_core.specs.declared.words.Kinds.TheVariants as kinds;
 ghost use Rattle.slot_table.specs.Passes.{IsPassOf};
-ghost use Rattle.sgf_core.specs.Limit.{most_bytes};
+ghost use Rattle.share_core.specs.Adding.{IsAdded, IsAddFault};
+ghost use Rattle.share_samples.specs.Samples.{IsPattern, IsFirstGame, HasOneGame, IsRefused};
 
-use go_record::{Kind, Record, read_record};
+use game_core::Games;
+use go_record::Record;
 use probe_core::{Capacity, OddStep, ProbeOrder};
-use sgf_core::Trees;
 use shape_core::{Kinds, Shape, Word};
 use shape_dict::{Entry, FirstGame};
 use share_core::{HarvestFault, Share};
@@ -31,31 +35,40 @@ pub const EMPTY: u64 = 0x3fff3fcffffff;
 /// The one that it meets then.
 pub const TAKEN: u64 = 0x3fffbfcffffff;
 
-/// The game that is the first tree, if memory was found for it.
-pub fn record_of(alloc: Global, bytes: &[u8]) -> Option<Record> {
-    let mut trees = Trees::new(bytes).ok()?;
-    let tree = trees.next_tree(alloc).ok()??;
-    match read_record(alloc, &tree).ok()? {
-        Kind::Go(record) => Some(record),
-        Kind::Other => None,
-    }
+/// The record of the first game, if no fault of syntax comes before it and memory was found for it.
+pub fn record_of(alloc: Global, bytes: &[u8]) -> Option<Record>
+    ensures { IfSome result (IsFirstGame bytes.now) }
+{
+    let mut games = Games::new(bytes).ok()?;
+    let job = games.next_job(alloc).ok()??;
+    Some(job.into_record())
 }
 
 /// A table of 2^k numbers with its first pass, if k is at most 22 and memory was found for it.
 pub fn table_of(alloc: Global, k: u32) -> Option<(SlotTable<OddStep>, Pass<OddStep>)>
-    ensures { IfSome result (λ r. IsPassOf r.0 r.1) }
+    ensures pass { IfSome result (λ r. IsPassOf r.0 r.1) }
+    ensures slots { IfSome result (λ r. r.0.slots ≡ 2 ^ k) }
 {
     let capacity = Capacity::new(k)?;
     SlotTable::new(alloc, OddStep { capacity }).ok()
 }
 
 /// The pattern whose word has these bits, if the word is the least of its images.
-pub fn shape_of(bits: u64) -> Option<Shape> {
+pub fn shape_of(bits: u64) -> Option<Shape>
+    ensures { SomeIff result (IsPattern bits) bits }
+{
     Shape::of_word(Word::new(bits)?)
 }
 
 /// The entry of the pattern whose word has these bits, if there is one.
-pub fn entry_of(bits: u64, there: u64, played: u64, first: u32) -> Option<Entry> {
+pub fn entry_of(bits: u64, there: u64, played: u64, first: u32) -> Option<Entry>
+    ensures { SomeIff result (IsPattern bits) (record {
+      shape = bits;
+      there = there;
+      played = played;
+      first = Some first;
+    }) }
+{
     Some(Entry {
         shape: shape_of(bits)?,
         there,
@@ -64,26 +77,29 @@ pub fn entry_of(bits: u64, there: u64, played: u64, first: u32) -> Option<Entry>
     })
 }
 
-/// A share of this game alone.
+/// A share of this game alone, of worker 0, or why the game was refused.
 pub fn share_of<O: ProbeOrder>(
     alloc: Global,
     table: &SlotTable<O>,
     pass: &mut Pass<O>,
     game: u64,
-    record: &Record,
+    game_record: &Record,
 ) -> Result<Share, HarvestFault>
     requires pass { IsPassOf table.now pass.old }
     requires game { game < most_bytes }
     ensures pass { IsPassOf table.now pass.new }
     ensures kinds { IfOk result (λ share. share.kinds ≡ kinds.Squares) }
     ensures games { IfOk result (λ share. share.games ≡ game ∷ []) }
+    ensures added { IfOk result (HasOneGame game game_record.now) }
+    ensures refused { IfErr result
+        (IsRefused table.now.slots pass.new.seen game game_record.now) }
 {
     let mut share = Share::begin(alloc, 0, Kinds::Squares);
-    share.add(table, pass, game, record)?;
+    share.add(table, pass, game, game_record)?;
     Ok(share)
 }
 
-/// A share of the game that is written here, under the number 0, if nothing refused it.
+/// A share of the first game that is written here, under the number 0, if nothing refused it.
 pub fn first_share<O: ProbeOrder>(
     alloc: Global,
     table: &SlotTable<O>,
@@ -94,13 +110,15 @@ pub fn first_share<O: ProbeOrder>(
     ensures pass { IsPassOf table.now pass.new }
     ensures kinds { IfSome result (λ share. share.kinds ≡ kinds.Squares) }
     ensures games { IfSome result (λ share. share.games ≡ 0 ∷ []) }
+    ensures added { IfSome result (λ share. (actions : Actions)
+        × IsFirstGame bytes.now actions × HasOneGame 0 actions share) }
 {
-    let record = record_of(alloc, bytes)?;
-    share_of(alloc, table, pass, 0, &record).ok()
+    let game_record = record_of(alloc, bytes)?;
+    share_of(alloc, table, pass, 0, &game_record).ok()
 }
 
-/// Adds the game that is written here to a share, and answers what came of it; None where there
-/// was no memory for the game's record, so that nothing was added.
+/// Adds the first game that is written here to a share, and answers what came of it; None where
+/// there is no such game or no memory for its record, so that nothing was added.
 pub fn add_written<O: ProbeOrder>(
     alloc: Global,
     share: &mut Share,
@@ -111,8 +129,14 @@ pub fn add_written<O: ProbeOrder>(
 ) -> Option<Result<(), HarvestFault>>
     requires pass { IsPassOf table.now pass.old }
     requires game { game < most_bytes }
-    ensures { IsPassOf table.now pass.new }
+    ensures pass { IsPassOf table.now pass.new }
+    ensures added { IfSome result (λ added. OnOk added ((actions : Actions)
+        × IsFirstGame bytes.now actions × IsAdded game actions share.old share.new)) }
+    ensures refused { IfSome result (λ added. IfErr added (λ found. (actions : Actions)
+        × IsFirstGame bytes.now actions
+        × IsAddFault table.now.slots pass.new.seen game actions share.old share.new found)) }
+    ensures none { IfNone result ((share.new ≡ share.old) × (pass.new ≡ pass.old)) }
 {
-    let record = record_of(alloc, bytes)?;
-    Some(share.add(table, pass, game, &record))
+    let game_record = record_of(alloc, bytes)?;
+    Some(share.add(table, pass, game, &game_record))
 }
