@@ -31,4 +31,3 @@ pub mod NextGame
 pub mod MorePatterns
 pub mod RowLookups
 pub mod Ways
-pub mod Pairs

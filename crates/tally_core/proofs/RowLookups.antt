@@ -1,84 +1,150 @@
--- What is counted of a pattern once a row was raised, or came.
-use Rattle.std.proofs.Common.{◌≡◌, ℕ, zero, suc, ◌<◌, ◌==◌, nat_eq, true, false, ◌||◌, cond, List, [], ◌∷◌, ◌++◌, length, slice_set, slice_index_or, Some, None, refl, ap, sym, ◌∙◌, arith}
-use Rattle.std.specs.List.{list_any, IsDistinct}
-use Rattle.std.specs.Map.{keys_of, lookup}
+-- What rows count of a pattern.
+use Rattle.std.proofs.Common.{◌≡◌, ℕ, zero, suc, ◌+◌, ◌^◌, ◌<◌, ◌≤◌, ◌==◌, nat_eq, Bool, true, false, not, ◌&&◌, cond, List, [], ◌∷◌, length, take, slice_set, Option, Some, None, refl, ap, ap₂, sym, ◌∙◌, arith}
+use Rattle.std.specs.List.{AllByRecursion, IsDistinct}
+use Rattle.std.specs.Map.{keys_of}
 use Rattle.std.proofs.lemmas.Bool.Decides.{nat_tests}
-use Rattle.std.proofs.lemmas.Map.Entries.{length-keys_of}
-use Rattle.std.proofs.lemmas.Map.Keys.{IsDistinct-tail, apart_from_distinct}
-use Rattle.tally_core.specs.Inner.Count.{Count}
-use Rattle.tally_core.specs.Inner.Index.{HasNoRow}
+use Rattle.std.proofs.lemmas.List.Sums.{length-filter, count_by-le-length, sum_by-set}
+use Rattle.std.proofs.lemmas.Map.Keys.{IsDistinct-cons}
+use Rattle.shape_dict.specs.declared.entries.Entry.{Entry}
+use Rattle.tally_core.specs.Inner.Counter.{count_in, uses_at, one_pattern, used, used_again, AreCounts, IsCountingFault}
+use Rattle.tally_core.specs.Inner.Entries.{pair_of, pairs_of, counts_of}
+use Rattle.tally_core.specs.Inner.Rows.{is_taken, taken_of, row_at, counted_row, AreRows, IsFound}
+use Rattle.tally_core.specs.declared.faults.TallyFault.TheVariants as fault
+use Rattle.tally_core.proofs.Lasting.{all-of}
+use Rattle.tally_core.proofs.Used.{again-none, again-uses, first_used-some, used_one}
 
-flips : (a b : ℕ) → nat_eq a b ≡ nat_eq b a
-flips a b = Prim.grind (arith, nat_tests)
+-- no row but that of one place is of a pattern
+abbrev pub StandsOnlyAt : List Entry → ℕ → ℕ → Type 0
+StandsOnlyAt rows shape place = (other : ℕ) → is_taken (row_at rows other) ≡ true → (row_at rows other).shape ≡ shape → other ≡ place
 
--- ---- a row comes
-pub none_found : (rows : List (ℕ × Count)) (shape : ℕ) → HasNoRow (keys_of rows) shape → lookup (nat_eq shape) rows ≡ None
+only_later : (first : Entry) (rows : List Entry) (shape place : ℕ) → StandsOnlyAt (first ∷ rows) shape (suc place) → StandsOnlyAt rows shape place
+only_later first rows shape place only other taken is = omega (arith, only (suc other) taken is)
+
+-- whether a row is of a pattern
+abbrev pub is_of : Entry → ℕ → Bool
+is_of row shape = is_taken row && nat_eq shape row.shape
+
+counts-cons : (row : Entry) (rows : List Entry) (shape : ℕ) → counts_of (row ∷ rows) shape ≡ cond (is_of row shape) (Some (pair_of row).1) (counts_of rows shape)
+counts-cons row rows shape =
+    elim (is_taken row) as (λ b. count_in (pairs_of (cond b (row ∷ taken_of rows) (taken_of rows))) shape ≡ cond (b && nat_eq shape row.shape) (Some (pair_of row).1) (counts_of rows shape))
+    [ true ↦ refl | false ↦ refl ]
+
+-- where no row is of a pattern
+none_found : (rows : List Entry) (shape : ℕ) → ((other : ℕ) → is_taken (row_at rows other) ≡ true → (row_at rows other).shape ≡ shape → ⊥) → counts_of rows shape ≡ None
 none_found [] shape none = refl
 none_found (first ∷ rows) shape none =
-    let differs : nat_eq shape first.0 ≡ false = (let apart = none 0 (let l : 0 < suc (length (keys_of rows)) = omega arith in l) in Prim.grind (arith, nat_tests)) in
-    ap (λ b. cond b (Some first.1) (lookup (nat_eq shape) rows)) differs
-    ∙ none_found rows shape (λ row low. none (suc row) (omega (arith, low)))
+    let later = none_found rows shape (λ other. none (suc other)) in
+    Prim.grind (arith, nat_tests, counts-cons first rows shape, none 0)
 
-pub none_any : (keys : List ℕ) (shape : ℕ) → HasNoRow keys shape → list_any (nat_eq shape) keys ≡ false
-none_any [] shape none = refl
-none_any (first ∷ keys) shape none =
-    let differs : nat_eq shape first ≡ false = (let apart = none 0 (let l : 0 < suc (length keys) = omega arith in l) in Prim.grind (arith, nat_tests)) in
-    ap (λ b. b || list_any (nat_eq shape) keys) differs
-    ∙ none_any keys shape (λ row low. none (suc row) (omega (arith, low)))
+-- where a place has the row of a pattern, or is free and the pattern has no row
+found_count : (rows : List Entry) (place shape : ℕ) → place < length rows → (is_taken (row_at rows place) ≡ true → (row_at rows place).shape ≡ shape) → StandsOnlyAt rows shape place →
+    counts_of rows shape ≡ cond (is_taken (row_at rows place)) (Some (pair_of (row_at rows place)).1) None
+found_count [] place shape within same only = absurd (omega (arith, within))
+found_count (first ∷ rows) zero shape within same only =
+    let none = none_found rows shape (λ other taken is. absurd (omega (arith, only (suc other) taken is))) in
+    Prim.grind (arith, nat_tests, counts-cons first rows shape)
+found_count (first ∷ rows) (suc place) shape within same only =
+    let later = found_count rows place shape (omega (arith, within)) same (only_later first rows shape place only) in
+    Prim.grind (arith, nat_tests, counts-cons first rows shape, only 0)
 
-pub lookup-push : (rows : List (ℕ × Count)) (shape key : ℕ) (count : Count) → HasNoRow (keys_of rows) shape →
-    lookup (nat_eq key) (rows ++ (shape, count) ∷ []) ≡ cond (shape == key) (Some count) (lookup (nat_eq key) rows)
-lookup-push [] shape key count none = ap (λ b. cond b (Some count) None) (flips key shape)
-lookup-push (first ∷ rows) shape key count none =
-    let later = lookup-push rows shape key count (λ row low. none (suc row) (omega (arith, low))) in
-    let apart = none 0 (let l : 0 < suc (length (keys_of rows)) = omega arith in l) in
-    elim (nat_eq key first.0) as (λ b. nat_eq key first.0 ≡ b → cond b (Some first.1) (lookup (nat_eq key) (rows ++ (shape, count) ∷ []))
-    ≡ cond (shape == key) (Some count) (cond b (Some first.1) (lookup (nat_eq key) rows))) [
-      | true ↦ λ here.
-          let other : (shape == key) ≡ false = Prim.grind (arith, nat_tests) in
-          sym (ap (λ b. cond b (Some count) (Some first.1)) other)
-      | false ↦ λ there. later
+-- a row is put where the pattern's row was, or at a free place where it had none
+put_count : (rows : List Entry) (place shape : ℕ) (row : Entry) → place < length rows → is_taken row ≡ true → (is_taken (row_at rows place) ≡ true → (row_at rows place).shape ≡ row.shape) →
+    StandsOnlyAt rows row.shape place → counts_of (slice_set rows place row) shape ≡ cond (row.shape == shape) (Some (pair_of row).1) (counts_of rows shape)
+put_count [] place shape row within some same only = absurd (omega (arith, within))
+put_count (first ∷ rows) zero shape row within some same only = Prim.grind (arith, nat_tests, counts-cons row rows shape, counts-cons first rows shape)
+put_count (first ∷ rows) (suc place) shape row within some same only =
+    let later = put_count rows place shape row (omega (arith, within)) some same (only_later first rows row.shape place only) in
+    Prim.grind (arith, nat_tests, counts-cons first (slice_set rows place row) shape, counts-cons first rows shape, only 0)
+
+-- a row that counts more
+pub counted_taken : (row : Entry) (shape there played : ℕ) (first : Option ℕ) → 0 < there + played → is_taken (counted_row row shape there played first) ≡ true
+counted_taken row shape there played first some = Prim.grind (arith, nat_tests)
+
+-- so a pattern was counted again
+pub put_counts : (rows : List Entry) (place shape there played : ℕ) (first : Option ℕ) (row more : Entry) → IsFound rows shape place → 0 < there + played → row ≡ row_at rows place →
+    more ≡ counted_row row shape there played first →
+    AreCounts (used first (one_pattern shape there) (one_pattern shape played) (counts_of rows)) (counts_of (slice_set rows place more))
+put_counts rows place shape there played first row more found some read is =
+    rw (is, read)
+    (let new = counted_row (row_at rows place) shape there played first in
+    used_one first shape there played (pair_of new).1 (counts_of rows) (counts_of (slice_set rows place new))
+    (let before = found_count rows place shape found.within found.same found.only in Prim.grind (arith, nat_tests, first_used-some first there played some))
+    (λ key. put_count rows place key new found.within (counted_taken (row_at rows place) shape there played first some) found.same found.only))
+
+-- the sum of its counts passes what fits
+pub put_fault : (rows : List Entry) (place shape there played : ℕ) (first : Option ℕ) → IsFound rows shape place → 2 ^ 64 ≤ (row_at rows place).there + (row_at rows place).played + there + played →
+    IsCountingFault 0 (used first (one_pattern shape there) (one_pattern shape played) (counts_of rows)) fault.Overflow
+put_fault rows place shape there played first found large =
+    let uses = again-uses first (one_pattern shape there shape) (one_pattern shape played shape) (counts_of rows shape) in
+    let before = ap uses_at (found_count rows place shape found.within found.same found.only) in
+    (shape, Prim.grind (arith, nat_tests, uses, all-of shape there, all-of shape played, before, large))
+
+-- and one place more is taken, where it was free
+pub put_length : (rows : List Entry) (place : ℕ) (row : Entry) → place < length rows → is_taken row ≡ true →
+    length (taken_of (slice_set rows place row)) ≡ length (taken_of rows) + cond (not (is_taken (row_at rows place))) 1 0
+put_length rows place row within some =
+    let sums = sum_by-set (λ (r : Entry). cond (is_taken r) 1 0) rows place row (record { shape = 0; there = 0; played = 0; first = None }) within in
+    let long = length-filter is_taken rows in
+    let more = length-filter is_taken (slice_set rows place row) in
+    Prim.grind (arith, nat_tests, sums, long, more, some)
+
+pub taken_few : (rows : List Entry) → length (taken_of rows) ≤ length rows
+taken_few rows = let long = length-filter is_taken rows in let few = count_by-le-length is_taken rows in omega arith
+
+-- ---- the first rows, one after another
+take_count : (rows : List Entry) (i shape : ℕ) → i < length rows → (is_taken (row_at rows i) ≡ true → StandsOnlyAt rows (row_at rows i).shape i) →
+    counts_of (take (suc i) rows) shape ≡ cond (is_of (row_at rows i) shape) (Some (pair_of (row_at rows i)).1) (counts_of (take i rows) shape)
+take_count [] i shape within only = absurd (omega (arith, within))
+take_count (first ∷ rows) zero shape within only = counts-cons first [] shape
+take_count (first ∷ rows) (suc i) shape within only =
+    let later = take_count rows i shape (omega (arith, within)) (λ taken. only_later first rows (row_at rows i).shape i (only taken)) in
+    Prim.grind (arith, nat_tests, counts-cons first (take (suc i) rows) shape, counts-cons first (take i rows) shape, λ (taken : is_taken (row_at rows i) ≡ true). only taken 0)
+
+none_before : (rows : List Entry) (i : ℕ) → i < length rows → StandsOnlyAt rows (row_at rows i).shape i → counts_of (take i rows) (row_at rows i).shape ≡ None
+none_before [] i within only = absurd (omega (arith, within))
+none_before (first ∷ rows) zero within only = refl
+none_before (first ∷ rows) (suc i) within only =
+    let later = none_before rows i (omega (arith, within)) (only_later first rows (row_at rows i).shape i only) in
+    Prim.grind (arith, nat_tests, counts-cons first (take i rows) (row_at rows i).shape, only 0)
+
+-- with one row more its pattern was counted as often as the row says
+pub take_counts : (rows : List Entry) (i : ℕ) → AreRows rows → i < length rows →
+    AreCounts (used (row_at rows i).first (one_pattern (row_at rows i).shape (row_at rows i).there) (one_pattern (row_at rows i).shape (row_at rows i).played) (counts_of (take i rows))) (counts_of (take (suc i) rows))
+take_counts rows i are within =
+    let row = row_at rows i in
+    let only = λ (taken : is_taken row ≡ true). λ (other : ℕ). are.once i other taken in
+    let more = λ (shape : ℕ). take_count rows i shape within only in
+    elim (is_taken row) as (λ b. is_taken row ≡ b → AreCounts (used row.first (one_pattern row.shape row.there) (one_pattern row.shape row.played) (counts_of (take i rows))) (counts_of (take (suc i) rows))) [
+      | true ↦ λ taken.
+          used_one row.first row.shape row.there row.played (pair_of row).1 (counts_of (take i rows)) (counts_of (take (suc i) rows))
+          (ap (used_again row.first row.there row.played) (none_before rows i within (only taken)) ∙ first_used-some row.first row.there row.played (Prim.grind (arith, nat_tests)))
+          (λ shape. Prim.grind (arith, nat_tests, more shape))
+      | false ↦ λ free. λ shape.
+          let same : counts_of (take (suc i) rows) shape ≡ counts_of (take i rows) shape = Prim.grind (arith, nat_tests, more shape) in
+          let there : 0 ≡ one_pattern row.shape row.there shape = Prim.grind (arith, nat_tests) in
+          let played : 0 ≡ one_pattern row.shape row.played shape = Prim.grind (arith, nat_tests) in
+          same ∙ sym (again-none row.first (counts_of (take i rows) shape)) ∙ ap₂ (λ t p. used_again row.first t p (counts_of (take i rows) shape)) there played
     ] refl
 
-pub lookup-set : (rows : List (ℕ × Count)) (at shape key : ℕ) (count : Count) → IsDistinct nat_eq (keys_of rows) → at < length rows → slice_index_or (keys_of rows) at 0 ≡ shape →
-    lookup (nat_eq key) (slice_set rows at (shape, count)) ≡ cond (shape == key) (Some count) (lookup (nat_eq key) rows)
-lookup-set [] at shape key count once low is = absurd (omega (arith, low))
-lookup-set (first ∷ rows) zero shape key count once low is =
-    elim (nat_eq key shape) as (λ b. nat_eq key shape ≡ b → cond b (Some count) (lookup (nat_eq key) rows)
-    ≡ cond (shape == key) (Some count) (cond (nat_eq key first.0) (Some first.1) (lookup (nat_eq key) rows))) [
-      | true ↦ λ same.
-          let test : (shape == key) ≡ true = Prim.grind (arith, nat_tests) in
-          sym (ap (λ b. cond b (Some count) (cond (nat_eq key first.0) (Some first.1) (lookup (nat_eq key) rows))) test)
-      | false ↦ λ apart.
-          let test : (shape == key) ≡ false = Prim.grind (arith, nat_tests) in
-          let head : nat_eq key first.0 ≡ false = ap (nat_eq key) is ∙ apart in
-          sym (ap (λ b. cond b (Some count) (cond (nat_eq key first.0) (Some first.1) (lookup (nat_eq key) rows))) test
-          ∙ ap (λ b. cond b (Some first.1) (lookup (nat_eq key) rows)) head)
-    ] refl
-lookup-set (first ∷ rows) (suc at) shape key count once low is =
-    let later = lookup-set rows at shape key count (IsDistinct-tail nat_eq first.0 (keys_of rows) once) (omega (arith, low)) is in
-    let long = length-keys_of rows in
-    let apart = apart_from_distinct nat_eq (first.0 ∷ keys_of rows) 0 (suc at) 0 once (let l : 0 < suc at = omega arith in l) (let l : suc at < suc (length (keys_of rows)) = omega (arith, low, long) in l) in
-    let differs : nat_eq first.0 shape ≡ false = sym (ap (nat_eq first.0) is) ∙ apart in
-    ap (cond (nat_eq key first.0) (Some first.1)) later
-    ∙ elim (nat_eq key first.0) as (λ b. nat_eq key first.0 ≡ b → cond b (Some first.1) (cond (shape == key) (Some count) (lookup (nat_eq key) rows))
-    ≡ cond (shape == key) (Some count) (cond b (Some first.1) (lookup (nat_eq key) rows))) [
-      | true ↦ λ here.
-          let other : (shape == key) ≡ false = Prim.grind (arith, nat_tests) in
-          sym (ap (λ b. cond b (Some count) (Some first.1)) other)
-      | false ↦ λ there. refl
+-- ---- no pattern is twice among the rows that count something
+none_among : (rows : List Entry) (shape : ℕ) → ((other : ℕ) → is_taken (row_at rows other) ≡ true → (row_at rows other).shape ≡ shape → ⊥) → AllByRecursion (λ key. nat_eq shape key ≡ false) (keys_of (pairs_of (taken_of rows)))
+none_among [] shape none = tt
+none_among (first ∷ rows) shape none =
+    let later = none_among rows shape (λ other. none (suc other)) in
+    elim (is_taken first) as (λ b. is_taken first ≡ b → AllByRecursion (λ key. nat_eq shape key ≡ false) (keys_of (pairs_of (cond b (first ∷ taken_of rows) (taken_of rows)))))
+    [ true ↦ λ taken. (Prim.grind (arith, nat_tests, none 0 taken), later) | false ↦ λ free. later ] refl
+
+distinct : (rows : List Entry) → ((one other : ℕ) → is_taken (row_at rows one) ≡ true → is_taken (row_at rows other) ≡ true → (row_at rows other).shape ≡ (row_at rows one).shape → other ≡ one) →
+    IsDistinct nat_eq (keys_of (pairs_of (taken_of rows)))
+unfolding IsDistinct
+distinct [] once = tt
+distinct (first ∷ rows) once =
+    let later = distinct rows (λ one other taken more is. Prim.grind (arith, once (suc one) (suc other) taken more is)) in
+    elim (is_taken first) as (λ b. is_taken first ≡ b → IsDistinct nat_eq (keys_of (pairs_of (cond b (first ∷ taken_of rows) (taken_of rows))))) [
+      | true ↦ λ taken. IsDistinct-cons nat_eq first.shape (keys_of (pairs_of (taken_of rows)))
+          (none_among rows first.shape (λ other more is. absurd (omega (arith, once 0 (suc other) taken more is)))) later
+      | false ↦ λ free. later
     ] refl
 
--- the row of a pattern has its count
-pub lookup-at : (rows : List (ℕ × Count)) (at shape : ℕ) (default : ℕ × Count) → IsDistinct nat_eq (keys_of rows) → at < length rows → slice_index_or (keys_of rows) at 0 ≡ shape →
-    lookup (nat_eq shape) rows ≡ Some (slice_index_or rows at default).1
-lookup-at [] at shape default once low is = absurd (omega (arith, low))
-lookup-at (first ∷ rows) zero shape default once low is =
-    let test : nat_eq shape first.0 ≡ true = Prim.grind (arith, nat_tests) in
-    ap (λ b. cond b (Some first.1) (lookup (nat_eq shape) rows)) test
-lookup-at (first ∷ rows) (suc at) shape default once low is =
-    let later = lookup-at rows at shape default (IsDistinct-tail nat_eq first.0 (keys_of rows) once) (omega (arith, low)) is in
-    let long = length-keys_of rows in
-    let apart = apart_from_distinct nat_eq (first.0 ∷ keys_of rows) 0 (suc at) 0 once (let l : 0 < suc at = omega arith in l) (let l : suc at < suc (length (keys_of rows)) = omega (arith, low, long) in l) in
-    let differs : nat_eq shape first.0 ≡ false = flips shape first.0 ∙ sym (ap (nat_eq first.0) is) ∙ apart in
-    ap (λ b. cond b (Some first.1) (lookup (nat_eq shape) rows)) differs ∙ later
+pub once_among : (rows : List Entry) → AreRows rows → IsDistinct nat_eq (keys_of (pairs_of (taken_of rows)))
+once_among rows are = distinct rows are.once

@@ -8,7 +8,7 @@ use Rattle.tally_core.specs.declared.faults.TallyFault.{TallyFault}
 use Rattle.tally_core.specs.declared.faults.TallyFault.TheVariants as fault
 use Rattle.tally_core.specs.Inner.Counter.{first_used, used_again, used, uses_at, times_in, one_pattern, AreAmong, AreCounts, IsCountingFault}
 
-first_used-some : (game : Option ℕ) (there played : ℕ) → 0 < there + played → first_used game there played ≡ Some (record { there = there; played = played; first = game })
+pub first_used-some : (game : Option ℕ) (there played : ℕ) → 0 < there + played → first_used game there played ≡ Some (record { there = there; played = played; first = game })
 first_used-some game zero zero some = absurd (omega arith)
 first_used-some game zero (suc played) some = refl
 first_used-some game (suc there) played some = refl
@@ -55,29 +55,13 @@ fault-later fault.Overflow few most a b h k = (k.0, omega (arith, h k.0, k.1))
 fault-later (fault.BadSettings) few most a b h k = k
 fault-later (fault.Sgf found) few most a b h k = k
 
--- a pattern that had no count was there and was played this often
-pub used_first : (game : Option ℕ) (only there played : ℕ) (a b : ℕ → Option Count) → 0 < there + played → a only ≡ None →
-    ((q : ℕ) → b q ≡ cond (only == q) (Some (record { there = there; played = played; first = game })) (a q)) →
-    AreCounts (used game (one_pattern only there) (one_pattern only played) a) b
-used_first game only there played a b some none updated q =
-    let new : Option Count = Some (record { there = there; played = played; first = game }) in
+-- a pattern was there and was played this often
+pub used_one : (game : Option ℕ) (only there played : ℕ) (count : Count) (a b : ℕ → Option Count) → used_again game there played (a only) ≡ Some count →
+    ((q : ℕ) → b q ≡ cond (only == q) (Some count) (a q)) → AreCounts (used game (one_pattern only there) (one_pattern only played) a) b
+used_one game only there played count a b is updated q =
     elim (only == q) as (λ t. (only == q) ≡ t → b q ≡ used_again game (cond t there 0) (cond t played 0) (a q)) [
       | true ↦ λ same.
-          updated q ∙ ap (λ t. cond t new (a q)) same
-          ∙ sym (first_used-some game there played some)
-          ∙ ap (used_again game there played) (sym none ∙ ap a (Prim.grind (arith, nat_tests)))
-      | false ↦ λ other. updated q ∙ ap (λ t. cond t new (a q)) other ∙ sym (again-none game (a q))
-    ] refl
-
--- a pattern that had a count was there and was played this often again
-pub used_more : (game : Option ℕ) (only there played : ℕ) (count : Count) (a b : ℕ → Option Count) → a only ≡ Some count →
-    ((q : ℕ) → b q ≡ cond (only == q) (Some (record count { there = count.there + there; played = count.played + played })) (a q)) →
-    AreCounts (used game (one_pattern only there) (one_pattern only played) a) b
-used_more game only there played count a b is updated q =
-    let new : Option Count = Some (record count { there = count.there + there; played = count.played + played }) in
-    elim (only == q) as (λ t. (only == q) ≡ t → b q ≡ used_again game (cond t there 0) (cond t played 0) (a q)) [
-      | true ↦ λ same.
-          updated q ∙ ap (λ t. cond t new (a q)) same
-          ∙ ap (used_again game there played) (sym is ∙ ap a (Prim.grind (arith, nat_tests)))
-      | false ↦ λ other. updated q ∙ ap (λ t. cond t new (a q)) other ∙ sym (again-none game (a q))
+          updated q ∙ ap (λ t. cond t (Some count) (a q)) same
+          ∙ sym is ∙ ap (λ p. used_again game there played (a p)) (Prim.grind (arith, nat_tests))
+      | false ↦ λ other. updated q ∙ ap (λ t. cond t (Some count) (a q)) other ∙ sym (again-none game (a q))
     ] refl

@@ -1,92 +1,101 @@
--- The ways of patterns through an index.
-use Rattle.std.proofs.Common.{◌≡◌, ℕ, ◌+◌, ◌<◌, List, [], ◌∷◌, ◌++◌, length, slice_set, slice_index_or, refl, ap, sym, subst, ◌∙◌, arith, add-one, ⊎_elim}
+-- The ways of patterns through the places of rows.
+use Rattle.std.proofs.Common.{◌≡◌, ℕ, ◌+◌, ◌<◌, ◌==◌, Bool, true, false, not, zero, suc, cond, List, length, take, replicate, ◌++◌, slice_set, slice_index_or, All, refl, ap, sym, subst, ◌∙◌, arith, add-one, ⊎_elim, [], ◌∷◌}
+use Rattle.std.specs.List.{AllByRecursion}
 use Rattle.std.proofs.lemmas.Bool.{cases_eq}
-use Rattle.std.proofs.lemmas.List.{get_or-set_other, length-set, get_or_append_left, get_or_push, length_push}
-use Rattle.std.proofs.lemmas.Map.Keys.{IsDistinct-push}
-use Rattle.std.specs.Cmp.{nat_eq_equiv}
-use Rattle.std.specs.List.{IsDistinct}
+use Rattle.std.proofs.lemmas.Bool.Decides.{nat_tests}
 use Rattle.std.proofs.lemmas.Grind.{get_or-set_at}
-use Rattle.tally_core.specs.declared.indexes.Slot.{Slot}
-use Rattle.tally_core.specs.Inner.Index.{home_of, next_place, place_at, way_of, slot_at, slot_of, AreTaken, IsNoted, AreNoted, IsFree, HasNoRow, IsIndexed}
-use Rattle.tally_core.proofs.RowLookups.{none_any}
+use Rattle.std.proofs.lemmas.List.{get_or_default, get_or-set_other, length-set}
+use Rattle.std.proofs.lemmas.List.Elements.{All-set, All-append, All-take, All-nil, All-replicate}
+use Rattle.shape_dict.specs.declared.entries.Entry.{Entry}
+use Rattle.tally_core.specs.Entries.{IsShape}
+use Rattle.tally_core.specs.Inner.Rows.{next_place, way_of, is_taken, taken_of, row_at, IsReached, IsOther, AreRows, IsFound}
+
+-- what was read at a place
+pub read_at : (rows : List Entry) (place : ℕ) (row : Entry) → row ≡ slice_index_or rows place row → place < length rows → row ≡ row_at rows place
+read_at rows place row is within = is ∙ get_or_default rows place row _ within
+
+not_false : (b : Bool) → not b ≡ false → b ≡ true
+not_false true h = refl
+not_false false h = absurd cc
 
 -- one step more on a way
-pub way-next : (index : List Slot) (shape step : ℕ) → way_of index shape (step + 1) ≡ next_place (length index) (way_of index shape step)
-way-next index shape step = ap (way_of index shape) (add-one step)
+pub way-next : (places shape step : ℕ) → way_of places shape (step + 1) ≡ next_place places (way_of places shape step)
+way-next places shape step = ap (way_of places shape) (add-one step)
 
-pub taken_more : (index : List Slot) (shape steps : ℕ) → AreTaken index shape steps → 0 < (slot_at index (way_of index shape steps)).above → AreTaken index shape (steps + 1)
-taken_more index shape steps taken here step low = ⊎_elim
-    (λ (same : step ≡ steps). subst (λ s. 0 < (slot_at index (way_of index shape s)).above) (sym same) here)
-    (λ (apart : step ≡ steps → ⊥). taken step (omega (arith, low, apart)))
+pub other_at : (rows : List Entry) (shape place : ℕ) (row : Entry) (equal free : Bool) → row ≡ row_at rows place → equal ≡ (row.shape == shape) → equal ≡ false →
+    free ≡ not (is_taken row) → free ≡ false → IsOther rows shape place
+other_at rows shape place row equal free is test differs tested taken = record {
+  taken = ap is_taken (sym is) ∙ not_false (is_taken row) (sym tested ∙ taken);
+  other = λ same. let here = ap (λ (r : Entry). r.shape) is ∙ same in Prim.grind (arith, nat_tests);
+}
+
+pub passed_more : (rows : List Entry) (shape steps : ℕ) → ((step : ℕ) → step < steps → IsOther rows shape (way_of (length rows) shape step)) → IsOther rows shape (way_of (length rows) shape steps) →
+    (step : ℕ) → step < steps + 1 → IsOther rows shape (way_of (length rows) shape step)
+passed_more rows shape steps passed here step low = ⊎_elim
+    (λ (same : step ≡ steps). subst (λ s. IsOther rows shape (way_of (length rows) shape s)) (sym same) here)
+    (λ (apart : step ≡ steps → ⊥). passed step (omega (arith, low, apart)))
     (cases_eq step steps)
 
--- ---- a slot is taken at a free place
-module _ (index : List Slot) (place : ℕ) (slot : Slot) (free : (slot_at index place).above ≡ 0) (within : place < length index) (some : 0 < slot.above) where
-  after : List Slot
-  after = slice_set index place slot
+-- ---- a row is put where its pattern's way leads to
+module _ (rows : List Entry) (place : ℕ) (row : Entry) (are : AreRows rows) (found : IsFound rows row.shape place) (some : is_taken row ≡ true) where
+  after : List Entry
+  after = slice_set rows place row
 
-  long : length after ≡ length index
+  long : length after ≡ length rows
   unfolding after
-  long = length-set index place slot
+  long = length-set rows place row
 
-  way_same : (shape step : ℕ) → way_of after shape step ≡ way_of index shape step
-  way_same shape step = ap (λ n. place_at n (home_of n shape) step) long
-
-  taken_at : (at : ℕ) → 0 < (slot_at index at).above → slot_at after at ≡ slot_at index at
+  here : (at : ℕ) → at ≡ place → row_at after at ≡ row
   unfolding after
-  taken_at at taken = get_or-set_other index place at slot (record { above = 0; tag = 0 })
-      (λ (same : at ≡ place). let gone = ap (λ p. (slot_at index p).above) same in absurd (omega (arith, taken, gone, free)))
+  here at same = get_or-set_at rows place at row _ same found.within
 
-  taken_still : (shape steps : ℕ) → AreTaken index shape steps → AreTaken after shape steps
-  taken_still shape steps taken step low =
-      let before = taken step low in
-      let place_same = way_same shape step in
-      let slot_same = ap (slot_at after) place_same ∙ taken_at (way_of index shape step) before in
-      let above_same = ap (λ (s : Slot). s.above) slot_same in
-      omega (arith, before, above_same)
-
-  noted_still : (shape row : ℕ) → IsNoted index shape row → IsNoted after shape row
-  noted_still shape row noted =
-      let above = ap (λ (s : Slot). s.above) noted.here in
-      record {
-        step = noted.step;
-        here = ap (slot_at after) (way_same shape noted.step) ∙ taken_at (way_of index shape noted.step) (omega (arith, above)) ∙ noted.here;
-        taken = taken_still shape noted.step noted.taken;
-      }
-
-  noted_here : (shape row : ℕ) → slot ≡ slot_of shape row → IsFree index shape place → IsNoted after shape row
+  elsewhere : (at : ℕ) → (at ≡ place → ⊥) → row_at after at ≡ row_at rows at
   unfolding after
-  noted_here shape row is found = record {
-    step = found.step;
-    here = ap (slot_at after) (way_same shape found.step ∙ sym found.place_is) ∙ get_or-set_at index place place slot (record { above = 0; tag = 0 }) refl within ∙ is;
-    taken = taken_still shape found.step found.taken;
+  elsewhere at apart = get_or-set_other rows place at row _ apart
+
+  taken_still : (at : ℕ) → is_taken (row_at rows at) ≡ true → is_taken (row_at after at) ≡ true
+  taken_still at taken = Prim.grind (arith, here at, elsewhere at)
+
+  reached_still : (shape at : ℕ) → IsReached rows shape at → IsReached after shape at
+  reached_still shape at way = record {
+    step = way.step;
+    place_is = way.place_is ∙ ap (λ n. way_of n shape way.step) (sym long);
+    taken = λ before low. ap (λ n. is_taken (row_at after (way_of n shape before))) long ∙ taken_still (way_of (length rows) shape before) (way.taken before low);
   }
 
--- a row more is noted
-pub noted_more : (index : List Slot) (place shape row : ℕ) (shapes : List ℕ) → AreNoted index shapes row → IsFree index shape place → slice_index_or shapes row 0 ≡ shape →
-    AreNoted (slice_set index place (slot_of shape row)) shapes (row + 1)
-unfolding after
-noted_more index place shape row shapes noted found is one low = ⊎_elim
-    (λ (same : one ≡ row).
-    subst (λ r. IsNoted (slice_set index place (slot_of shape row)) (slice_index_or shapes r 0) r) (sym same)
-    (subst (λ s. IsNoted (slice_set index place (slot_of shape row)) s row) (sym is)
-    (noted_here index place (slot_of shape row) found.free found.within (let l : 0 < row + 1 = omega arith in l) shape row refl found)))
-    (λ (apart : one ≡ row → ⊥).
-    noted_still index place (slot_of shape row) found.free found.within (let l : 0 < row + 1 = omega arith in l) (slice_index_or shapes one 0) one (noted one (omega (arith, low, apart))))
-    (cases_eq one row)
+  reached_after : (at : ℕ) → is_taken (row_at after at) ≡ true → IsReached after (row_at after at).shape at
+  reached_after at taken = ⊎_elim
+      (λ (same : at ≡ place). subst (λ (r : Entry). IsReached after r.shape at) (sym (here at same)) (subst (IsReached after row.shape) (sym same) (reached_still row.shape place found.reached)))
+      (λ (apart : at ≡ place → ⊥).
+      subst (λ (r : Entry). IsReached after r.shape at) (sym (elsewhere at apart))
+      (reached_still (row_at rows at).shape at (are.reached at (sym (ap is_taken (elsewhere at apart)) ∙ taken))))
+      (cases_eq at place)
 
--- a row more, of a pattern that had none
-pub indexed_more : (index : List Slot) (shapes : List ℕ) (place shape : ℕ) → IsIndexed index shapes → IsFree index shape place → HasNoRow shapes shape →
-    IsIndexed (slice_set index place (slot_of shape (length shapes))) (shapes ++ shape ∷ [])
-indexed_more index shapes place shape indexed found none =
-    let before : AreNoted index (shapes ++ shape ∷ []) (length shapes) = λ row low.
-    subst (λ s. IsNoted index s row) (sym (get_or_append_left shapes (shape ∷ []) 0 row low)) (indexed.noted row low) in
-    record {
-      once = IsDistinct-push nat_eq_equiv shapes shape indexed.once (none_any shapes shape none);
-      noted = subst (AreNoted (slice_set index place (slot_of shape (length shapes))) (shapes ++ shape ∷ [])) (sym (length_push shapes shape))
-          (noted_more index place shape (length shapes) (shapes ++ shape ∷ []) before found (get_or_push shapes shape 0 (length shapes) refl));
-    }
+  once_after : (one other : ℕ) → is_taken (row_at after one) ≡ true → is_taken (row_at after other) ≡ true → (row_at after other).shape ≡ (row_at after one).shape → other ≡ one
+  once_after one other taken more is = Prim.grind (arith, here one, here other, elsewhere one, elsewhere other, found.only one, found.only other, are.once one other)
 
-pub none_indexed : (index : List Slot) → IsIndexed index []
-unfolding IsDistinct
-none_indexed index = record { once = tt; noted = λ row low. absurd (omega (arith, low)) }
+  pub rows_put : IsShape row → AreRows (slice_set rows place row)
+  unfolding after
+  rows_put shape = record { reached = reached_after; once = once_after; shapes = All-set IsShape rows place row shape are.shapes }
+
+-- ---- no place is taken
+free_at : (rows : List Entry) (place : ℕ) → AllByRecursion (λ row. is_taken row ≡ false) rows → is_taken (row_at rows place) ≡ false
+free_at [] place free = refl
+free_at (first ∷ rows) zero free = free.0
+free_at (first ∷ rows) (suc place) free = free_at rows place free.1
+
+pub none_taken : (rows : List Entry) → AllByRecursion (λ row. is_taken row ≡ false) rows → taken_of rows ≡ []
+none_taken [] free = refl
+none_taken (first ∷ rows) free = ap (λ b. cond b (first ∷ taken_of rows) (taken_of rows)) free.0 ∙ none_taken rows free.1
+
+pub rows_free : (rows : List Entry) → AllByRecursion (λ row. is_taken row ≡ false) rows → All IsShape rows → AreRows rows
+rows_free rows free shapes = record {
+  reached = λ place taken. absurd (let none = free_at rows place free in cc);
+  once = λ one other taken more is. absurd (let none = free_at rows one free in cc);
+  shapes = shapes;
+}
+
+-- the places of a table that was made have copies of a row
+pub all_copies : (P : Entry → Type 0) (rows old : List Entry) (places more : ℕ) (row : Entry) → old ≡ [] → rows ≡ take places old ++ replicate more row → P row → All P rows
+all_copies P rows old places more row none is holds =
+    subst (All P) (sym is) (All-append P (take places old) (replicate more row) (All-take P places old (subst (All P) (sym none) (All-nil P))) (All-replicate P more row holds))

@@ -4,8 +4,8 @@ pub mod Count
 pub mod Counter
 pub mod Counting
 pub mod Entries
-pub mod Index
 pub mod Meeting
 pub mod Place
+pub mod Rows
 pub mod Sight
 pub mod Standing

@@ -1,129 +1,112 @@
-//! Counts of patterns: a row for each pattern, in the order in which they were first counted.
-ghost use Rattle.std.specs.Prelude.{◌≡◌, ◌++◌, ◌∷◌, [], ◌<◌, ◌≤◌, length, OnOk, OnErr};
-ghost use Rattle.std.specs.Map.{keys_of};
-ghost use Rattle.std.specs.Prelude.{◌+◌, ◌^◌, IfSome, IfNone};
-ghost use Rattle.tally_core.specs.Inner.Index.{IsFree, HasNoRow};
-ghost use Rattle.tally_core.specs.Inner.Entries.{shapes_of, AreRows};
+//! Counts of patterns: a row for each pattern, at a place of its pattern's way.
+ghost use Rattle.std.specs.Prelude.{◌≡◌, ◌+◌, ◌^◌, ◌<◌, ◌≤◌, length, IfSome, IfNone};
+ghost use Rattle.tally_core.specs.Inner.Rows.{counted_row};
 
 use crate::faults::TallyFault;
-use crate::indexes::{Slot, home, index_of, note};
-use crate::looking::{Place, find};
 use crate::meetings::Meeting;
+use crate::places::{find, free_rows, home, is_free};
 use shape_core::Shape;
 use shape_dict::{Entry, FirstGame};
 use std::alloc::{AllocError, Global};
 use std::marker::Model;
 
-/// How many places an index has at first.
+/// How many places there are at first.
 const FIRST_PLACES: usize = 4096;
 
-/// How many meetings are looked at together: few enough that their lines stay in the nearest caches
+/// How many meetings are looked at together: few enough that their rows stay in the nearest caches
 /// until they are counted.
 const BLOCK: usize = 128;
 
-/// What the first places of the first meetings' patterns have, a block of them or all where they
-/// are fewer, and how many these are. No look waits for the one before it.
-fn first_slots(index: &[Slot], meetings: &[Meeting]) -> ([u32; BLOCK], usize)
-    requires { 0 < length index.now }
+/// Where the rows of the first meetings' patterns are likely to be, a block of them or all where
+/// they are fewer, and how many these are: at the first place, or where that is another pattern's,
+/// at the one after it. No look waits for the one before it.
+fn likely_places(rows: &[Entry], meetings: &[Meeting]) -> ([usize; BLOCK], usize)
+    requires { 0 < length rows.now }
     ensures block { result.1 ≤ BLOCK }
     ensures within { result.1 ≤ length meetings.now }
 {
-    let mut above = [0; BLOCK];
-    let count = meetings.len().min(BLOCK);
-    for i in 0..count {
-        above[i] = index[home(meetings[i].shape, index.len())].above;
+    let mut places = [0; BLOCK];
+    let looked = meetings.len().min(BLOCK);
+    for i in 0..looked {
+        let shape = meetings[i].shape;
+        let place = home(shape, rows.len());
+        let row = rows[place];
+        let other = (row.shape != shape) & (row.there != 0);
+        places[i] = place + other as usize;
     }
-    (above, count)
+    (places, looked)
 }
 
-/// How many of the first meetings, a block of them, seem to have no row, as far as the first places
-/// of their patterns tell. Their lines of memory, of the index and of the rows, come together, and
+/// How many of the first meetings, a block of them, seem to have no row, as far as the first two
+/// places of their patterns tell. The lines of memory of all these places come together, and
 /// `find` finds them in a cache.
 #[inline(never)]
-fn count_new(index: &[Slot], rows: &[Entry], meetings: &[Meeting]) -> usize
+fn count_new(rows: &[Entry], meetings: &[Meeting]) -> usize
     ensures { result ≤ BLOCK }
 {
-    if index.is_empty() || rows.is_empty() {
+    if rows.is_empty() {
         return BLOCK;
     }
-    let (above, looked) = first_slots(index, meetings);
+    let (places, looked) = likely_places(rows, meetings);
     let mut count = 0;
     for i in 0..looked {
-        let at = (above[i] as usize).wrapping_sub(1).min(rows.len() - 1);
-        count += (rows[at].shape != meetings[i].shape) as usize;
+        let place = places[i].min(rows.len() - 1);
+        count += (rows[place].shape != meetings[i].shape) as usize;
     }
     count
 }
 
-/// A row more, of a pattern that has none, and a free place on its way.
-fn push(
-    rows: &mut Vec<Entry>,
-    index: &mut Vec<Slot>,
-    place: usize,
-    row: Entry,
-) -> Result<(), AllocError>
-    requires rows { AreRows index.old.items rows.old.items }
-    requires free { IsFree index.old.items row.shape place }
-    requires none { HasNoRow (shapes_of rows.old.items) row.shape }
-    ensures ok { OnOk result (rows.new.items ≡ rows.old.items ++ row ∷ []) }
-    ensures err { OnErr result (rows.new.items ≡ rows.old.items) }
-    ensures rows { AreRows index.new.items rows.new.items }
-{
-    // Its word is the least of its images.
-    let shape = row.shape;
-    let _ = shape.word();
-    let at = rows.as_slice().len();
-    if at >= 0xFFFF_FFFF {
-        return Err(AllocError);
-    }
-    rows.push(row)?;
-    note(index, place, shape, at);
-    Ok(())
-}
-
-/// A row once its pattern was there and was played this often again; None where that passes
+/// The row that was found for a pattern, or is free, once the pattern was there and was played this
+/// often again; `first` is the first game where the row was free. None where a count passes
 /// 2^64 - 1.
-fn raised(row: Entry, there: u64, played: u64) -> Option<Entry>
+fn counted(row: &Entry, shape: Shape, there: u64, played: u64, first: FirstGame) -> Option<Entry>
     ensures some { IfSome result (λ more. more
-        ≡ record row { there = row.there + there; played = row.played + played }) }
-    ensures none { IfNone result (2 ^ 64 ≤ row.there + row.played + there + played) }
+        ≡ counted_row row.now shape there played first) }
+    ensures none { IfNone result (2 ^ 64 ≤ row.now.there + row.now.played + there + played) }
 {
     Some(Entry {
+        shape,
         there: row.there.checked_add(there)?,
         played: row.played.checked_add(played)?,
-        ..row
+        first: if is_free(row) { first } else { row.first },
     })
 }
 
 /// Counts of patterns, each found by its word. Contracts see the patterns with their counts, in
-/// the order in which they were first counted; no pattern is there twice.
+/// the order of their places, which changes as they get more; no pattern is there twice.
 #[derive(Drop)]
 pub struct Counts {
     alloc: Global,
+    /// Those that count something, and free ones at all other places.
     rows: Vec<Entry>,
-    index: Vec<Slot>,
+    /// How many places are taken.
+    taken: usize,
+    /// How many more are likely to be taken by the meetings that come next.
+    expected: usize,
 }
 
 impl Model for Counts {
-    ghost use Rattle.std.specs.Prelude.{ℕ, List};
+    ghost use Rattle.std.specs.Prelude.{◌≡◌, ℕ, List, length};
     ghost use Rattle.tally_core.specs.Inner.Count.{Count};
-    ghost use Rattle.tally_core.specs.Inner.Entries.{pairs_of, AreRows};
+    ghost use Rattle.tally_core.specs.Inner.Entries.{pairs_of};
+    ghost use Rattle.tally_core.specs.Inner.Rows.{taken_of, AreRows};
 
     ghost Value = { List (ℕ × Count) };
 
-    ghost view = { λ c. pairs_of c.rows.items };
+    ghost view = { λ c. pairs_of (taken_of c.rows.items) };
 
-    ghost invariant = { λ c. AreRows c.index.items c.rows.items };
+    ghost invariant = { λ c. AreRows c.rows.items × (c.taken ≡ length (taken_of c.rows.items)) };
 }
 
 impl Counts {
-    ghost use Rattle.std.specs.Prelude.{◌≡◌, ◌^◌, ◌<◌, ◌≤◌, [], ℕ, Option, nat_eq, length, map};
-    ghost use Rattle.std.specs.Prelude.{slice_index_or, All, OnOk, IfErr};
+    ghost use Rattle.std.specs.Prelude.{◌≡◌, ◌+◌, ◌<◌, ◌≤◌, ◌^◌, [], nat_eq, length, map};
+    ghost use Rattle.std.specs.Prelude.{All, OnOk, IfOk, IfErr};
     ghost use Rattle.std.specs.List.{IsDistinct};
     ghost use Rattle.std.specs.Map.{keys_of};
     ghost use Rattle.tally_core.specs.Inner.Counter.{count_in, one_pattern, used, AreCounts};
     ghost use Rattle.tally_core.specs.Inner.Counter.{IsCountingFault};
-    ghost use Rattle.tally_core.specs.Inner.Entries.{entry_of_pair};
+    ghost use Rattle.tally_core.specs.Inner.Entries.{entry_of_pair, counts_of};
+    ghost use Rattle.tally_core.specs.Inner.Rows.{AreRows};
     ghost use Rattle.tally_core.specs.Entries.{IsShape};
 
     /// Nothing was counted yet. It takes no memory.
@@ -133,22 +116,30 @@ impl Counts {
         Counts {
             alloc,
             rows: Vec::new(alloc),
-            index: Vec::new(alloc),
+            taken: 0,
+            expected: 0,
         }
     }
 
-    /// The same, with an index that need not grow for this many rows, where there is memory for it.
+    /// Nothing was counted yet, and there are this many places. It takes memory for them.
+    fn with_places(alloc: Global, places: usize) -> Result<Counts, AllocError>
+        ensures { IfOk result (λ counts. counts ≡ []) }
+    {
+        Ok(Counts {
+            alloc,
+            rows: free_rows(alloc, places)?,
+            taken: 0,
+            expected: 0,
+        })
+    }
+
+    /// The same as `new`, with places for about this many rows, where there is memory for them.
     pub fn with_room(alloc: Global, rows: usize) -> Counts
         ensures { result ≡ [] }
     {
-        let places = rows.saturating_mul(3) / 2;
-        Counts {
-            alloc,
-            rows: Vec::new(alloc),
-            index: match index_of(alloc, places, &[]) {
-                Ok(index) => index,
-                Err(AllocError) => Vec::new(alloc),
-            },
+        match Counts::with_places(alloc, rows.saturating_mul(4) / 3) {
+            Ok(counts) => counts,
+            Err(AllocError) => Counts::new(alloc),
         }
     }
 
@@ -158,67 +149,36 @@ impl Counts {
         ensures once { IsDistinct nat_eq (keys_of self.now) }
         ensures small { length self.now < 2 ^ 63 }
     {
-        self.rows.len()
+        self.taken
     }
 
-    /// The patterns' entries in a dictionary, in the order in which they were first counted. It
-    /// takes no memory.
+    /// The patterns' entries in a dictionary, in the order of their places. It takes no memory.
     pub fn into_entries(self) -> Vec<Entry>
         ensures entries { result.items ≡ map entry_of_pair self }
         ensures shapes { All IsShape result.items }
         ensures once { IsDistinct nat_eq (keys_of self) }
     {
-        self.rows
+        let mut rows = self.rows;
+        rows.retain(|row| !is_free(row));
+        rows
     }
 
-    /// Where a block of meetings begins at this one, makes room for the rows that they seem to
-    /// need, and has the memory in which they will be counted come nearer. It takes memory.
+    /// Where a block of meetings begins at this one, looks how many rows they seem to need, and so
+    /// has the memory in which they will be counted come nearer. It takes no memory.
     #[inline(always)]
-    pub fn expect(&mut self, meetings: &[Meeting], at: usize) -> Result<(), AllocError>
+    pub fn expect(&mut self, meetings: &[Meeting], at: usize)
         requires { at ≤ length meetings.now }
         ensures { self.new ≡ self.old }
     {
-        if at % BLOCK != 0 {
-            return Ok(());
+        if at % BLOCK == 0 {
+            self.expected = count_new(self.rows.as_slice(), &meetings[at..]);
         }
-        let rows = self.rows.as_slice();
-        let more = count_new(self.index.as_slice(), rows, &meetings[at..]);
-        self.rows.reserve(more)
     }
 
-    /// Gives the index more places, where a quarter of them is not free. It takes memory.
-    fn make_room(&mut self) -> Result<(), AllocError>
-        ensures { self.new ≡ self.old }
-    {
-        let places = self.index.len();
-        if self.rows.len() < places / 4 * 3 {
-            return Ok(());
-        }
-        let more = places.saturating_mul(2).max(FIRST_PLACES);
-        self.index = index_of(self.alloc, more, self.rows.as_slice())?;
-        Ok(())
-    }
-
-    /// Counts the pattern of a row as being there and being played this often again.
-    fn raise(&mut self, at: usize, shape: Shape, there: u64, played: u64) -> Result<(), TallyFault>
-        requires within { at < length self.old }
-        requires row { slice_index_or (keys_of self.old) at 0 ≡ shape }
-        ensures ok { (first : Option ℕ) → OnOk result (AreCounts (used first
-            (one_pattern shape there) (one_pattern shape played) (count_in self.old))
-            (count_in self.new)) }
-        ensures fault { (first : Option ℕ) → IfErr result (IsCountingFault 0 (used first
-            (one_pattern shape there) (one_pattern shape played) (count_in self.old))) }
-    {
-        let Some(row) = raised(self.rows[at], there, played) else {
-            return Err(TallyFault::Overflow);
-        };
-        self.rows[at] = row;
-        Ok(())
-    }
-
-    /// Counts a pattern as being there and being played this often again. Where it has no count
-    /// yet, this is its first game.
-    pub fn add(
+    /// Counts a pattern as being there and being played this often again, where it has a row or a
+    /// place is free. Where it has no count yet, this is its first game. `TallyFault::Memory` comes
+    /// where no place is free. It takes no memory.
+    fn enter(
         &mut self,
         shape: Shape,
         there: u64,
@@ -233,21 +193,66 @@ impl Counts {
         if there == 0 && played == 0 {
             return Ok(());
         }
-        self.make_room()?;
-        match find(self.index.as_slice(), self.rows.as_slice(), shape) {
-            Some(Place::Met(at)) => self.raise(at, shape, there, played),
-            Some(Place::Free(place)) => {
-                let row = Entry {
-                    shape,
-                    there,
-                    played,
-                    first,
-                };
-                push(&mut self.rows, &mut self.index, place, row)?;
-                Ok(())
-            }
-            // A quarter of the places is free.
-            None => Err(TallyFault::Memory),
+        let Some(place) = find(self.rows.as_slice(), shape) else {
+            return Err(TallyFault::Memory);
+        };
+        let row = self.rows[place];
+        let Some(more) = counted(&row, shape, there, played, first) else {
+            return Err(TallyFault::Overflow);
+        };
+        // Its word is the least of its images.
+        let _ = shape.word();
+        self.taken += is_free(&row) as usize;
+        self.rows[place] = more;
+        Ok(())
+    }
+
+    /// Counts what rows count, where nothing was counted. `AllocError` comes where the places are
+    /// too few. It takes no memory.
+    fn enter_all(&mut self, rows: &[Entry]) -> Result<(), AllocError>
+        requires none { self.old ≡ [] }
+        requires rows { AreRows rows.now }
+        ensures { OnOk result
+            (AreCounts (counts_of rows.now) (count_in self.new)) }
+    {
+        for row in rows {
+            let Ok(()) = self.enter(row.shape, row.there, row.played, row.first) else {
+                return Err(AllocError);
+            };
         }
+        Ok(())
+    }
+
+    /// Has twice the places, or the first ones, and each row at one of its new places. It takes
+    /// memory; where that is refused nothing changes.
+    fn grow(&mut self) -> Result<(), AllocError>
+        ensures { AreCounts (count_in self.old) (count_in self.new) }
+    {
+        let places = self.rows.len().saturating_mul(2).max(FIRST_PLACES);
+        let mut larger = Counts::with_places(self.alloc, places)?;
+        larger.enter_all(self.rows.as_slice())?;
+        *self = larger;
+        Ok(())
+    }
+
+    /// Counts a pattern as being there and being played this often again. Where it has no count
+    /// yet, this is its first game. It takes memory where a quarter of the places would not stay
+    /// free for what is expected.
+    pub fn add(
+        &mut self,
+        shape: Shape,
+        there: u64,
+        played: u64,
+        first: FirstGame,
+    ) -> Result<(), TallyFault>
+        ensures ok { OnOk result (AreCounts (used first (one_pattern shape there)
+            (one_pattern shape played) (count_in self.old)) (count_in self.new)) }
+        ensures fault { IfErr result (IsCountingFault 0 (used first (one_pattern shape there)
+            (one_pattern shape played) (count_in self.old))) }
+    {
+        if self.taken.saturating_add(self.expected) >= self.rows.len() / 4 * 3 {
+            self.grow()?;
+        }
+        self.enter(shape, there, played, first)
     }
 }

@@ -21,7 +21,7 @@ fn count_meetings(
     ensures fault { IfErr result (IsMeetingsFault game meetings.now (count_in counts.old)) }
 {
     for (i, meeting) in meetings.iter().enumerate() {
-        counts.expect(meetings, i)?;
+        counts.expect(meetings, i);
         counts.add(meeting.shape, meeting.there, meeting.played, game)?;
     }
     Ok(())

@@ -17,7 +17,7 @@ returns-in_err-add-clause-fault c =
     let added = used game (one_pattern meeting.shape meeting.there) (one_pattern meeting.shape meeting.played) (count_in c.loop-i.counts) in
     let fault = subst (λ (list : List (ℕ × Count)). IsCountingFault 0 (used game (one_pattern meeting.shape meeting.there) (one_pattern meeting.shape meeting.played) (count_in list)) found)
     c.expect.ensures c.in_err-add.ensures.fault in
-    passed_up c.from_residual-in_err-add.result found (IsMeetingsFault game meetings before) c.from_residual-in_err-add.ensures.1
+    passed_up c.from_residual.result found (IsMeetingsFault game meetings before) c.from_residual.ensures.1
     (fault-later found 0 0 added (used game (there_among meetings) (played_among meetings) before)
     (λ shape. next-within game meetings c.loop-i.i meeting before (count_in c.loop-i.counts) shape c.loop-i-test.true c.index-meetings-i.is c.loop-i.invariant)
     fault)

@@ -1,12 +1,25 @@
-use Rattle.std.proofs.Common.{ap, map, nat_eq, sym, subst, ◌∙◌}
-use Rattle.std.specs.List.{IsDistinct}
-use Rattle.std.specs.Map.{keys_of}
+use Rattle.std.proofs.Common.{rules, ◌≡◌, Bool, true, false, not, refl, ap, map, sym, subst, ◌∙◌, All}
+use Rattle.std.proofs.lemmas.Fn.{filter_same}
+use Rattle.std.proofs.lemmas.List.Elements.{All-filter}
+use Rattle.tally_core.specs.Entries.{IsShape}
 use Rattle.tally_core.specs.Inner.Entries.{entry_of_pair}
-use Rattle.tally_core.proofs.Pairs.{keys_of-pairs, entries_of-pairs}
+use Rattle.tally_core.specs.Inner.Rows.{is_taken, taken_of}
+use Rattle.tally_core.proofs.Entered.{entries_of-pairs}
+use Rattle.tally_core.proofs.RowLookups.{once_among}
 use Rattle.tally_core.proofs.counts.Counts.into_entries.Goals as goal
 
+twice : (b : Bool) → not (not b) ≡ b
+twice true = refl
+twice false = refl
+
+kept : (c : goal.After-retain) → c.retain.new.self.items ≡ taken_of c.self.inside.rows.items
+kept c = filter_same _ is_taken _ (λ x b f' k. (let told : b ≡ not (not (is_taken x)) = search rules in told ∙ twice (is_taken x), search rules)) _ _ c.retain.ensures.filtered
+
 pub returns-clause-entries : goal.returns-clause-entries
-returns-clause-entries c = sym (ap (map entry_of_pair) (sym c.self.view_is) ∙ entries_of-pairs c.self.inside.rows.items)
+returns-clause-entries c = kept c ∙ sym (entries_of-pairs (taken_of c.self.inside.rows.items)) ∙ ap (map entry_of_pair) c.self.view_is
+
+pub returns-clause-shapes : goal.returns-clause-shapes
+returns-clause-shapes c = subst (All IsShape) (sym (kept c)) (All-filter is_taken IsShape c.self.inside.rows.items c.self.invariant.0.shapes)
 
 pub returns-clause-once : goal.returns-clause-once
-returns-clause-once c = subst (IsDistinct nat_eq) (sym (ap keys_of (sym c.self.view_is) ∙ keys_of-pairs c.self.inside.rows.items)) c.self.invariant.indexed.once
+returns-clause-once c = rw (sym c.self.view_is) (once_among c.self.inside.rows.items c.self.invariant.0)

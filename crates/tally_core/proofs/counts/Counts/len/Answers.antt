@@ -1,8 +1,14 @@
-use Rattle.std.proofs.Common.{ap, nat_eq, sym, subst, ◌∙◌}
-use Rattle.std.specs.List.{IsDistinct}
-use Rattle.std.specs.Map.{keys_of}
-use Rattle.tally_core.proofs.Pairs.{keys_of-pairs}
+use Rattle.std.proofs.Common.{sym, arith}
+use Rattle.std.proofs.lemmas.List.{length-map}
+use Rattle.tally_core.specs.Inner.Entries.{pair_of}
+use Rattle.tally_core.specs.Inner.Rows.{taken_of}
+use Rattle.tally_core.proofs.RowLookups.{once_among, taken_few}
 use Rattle.tally_core.proofs.counts.Counts.len.Goals as goal
 
 pub returns-clause-once : goal.returns-clause-once
-returns-clause-once c = subst (IsDistinct nat_eq) (sym (ap keys_of (sym c.self.view_is) ∙ keys_of-pairs c.self.inside.rows.items)) c.self.invariant.indexed.once
+returns-clause-once c = rw (sym c.self.view_is) (once_among c.self.inside.rows.items c.self.invariant.0)
+
+pub returns-clause-small : goal.returns-clause-small
+returns-clause-small c =
+    let rows = c.self.inside.rows.items in
+    rw (sym c.self.view_is) (omega (arith, taken_few rows, length-map (taken_of rows) pair_of, c.self.inside.rows.small))

@@ -1,0 +1,11 @@
+use Rattle.std.proofs.Common.{◌≡◌, ◌<◌, ℕ, length}
+use Rattle.tally_core.specs.Inner.Rows.{way_of, IsOther}
+use Rattle.tally_core.proofs.places.find.Given as goal
+
+abbrev pub invariant-loop : goal.invariant-loop
+invariant-loop l = record {
+  places : l.places ≡ length l.fn.rows;
+  place : l.place ≡ way_of (length l.fn.rows) l.fn.shape l.counter;
+  within : l.place < length l.fn.rows;
+  passed : (step : ℕ) → step < l.counter → IsOther l.fn.rows l.fn.shape (way_of (length l.fn.rows) l.fn.shape step);
+}
