@@ -1,217 +1,307 @@
--- Shares to which a game was added, or that refused it.
-use Rattle.std.proofs.Common.{◌≡◌, ℕ, ◌+◌, ◌<◌, ◌==◌, nat_lt, Bool, true, false, cond, suc, List, [], ◌∷◌, ◌++◌, length, Option, Some, None, refl, ap, ap₂, sym, ◌∙◌, arith}
-use Rattle.std.specs.Prelude.{sum_by}
-use Rattle.std.specs.List.{AllByRecursion}
-use Rattle.std.proofs.lemmas.Bool.Decides.{nat_tests}
-use Rattle.std.proofs.lemmas.List.{map-append}
-use Rattle.std.proofs.Common.{All}
-use Rattle.std.proofs.lemmas.List.Elements.{All-head, All-tail}
-use Rattle.share_core.specs.Inner.Raising.{meeting_at}
-use Rattle.std.proofs.lemmas.List.Sums.{sum_by-append, sum_by_push, sum_by-cons}
-use Rattle.go_record.specs.Actions.{Actions}
-use Rattle.shape_core.specs.declared.words.Kinds.{Kinds}
-use Rattle.tally_core.specs.declared.meetings.Meeting.{Meeting}
+-- Shares to which a game was added, or that refused it, and what a table has then.
+use Rattle.std.proofs.Common.{◌≡◌, ℕ, ◌+◌, ◌<◌, ◌==◌, cond, suc, List, [], ◌∷◌, ◌++◌, length, Some, None, refl, ap, ap₂, sym, ◌∙◌, arith, inl, inr, ⊎_elim, All}
+use Rattle.share_core.proofs.Common.{sum_by, slice_index, cases_eq, nat_tests, map-append, All-head, All-tail, Contains-get_or, sum_by_push, sum_by-cons, Actions, Kinds, Answer, IsNumber, Happened, content_of, Keeps, Known, Meeting, kinds_of, there_in, played_in, IsWalk, IsAmong, there_among, Row, Entered, HarvestFault, row_at, blank, first_of, earlier, numbered_of, weight_of, CallsOnly, EntersOnly, Held, Added, replayed_of, game_of, first_in, IsShareOf, IsShare, IsAdded, HasGrown, IsKept, IsMarked, IsAddFault, IsEntryOf, IsRowed, IsRowedAfter, IsMarkOf, HasFresh, AreEntered, AreMarked, MarksOnly, IsMarkAmong, AreNumbered, entered_at, game_met, meeting_at, AreRaised, AreRowsOf}
+use Rattle.probe_core.specs.declared.calls.Answer.TheVariants as answer
 use Rattle.tally_core.specs.Occasions.{AreOccasions}
-use Rattle.tally_core.specs.Counts.{kinds_of, there_in, played_in}
-use Rattle.tally_core.specs.Walk.{IsWalk, IsAmong, there_among}
-use Rattle.share_core.specs.declared.rows.Row.{Row}
-use Rattle.share_core.specs.Rows.{row_at, blank, there_of, played_of, first_of, earlier}
-use Rattle.share_core.specs.Inner.Raising.{game_met}
-use Rattle.share_core.specs.Inner.Ledgers.{CountsIn}
-use Rattle.share_core.specs.Shares.{Held, Added, replayed_of, game_of, first_in, IsShareOf, IsShare}
-use Rattle.share_core.specs.Adding.{IsAdded}
-use Rattle.share_core.proofs.Raised.{earlier_none, earlier_assoc}
+use Rattle.share_core.specs.declared.faults.HarvestFault.TheVariants as fault
+use Rattle.share_core.specs.Inner.Ledgers.{Totals, CountsIn, IsCountFault}
+use Rattle.share_core.proofs.Raised.{numbered, earlier_none, earlier_assoc, same_shape, same_number, same_length}
+use Rattle.share_core.proofs.Made.{AreBlank, same_sum, met_pattern}
+use Rattle.share_core.proofs.Entered.{both_all, calls_through, calls_weaker}
 
 -- ---- rows that count nothing
-abbrev AreBlank : List Row → Type 0
-AreBlank fresh = (k : ℕ) → k < length fresh → row_at fresh k ≡ blank (row_at fresh k).number (row_at fresh k).shape
-
-blank-tail : (row : Row) (fresh : List Row) → AreBlank (row ∷ fresh) → AreBlank fresh
-blank-tail row fresh h k inside = h (suc k) (omega arith)
-
-cond_zero : (b : Bool) (n : ℕ) → n ≡ 0 → cond b n 0 ≡ 0
-cond_zero true n zero = zero
-cond_zero false n zero = refl
-
-cond_none : (b : Bool) (o : Option ℕ) → o ≡ None → cond b o None ≡ None
-cond_none true o none = none
-cond_none false o none = refl
-
-there_none : (fresh : List Row) (shape : ℕ) → AreBlank fresh → there_of fresh shape ≡ 0
-there_none [] shape h = refl
-there_none (row ∷ fresh) shape h =
-    sum_by-cons (λ (r : Row). cond (r.shape == shape) r.there 0) row fresh
-    ∙ ap₂ (λ a b. a + b) (cond_zero (row.shape == shape) row.there (ap (λ (r : Row). r.there) (h 0 (omega arith)))) (there_none fresh shape (blank-tail row fresh h))
-
-played_none : (fresh : List Row) (shape : ℕ) → AreBlank fresh → played_of fresh shape ≡ 0
-played_none [] shape h = refl
-played_none (row ∷ fresh) shape h =
-    sum_by-cons (λ (r : Row). cond (r.shape == shape) r.played 0) row fresh
-    ∙ ap₂ (λ a b. a + b) (cond_zero (row.shape == shape) row.played (ap (λ (r : Row). r.played) (h 0 (omega arith)))) (played_none fresh shape (blank-tail row fresh h))
-
 first_none : (fresh : List Row) (shape : ℕ) → AreBlank fresh → first_of fresh shape ≡ None
 first_none [] shape h = refl
 first_none (row ∷ fresh) shape h =
-    ap₂ earlier (cond_none (row.shape == shape) row.first (ap (λ (r : Row). r.first) (h 0 (omega arith)))) (first_none fresh shape (blank-tail row fresh h))
+    let first = ap (λ (r : Row). r.first) (h 0 (omega arith)) in
+    Prim.grind (arith, first, first_none fresh shape (λ k inside. h (suc k) (omega arith)))
 
-pub first_append : (rows more : List Row) (shape : ℕ) → first_of (rows ++ more) shape ≡ earlier (first_of rows shape) (first_of more shape)
+pub first_append : (rows more : List Row) (shape : ℕ) →
+    first_of (rows ++ more) shape ≡ earlier (first_of rows shape) (first_of more shape)
 first_append [] more shape = refl
 first_append (row ∷ rows) more shape =
     let one = cond (row.shape == shape) row.first None in
     ap (earlier one) (first_append rows more shape) ∙ sym (earlier_assoc one (first_of rows shape) (first_of more shape))
 
-there_same : (rows fresh : List Row) (shape : ℕ) → AreBlank fresh → there_of (rows ++ fresh) shape ≡ there_of rows shape
-there_same rows fresh shape h =
-    let parts = sum_by-append (λ (r : Row). cond (r.shape == shape) r.there 0) rows fresh in
-    let none = there_none fresh shape h in
-    omega arith
+module _ (rows fresh : List Row) {all : List Row} (is : all ≡ rows ++ fresh) (none : AreBlank fresh) where
+  count_same : (count : Row → ℕ) → ((number shape : ℕ) → count (blank number shape) ≡ 0) → (shape : ℕ) →
+      sum_by (λ (r : Row). cond (r.shape == shape) (count r) 0) all
+      ≡ sum_by (λ (r : Row). cond (r.shape == shape) (count r) 0) rows
+  count_same count zero shape =
+      let counted : Row → ℕ = λ (r : Row). cond (r.shape == shape) (count r) 0 in
+      ap (sum_by counted) is ∙ same_sum counted (λ number s. Prim.grind (arith, zero number s)) rows fresh none
 
-played_same : (rows fresh : List Row) (shape : ℕ) → AreBlank fresh → played_of (rows ++ fresh) shape ≡ played_of rows shape
-played_same rows fresh shape h =
-    let parts = sum_by-append (λ (r : Row). cond (r.shape == shape) r.played 0) rows fresh in
-    let none = played_none fresh shape h in
-    omega arith
+  first_same : (shape : ℕ) → first_of all shape ≡ first_of rows shape
+  first_same shape =
+      ap (λ (rs : List Row). first_of rs shape) is ∙ first_append rows fresh shape
+      ∙ ap (earlier (first_of rows shape)) (first_none fresh shape none) ∙ earlier_none (first_of rows shape)
 
-first_same : (rows fresh : List Row) (shape : ℕ) → AreBlank fresh → first_of (rows ++ fresh) shape ≡ first_of rows shape
-first_same rows fresh shape h = first_append rows fresh shape ∙ ap (earlier (first_of rows shape)) (first_none fresh shape h) ∙ earlier_none (first_of rows shape)
+  weight_same : weight_of all ≡ weight_of rows
+  weight_same = ap weight_of is ∙ same_sum (λ (r : Row). r.there + r.played) (λ _ _. refl) rows fresh none
 
 -- a share that refused a game is of the same games
-pub still_of : (added : List Added) (held : Held) (fresh : List Row) → AreBlank fresh → IsShareOf added held → IsShareOf added (record held { rows = held.rows ++ fresh })
-still_of added held fresh h share = record {
-  replays = share.replays;
-  games = share.games;
-  moves = share.moves;
-  there = λ shape. there_same held.rows fresh shape h ∙ share.there shape;
-  played = λ shape. played_same held.rows fresh shape h ∙ share.played shape;
-  first = λ shape. first_same held.rows fresh shape h ∙ share.first shape;
-  among = λ shape.
-      let there = there_same held.rows fresh shape h in
-      let played = played_same held.rows fresh shape h in
-      let few = share.among shape in
-      omega arith;
-}
-
-pub still_share : (held : Held) (fresh : List Row) → AreBlank fresh → IsShare held → IsShare (record held { rows = held.rows ++ fresh })
-still_share held fresh h share = record { added = share.added; is_of = still_of share.added held fresh h share.is_of }
-
--- ---- the games of a share and one more
-first_push : (kinds : Kinds) (added : List Added) (one : Added) (shape : ℕ) → first_in kinds (added ++ one ∷ []) shape ≡ earlier (first_in kinds added shape) (game_of kinds one shape)
-first_push kinds [] one shape = earlier_none (game_of kinds one shape)
-first_push kinds (other ∷ added) one shape =
-    ap (earlier (game_of kinds other shape)) (first_push kinds added one shape)
-    ∙ sym (earlier_assoc (game_of kinds other shape) (first_in kinds added shape) (game_of kinds one shape))
-
-replays_push : (added : List Added) (one : Added) → AllByRecursion (λ (a : Added). AreOccasions a.actions a.occasions) added → AreOccasions one.actions one.occasions →
-    AllByRecursion (λ (a : Added). AreOccasions a.actions a.occasions) (added ++ one ∷ [])
-replays_push [] one all last = (last, tt)
-replays_push (other ∷ added) one all last = (all.0, replays_push added one all.1 last)
-
--- a share is of the games that it was of and of the one that was added
-pub share_of_more : (added : List Added) (game : ℕ) (actions : Actions) (old new : Held) (h : IsAdded game actions old new) → IsShareOf added old →
-    IsShareOf (added ++ record { game = game; actions = actions; occasions = h.occasions } ∷ []) new
-share_of_more added game actions old new h share =
-    let one : Added = record { game = game; actions = actions; occasions = h.occasions } in
+pub still_of : (added : List Added) (held : Held) (fresh : List Row) → AreBlank fresh → IsShareOf added held →
+    IsShareOf added (record held { rows = held.rows ++ fresh })
+still_of added held fresh h share =
+    let there = count_same held.rows fresh refl h (λ (r : Row). r.there) (λ _ _. refl) in
+    let played = count_same held.rows fresh refl h (λ (r : Row). r.played) (λ _ _. refl) in
     record {
-      replays = replays_push added one share.replays h.replayed;
-      games = h.games ∙ ap (λ (gs : List ℕ). gs ++ game ∷ []) share.games ∙ sym (map-append (λ (a : Added). a.game) added (one ∷ []));
-      moves = h.moves ∙ ap (λ m. m + length h.occasions) share.moves ∙ sym (sum_by_push (λ (a : Added). length a.occasions) added one);
-      there = λ shape.
-          h.there shape ∙ ap (λ t. t + there_in (kinds_of old.kinds) (replayed_of one) shape) (share.there shape)
-          ∙ sym (sum_by_push (λ (a : Added). there_in (kinds_of old.kinds) (replayed_of a) shape) added one)
-          ∙ ap (λ k. sum_by (λ (a : Added). there_in (kinds_of k) (replayed_of a) shape) (added ++ one ∷ [])) (sym h.kinds);
-      played = λ shape.
-          h.played shape ∙ ap (λ t. t + played_in (kinds_of old.kinds) (replayed_of one) shape) (share.played shape)
-          ∙ sym (sum_by_push (λ (a : Added). played_in (kinds_of old.kinds) (replayed_of a) shape) added one)
-          ∙ ap (λ k. sum_by (λ (a : Added). played_in (kinds_of k) (replayed_of a) shape) (added ++ one ∷ [])) (sym h.kinds);
-      first = λ shape.
-          h.first shape ∙ ap (λ f. earlier f (game_of old.kinds one shape)) (share.first shape)
-          ∙ sym (first_push old.kinds added one shape)
-          ∙ ap (λ k. first_in k (added ++ one ∷ []) shape) (sym h.kinds);
-      among = λ shape.
-          let there = h.there shape in
-          let played = h.played shape in
-          let before = share.among shape in
-          let few = h.among shape in
-          omega arith;
+      replays = share.replays;
+      games = share.games;
+      moves = share.moves;
+      there = λ shape. there shape ∙ share.there shape;
+      played = λ shape. played shape ∙ share.played shape;
+      first = λ shape. first_same held.rows fresh refl h shape ∙ share.first shape;
+      among = λ shape. omega (arith, there shape, played shape, share.among shape);
     }
 
-pub share_with : (game : ℕ) (actions : Actions) (old new : Held) → IsAdded game actions old new → IsShare old → IsShare new
-share_with game actions old new h share = record {
+-- ---- the games of a share and more
+pub first_in_append : (kinds : Kinds) (added more : List Added) (shape : ℕ) →
+    first_in kinds (added ++ more) shape ≡ earlier (first_in kinds added shape) (first_in kinds more shape)
+first_in_append kinds [] more shape = refl
+first_in_append kinds (one ∷ added) more shape =
+    ap (earlier (game_of kinds one shape)) (first_in_append kinds added more shape)
+    ∙ sym (earlier_assoc (game_of kinds one shape) (first_in kinds added shape) (first_in kinds more shape))
+
+-- a share is of the games that it was of and of the one that was added
+pub share_of_more : (added : List Added) (game : ℕ) (actions : Actions) (old new : Held) (h : IsAdded game actions old new) →
+    IsShareOf added old → IsShareOf (added ++ record { game = game; actions = actions; occasions = h.occasions } ∷ []) new
+share_of_more added game actions old new h share =
+    let one : Added = record { game = game; actions = actions; occasions = h.occasions } in
+    let there = λ (shape : ℕ) (a : Added). there_in (kinds_of old.kinds) (replayed_of a) shape in
+    let played = λ (shape : ℕ) (a : Added). played_in (kinds_of old.kinds) (replayed_of a) shape in
+    record {
+      replays = both_all (λ (a : Added). AreOccasions a.actions a.occasions) added (one ∷ []) share.replays (h.replayed, tt);
+      games = h.games ∙ ap (λ (gs : List ℕ). gs ++ game ∷ []) share.games
+          ∙ sym (map-append (λ (a : Added). a.game) added (one ∷ []));
+      moves = omega (arith, h.moves, share.moves, sum_by_push (λ (a : Added). length a.occasions) added one);
+      there = λ shape. rw h.kinds (omega (arith, h.there shape, share.there shape, sum_by_push (there shape) added one));
+      played = λ shape. rw h.kinds (omega (arith, h.played shape, share.played shape, sum_by_push (played shape) added one));
+      first = λ shape.
+          rw h.kinds (h.first shape ∙ ap (λ f. earlier f (game_of old.kinds one shape)) (share.first shape)
+          ∙ ap (earlier (first_in old.kinds added shape)) (sym (earlier_none (game_of old.kinds one shape)))
+          ∙ sym (first_in_append old.kinds added (one ∷ []) shape));
+      among = λ shape. omega (arith, h.there shape, h.played shape, share.among shape, h.among shape);
+    }
+
+pub share_with : {game : ℕ} {actions : Actions} {old new : Held} → IsAdded game actions old new → IsShare old → IsShare new
+share_with {game = game} {actions = actions} {old = old} {new = new} h share = record {
   added = share.added ++ record { game = game; actions = actions; occasions = h.occasions } ∷ [];
   is_of = share_of_more share.added game actions old new h share.is_of;
 }
 
 -- ---- which patterns a walk met
-met_some : (game : ℕ) (meetings : List Meeting) (shape : ℕ) → 0 < there_among meetings shape → game_met game meetings shape ≡ Some game
+met_some : (game : ℕ) (meetings : List Meeting) (shape : ℕ) → 0 < there_among meetings shape →
+    game_met game meetings shape ≡ Some game
 met_some game [] shape some = absurd (omega arith)
 met_some game (m ∷ meetings) shape some =
-    let parts = sum_by-cons (λ (x : Meeting). cond (x.shape == shape) x.there 0) m meetings in
-    elim (m.shape == shape) as (λ b. there_among (m ∷ meetings) shape ≡ cond b m.there 0 + there_among meetings shape → cond b (Some game) (game_met game meetings shape) ≡ Some game) [
-      | true ↦ λ e. refl
-      | false ↦ λ e. met_some game meetings shape (omega arith)
-    ] parts
+    Prim.grind (arith, sum_by-cons (λ (x : Meeting). cond (x.shape == shape) x.there 0) m meetings, met_some game meetings shape)
 
-met_none : (f : ℕ → ℕ) (game : ℕ) (meetings : List Meeting) (shape : ℕ) → All (λ (m : Meeting). 0 < f m.shape) meetings → f shape ≡ 0 → game_met game meetings shape ≡ None
+met_none : (f : ℕ → ℕ) (game : ℕ) (meetings : List Meeting) (shape : ℕ) → All (λ (m : Meeting). 0 < f m.shape) meetings →
+    f shape ≡ 0 → game_met game meetings shape ≡ None
 met_none f game [] shape all none = refl
 met_none f game (m ∷ meetings) shape all none =
-    elim (m.shape == shape) as (λ b. (m.shape == shape) ≡ b → cond b (Some game) (game_met game meetings shape) ≡ None) [
-      | true ↦ λ same.
-          let equal : m.shape ≡ shape = Prim.grind (arith, nat_tests) in
-          let some = All-head (λ (m : Meeting). 0 < f m.shape) m meetings all in
-          let here = ap f equal in
-          absurd (omega arith)
-      | false ↦ λ other. met_none f game meetings shape (All-tail (λ (m : Meeting). 0 < f m.shape) m meetings all) none
-    ] refl
+    let some = All-head (λ (m : Meeting). 0 < f m.shape) m meetings all in
+    let rest = met_none f game meetings shape (All-tail (λ (m : Meeting). 0 < f m.shape) m meetings all) none in
+    Prim.grind (arith, nat_tests, some, rest, λ (e : m.shape ≡ shape). ap f e)
 
-met_game : (kinds : Kinds) (game : ℕ) (actions : Actions) (meetings : List Meeting) (moves shape : ℕ) (walk : IsWalk kinds actions meetings moves) →
+met_game : {kinds : Kinds} {actions : Actions} {meetings : List Meeting} {moves : ℕ} →
+    (walk : IsWalk kinds actions meetings moves) (game shape : ℕ) →
     game_met game meetings shape ≡ game_of kinds (record { game = game; actions = actions; occasions = walk.occasions }) shape
-met_game kinds game actions meetings moves shape walk =
+met_game {kinds = kinds} {actions = actions} {meetings = meetings} walk game shape =
     let f : ℕ → ℕ = λ s. there_in (kinds_of kinds) (record { size = actions.size; occasions = walk.occasions }) s in
-    let sum = walk.there shape in
-    elim (nat_lt 0 (f shape)) as (λ b. nat_lt 0 (f shape) ≡ b → game_met game meetings shape ≡ cond b (Some game) None) [
-      | true ↦ λ some. let positive : 0 < f shape = Prim.grind (arith, nat_tests) in met_some game meetings shape (omega arith)
-      | false ↦ λ none. met_none f game meetings shape walk.met (let zero : f shape ≡ 0 = Prim.grind (arith, nat_tests) in zero)
-    ] refl
+    Prim.grind (arith, nat_tests, walk.there shape, met_some game meetings shape, met_none f game meetings shape walk.met)
 
 -- a pattern of the game has a meeting
-pub met_at : (meetings : List Meeting) (shape : ℕ) → 0 < there_among meetings shape → (i : ℕ) × (i < length meetings) × ((meeting_at meetings i).shape ≡ shape)
+met_at : (meetings : List Meeting) (shape : ℕ) → 0 < there_among meetings shape →
+    (i : ℕ) × (i < length meetings) × ((meeting_at meetings i).shape ≡ shape)
 met_at [] shape some = absurd (omega arith)
 met_at (m ∷ meetings) shape some =
     let parts = sum_by-cons (λ (x : Meeting). cond (x.shape == shape) x.there 0) m meetings in
-    elim (m.shape == shape) as (λ b. (m.shape == shape) ≡ b → there_among (m ∷ meetings) shape ≡ cond b m.there 0 + there_among meetings shape →
-    (i : ℕ) × (i < length (m ∷ meetings)) × ((meeting_at (m ∷ meetings) i).shape ≡ shape)) [
-      | true ↦ λ same e. (0, (let l : 0 < suc (length meetings) = omega arith in l), Prim.grind (arith, nat_tests))
-      | false ↦ λ other e.
-          let deep = met_at meetings shape (omega arith) in
-          (suc deep.0, (let low = deep.1 in let l : suc deep.0 < suc (length meetings) = omega arith in l), deep.2)
-    ] refl parts
+    ⊎_elim
+    (λ (here : m.shape ≡ shape). (0, (let l : 0 < suc (length meetings) = omega arith in l), here))
+    (λ (away : m.shape ≡ shape → ⊥).
+    let deep = met_at meetings shape (Prim.grind (arith, nat_tests, parts, away, some)) in
+    (suc deep.0, (let l : suc deep.0 < suc (length meetings) = omega (arith, deep.1) in l), deep.2))
+    (cases_eq m.shape shape)
 
--- ---- the share after a game was counted in it
-pub counted : (game moves : ℕ) (actions : Actions) (meetings : List Meeting) (places : List ℕ) (old new : Held) (fresh : List Row) →
-    IsWalk old.kinds actions meetings moves → IsAmong meetings → AreBlank fresh → new.worker ≡ old.worker → new.kinds ≡ old.kinds →
-    CountsIn game moves meetings places (record { games = old.games; moves = old.moves; rows = old.rows ++ fresh }) (record { games = new.games; moves = new.moves; rows = new.rows }) →
-    IsAdded game actions old new
-counted game moves actions meetings places old new fresh walk among blank worker kinds h = record {
-  occasions = walk.occasions;
-  replayed = walk.replayed;
-  worker = worker;
-  kinds = kinds;
-  games = h.games;
-  moves = h.moves_are ∙ ap (λ m. old.moves + m) walk.moves_counted;
-  there = λ shape. h.rows.there shape ∙ ap₂ (λ a b. a + b) (there_same old.rows fresh shape blank) (walk.there shape);
-  played = λ shape. h.rows.played shape ∙ ap₂ (λ a b. a + b) (played_same old.rows fresh shape blank) (walk.played shape);
-  among = λ shape.
-      let there = walk.there shape in
-      let played = walk.played shape in
-      let few = among shape in
-      omega arith;
-  first = λ shape. h.rows.first shape ∙ ap₂ earlier (first_same old.rows fresh shape blank) (met_game old.kinds game actions meetings moves shape walk);
+-- ---- rows that were raised are of the same numbers and patterns
+rowed_stays : (rows new : List Row) → numbered_of new ≡ numbered_of rows → (key : ℕ) (found : Answer) → IsRowed rows key found →
+    IsRowed new key found
+rowed_stays rows new same key (answer.Number number) h = record {
+  place = h.place;
+  within = omega (arith, same_length new rows same, h.within);
+  number_is = same_number new rows h.place same ∙ h.number_is;
+  shape_is = same_shape new rows h.place same ∙ h.shape_is;
 }
+rowed_stays rows new same key _ h = tt
 
--- its occasions are those of the walk
-pub counted_walked : (game moves : ℕ) (actions : Actions) (meetings : List Meeting) (places : List ℕ) (old new : Held) (fresh : List Row) →
-    (walk : IsWalk old.kinds actions meetings moves) → IsAmong meetings → AreBlank fresh → new.worker ≡ old.worker → new.kinds ≡ old.kinds →
-    CountsIn game moves meetings places (record { games = old.games; moves = old.moves; rows = old.rows ++ fresh }) (record { games = new.games; moves = new.moves; rows = new.rows }) →
-    (added : IsAdded game actions old new) × (added.occasions ≡ walk.occasions)
-unfolding counted
-counted_walked game moves actions meetings places old new fresh walk among blank worker kinds h = (counted game moves actions meetings places old new fresh walk among blank worker kinds h, refl)
+rowed_after : (one : HarvestFault) (rows : List Row) (key : ℕ) (found : Answer) → IsRowed rows key found →
+    IsRowedAfter one rows key found
+rowed_after fault.Memory rows key found h = tt
+rowed_after (fault.Stranger number of_share of_table) rows key found h = tt
+rowed_after _ rows key found h = h
+
+-- what was entered, once a fault is known
+pub entered_after : {O : Type 0} {n : ℕ} {kinds : Kinds} {actions : Actions} (rows : List Row) (one : HarvestFault)
+    {old new : Known O} → EntersOnly n (IsEntryOf kinds actions (IsRowed rows)) old new →
+    EntersOnly n (IsEntryOf kinds actions (IsRowedAfter one rows)) old new
+entered_after {n = n} {kinds = kinds} {actions = actions} rows one {old = old} {new = new} h =
+    calls_weaker n (IsEntryOf kinds actions (IsRowed rows)) (IsEntryOf kinds actions (IsRowedAfter one rows)) (λ _ _. ⊥)
+    (λ _ _. ⊥) old new
+    (λ key found entry. record { pattern = entry.pattern; has_row = rowed_after one rows key found entry.has_row })
+    (λ number marked none. none) h
+
+-- ---- the share, once the game was prepared
+abbrev pub held_as : ℕ → Kinds → Totals → Held
+held_as worker kinds totals =
+    record { worker = worker; kinds = kinds; games = totals.games; moves = totals.moves; rows = totals.rows }
+
+abbrev pub totals_of : Held → Totals
+totals_of held = record { games = held.games; moves = held.moves; rows = held.rows }
+
+-- it has rows besides, and is the same in all else
+pub prepared : (worker : ℕ) {n : ℕ} {seen : List Happened} {kinds other : Kinds} {actions : Actions} {old new : Totals} →
+    HasFresh n seen kinds actions old.rows new.rows → other ≡ kinds → new ≡ record old { rows = new.rows } →
+    IsKept n seen actions (held_as worker kinds old) (held_as worker other new)
+prepared worker h same_kinds same =
+    let games = ap (λ (t : Totals). t.games) same in
+    let moves = ap (λ (t : Totals). t.moves) same in
+    let rows = h.rows in
+    record { fresh = h.fresh; made = h.made; same = cc }
+
+module _ {n : ℕ} {seen : List Happened} {actions : Actions} {old mid : Held} (kept : IsKept n seen actions old mid) where
+  none_counted : AreBlank kept.fresh
+  none_counted k inside = (kept.made k inside).0
+
+  rows_are : mid.rows ≡ old.rows ++ kept.fresh
+  rows_are = ap (λ (h : Held). h.rows) kept.same
+
+  pub kept_share : IsShare old → IsShare mid
+  kept_share share = rw kept.same
+      (record { added = share.added; is_of = still_of share.added old kept.fresh none_counted share.is_of })
+
+  pub count_fault : {moves : ℕ} {meetings : List Meeting} (game : ℕ) (new : Held) (found : HarvestFault) →
+      IsWalk old.kinds actions meetings moves → IsCountFault moves meetings (totals_of mid) found →
+      IsAddFault n seen game actions old new found
+  count_fault game new fault.Memory walk h = tt
+  count_fault {moves = moves} {meetings = meetings} game new fault.Overflow walk h =
+      let weight = weight_same old.rows kept.fresh rows_are none_counted in
+      let same = ap (λ (h : Held). h.moves) kept.same in
+      inl (record { meetings = meetings; moves = moves; walked = walk; large = Prim.grind (arith) })
+  count_fault game new _ walk h = absurd h
+
+-- ---- the game was walked, its patterns have numbers, and these have rows
+pub record IsReady (n : ℕ) (seen : List Happened) (game : ℕ) (kinds : Kinds) (actions : Actions) (meetings : List Meeting)
+    (entered : List Entered) (places : List ℕ) (rows : List Row) (moves : ℕ) : Type 0 where
+  pub walked : IsWalk kinds actions meetings moves
+  pub among : IsAmong meetings
+  pub each : AreEntered n seen game meetings entered
+  pub all : length entered ≡ length meetings
+  pub rows_are : AreRowsOf meetings places rows
+  pub numbered : AreNumbered entered places rows
+
+module _ {n game moves : ℕ} {seen : List Happened} {kinds : Kinds} {actions : Actions} {meetings : List Meeting}
+    {entered : List Entered} {places : List ℕ} {rows new : List Row}
+    (ready : IsReady n seen game kinds actions meetings entered places rows moves)
+    (raised : AreRaised meetings places game rows new) where
+  -- the number of the row of a meeting is that of its pattern
+  stands_at : (i : ℕ) → i < length meetings →
+      IsNumber (content_of n seen) (row_at new (slice_index places i)).shape (row_at new (slice_index places i)).number
+  stands_at i inside =
+      let here : i < length places = omega (arith, inside, ready.rows_are.each) in
+      let at = slice_index places i in
+      let shape = same_shape new rows at raised.numbered ∙ ready.rows_are.of_shape i here in
+      let number = same_number new rows at raised.numbered ∙ ready.numbered i here in
+      rw (shape, number) (ready.each i (omega (arith, inside, ready.all))).number
+
+  -- a mark at a number that was entered is at that of a pattern of the game, and at that of its row
+  mark_of : {history : List Happened} → Keeps n seen history → (number marked : ℕ) → IsMarkAmong entered game number marked →
+      IsMarkOf n history kinds actions new game number marked
+  mark_of keeps number marked h =
+      let i = h.1.0 in
+      let inside : i < length meetings = omega (arith, h.1.1, ready.all) in
+      let here : i < length places = omega (arith, inside, ready.rows_are.each) in
+      let at = slice_index places i in
+      let row = row_at new at in
+      let number_is : row.number ≡ number = same_number new rows at raised.numbered ∙ ready.numbered i here ∙ h.1.2 in
+      let shape_is = same_shape new rows at raised.numbered ∙ ready.rows_are.of_shape i here in
+      record {
+        game_is = h.0;
+        row = row;
+        there = Contains-get_or new at (blank 0 0)
+            (omega (arith, same_length new rows raised.numbered, ready.rows_are.within i here));
+        number_is = number_is;
+        first = raised.begun i inside;
+        pattern = rw shape_is (met_pattern ready.walked i inside);
+        stands = keeps.numbers row.shape number (rw number_is at (stands_at i inside));
+      }
+
+  -- what was entered, and then marked
+  pub calls_for : {O : Type 0} {first old last : Known O} → EntersOnly n (IsEntryOf kinds actions (IsRowed rows)) first old →
+      MarksOnly n (IsMarkAmong entered game) old last → Keeps n seen last.seen →
+      CallsOnly n (IsEntryOf kinds actions (IsRowed new)) (IsMarkOf n last.seen kinds actions new game) first last
+  calls_for {first = first} {old = old} {last = last} before after keeps =
+      let enters = IsEntryOf kinds actions (IsRowed new) in
+      let marks = IsMarkOf n last.seen kinds actions new game in
+      calls_through n enters marks first old last
+      (calls_weaker n (IsEntryOf kinds actions (IsRowed rows)) enters (λ _ _. ⊥) marks first old
+      (λ key found entry.
+      record { pattern = entry.pattern; has_row = rowed_stays rows new raised.numbered key found entry.has_row })
+      (λ number marked none. absurd none) before)
+      (calls_weaker n (λ _ _. ⊥) enters (IsMarkAmong entered game) marks old last (λ key found none. absurd none)
+      (mark_of keeps) after)
+
+module _ {n game moves : ℕ} {seen : List Happened} {actions : Actions} {meetings : List Meeting} {entered : List Entered}
+    {places : List ℕ} {old mid : Held} {after : Totals} (kept : IsKept n seen actions old mid)
+    (ready : IsReady n seen game old.kinds actions meetings entered places mid.rows moves)
+    (counts : CountsIn game moves meetings places (totals_of mid) after) where
+  pub counted : IsAdded game actions old (held_as mid.worker mid.kinds after)
+  counted = record {
+    occasions = ready.walked.occasions;
+    replayed = ready.walked.replayed;
+    worker = ap (λ (h : Held). h.worker) kept.same;
+    kinds = ap (λ (h : Held). h.kinds) kept.same;
+    games = counts.games ∙ ap (λ (h : Held). h.games ++ game ∷ []) kept.same;
+    moves = counts.moves_are ∙ ap₂ (λ (h : Held) m. h.moves + m) kept.same ready.walked.moves_counted;
+    there = λ shape.
+        let same = count_same old.rows kept.fresh (rows_are kept) (none_counted kept) (λ r. r.there) (λ _ _. refl) shape in
+        counts.rows.there shape ∙ ap₂ (λ a b. a + b) same (ready.walked.there shape);
+    played = λ shape.
+        let same = count_same old.rows kept.fresh (rows_are kept) (none_counted kept) (λ r. r.played) (λ _ _. refl) shape in
+        counts.rows.played shape ∙ ap₂ (λ a b. a + b) same (ready.walked.played shape);
+    among = λ shape. omega (arith, ready.walked.there shape, ready.walked.played shape, ready.among shape);
+    first = λ shape.
+        let same = first_same old.rows kept.fresh (rows_are kept) (none_counted kept) shape in
+        counts.rows.first shape ∙ ap₂ earlier same (met_game ready.walked game shape);
+  }
+
+  pub grown : {history : List Happened} → Keeps n seen history →
+      HasGrown n history actions old (held_as mid.worker mid.kinds after)
+  grown keeps = record {
+    fresh = kept.fresh;
+    made = λ k inside.
+        let row = kept.made k inside in
+        (row.0, row.1, keeps.numbers (row_at kept.fresh k).shape (row_at kept.fresh k).number row.2);
+    numbered = counts.rows.numbered ∙ ap numbered_of (rows_are kept)
+        ∙ map-append numbered old.rows kept.fresh;
+    stands = λ place inside. ⊎_elim
+        (λ (met : (i : ℕ) × (i < length meetings) × (slice_index places i ≡ place)).
+        inr (keeps.numbers (row_at after.rows place).shape (row_at after.rows place).number
+        (rw met.2 at (stands_at ready counts.rows met.0 met.1))))
+        (λ (same : row_at after.rows place ≡ row_at mid.rows place).
+        inl (same ∙ ap (λ (rs : List Row). row_at rs place) (rows_are kept)))
+        (counts.rows.others place);
+  }
+
+  pub marked : {history : List Happened} → Keeps n seen history → AreMarked history game entered →
+      IsMarked n history game actions old (held_as mid.worker mid.kinds after)
+  unfolding counted
+  marked keeps marks = (
+    counted,
+    λ shape some.
+        let met = met_at meetings shape (omega (arith, some, ready.walked.there shape)) in
+        let low : met.0 < length entered = omega (arith, met.1, ready.all) in
+        let number = (entered_at entered met.0).number in
+        (number, keeps.numbers shape number (rw met.2 at (ready.each met.0 low).number), marks met.0 low),
+  )

@@ -1,32 +1,19 @@
--- Indexes of rows: what stays when an index is widened, and when a row is made or changed.
-use Rattle.std.proofs.Common.{◌≡◌, ℕ, zero, suc, ◌+◌, ◌*◌, ◌/◌, ◌%◌, ◌^◌, ◌<◌, ◌≤◌, List, [], ◌∷◌, ◌++◌, length, Option, Some, None, refl, ap, sym, subst, ◌∙◌, arith, length-append, ⊎_elim, div-mul-le_self, div-one, mod-eq_of_lt}
+-- Indexes of rows: what they say of the rows, and what stays when one is widened, and when a row
+-- is made or changed.
+use Rattle.std.proofs.Common.{◌≡◌, ℕ, zero, suc, ◌+◌, ◌*◌, ◌/◌, ◌%◌, ◌^◌, ◌<◌, ◌≤◌, true, List, [], ◌∷◌, ◌++◌, length, map, eqb, Option, Some, None, refl, ap, sym, ◌∙◌, arith, length-append, ⊎_elim, div-mul-le_self, div-one, mod-eq_of_lt, Contains}
+use Rattle.share_core.proofs.Common.{IsDistinct, list_any, cases_lt, nat_tests, length-set, get_or_past, get_or_push, get_or-map, length-map, get_or_default, Row, row_at, blank, AreOfNumbers, place_in, bucket_of, IsIn, IsLast, chained, chain_length, IsIndexed, HasNoRow}
 use Rattle.std.proofs.Math.ListN.{set, get_or-append}
-use Rattle.std.proofs.lemmas.Nat.{le-div, mul-le, pow_pos}
 use Rattle.std.proofs.Math.Pow.{pow_mono}
-use Rattle.std.proofs.lemmas.List.{length-set, get_or_past}
-use Rattle.std.proofs.Math.Seq.{get_or-append_seam}
-use Rattle.std.proofs.lemmas.List.{get_or-set_same, get_or-set_other}
-use Rattle.std.proofs.lemmas.Bool.{cases_lt, cases_eq}
-use Rattle.share_core.specs.declared.rows.Row.{Row}
-use Rattle.share_core.specs.Rows.{row_at, blank, AreOfNumbers}
-use Rattle.share_core.specs.Inner.Rows.{place_in, bucket_of, IsIn, IsLast, chained, chain_length, IsIndexed, HasNoRow}
+use Rattle.std.proofs.lemmas.Nat.{le-div, mul-le, pow_pos}
+use Rattle.std.proofs.lemmas.Map.Keys.{IsDistinct-from_apart}
+use Rattle.std.proofs.lemmas.Map.Steps.{length-le_from_distinct_below}
+use Rattle.share_core.specs.ShareRows.{IsLeastFrom}
+use Rattle.share_core.proofs.Places.{each_more, put_at}
 
 -- ---- buckets
 pub bucket_rises : (shift low high : ℕ) → low ≤ high → bucket_of shift low ≤ bucket_of shift high
 bucket_rises shift low high h =
-    let start : low / 2 ^ shift * 2 ^ shift ≤ low = div-mul-le_self low (2 ^ shift) in
-    le-div (low / 2 ^ shift) high (2 ^ shift) (pow_pos shift) (omega arith)
-
--- where each bucket has one number, a bucket is its number
-pub own_bucket : (shift number : ℕ) → shift ≡ 0 → bucket_of shift number ≡ number
-own_bucket shift number one = ap (λ n. bucket_of n number) one ∙ div-one number
-
--- a number whose bucket is one of the first ones
-pub below_buckets : (shift number buckets : ℕ) → bucket_of shift number < buckets → number < buckets * 2 ^ shift
-below_buckets shift number buckets h = ⊎_elim
-    (λ (inside : number < buckets * 2 ^ shift). inside)
-    (λ (over : buckets * 2 ^ shift ≤ number). let least = le-div buckets number (2 ^ shift) (pow_pos shift) over in absurd (omega arith))
-    (cases_lt number (buckets * 2 ^ shift))
+    le-div (low / 2 ^ shift) high (2 ^ shift) (pow_pos shift) (omega (arith, h, div-mul-le_self low (2 ^ shift)))
 
 -- the numbers of the buckets of an index
 pub shifted : (shift buckets : ℕ) → shift ≤ 8 → buckets ≤ 2 ^ 22 → (buckets * 2 ^ shift) % 2 ^ 64 ≡ buckets * 2 ^ shift
@@ -34,41 +21,90 @@ shifted shift buckets narrow few =
     let high : buckets * 2 ^ shift ≤ 2 ^ 22 * 2 ^ 8 = mul-le buckets (2 ^ shift) (2 ^ 22) (2 ^ 8) few (pow_mono narrow) in
     mod-eq_of_lt (omega arith)
 
+-- ---- an index
+-- the bucket of each row is one of it
+bucket_within : {shift : ℕ} {index older : List (Option ℕ)} {rows : List Row} → IsIndexed shift index older rows → (place : ℕ) →
+    place < length rows → bucket_of shift (row_at rows place).number < length index
+bucket_within {shift = shift} {index = index} {rows = rows} h place low =
+    let bucket = bucket_of shift (row_at rows place).number in
+    ⊎_elim
+    (λ (inside : bucket < length index). inside)
+    (λ (over : length index ≤ bucket).
+    absurd ((rw (get_or_past index bucket None over) at (h.last bucket)).last place (omega arith) low refl))
+    (cases_lt bucket (length index))
+
+distinct : (rows : List Row) → AreOfNumbers rows → IsDistinct eqb (map (λ (row : Row). row.number) rows)
+distinct rows h = IsDistinct-from_apart eqb (map (λ (row : Row). row.number) rows) (λ i j d low inside.
+    let long = length-map rows (λ (row : Row). row.number) in
+    let one = get_or-map (λ (row : Row). row.number) rows i (blank 0 0) d (omega arith) in
+    let other = get_or-map (λ (row : Row). row.number) rows j (blank 0 0) d (omega arith) in
+    let apart = h i j (omega arith) (omega arith) in
+    Prim.grind (arith, nat_tests, one, other, apart))
+
+within : (rows : List Row) (n : ℕ) → ((place : ℕ) → place < length rows → (row_at rows place).number < n) → (q : ℕ) →
+    list_any (eqb q) (map (λ (row : Row). row.number) rows) ≡ true → q < n
+within [] n h q is = absurd cc
+within (row ∷ rows) n h q is =
+    Prim.grind (arith, nat_tests, h 0 (omega arith), within rows n (λ place inside. h (suc place) (omega arith)) q)
+
+pub few_rows : {shift : ℕ} {index older : List (Option ℕ)} {rows : List Row} → IsIndexed shift index older rows →
+    length rows ≤ 2 ^ 22
+few_rows {rows = rows} h =
+    let few = length-le_from_distinct_below (map (λ (row : Row). row.number) rows) (2 ^ 22) (distinct rows h.numbers)
+    (within rows (2 ^ 22) h.small) in
+    omega (arith, few, length-map rows (λ (row : Row). row.number))
+
+-- ---- rows by rising numbers
+-- the rows of numbers from one on are all of numbers from another on
+abbrev pub AreBeyond : List Row → ℕ → ℕ → Type 0
+AreBeyond rows from low = (row : Row) → Contains rows row → from ≤ row.number → low ≤ row.number
+
+-- a row among others is at a place
+pub row_there : (rows : List Row) (row : Row) (h : Contains rows row) → row_at rows h.0 ≡ row
+row_there rows row h = sym (get_or_default rows h.0 row (blank 0 0) h.1) ∙ h.2
+
+pub step_beyond : (rows : List Row) (from low : ℕ) → HasNoRow rows low → AreBeyond rows from low → AreBeyond rows from (low + 1)
+step_beyond rows from low none h row among high =
+    omega (arith, h row among high, none among.0 among.1, ap (λ (r : Row). r.number) (row_there rows row among))
+
+-- none is found at the end of an index
+pub no_row : {shift : ℕ} {index older : List (Option ℕ)} {rows : List Row} → IsIndexed shift index older rows → (from low : ℕ) →
+    length index * 2 ^ shift ≤ low → AreBeyond rows from low → IsLeastFrom from rows None
+no_row {shift = shift} {index = index} {rows = rows} indexed from low long h row among =
+    let number = ap (λ (r : Row). r.number) (row_there rows row among) in
+    let inside = bucket_within indexed among.0 among.1 in
+    let least = le-div (length index) (row_at rows among.0).number (2 ^ shift) (pow_pos shift) in
+    Prim.grind (arith, number, inside, least, long, h row among)
+
 -- ---- the last row of a bucket
--- it is the same below a place among rows of the same numbers
-pub same_last : (shift bucket : ℕ) (rows others : List Row) (high : ℕ) (found : Option ℕ)
-    → ((place : ℕ) → place < high → (row_at others place).number ≡ (row_at rows place).number)
-    → IsLast shift bucket rows high found → IsLast shift bucket others high found
-same_last shift bucket rows others high None same h = record {
-  there = tt;
-  last = λ place low inside is. h.last place low inside (sym (ap (bucket_of shift) (same place inside)) ∙ is);
-}
-same_last shift bucket rows others high (Some found) same h = record {
-  there = (h.there.0, ap (bucket_of shift) (same found h.there.0) ∙ h.there.1);
-  last = λ place low inside is. h.last place low inside (sym (ap (bucket_of shift) (same place inside)) ∙ is);
-}
+in_others : (shift bucket : ℕ) (rows others : List Row) (low high : ℕ) (found : Option ℕ) → low ≤ high →
+    ((place : ℕ) → place < low → (row_at others place).number ≡ (row_at rows place).number) → IsIn shift bucket rows low found →
+    IsIn shift bucket others high found
+in_others shift bucket rows others low high None up same is = tt
+in_others shift bucket rows others low high (Some found) up same is =
+    ((let below : found < high = omega (arith, is.0, up) in below), ap (bucket_of shift) (same found is.0) ∙ is.1)
 
-pub higher_in : (shift bucket : ℕ) (rows : List Row) (low high : ℕ) (found : Option ℕ) → low ≤ high → IsIn shift bucket rows low found → IsIn shift bucket rows high found
-higher_in shift bucket rows low high None h is = tt
-higher_in shift bucket rows low high (Some found) h is = let below = is.0 in ((let b : found < high = omega arith in b), is.1)
-
--- a row of another bucket comes after it
-other_last : (shift bucket : ℕ) (rows : List Row) (high : ℕ) (found : Option ℕ) → (bucket_of shift (row_at rows high).number ≡ bucket → ⊥)
-    → IsLast shift bucket rows high found → IsLast shift bucket rows (high + 1) found
-other_last shift bucket rows high found other h = record {
-  there = higher_in shift bucket rows high (high + 1) found (omega arith) h.there;
-  last = λ place low inside is. ⊎_elim
-      (λ (before : place < high). h.last place low before is)
-      (λ (after : high ≤ place). let here : place ≡ high = omega arith in other (sym (ap (λ p. bucket_of shift (row_at rows p).number) here) ∙ is))
-      (cases_lt place high);
+-- it is the same among rows that have the same numbers, and then further ones of other buckets
+same_last : {shift bucket : ℕ} {rows : List Row} {low : ℕ} {found : Option ℕ} → IsLast shift bucket rows low found →
+    (others : List Row) (high : ℕ) → low ≤ high →
+    ((place : ℕ) → place < low → (row_at others place).number ≡ (row_at rows place).number) →
+    ((place : ℕ) → low ≤ place → place < high → bucket_of shift (row_at others place).number ≡ bucket → ⊥) →
+    IsLast shift bucket others high found
+same_last {shift = shift} {bucket = bucket} {rows = rows} {low = low} {found = found} h others high up same none = record {
+  there = in_others shift bucket rows others low high found up same h.there;
+  last = λ place beyond inside is. ⊎_elim
+      (λ (before : place < low). h.last place beyond before (sym (ap (bucket_of shift) (same place before)) ∙ is))
+      (λ (after : low ≤ place). none place after inside is)
+      (cases_lt place low);
 }
 
 -- ---- an index that is widened
 -- an index that has the same for each bucket is one of the same rows
-pub widened : (shift : ℕ) (index wider older : List (Option ℕ)) (rows : List Row) → ((bucket : ℕ) → place_in wider bucket ≡ place_in index bucket)
-    → length wider ≤ 2 ^ 22 → IsIndexed shift index older rows → IsIndexed shift wider older rows
-widened shift index wider older rows same few h = record {
-  last = λ bucket. subst (IsLast shift bucket rows (length rows)) (sym (same bucket)) (h.last bucket);
+pub widened : {shift : ℕ} {index older : List (Option ℕ)} {rows : List Row} → IsIndexed shift index older rows →
+    (wider : List (Option ℕ)) → ((bucket : ℕ) → place_in wider bucket ≡ place_in index bucket) → length wider ≤ 2 ^ 22 →
+    IsIndexed shift wider older rows
+widened h wider same few = record {
+  last = λ bucket. rw (same bucket) (h.last bucket);
   before = h.before;
   level = h.level;
   numbers = h.numbers;
@@ -78,131 +114,92 @@ widened shift index wider older rows same few h = record {
 }
 
 -- ---- one row more
--- the row at a place of rows to which one more was added
-old_row : (rows : List Row) (row : Row) (place : ℕ) → place < length rows → row_at (rows ++ row ∷ []) place ≡ row_at rows place
-old_row rows row place within = get_or-append rows (row ∷ []) (blank 0 0) place within
-
-new_row : (rows : List Row) (row : Row) → row_at (rows ++ row ∷ []) (length rows) ≡ row
-new_row rows row = get_or-append_seam rows row [] (blank 0 0)
-
 -- what is noted for the rows before
-old_chain : (shift : ℕ) (older : List (Option ℕ)) (last : Option ℕ) (long place : ℕ) → length older ≡ chain_length shift long → place < long
-    → place_in (chained shift older last) place ≡ place_in older place
+old_chain : (shift : ℕ) (older : List (Option ℕ)) (last : Option ℕ) (long place : ℕ) → length older ≡ chain_length shift long →
+    place < long → place_in (chained shift older last) place ≡ place_in older place
 old_chain zero older last long place level low = refl
 old_chain (suc shift) older last long place level low = get_or-append older (last ∷ []) None place (omega arith)
 
 -- and for the new one: where each bucket has one number, there was no row of its bucket
-new_chain : (shift bucket : ℕ) (older : List (Option ℕ)) (last : Option ℕ) (rows : List Row) → length older ≡ chain_length shift (length rows)
-    → (shift ≡ 0 → (place : ℕ) → place < length rows → bucket_of shift (row_at rows place).number ≡ bucket → ⊥)
-    → IsLast shift bucket rows (length rows) last → IsLast shift bucket rows (length rows) (place_in (chained shift older last) (length rows))
-new_chain zero bucket older last rows level none h =
-    subst (IsLast zero bucket rows (length rows)) (sym (get_or_past older (length rows) None (omega arith)))
-    (record { there = tt; last = λ place low inside is. none refl place inside is })
-new_chain (suc shift) bucket older last rows level none h =
-    subst (λ place. IsLast (suc shift) bucket rows (length rows) (place_in (older ++ last ∷ []) place)) level
-    (subst (IsLast (suc shift) bucket rows (length rows)) (sym (get_or-append_seam older last [] None)) h)
+new_chain : (shift number : ℕ) (older : List (Option ℕ)) (last : Option ℕ) (rows : List Row) →
+    length older ≡ chain_length shift (length rows) → HasNoRow rows number →
+    IsLast shift (bucket_of shift number) rows (length rows) last →
+    IsLast shift (bucket_of shift number) rows (length rows) (place_in (chained shift older last) (length rows))
+new_chain zero number older last rows level none h =
+    rw (get_or_past older (length rows) None (omega arith)) (record {
+      there = tt;
+      last = λ place low inside is. none place inside (sym (div-one (row_at rows place).number) ∙ is ∙ div-one number);
+    })
+new_chain (suc shift) number older last rows level none h = rw (get_or_push older last None (length rows) level) h
 
-new_level : (shift : ℕ) (older : List (Option ℕ)) (last : Option ℕ) (long : ℕ) → length older ≡ chain_length shift long
-    → length (chained shift older last) ≡ chain_length shift (long + 1)
+new_level : (shift : ℕ) (older : List (Option ℕ)) (last : Option ℕ) (long : ℕ) → length older ≡ chain_length shift long →
+    length (chained shift older last) ≡ chain_length shift (long + 1)
 new_level zero older last long level = level
-new_level (suc shift) older last long level = let longer = length-append older (last ∷ []) in omega arith
+new_level (suc shift) older last long level = omega (arith, length-append older (last ∷ []))
 
 new_numbers : (rows : List Row) (row : Row) → HasNoRow rows row.number → AreOfNumbers rows → AreOfNumbers (rows ++ row ∷ [])
-new_numbers rows row none h one other low high same =
-    let longer : length (rows ++ row ∷ []) ≡ length rows + 1 = length-append rows (row ∷ []) in
-    let number = λ (p : ℕ). (row_at (rows ++ row ∷ []) p).number in
-    let old = λ (p : ℕ) (inside : p < length rows). ap (λ (r : Row). r.number) (old_row rows row p inside) in
-    let new = λ (p : ℕ) (at_end : p ≡ length rows). ap number at_end ∙ ap (λ (r : Row). r.number) (new_row rows row) in
-    ⊎_elim
-    (λ (one_old : one < length rows). ⊎_elim
-    (λ (other_old : other < length rows). h one other one_old other_old (sym (old one one_old) ∙ same ∙ old other other_old))
-    (λ (other_new : length rows ≤ other). absurd (none one one_old (sym (old one one_old) ∙ same ∙ new other (omega arith))))
-    (cases_lt other (length rows)))
-    (λ (one_new : length rows ≤ one). ⊎_elim
-    (λ (other_old : other < length rows). absurd (none other other_old (sym (old other other_old) ∙ sym same ∙ new one (omega arith))))
-    (λ (other_new : length rows ≤ other). (let equal : one ≡ other = omega arith in equal))
-    (cases_lt other (length rows)))
-    (cases_lt one (length rows))
+new_numbers rows row none h one other low high =
+    each_more (λ i (r : Row). r.number ≡ (row_at (rows ++ row ∷ []) other).number → i ≡ other) rows row (blank 0 0)
+    (λ i before. each_more (λ j (s : Row). (row_at rows i).number ≡ s.number → i ≡ j) rows row (blank 0 0)
+    (λ j inside. h i j before inside) (λ same. absurd (none i before same)) other high)
+    (each_more (λ j (s : Row). row.number ≡ s.number → length rows ≡ j) rows row (blank 0 0)
+    (λ j inside same. absurd (none j inside (sym same))) (λ _. refl) other high) one low
 
 -- a number that had no row gets one, at the end
-pub appended : (shift : ℕ) (index older : List (Option ℕ)) (rows : List Row) (row : Row) → bucket_of shift row.number < length index → row.number < 2 ^ 22
-    → HasNoRow rows row.number → IsIndexed shift index older rows
-    → IsIndexed shift (set index (bucket_of shift row.number) (Some (length rows))) (chained shift older (place_in index (bucket_of shift row.number))) (rows ++ row ∷ [])
-appended shift index older rows row within low none h =
+pub appended : {shift : ℕ} {index older : List (Option ℕ)} {rows : List Row} → IsIndexed shift index older rows → (row : Row) →
+    bucket_of shift row.number < length index → row.number < 2 ^ 22 → HasNoRow rows row.number →
+    IsIndexed shift (set index (bucket_of shift row.number) (Some (length rows)))
+    (chained shift older (place_in index (bucket_of shift row.number))) (rows ++ row ∷ [])
+appended {shift = shift} {index = index} {older = older} {rows = rows} h row within low none =
     let bucket = bucket_of shift row.number in
-    let wider = set index bucket (Some (length rows)) in
     let further = chained shift older (place_in index bucket) in
     let all = rows ++ row ∷ [] in
     let longer : length all ≡ length rows + 1 = length-append rows (row ∷ []) in
-    let old = λ (p : ℕ) (inside : p < length rows). ap (λ (r : Row). r.number) (old_row rows row p inside) in
-    let new : (row_at all (length rows)).number ≡ row.number = ap (λ (r : Row). r.number) (new_row rows row) in
+    let old = λ (p : ℕ) (inside : p < length rows). ap (λ (r : Row). r.number)
+    (get_or-append rows (row ∷ []) (blank 0 0) p inside) in
+    let new = λ (p : ℕ) (at_end : length rows ≡ p). ap (λ (r : Row). r.number) (get_or_push rows row (blank 0 0) p at_end) in
     record {
-      last = λ asked. ⊎_elim
-          (λ (same : asked ≡ bucket).
-          let is : place_in wider asked ≡ Some (length rows) = ap (place_in wider) same ∙ get_or-set_same index bucket (Some (length rows)) None within in
-          subst (IsLast shift asked all (length all)) (sym is) (record {
-            there = ((let l : length rows < length all = omega arith in l), ap (bucket_of shift) new ∙ sym same);
+      last = λ asked. put_at (λ b found. IsLast shift b all (length all) found) index bucket (Some (length rows)) None within
+          (record {
+            there = ((let l : length rows < length all = omega arith in l), ap (bucket_of shift) (new (length rows) refl));
             last = λ place beyond inside _. absurd (omega arith);
-          }))
-          (λ (other : asked ≡ bucket → ⊥).
-          subst (IsLast shift asked all (length all)) (sym (get_or-set_other index bucket asked (Some (length rows)) None other))
-          (subst (λ n. IsLast shift asked all n (place_in index asked)) (sym longer)
-          (other_last shift asked all (length rows) (place_in index asked) (λ equal. other (sym equal ∙ ap (bucket_of shift) new))
-          (same_last shift asked rows all (length rows) (place_in index asked) old (h.last asked)))))
-          (cases_eq asked bucket);
-      before = λ place inside. ⊎_elim
-          (λ (before : place < length rows).
-          subst (λ n. IsLast shift (bucket_of shift n) all place (place_in further place)) (sym (old place before))
-          (subst (IsLast shift (bucket_of shift (row_at rows place).number) all place) (sym (old_chain shift older (place_in index bucket) (length rows) place h.level before))
-          (same_last shift (bucket_of shift (row_at rows place).number) rows all place (place_in older place) (λ p inside'. old p (omega arith)) (h.before place before))))
-          (λ (after : length rows ≤ place).
-          let at_end : length rows ≡ place = omega arith in
-          subst (λ p. IsLast shift (bucket_of shift (row_at all p).number) all p (place_in further p)) at_end
-          (subst (λ n. IsLast shift (bucket_of shift n) all (length rows) (place_in further (length rows))) (sym new)
-          (same_last shift bucket rows all (length rows) (place_in further (length rows)) old
-          (new_chain shift bucket older (place_in index bucket) rows h.level
-          (λ one p inside' equal. none p inside' (sym (own_bucket shift (row_at rows p).number one) ∙ equal ∙ own_bucket shift row.number one))
-          (h.last bucket)))))
-          (cases_lt place (length rows));
+          })
+          asked
+          (λ other. same_last (h.last asked) all (length all) (omega arith) old
+          (λ place after inside is. other (sym is ∙ ap (bucket_of shift) (new place (omega arith)))));
+      before = each_more (λ place (r : Row). IsLast shift (bucket_of shift r.number) all place (place_in further place))
+          rows row (blank 0 0)
+          (λ place inside. rw (old_chain shift older (place_in index bucket) (length rows) place h.level inside)
+          (same_last (h.before place inside) all place (omega arith) (λ p below. old p (omega arith))
+          (λ p up down _. absurd (omega arith))))
+          (same_last (new_chain shift row.number older (place_in index bucket) rows h.level none (h.last bucket)) all
+          (length rows) (omega arith) old
+          (λ p up down _. absurd (omega arith)));
       level = new_level shift older (place_in index bucket) (length rows) h.level ∙ ap (chain_length shift) (sym longer);
       numbers = new_numbers rows row none h.numbers;
-      small = λ place inside. ⊎_elim
-          (λ (before : place < length rows). let small = h.small place before in let equal = old place before in omega arith)
-          (λ (after : length rows ≤ place).
-          let equal : (row_at all place).number ≡ row.number = ap (λ p. (row_at all p).number) (let at_end : place ≡ length rows = omega arith in at_end) ∙ new in
-          omega arith)
-          (cases_lt place (length rows));
+      small = each_more (λ _ (r : Row). r.number < 2 ^ 22) rows row (blank 0 0) h.small low;
       narrow = h.narrow;
-      few = let same = length-set index bucket (Some (length rows)) in let high = h.few in omega arith;
+      few = omega (arith, length-set index bucket (Some (length rows)), h.few);
     }
 
 -- ---- a row that is changed
--- the row at a place after a row was put at another, or at the same
-put_row : (rows : List Row) (at place : ℕ) (row : Row) → at < length rows → row.number ≡ (row_at rows at).number
-    → (row_at (set rows at row) place).number ≡ (row_at rows place).number
-put_row rows at place row within same = ⊎_elim
-    (λ (equal : place ≡ at).
-    ap (λ p. (row_at (set rows at row) p).number) equal ∙ ap (λ (r : Row). r.number) (get_or-set_same rows at row (blank 0 0) within)
-    ∙ same ∙ ap (λ p. (row_at rows p).number) (sym equal))
-    (λ (other : place ≡ at → ⊥). ap (λ (r : Row). r.number) (get_or-set_other rows at place row (blank 0 0) other))
-    (cases_eq place at)
-
 -- a row that is put at the place of one of its number
-pub put : (shift : ℕ) (index older : List (Option ℕ)) (rows : List Row) (at : ℕ) (row : Row) → at < length rows → row.number ≡ (row_at rows at).number
-    → IsIndexed shift index older rows → IsIndexed shift index older (set rows at row)
-put shift index older rows at row within number h =
+pub put : {shift : ℕ} {index older : List (Option ℕ)} {rows : List Row} → IsIndexed shift index older rows → (at : ℕ)
+    (row : Row) → at < length rows → row.number ≡ (row_at rows at).number → IsIndexed shift index older (set rows at row)
+put {rows = rows} h at row within number =
     let long : length (set rows at row) ≡ length rows = length-set rows at row in
-    let same = λ (place : ℕ). put_row rows at place row within number in
+    let same = λ (place : ℕ).
+    put_at (λ p (r : Row). r.number ≡ (row_at rows p).number) rows at row (blank 0 0) within number place (λ _. refl) in
     record {
-      last = λ bucket.
-          subst (λ n. IsLast shift bucket (set rows at row) n (place_in index bucket)) (sym long)
-          (same_last shift bucket rows (set rows at row) (length rows) (place_in index bucket) (λ place _. same place) (h.last bucket));
-      before = λ place inside.
-          subst (λ n. IsLast shift (bucket_of shift n) (set rows at row) place (place_in older place)) (sym (same place))
-          (same_last shift (bucket_of shift (row_at rows place).number) rows (set rows at row) place (place_in older place) (λ p _. same p) (h.before place (omega arith)));
-      level = h.level ∙ ap (chain_length shift) (sym long);
+      last = λ bucket. same_last (h.last bucket) (set rows at row) (length (set rows at row)) (omega arith)
+          (λ place _. same place)
+          (λ place up down _. absurd (omega arith));
+      before = λ place inside. rw (same place)
+          (same_last (h.before place (omega arith)) (set rows at row) place (omega arith) (λ p _. same p)
+          (λ p up down _. absurd (omega arith)));
+      level = h.level ∙ ap (chain_length _) (sym long);
       numbers = λ one other low high equal. h.numbers one other (omega arith) (omega arith) (sym (same one) ∙ equal ∙ same other);
-      small = λ place inside. let low = h.small place (omega arith) in let equal = same place in omega arith;
+      small = λ place inside. omega (arith, h.small place (omega arith), same place);
       narrow = h.narrow;
       few = h.few;
     }

@@ -1,13 +1,8 @@
-mod Indexed
-mod Chained
-pub mod Raised
-mod Read
-mod Made
-pub mod Entered
-mod Prepared
-pub mod Added
-mod Outcomes
+mod Common
+mod Places
 pub mod Found
-mod Few
-mod Rising
-mod RowsLeft
+pub mod Indexed
+pub mod Raised
+pub mod Entered
+mod Made
+pub mod Added

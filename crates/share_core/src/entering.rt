@@ -1,7 +1,7 @@
 //! A game's patterns are entered into the table, and at last the game is marked at their numbers.
 ghost use Rattle.std.specs.Prelude.{◌≡◌, false, ◌-◌, ◌^◌, ◌<◌, length, IfSome, IfNone};
 ghost use Rattle.std.specs.Prelude.{IfOk, IfErr, OnOk, OnErr};
-ghost use Rattle.slot_table.specs.Batches.{entered, AreMade, AreTold};
+ghost use Rattle.slot_table.specs.Batches.{entered, AreMade, AreTold, AreEnteredUntil};
 ghost use Rattle.slot_table.specs.History.{least_at, IsAtMost};
 ghost use Rattle.slot_table.specs.Passes.{IsPassOf};
 ghost use Rattle.tally_core.specs.Walk.{shapes_of};
@@ -43,8 +43,8 @@ fn list_keys(keys: &mut Vec<Key>, meetings: &[Meeting]) -> Result<(), HarvestFau
     Ok(())
 }
 
-/// Enters the patterns of a game. The keys and the answers of the game before give way to those of
-/// this one.
+/// Enters the patterns of a game, of which most are left after the first for which no number was
+/// free. The keys and the answers of the game before give way to those of this one.
 ///
 /// # Errors
 ///
@@ -62,6 +62,7 @@ pub(crate) fn enter_all<O: ProbeOrder>(
         (entered (shapes_of meetings.now) answers.new.items) pass.old pass.new) }
     ensures told { OnOk result
         (AreTold table.now.slots pass.new.seen (shapes_of meetings.now) answers.new.items) }
+    ensures until { OnOk result (AreEnteredUntil answers.new.items (length meetings.now)) }
     ensures length { OnOk result (length answers.new.items ≡ length meetings.now) }
     ensures same { OnErr result (pass.new ≡ pass.old) }
     ensures fault { IfErr result (λ found. found ≡ fault.Memory) }
@@ -99,6 +100,7 @@ pub(crate) fn note_all<O: ProbeOrder>(
     requires pass { IsPassOf table.now pass.old }
     requires length { length answers.now ≡ length meetings.now }
     requires told { AreTold table.now.slots pass.old.seen (shapes_of meetings.now) answers.now }
+    requires until { AreEnteredUntil answers.now (length meetings.now) }
     ensures pass { IsPassOf table.now pass.new }
     ensures asks { AsksOnly table.now.slots pass.old pass.new }
     ensures each { OnOk result

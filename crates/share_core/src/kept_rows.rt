@@ -135,8 +135,8 @@ impl KeptRow {
         }
     }
 
-    /// This row with what another row of its number counts besides; None where a sum passes 2^64
-    /// - 1.
+    /// This row with what another row of its number counts besides; None where a sum is 2^64 or
+    /// more.
     pub fn with(self, row: KeptRow) -> Option<KeptRow>
         ensures some { IfSome result (λ both. both ≡ with_row (Some self) row) }
         ensures none { IfNone result (IsTooMuch (Some self) row) }

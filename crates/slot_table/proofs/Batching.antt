@@ -1,7 +1,7 @@
 -- The calls of a batch on their way: what is known of each lasts while others go on, and the calls that were made add up.
-use Rattle.std.proofs.Common.{◌≡◌, ◌≢◌, ℕ, zero, suc, ◌+◌, ◌^◌, ◌<◌, ◌≤◌, ◌==◌, false, List, [], ◌∷◌, ◌++◌, length, slice_set, slice_index, slice_index_or, take, drop, refl, sym, ◌∙◌, ap, subst, inl, inr, append_assoc, ne_eqb, arith}
-use Rattle.std.proofs.lemmas.List.{append-nil, get_or-set_same, get_or-set_other, drop_all, take_all}
-use Rattle.std.proofs.lemmas.Bool.{cases_eq}
+use Rattle.std.proofs.Common.{◌≡◌, ◌≢◌, ℕ, zero, suc, ◌+◌, ◌-◌, ◌^◌, ◌<◌, ◌≤◌, ◌==◌, false, List, [], ◌∷◌, ◌++◌, length, slice_set, slice_index, take, length-take, drop, refl, sym, ◌∙◌, ap, subst, inl, inr, append_assoc, ne_eqb, arith}
+use Rattle.std.proofs.lemmas.List.{append-nil, get_or-set_same, get_or-set_other, get_or-append-add, get_or_append_left, get_or-take, drop_all, take_all}
+use Rattle.std.proofs.lemmas.Bool.{cases_eq, cases_lt}
 use Rattle.std.specs.Prelude.{IsPermutation}
 use Rattle.std.proofs.lemmas.List.Sorted.{IsPermutation-refl, IsPermutation-trans, IsPermutation-append, IsPermutation-append_left, IsPermutation-append_right, IsPermutation-append_comm}
 use Rattle.probe_core.specs.declared.calls.Call.{Call}
@@ -20,10 +20,10 @@ use Rattle.slot_table.specs.declared.views.View.{View}
 use Rattle.slot_table.specs.History.{content_of, IsLegal, Begins, Tells}
 use Rattle.slot_table.specs.Passes.{Known, IsLater}
 use Rattle.slot_table.specs.Telling.{IsSearch, PassedOthers, Stepped, entries_of}
-use Rattle.slot_table.specs.Batches.{entered, AreMade, AreTold}
-use Rattle.slot_table.specs.Inner.Batches.{loads_at, followed, HasFollowed, IsLooked, look_at, AreLooked, ended, rest_of, IsAnswerOf, IsPassed, AreChosen, ArePassed}
+use Rattle.slot_table.specs.Batches.{entered, entered_as, answer_at, IsTold, AreMade, AreTold, IsFullBefore, AreEnteredUntil}
+use Rattle.slot_table.specs.Inner.Batches.{loads_at, followed, HasFollowed, IsLooked, look_at, AreLooked, ended, rest_of, IsAnswerOf, IsPassed, AreChosen, ArePassed, IsOnItsWay}
 use Rattle.slot_table.proofs.Deciding.{passed_stays}
-use Rattle.slot_table.proofs.Lasting.{tells_stay}
+use Rattle.slot_table.proofs.Lasting.{tells_stay, told_stays}
 use Rattle.slot_table.proofs.Later.{later_self, later_through}
 use Rattle.slot_table.proofs.Searching.{turn_on, search_goes_on, ended as ended_by, called_tells}
 
@@ -77,13 +77,17 @@ pub search_at : (n : ℕ) (place : ℕ → ℕ → ℕ) (key index : ℕ) (seen 
 search_at n place key index seen within small passed = record { within = within; small = small; enters = λ e. cc; passed = passed }
 
 -- after a look that met another key the next place is loaded
-passed_runs : (n : ℕ) (place : ℕ → ℕ → ℕ) (key : ℕ) (look : Look) → IsPassed n key look → followed n place key look ≡ Runs (loads_at key (look.index + 1))
+pub passed_runs : (n : ℕ) (place : ℕ → ℕ → ℕ) (key : ℕ) (look : Look) → IsPassed n key look → followed n place key look ≡ Runs (loads_at key (look.index + 1))
 passed_runs n place key look passed =
     let apart : look.index + 1 ≢ n = (let h : look.index + 1 < n = passed.more in λ e. omega (arith, h, e))
     in let e0 : (look.word == 0) ≡ false = ne_eqb look.word 0 passed.taken
     in let e1 : (look.word == code_of key) ≡ false = ne_eqb look.word (code_of key) passed.other
     in let e2 : (look.index + 1 == n) ≡ false = ne_eqb (look.index + 1) n apart
     in rw (e0, e1, e2) refl
+
+-- after a look at a free place it is taken
+pub free_runs : (n : ℕ) (place : ℕ → ℕ → ℕ) (key : ℕ) (look : Look) → look.word ≡ 0 → IsOnItsWay n place key look
+free_runs n place key look free = rw free (_, refl)
 
 pub next_search : (n : ℕ) (place : ℕ → ℕ → ℕ) (seen : List Happened) (key : ℕ) (look : Look) → IsPassed n key look → IsLooked n place seen key look
     → IsSearch n place (loads_at key (look.index + 1)) seen
@@ -176,26 +180,34 @@ module _ (n : ℕ) (place : ℕ → ℕ → ℕ) where
 -- the calls that have their answers
 
 pub entered_more : (keys : List ℕ) (answers : List Answer) (j : ℕ) (a : Answer) → j < length keys → length keys ≡ length answers
-    → entered (take (suc j) keys) (slice_set answers j a) ≡ entered (take j keys) answers ++ entry.Asked (call.Enter (slice_index keys j)) a ∷ []
+    → entered (take (suc j) keys) (slice_set answers j a) ≡ entered (take j keys) answers ++ entered_as (slice_index keys j) a
 entered_more [] answers j a h long = absurd (omega (arith, h))
 entered_more (key ∷ keys) [] j a h long = absurd (omega (arith, long))
-entered_more (key ∷ keys) (x ∷ answers) zero a h long = refl
+entered_more (key ∷ keys) (x ∷ answers) zero a h long = append-nil (entered_as key a)
 entered_more (key ∷ keys) (x ∷ answers) (suc j) a h long =
-    ap (λ (t : List Happened). entry.Asked (call.Enter key) x ∷ t) (entered_more keys answers j a (omega (arith, h)) (omega (arith, long)))
+    ap (λ (t : List Happened). entered_as key x ++ t) (entered_more keys answers j a (omega (arith, h)) (omega (arith, long)))
+    ∙ sym (append_assoc (entered_as key x) (entered (take j keys) answers) (entered_as (slice_index keys j) a))
+
+-- a call with an answer that tells something was entered with it
+entered_is : (n : ℕ) (seen : List Happened) (key : ℕ) (a : Answer) → Tells n seen (call.Enter key) a → entry.Asked (call.Enter key) a ∷ [] ≡ entered_as key a
+entered_is n seen key (answer.Number p) tells = refl
+entered_is n seen key answer.Full tells = refl
+entered_is n seen key answer.Absent tells = absurd tells
 
 -- a call comes to its end
-pub rest_moves : (key : ℕ) (before after : List Happened) (f : Followed) (a : Answer) → IsAnswerOf f a
-    → IsPermutation ((before ++ (entries_of (call.Enter key) f ++ after)) ++ rest_of key f a) ((before ++ entry.Asked (call.Enter key) a ∷ []) ++ after)
-rest_moves key before after (Runs machine) a same =
-    let one : List Happened = entry.Asked (call.Enter key) a ∷ []
+pub rest_moves : (n : ℕ) (place : ℕ → ℕ → ℕ) (seen : List Happened) (key : ℕ) (before after : List Happened) (f : Followed) (a : Answer)
+    → HasFollowed n place seen key f → IsAnswerOf f a
+    → IsPermutation ((before ++ (entries_of (call.Enter key) f ++ after)) ++ rest_of key f a) ((before ++ entered_as key a) ++ after)
+rest_moves n place seen key before after (Runs machine) a known same =
+    let one : List Happened = entered_as key a
     in subst (λ (t : List Happened). IsPermutation t ((before ++ one) ++ after)) (sym (append_assoc before after one))
     (subst (λ (t : List Happened). IsPermutation (before ++ (after ++ one)) t) (sym (append_assoc before one after))
     (IsPermutation-append_right before (after ++ one) (one ++ after) (IsPermutation-append_comm after one)))
-rest_moves key before after (Answers b) a same =
-    let one : Answer → List Happened = λ (x : Answer). entry.Asked (call.Enter key) x ∷ []
-    in subst (λ (x : Answer). IsPermutation ((before ++ (one b ++ after)) ++ []) ((before ++ one x) ++ after)) same
-    (subst (λ (t : List Happened). IsPermutation t ((before ++ one b) ++ after)) (sym (append-nil (before ++ (one b ++ after))))
-    (subst (λ (t : List Happened). IsPermutation (before ++ (one b ++ after)) t) (sym (append_assoc before (one b) after)) (IsPermutation-refl _)))
+rest_moves n place seen key before after (Answers b) a known same =
+    let one : List Happened = entry.Asked (call.Enter key) b ∷ []
+    in subst (λ (x : List Happened). IsPermutation ((before ++ (one ++ after)) ++ []) ((before ++ x) ++ after)) (entered_is n seen key b known ∙ ap (entered_as key) same)
+    (subst (λ (t : List Happened). IsPermutation t ((before ++ one) ++ after)) (sym (append-nil (before ++ (one ++ after))))
+    (subst (λ (t : List Happened). IsPermutation (before ++ (one ++ after)) t) (sym (append_assoc before one after)) (IsPermutation-refl _)))
 
 -- two batches in a row
 
@@ -205,7 +217,8 @@ entered-append [] more [] others long = refl
 entered-append [] more (x ∷ answers) others long = absurd (omega (arith, long))
 entered-append (key ∷ keys) more [] others long = absurd (omega (arith, long))
 entered-append (key ∷ keys) more (x ∷ answers) others long =
-    ap (λ (t : List Happened). entry.Asked (call.Enter key) x ∷ t) (entered-append keys more answers others (omega (arith, long)))
+    ap (λ (t : List Happened). entered_as key x ++ t) (entered-append keys more answers others (omega (arith, long)))
+    ∙ sym (append_assoc (entered_as key x) (entered keys answers) (entered more others))
 
 -- what a probe is told of the last look says how the call goes on
 pub told_runs : {O : Type 0} (exponent : O → ℕ) (place : O → ℕ → ℕ → ℕ) (probe next : Probing O) (order mine : O) (machine : Machine) (word : ℕ)
@@ -218,11 +231,12 @@ told_runs {O = O} exponent place probe next order mine machine word one two thre
     in subst (λ (m : Machine). follows (2 ^ exponent mine) m (place_in (place mine) m) word ≡ Runs next.machine) three
     (subst (λ (o : O). follows (2 ^ exponent o) probe.machine (place_in (place o) probe.machine) word ≡ Runs next.machine) (one ∙ two) runs)
 
-pub rest_is : (n : ℕ) (place : ℕ → ℕ → ℕ) (seen : List Happened) (key : ℕ) (f : Followed) (machine : Machine) (a : Answer) → f ≡ Runs machine
-    → HasFollowed n place seen key f → entry.Asked machine.call a ∷ [] ≡ rest_of key f a
-rest_is n place seen key f machine a is known =
+pub rest_is : (n m : ℕ) (place : ℕ → ℕ → ℕ) (seen log : List Happened) (key : ℕ) (f : Followed) (machine : Machine) (a : Answer) → f ≡ Runs machine
+    → HasFollowed n place seen key f → Tells m log machine.call a → entry.Asked machine.call a ∷ [] ≡ rest_of key f a
+rest_is n m place seen log key f machine a is known tells =
     let same : machine.call ≡ call.Enter key = (subst (λ (g : Followed). HasFollowed n place seen key g) is known).1
-    in subst (λ (g : Followed). entry.Asked machine.call a ∷ [] ≡ rest_of key g a) (sym is) (ap (λ (c : Call). entry.Asked c a ∷ []) same)
+    in subst (λ (g : Followed). entry.Asked machine.call a ∷ [] ≡ rest_of key g a) (sym is)
+    (ap (λ (c : Call). entry.Asked c a ∷ []) same ∙ entered_is m log key a (subst (λ (c : Call). Tells m log c a) same tells))
 
 -- the places after the one that was looked at again are left
 pub passed_rest : {high : ℕ} (n : ℕ) (keys : List ℕ) (looks : List Look) (left : List ℕ) (i count : ℕ) (look : Look) → AreChosen high left count
@@ -235,10 +249,11 @@ passed_rest n keys looks left i count look chosen passed inside a from h =
 
 -- one more key has its answer
 pub next_end : (n : ℕ) (place : ℕ → ℕ → ℕ) (keys : List ℕ) (looks : List Look) (answers : List Answer) (j : ℕ) (a : Answer) → j < length keys → length keys ≤ length looks
-    → length keys ≡ length answers → IsAnswerOf (followed n place (slice_index keys j) (look_at looks j)) a
+    → length keys ≡ length answers → (seen : List Happened) → IsLooked n place seen (slice_index keys j) (look_at looks j)
+    → IsAnswerOf (followed n place (slice_index keys j) (look_at looks j)) a
     → IsPermutation ((entered (take j keys) answers ++ ended n place (drop j keys) (drop j looks)) ++ rest_of (slice_index keys j) (followed n place (slice_index keys j) (look_at looks j)) a)
     (entered (take (j + 1) keys) (slice_set answers j a) ++ ended n place (drop (j + 1) keys) (drop (j + 1) looks))
-next_end n place keys looks answers j a h long room same =
+next_end n place keys looks answers j a h long room seen looked same =
     let on : suc j ≡ j + 1 = omega arith
     in let key : ℕ = slice_index keys j
     in let f : Followed = followed n place key (look_at looks j)
@@ -248,18 +263,96 @@ next_end n place keys looks answers j a h long room same =
     (entered (take k keys) (slice_set answers j a) ++ ended n place (drop k keys) (drop k looks))) on
     (subst (λ (t : List Happened). IsPermutation ((before ++ t) ++ rest_of key f a) (entered (take (suc j) keys) (slice_set answers j a) ++ after)) (sym (ended_from n place keys looks j h long))
     (subst (λ (t : List Happened). IsPermutation ((before ++ (entries_of (call.Enter key) f ++ after)) ++ rest_of key f a) (t ++ after)) (sym (entered_more keys answers j a h room))
-    (rest_moves key before after f a same)))
+    (rest_moves n place seen key before after f a looked.next same)))
 
 -- and it tells, as those before it
 pub told_more : (n : ℕ) (seen log : List Happened) (keys : List ℕ) (answers : List Answer) (j : ℕ) (a : Answer) → j < length answers → IsLegal n log → Begins seen log
-    → ((i : ℕ) → i < j → Tells n seen (call.Enter (slice_index keys i)) (slice_index_or answers i answer.Absent)) → Tells n log (call.Enter (slice_index keys j)) a
-    → (i : ℕ) → i < j + 1 → Tells n log (call.Enter (slice_index keys i)) (slice_index_or (slice_set answers j a) i answer.Absent)
+    → ((i : ℕ) → i < j → IsTold n seen (slice_index keys i) (answer_at answers i)) → IsTold n log (slice_index keys j) a
+    → (i : ℕ) → i < j + 1 → IsTold n log (slice_index keys i) (answer_at (slice_set answers j a) i)
 told_more n seen log keys answers j a room legal begins told last i h =
     elim (cases_eq i j) [
-      | inl same ↦ subst (λ (k : ℕ). Tells n log (call.Enter (slice_index keys k)) (slice_index_or (slice_set answers j a) k answer.Absent)) (sym same)
-          (subst (λ (x : Answer). Tells n log (call.Enter (slice_index keys j)) x) (sym (get_or-set_same answers j a answer.Absent room)) last)
-      | inr apart ↦ subst (λ (x : Answer). Tells n log (call.Enter (slice_index keys i)) x) (sym (get_or-set_other answers j i a answer.Absent apart))
-          (tells_stay n seen log (slice_index keys i) (slice_index_or answers i answer.Absent) legal begins (told i (omega (arith, h, apart))))
+      | inl same ↦ subst (λ (k : ℕ). IsTold n log (slice_index keys k) (answer_at (slice_set answers j a) k)) (sym same)
+          (subst (λ (x : Answer). IsTold n log (slice_index keys j) x) (sym (get_or-set_same answers j a answer.Absent room)) last)
+      | inr apart ↦ subst (λ (x : Answer). IsTold n log (slice_index keys i) x) (sym (get_or-set_other answers j i a answer.Absent apart))
+          (told_stays n seen log (slice_index keys i) (answer_at answers i) legal begins (told i (omega (arith, h, apart))))
+    ]
+
+-- a key is left after one for which no number was free
+pub full_more : (answers : List Answer) (i j : ℕ) (a : Answer) → i ≤ j → IsFullBefore answers i → IsFullBefore (slice_set answers j a) i
+full_more answers i j a low full = (full.0, full.1, get_or-set_other answers j full.0 a answer.Absent (omega (arith, full.1, low)) ∙ full.2)
+
+pub full_here : (answers : List Answer) (j : ℕ) (a : Answer) → j < length answers → a ≡ answer.Full → IsFullBefore (slice_set answers j a) (j + 1)
+full_here answers j a room full = (j, omega arith, get_or-set_same answers j a answer.Absent room ∙ full)
+
+pub full_later : (answers : List Answer) (i j : ℕ) → i ≤ j → IsFullBefore answers i → IsFullBefore answers j
+full_later answers i j low full = (full.0, omega (arith, full.1, low), full.2)
+
+pub until_more : (answers : List Answer) (j : ℕ) (a : Answer) → j < length answers → AreEnteredUntil answers j → (a ≡ answer.Absent → IsFullBefore answers j)
+    → AreEnteredUntil (slice_set answers j a) (j + 1)
+until_more answers j a room until last i h absent =
+    elim (cases_eq i j) [
+      | inl same ↦ subst (λ (k : ℕ). IsFullBefore (slice_set answers j a) k) (sym same)
+          (full_more answers j j a (omega arith) (last (sym (get_or-set_same answers j a answer.Absent room) ∙ ap (answer_at (slice_set answers j a)) (sym same) ∙ absent)))
+      | inr apart ↦ full_more answers i j a (omega (arith, h)) (until i (omega (arith, h, apart)) (sym (get_or-set_other answers j i a answer.Absent apart) ∙ absent))
+    ]
+
+full_left : (answers others : List Answer) (i : ℕ) → i ≤ length answers → IsFullBefore answers i → IsFullBefore (answers ++ others) i
+full_left answers others i low full = (full.0, full.1, get_or_append_left answers others answer.Absent full.0 (omega (arith, full.1, low)) ∙ full.2)
+
+pub full_right : (answers others : List Answer) (i : ℕ) → IsFullBefore others i → IsFullBefore (answers ++ others) (length answers + i)
+full_right answers others i full = (length answers + full.0, omega (arith, full.1), get_or-append-add answers others full.0 answer.Absent ∙ full.2)
+
+pub until_through : (answers others : List Answer) (more : ℕ) → AreEnteredUntil answers (length answers) → AreEnteredUntil others more
+    → AreEnteredUntil (answers ++ others) (length answers + more)
+until_through answers others more one two i h absent =
+    elim (cases_lt i (length answers)) [
+      | inl low ↦ full_left answers others i (omega (arith, low)) (one i low (sym (get_or_append_left answers others answer.Absent i low) ∙ absent))
+      | inr high ↦ (let is : length answers + (i - length answers) ≡ i = omega (arith, high) in
+          subst (IsFullBefore (answers ++ others)) is (full_right answers others (i - length answers)
+          (two (i - length answers) (omega (arith, h, high)) (sym (get_or-append-add answers others (i - length answers) answer.Absent) ∙ ap (answer_at (answers ++ others)) is ∙ absent))))
+    ]
+
+-- where Absent stands from a place on, the keys before it are those that were entered
+pub entered_until : (keys : List ℕ) (answers others : List Answer) (start : ℕ) → length keys ≡ length answers → length others ≡ length answers
+    → ((i : ℕ) → i < start → answer_at others i ≡ answer_at answers i) → ((i : ℕ) → start ≤ i → answer_at others i ≡ answer.Absent)
+    → entered (take start keys) (take start answers) ≡ entered keys others
+entered_until [] answers others zero long same before left = refl
+entered_until [] answers others (suc start) long same before left = refl
+entered_until (key ∷ keys) [] others start long same before left = absurd (omega (arith, long))
+entered_until (key ∷ keys) (x ∷ answers) [] start long same before left = absurd (omega (arith, same))
+entered_until (key ∷ keys) (x ∷ answers) (y ∷ others) zero long same before left =
+    subst (λ (z : Answer). [] ≡ entered_as key z ++ entered keys others) (sym (left 0 (omega arith)))
+    (entered_until keys answers others 0 (omega (arith, long)) (omega (arith, same)) (λ i h. absurd (omega (arith, h))) (λ i h. left (suc i) (omega arith)))
+entered_until (key ∷ keys) (x ∷ answers) (y ∷ others) (suc start) long same before left =
+    subst (λ (z : Answer). entered_as key x ++ entered (take start keys) (take start answers) ≡ entered_as key z ++ entered keys others) (sym (before 0 (omega arith)))
+    (ap (λ (t : List Happened). entered_as key x ++ t)
+    (entered_until keys answers others start (omega (arith, long)) (omega (arith, same)) (λ i h. before (suc i) (omega (arith, h))) (λ i h. left (suc i) (omega (arith, h)))))
+
+-- the answers before a place are kept, and Absent stands after them
+pub told_kept : (n : ℕ) (seen : List Happened) (keys : List ℕ) (answers others : List Answer) (start : ℕ)
+    → ((i : ℕ) → i < start → answer_at others i ≡ answer_at answers i) → ((i : ℕ) → start ≤ i → answer_at others i ≡ answer.Absent)
+    → AreTold n seen (take start keys) (take start answers) → AreTold n seen keys others
+told_kept n seen keys answers others start before left told i inside =
+    elim (cases_lt i start) [
+      | inl low ↦ subst (IsTold n seen (slice_index keys i)) (sym (before i low))
+          (rw (get_or-take start keys i 0 low, get_or-take start answers i answer.Absent low) at
+          (told i (omega (arith, low, inside, length-take start keys))))
+      | inr high ↦ subst (IsTold n seen (slice_index keys i)) (sym (left i high)) tt
+    ]
+
+full_kept : (answers others : List Answer) (start i : ℕ) → i ≤ start → ((j : ℕ) → j < start → answer_at others j ≡ answer_at answers j)
+    → IsFullBefore (take start answers) i → IsFullBefore others i
+full_kept answers others start i low before full =
+    let inside : full.0 < start = omega (arith, full.1, low) in
+    (full.0, full.1, before full.0 inside ∙ sym (get_or-take start answers full.0 answer.Absent inside) ∙ full.2)
+
+pub until_kept : (answers others : List Answer) (start total : ℕ) → ((i : ℕ) → i < start → answer_at others i ≡ answer_at answers i)
+    → AreEnteredUntil (take start answers) start → (start < total → IsFullBefore (take start answers) start) → AreEnteredUntil others total
+until_kept answers others start total before until full i inside absent =
+    elim (cases_lt i start) [
+      | inl low ↦ full_kept answers others start i (omega (arith, low)) before
+          (until i low (get_or-take start answers i answer.Absent low ∙ sym (before i low) ∙ absent))
+      | inr high ↦ full_later others start i high (full_kept answers others start start (omega arith) before (full (omega (arith, high, inside))))
     ]
 
 -- all have their answers
@@ -271,7 +364,7 @@ all_ended n place keys looks answers j all =
 
 told-append : (n : ℕ) (seen : List Happened) (keys more : List ℕ) (answers others : List Answer) → length keys ≡ length answers
     → AreTold n seen keys answers → AreTold n seen more others → (i : ℕ) → i < length (keys ++ more)
-    → Tells n seen (call.Enter (slice_index (keys ++ more) i)) (slice_index_or (answers ++ others) i answer.Absent)
+    → IsTold n seen (slice_index (keys ++ more) i) (answer_at (answers ++ others) i)
 told-append n seen [] more [] others long one two i h = two i h
 told-append n seen [] more (x ∷ answers) others long one two i h = absurd (omega (arith, long))
 told-append n seen (key ∷ keys) more [] others long one two i h = absurd (omega (arith, long))
@@ -282,7 +375,7 @@ told-append n seen (key ∷ keys) more (x ∷ answers) others long one two (suc 
 pub told_through : (n : ℕ) (seen log : List Happened) (keys more : List ℕ) (answers others : List Answer) → length keys ≡ length answers → IsLegal n log → Begins seen log
     → AreTold n seen keys answers → AreTold n log more others → AreTold n log (keys ++ more) (answers ++ others)
 told_through n seen log keys more answers others long legal begins one two =
-    told-append n log keys more answers others long (λ i h. tells_stay n seen log (slice_index keys i) (slice_index_or answers i answer.Absent) legal begins (one i h)) two
+    told-append n log keys more answers others long (λ i h. told_stays n seen log (slice_index keys i) (answer_at answers i) legal begins (one i h)) two
 
 pub entered_through : {O : Type 0} (n : ℕ) (keys more : List ℕ) (answers others : List Answer) (first old new : Known O) → length keys ≡ length answers
     → AreMade n (entered keys answers) first old → AreMade n (entered more others) old new → AreMade n (entered (keys ++ more) (answers ++ others)) first new

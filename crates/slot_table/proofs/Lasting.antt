@@ -6,6 +6,7 @@ use Rattle.probe_core.specs.declared.calls.Answer.TheVariants as answer
 use Rattle.probe_core.specs.Sequential.{IsNumber, IsAbsent, IsFull}
 use Rattle.slot_table.specs.declared.entries.Happened.{Happened}
 use Rattle.slot_table.specs.History.{content_of, IsLegal, Begins, Tells}
+use Rattle.slot_table.specs.Batches.{IsTold}
 use Rattle.slot_table.proofs.Contents.{number_shown, free_shown, number_below, one_key}
 use Rattle.slot_table.proofs.Histories.{length-content, number_stays}
 
@@ -36,3 +37,9 @@ tells_stay n seen log key (answer.Number p) legal begins tells = (tells.0, numbe
 tells_stay n seen log key answer.Absent legal begins tells = tells
 tells_stay n seen log key answer.Full legal begins tells =
     (absent_stays n seen log key legal begins tells.1 tells.0, full_stays n seen log legal begins tells.1)
+
+-- also that of a key that may have been left
+pub told_stays : (n : ℕ) (seen log : List Happened) (key : ℕ) (a : Answer) → IsLegal n log → Begins seen log → IsTold n seen key a → IsTold n log key a
+told_stays n seen log key (answer.Number p) legal begins told = tells_stay n seen log key (answer.Number p) legal begins told
+told_stays n seen log key answer.Full legal begins told = tells_stay n seen log key answer.Full legal begins told
+told_stays n seen log key answer.Absent legal begins told = tt

@@ -1,9 +1,12 @@
 //! Keys that are entered together: the lines of memory of all come at once.
-ghost use Rattle.std.specs.Prelude.{◌≡◌, ℕ, ◌^◌, ◌<◌, ◌≤◌, true, length};
-ghost use Rattle.slot_table.specs.Batches.{entered, AreMade, AreTold};
-ghost use Rattle.slot_table.specs.Inner.Batches.{look_at, ended, AreLooked, AreChosen, ArePassed};
-ghost use Rattle.slot_table.specs.Inner.Batches.{IsPassed};
-ghost use Rattle.slot_table.specs.Passes.{IsPassOf, IsAlone, Known};
+ghost use Rattle.std.specs.Prelude.{◌≡◌, ℕ, ◌^◌, ◌<◌, ◌≤◌, true, false, length};
+ghost use Rattle.probe_core.specs.declared.calls.Answer.TheVariants as answer;
+ghost use Rattle.slot_table.specs.Batches.{entered, answer_at, IsTold, AreMade, AreTold};
+ghost use Rattle.slot_table.specs.Batches.{IsFullBefore, AreEnteredUntil};
+ghost use Rattle.slot_table.specs.Inner.Batches.{look_at, followed, ended, rest_of, IsLooked};
+ghost use Rattle.slot_table.specs.Inner.Batches.{AreLooked, AreChosen, ArePassed, IsPassed};
+ghost use Rattle.slot_table.specs.Inner.Batches.{IsAnswerOf, IsOnItsWay};
+ghost use Rattle.slot_table.specs.Passes.{IsPassOf, IsAlone, IsLater, Known};
 
 use crate::passes::Pass;
 use crate::tables::SlotTable;
@@ -32,6 +35,35 @@ fn is_passed(key: Key, look: Look, slots: usize) -> bool
     ensures { result ≡ true → IsPassed slots key look }
 {
     look.word != 0 && look.word != key.bits() + 1 && look.index + 1 != slots
+}
+
+/// Whether a look ended its key's call: it met the key, or another one at the last place.
+fn is_ended(key: Key, look: Look, slots: usize) -> bool
+    requires { look.index < slots }
+    ensures { result ≡ false → (place : ℕ → ℕ → ℕ) → IsOnItsWay slots place key look }
+{
+    look.word == key.bits() + 1 || (look.word != 0 && look.index + 1 == slots)
+}
+
+/// Whether no number was free.
+fn is_full(found: Answer) -> bool
+    ensures { result ≡ true → found ≡ answer.Full }
+{
+    match found {
+        Answer::Full => true,
+        Answer::Number(_) | Answer::Absent => false,
+    }
+}
+
+/// Puts `Absent` at a place and all after it.
+fn leave_from(answers: &mut [Answer], start: usize)
+    ensures length { length answers.new ≡ length answers.old }
+    ensures before { (i : ℕ) → i < start → answer_at answers.new i ≡ answer_at answers.old i }
+    ensures left { (i : ℕ) → start ≤ i → answer_at answers.new i ≡ answer.Absent }
+{
+    for i in start..answers.len() {
+        answers[i] = Answer::Absent;
+    }
 }
 
 /// All places of a block.
@@ -157,8 +189,39 @@ impl<O: ProbeOrder> SlotTable<O> {
         }
     }
 
-    /// Brings the calls of looks to their ends, in the order of the keys.
-    fn end_all(&self, pass: &mut Pass<O>, keys: &[Key], looks: &[Look], answers: &mut [Answer])
+    /// Brings the call of a look to its end. Where no number was free for an earlier key, that is
+    /// left undone if the look did not end it: the answer is `Absent` then, and nothing was
+    /// entered.
+    fn end_one(&self, pass: &mut Pass<O>, key: Key, look: Look, full: bool) -> Answer
+        requires pass { IsPassOf self.now pass.old }
+        requires looked { IsLooked self.now.slots (O.place_of self.now.order)
+            pass.old.seen key look }
+        ensures pass { IsPassOf self.now pass.new }
+        ensures later { IsLater self.now.slots pass.old
+            (rest_of key (followed self.now.slots (O.place_of self.now.order)
+            key look) result) pass.new }
+        ensures alone { IsAlone pass.old → IsAlone pass.new }
+        ensures answer { IsAnswerOf (followed self.now.slots
+            (O.place_of self.now.order) key look) result }
+        ensures told { IsTold self.now.slots pass.new.seen key result }
+        ensures left { result ≡ answer.Absent → full ≡ true }
+    {
+        if full && !is_ended(key, look, self.capacity().slots()) {
+            return Answer::Absent;
+        }
+        self.go_on(pass, key, look)
+    }
+
+    /// Brings the calls of looks to their ends, in the order of the keys. The answer is whether no
+    /// number was free for some key; after the first such, only those calls end that have ended by
+    /// their looks.
+    fn end_all(
+        &self,
+        pass: &mut Pass<O>,
+        keys: &[Key],
+        looks: &[Look],
+        answers: &mut [Answer],
+    ) -> bool
         requires pass { IsPassOf self.now pass.old }
         requires long { length keys.now ≤ length looks.now }
         requires length { length keys.now ≡ length answers.old }
@@ -172,14 +235,21 @@ impl<O: ProbeOrder> SlotTable<O> {
             (entered keys.now answers.new) first pass.new }
         ensures alone { IsAlone pass.old → IsAlone pass.new }
         ensures told { AreTold self.now.slots pass.new.seen keys.now answers.new }
+        ensures until { AreEnteredUntil answers.new (length keys.now) }
+        ensures full { result ≡ true → IsFullBefore answers.new (length keys.now) }
     {
+        let mut full = false;
         for i in 0..keys.len() {
-            answers[i] = self.go_on(pass, keys[i], looks[i]);
+            let answer = self.end_one(pass, keys[i], looks[i], full);
+            answers[i] = answer;
+            full = full || is_full(answer);
         }
+        full
     }
 
-    /// Enters the keys of a block.
-    fn enter_block(&self, pass: &mut Pass<O>, keys: &[Key], answers: &mut [Answer])
+    /// Enters the keys of a block, up to the first for which no number is free, and a few after it.
+    /// The answer is whether there is such a one.
+    fn enter_block(&self, pass: &mut Pass<O>, keys: &[Key], answers: &mut [Answer]) -> bool
         requires pass { IsPassOf self.now pass.old }
         requires block { length keys.now ≤ BLOCK }
         requires length { length keys.now ≡ length answers.old }
@@ -188,23 +258,28 @@ impl<O: ProbeOrder> SlotTable<O> {
             pass.old pass.new }
         ensures alone { 0 < length keys.now → IsAlone pass.new }
         ensures told { AreTold self.now.slots pass.new.seen keys.now answers.new }
+        ensures until { AreEnteredUntil answers.new (length keys.now) }
+        ensures full { result ≡ true → IsFullBefore answers.new (length keys.now) }
         ensures length { length answers.new ≡ length keys.now }
     {
         let mut looks = [Look { index: 0, word: 0 }; BLOCK];
         self.look_at_all(pass, keys, &mut looks);
-        self.end_all(pass, keys, &looks, answers);
+        self.end_all(pass, keys, &looks, answers)
     }
 
-    /// Enters each of these keys by a call of its own, as `enter` does, and puts the answer at the
+    /// Enters these keys, each by a call of its own, as `enter` does, and puts the answer at the
     /// place of its key: the key's number, or `Full` where none was free. It takes no memory and
     /// waits for no other thread.
+    ///
+    /// After the first `Full` most keys are not entered any more, since each that is new would be
+    /// looked for in all slots: `Absent` stands at their places, which no call of `enter` answers.
+    /// Those of the same block of 128 keys whose first looks have found them have their numbers.
     ///
     /// Looking is entering: the first places of all keys are loaded, then the second places of
     /// those that met another key, and so on, and so the slots' lines of memory come together. A
     /// key that is found has its number by that load. The others take a free place or go on after
     /// all looks of their block, in the order of the keys. So the calls end in another order than
-    /// the keys have. A key may stand at several places, and after a `Full` the later keys are
-    /// entered all the same.
+    /// the keys have. A key may stand at several places.
     ///
     /// The pass must be of this table, and there must be as many answers as keys. What the answers
     /// hold before is not read.
@@ -216,13 +291,16 @@ impl<O: ProbeOrder> SlotTable<O> {
             pass.old pass.new }
         ensures alone { 0 < length keys.now → IsAlone pass.new }
         ensures told { AreTold self.now.slots pass.new.seen keys.now answers.new }
+        ensures until { AreEnteredUntil answers.new (length keys.now) }
         ensures length { length answers.new ≡ length keys.now }
     {
         let mut start = 0;
-        while start < keys.len() {
+        let mut full = false;
+        while start < keys.len() && !full {
             let end = start + BLOCK.min(keys.len() - start);
-            self.enter_block(pass, &keys[start..end], &mut answers[start..end]);
+            full = self.enter_block(pass, &keys[start..end], &mut answers[start..end]);
             start = end;
         }
+        leave_from(answers, start);
     }
 }

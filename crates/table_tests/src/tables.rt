@@ -94,6 +94,22 @@ fn keys_are_entered_together(rt: HostRuntime) -> Result<(), Fail> {
 }
 
 #[test]
+fn a_new_key_after_a_full_one_is_left(rt: HostRuntime) -> Result<(), Fail> {
+    let capacity = capacity_of(&rt, 1);
+    let (table, mut pass) = SlotTable::new(rt.alloc(), Linear { capacity })?;
+    let keys = [
+        key_of(&rt, 5),
+        key_of(&rt, 6),
+        key_of(&rt, 7),
+        key_of(&rt, 8),
+    ];
+    let answers = enter_four(&table, &mut pass, &keys);
+    assert!(&rt; (answers[0], answers[1]) == (Answer::Number(0), Answer::Number(1)));
+    assert!(&rt; (answers[2], answers[3]) == (Answer::Full, Answer::Absent));
+    Ok(())
+}
+
+#[test]
 fn the_least_game_is_first(rt: HostRuntime) -> Result<(), Fail> {
     let capacity = capacity_of(&rt, 1);
     let (table, mut pass) = SlotTable::new(rt.alloc(), OddStep { capacity })?;

@@ -5,7 +5,7 @@ use Rattle.probe_core.specs.declared.calls.Answer.{Answer}
 use Rattle.probe_core.specs.Machine.{Machine, Followed, Runs, Answers, code_of, follows}
 use Rattle.slot_table.specs.declared.batches.Look.{Look}
 use Rattle.slot_table.specs.declared.entries.Happened.{Happened}
-use Rattle.slot_table.specs.declared.entries.Happened.TheVariants as entry
+use Rattle.slot_table.specs.Batches.{entered_as}
 use Rattle.slot_table.specs.History.{Tells}
 use Rattle.slot_table.specs.Telling.{IsSearch, entries_of}
 
@@ -43,13 +43,17 @@ ended n place (key ∷ keys) (look ∷ looks) = entries_of (call.Enter key) (fol
 
 -- the call that ends after a look, where it did not end by it
 abbrev pub rest_of : ℕ → Followed → Answer → List Happened
-rest_of key (Runs machine) found = entry.Asked (call.Enter key) found ∷ []
+rest_of key (Runs machine) found = entered_as key found
 rest_of key (Answers one) found = []
 
 -- the answer, where a call has ended by a look
 abbrev pub IsAnswerOf : Followed → Answer → Type 0
 IsAnswerOf (Runs machine) found = Unit {0}
 IsAnswerOf (Answers one) found = one ≡ found
+
+-- after a look the call goes on
+abbrev pub IsOnItsWay : ℕ → (ℕ → ℕ → ℕ) → ℕ → Look → Type 0
+IsOnItsWay n place key look = (machine : Machine) × (followed n place key look ≡ Runs machine)
 
 -- a look met another key, and the key has a place after it
 pub record IsPassed (n key : ℕ) (look : Look) : Type 0 where

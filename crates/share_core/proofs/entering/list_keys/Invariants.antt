@@ -1,5 +1,5 @@
 use Rattle.std.proofs.Common.{◌≡◌, take}
-use Rattle.tally_core.specs.Walk.{shapes_of}
+use Rattle.share_core.proofs.Common.{shapes_of}
 use Rattle.share_core.proofs.entering.list_keys.Given as goal
 
 -- the keys so far are those of the first meetings

@@ -1,8 +1,5 @@
-use Rattle.std.proofs.Common.{◌≡◌, ◌<◌, ◌≤◌, length, sym, subst, arith, ⊎_elim}
-use Rattle.std.proofs.lemmas.Bool.{cases_lt}
-use Rattle.slot_table.specs.History.{least_at, IsAtMost}
-use Rattle.share_core.specs.Inner.Making.{entered_at}
-use Rattle.share_core.specs.Inner.Entering.{IsMarkAt, IsMarkAmong}
+use Rattle.std.proofs.Common.{◌<◌, length, sym, arith, below_more}
+use Rattle.share_core.proofs.Common.{least_at, IsAtMost, entered_at, IsMarkAt, IsMarkAmong}
 use Rattle.share_core.proofs.Entered.{calls_through, calls_weaker}
 use Rattle.share_core.proofs.entering.mark_all.Goals as goal
 
@@ -10,17 +7,18 @@ pub loop-one-preserved : goal.loop-one-preserved
 loop-one-preserved g c =
     let n = c.args.table.now.slots in
     let i = c.loop-one.one-index in
-    let after = c.mark_one.ensures.later.later.keeps in
-    let inside : i < length c.args.entered.now = omega arith in
+    let entered = c.args.entered.now in
+    let game = c.args.game in
+    let marked = c.mark_one.ensures in
+    let inside : i < length entered = omega arith in
     record {
-      pass = c.mark_one.ensures.pass;
-      later = calls_through n (λ _ _. ⊥) (IsMarkAmong c.args.entered.now c.args.game) c.args.pass.now c.loop-one.pass c.mark_one.new.pass c.loop-one.invariant.later
-          (calls_weaker n (λ _ _. ⊥) (λ _ _. ⊥) (IsMarkAt (entered_at c.args.entered.now i).number c.args.game) (IsMarkAmong c.args.entered.now c.args.game) c.loop-one.pass c.mark_one.new.pass
-          (λ key found none. none) (λ number marked h. (h.1, (i, inside, sym h.0))) c.mark_one.ensures.later);
-      marked = λ k low. ⊎_elim
-          (λ (before : k < i). after.marks (entered_at c.args.entered.now k).number c.args.game (c.loop-one.invariant.marked k before))
-          (λ (last : i ≤ k).
-          let same : i ≡ k = omega arith in
-          subst (λ k. IsAtMost (least_at (entered_at c.args.entered.now k).number c.mark_one.new.pass.seen) c.args.game) same c.mark_one.ensures.marked)
-          (cases_lt k i);
+      pass = marked.pass;
+      later = calls_through n (λ _ _. ⊥) (IsMarkAmong entered game) c.args.pass.now c.loop-one.pass c.mark_one.new.pass
+          c.loop-one.invariant.later
+          (calls_weaker n (λ _ _. ⊥) (λ _ _. ⊥) (IsMarkAt (entered_at entered i).number game) (IsMarkAmong entered game)
+          c.loop-one.pass c.mark_one.new.pass
+          (λ key found none. none) (λ number marked h. (h.1, (i, inside, sym h.0))) marked.later);
+      marked = below_more (λ k. IsAtMost (least_at (entered_at entered k).number c.mark_one.new.pass.seen) game) i
+          (λ k low. marked.later.later.keeps.marks (entered_at entered k).number game
+          (c.loop-one.invariant.marked k low)) marked.marked;
     }

@@ -1,8 +1,5 @@
 use Rattle.std.proofs.Common.{◌<◌, ℕ}
-use Rattle.slot_table.specs.Passes.{IsPassOf}
-use Rattle.slot_table.specs.History.{least_at, IsAtMost}
-use Rattle.share_core.specs.Inner.Making.{entered_at}
-use Rattle.share_core.specs.Inner.Entering.{MarksOnly, IsMarkAmong}
+use Rattle.share_core.proofs.Common.{IsPassOf, least_at, IsAtMost, entered_at, MarksOnly, IsMarkAmong}
 use Rattle.share_core.proofs.entering.mark_all.Given as goal
 
 -- the numbers so far are marked

@@ -1,9 +1,5 @@
 use Rattle.std.proofs.Common.{◌≡◌, length}
-use Rattle.tally_core.specs.Walk.{shapes_of}
-use Rattle.slot_table.specs.Batches.{AreTold}
-use Rattle.slot_table.specs.Passes.{IsPassOf}
-use Rattle.share_core.specs.Entering.{AsksOnly}
-use Rattle.share_core.specs.Inner.Entering.{AreEntered, AreEnteredAs}
+use Rattle.share_core.proofs.Common.{shapes_of, AreTold, IsPassOf, AsksOnly, AreEntered, AreEnteredAs}
 use Rattle.share_core.proofs.entering.note_all.Given as goal
 
 -- the meetings so far have numbers, and all that was answered lasts

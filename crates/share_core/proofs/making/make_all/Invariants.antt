@@ -1,5 +1,5 @@
 use Rattle.std.proofs.Common.{◌≡◌, length}
-use Rattle.share_core.specs.Inner.Making.{Gained, AreRowed}
+use Rattle.share_core.proofs.Common.{Gained, AreRowed}
 use Rattle.share_core.proofs.making.make_all.Given as goal
 
 -- the meetings so far have rows, where they got numbers

@@ -1,5 +1,5 @@
 use Rattle.std.proofs.Common.{take}
-use Rattle.share_core.specs.Inner.Raising.{AreRaised}
+use Rattle.share_core.proofs.Common.{AreRaised}
 use Rattle.share_core.proofs.sums.raise_all.Given as goal
 
 -- the meetings so far were added

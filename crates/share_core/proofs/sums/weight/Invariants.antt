@@ -1,5 +1,5 @@
 use Rattle.std.proofs.Common.{◌≡◌, take}
-use Rattle.share_core.specs.Raising.{weight_among}
+use Rattle.share_core.proofs.Common.{weight_among}
 use Rattle.share_core.proofs.sums.weight.Given as goal
 
 -- the total so far

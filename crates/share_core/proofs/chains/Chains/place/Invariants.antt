@@ -1,8 +1,13 @@
-use Rattle.share_core.proofs.Chained.{IsAhead}
-use Rattle.share_core.specs.Inner.Rows.{past}
+use Rattle.std.proofs.Common.{◌≡◌, ℕ, ◌<◌, ◌≤◌, List, length, Option}
+use Rattle.share_core.proofs.Common.{Row, row_at, bucket_of, past, IsIn}
 use Rattle.share_core.proofs.chains.Chains.place.Given as goal
 
--- the number's row is still to come in the chain
+-- the row of a number is at this place of the number's bucket or before it, if the number has one
+pub record IsAhead (shift number : ℕ) (rows : List Row) (at : Option ℕ) : Type 0 where
+  pub here : IsIn shift (bucket_of shift number) rows (length rows) at
+  pub above : (place : ℕ) → past at ≤ place → place < length rows → (row_at rows place).number ≡ number → ⊥
+
+-- it is still to come in the chain
 abbrev pub invariant-chain : goal.invariant-chain
 invariant-chain l = IsAhead l.self.shift l.number l.self.rows.now l.at
 

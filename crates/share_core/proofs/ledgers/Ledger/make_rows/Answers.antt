@@ -3,4 +3,4 @@ use Rattle.share_core.proofs.Made.{same_weight}
 use Rattle.share_core.proofs.ledgers.Ledger.make_rows.Goals as goal
 
 pub invariant_of-self : goal.invariant_of-self
-invariant_of-self c = c.self.invariant ∙ sym (same_weight c.args.meetings.now c.args.answers.now c.self.inside.rows c.make_all.new.rows c.make_all.ensures.gained)
+invariant_of-self c = c.self.invariant ∙ sym (same_weight c.make_all.ensures.gained)

@@ -1,4 +1,4 @@
-use Rattle.share_core.proofs.Rising.{AreBeyond}
+use Rattle.share_core.proofs.Indexed.{AreBeyond}
 use Rattle.share_core.proofs.rows.Rows.first_from.Given as goal
 
 -- no row from the first number on was passed

@@ -1,9 +1,6 @@
-use Rattle.std.proofs.Common.{◌≡◌, ◌<◌, ◌++◌, ℕ, length, take, drop, slice_index, slice_index_or}
-use Rattle.probe_core.specs.declared.calls.Call.TheVariants as call
-use Rattle.probe_core.specs.declared.calls.Answer.TheVariants as answer
-use Rattle.slot_table.specs.History.{Tells}
+use Rattle.std.proofs.Common.{◌≡◌, ◌<◌, ◌++◌, ℕ, length, take, drop, slice_index, true}
 use Rattle.slot_table.specs.Passes.{IsPassOf, IsAlone, Known}
-use Rattle.slot_table.specs.Batches.{AreMade, entered}
+use Rattle.slot_table.specs.Batches.{AreMade, IsTold, answer_at, entered, IsFullBefore, AreEnteredUntil}
 use Rattle.slot_table.specs.Inner.Batches.{AreLooked, ended}
 use Rattle.slot_table.proofs.tables.SlotTable.end_all.Given as goal
 
@@ -19,5 +16,7 @@ invariant-loop-i g l =
           → AreMade n (entered (take l.i l.keys) l.answers ++ ended n place (drop l.i l.keys) (drop l.i l.looks)) first l.pass;
       alone : IsAlone l.fn.pass → IsAlone l.pass;
       looked : AreLooked n place l.pass.seen l.keys l.looks (length l.keys);
-      told : (i : ℕ) → i < l.i → Tells n l.pass.seen (call.Enter (slice_index l.keys i)) (slice_index_or l.answers i answer.Absent);
+      told : (i : ℕ) → i < l.i → IsTold n l.pass.seen (slice_index l.keys i) (answer_at l.answers i);
+      until : AreEnteredUntil l.answers l.i;
+      full : l.full ≡ true → IsFullBefore l.answers l.i;
     }

@@ -27,4 +27,5 @@ returns-in-On-clause-later g c =
     c.pass.view_is c.requires.pass.rises called.1
     in subst (λ k. IsLater k c.args.pass.now (rest_of key (followed k (place mine) key look) answer) (known_of after.table_id after.me.0)) same
     (subst (λ made. IsLater n c.args.pass.now made (known_of after.table_id after.me.0))
-    (rest_is n (place mine) c.args.pass.now.seen key (followed n (place mine) key look) next.machine answer runs known) later)
+    (rest_is n (2 ^ g.O.ProbeOrder.exponent c.self.inside.words.shared.key) (place mine) c.args.pass.now.seen after.me.0.seen key (followed n (place mine) key look) next.machine answer runs
+    known c.run.ensures.told) later)
