@@ -1,34 +1,10 @@
 -- Whether a full table is one of patterns of rows, number by number.
-use Rattle.std.proofs.Common.{◌≡◌, ◌≢◌, ℕ, ◌+◌, ◌<◌, ◌⊎◌, inl, inr, List, length, get_or, eqb, AllPairs, Option, Some, None, refl, sym, subst, ◌∙◌, arith, Contains}
-use Rattle.std.specs.Bool.{OnTrue}
-use Rattle.std.specs.List.{All}
-use Rattle.std.proofs.lemmas.Bool.{OnTrue_from}
-use Rattle.std.proofs.lemmas.Bool.Decides.{nat_tests}
-use Rattle.std.proofs.lemmas.List.Elements.{Contains-get_or}
-use Rattle.probe_core.specs.Sequential.{IsFree, IsFull}
-use Rattle.slot_table.specs.declared.entries.Happened.{Happened}
-use Rattle.slot_table.specs.History.{content_of, keys_of, IsLegal, Keeps, TellsAt}
-use Rattle.slot_table.proofs.Histories.{length-content}
-use Rattle.slot_table.proofs.Contents.{key_is_numbered, keys_differ, full_keys, number_below, one_key}
-use Rattle.share_core.specs.declared.rows.Row.{Row}
+use Rattle.std.proofs.Common.{◌≡◌, ◌≢◌, ℕ, ◌+◌, ◌<◌, ◌⊎◌, inl, inr, List, length, get_or, AllPairs, Option, Some, None, refl, sym, subst, ◌∙◌, arith, Contains}
+use Rattle.gather_core.proofs.Common.{All, Contains-get_or, IsFree, IsFull, Happened, content_of, keys_of, IsLegal, Keeps, TellsAt, length-content, key_is_numbered, keys_differ, full_keys, number_below, one_key, Row, shape_at, HasShape, HasShapeAt, IsKnown, IsUnknown, first_shape, IsUnconfirmed, IsConfirmation}
 use Rattle.share_core.specs.declared.faults.HarvestFault.TheVariants as fault
-use Rattle.share_core.specs.Shares.{Held}
-use Rattle.gather_core.specs.Checking.{all_rows, shape_at}
-use Rattle.gather_core.specs.Confirming.{HasShape, HasShapeAt, IsKnown, IsUnknown, first_shape, IsUnconfirmed, IsConfirmation}
 use Rattle.gather_core.specs.Inner.Confirming.{AreFrom, IsLeastOf, IsOfRow}
 use Rattle.gather_core.proofs.Stood.{nothing_at}
 use borrow.Author.Count.{below_more}
-use Rattle.gather_core.proofs.Numbered.{Contains-flat_map}
-
--- ---- rows that are found
--- whether a row is of a pattern
-pub row_has : (rows : List Row) (row : Row) (read shape : ℕ) → Contains rows row → read ≡ row.shape → OnTrue (eqb read shape) (HasShape rows shape)
-row_has rows row read shape among is =
-    OnTrue_from (eqb read shape) (HasShape rows shape) (λ same. (row, among, Prim.grind (arith, nat_tests)))
-
-pub share_has : (shares : List Held) (i : ℕ) (d : Held) (shape : ℕ) → i < length shares → HasShape (get_or shares i d).rows shape → HasShape (all_rows shares) shape
-share_has shares i d shape inside h =
-    (h.0, Contains-flat_map (λ (s : Held). s.rows) shares (get_or shares i d) h.0 (Contains-get_or shares i d inside) h.1, h.2)
 
 -- ---- number by number
 known_kept : (n : ℕ) (seen history : List Happened) (rows : List Row) (number : ℕ) → Keeps n seen history → IsKnown n seen rows number → IsKnown n history rows number
@@ -57,10 +33,6 @@ confirmed_more {n = n} {seen = seen} {history = history} {rows = rows} {word = w
   above = above_more rows word number least agrees.1 is h.above;
 }
 
--- no lesser number has a row of the word
-none_lesser : (rows : List Row) (word number : ℕ) → AreFrom word rows number → (lesser : ℕ) → lesser < number → HasShapeAt rows lesser word → ⊥
-none_lesser rows word number above lesser low h = Prim.grind (arith, above h.0 h.1 h.3, h.2)
-
 -- why a number is the last one
 why_last : (n : ℕ) (seen : List Happened) (rows : List Row) (word number : ℕ) (found least : Option ℕ) → TellsAt n seen number found → IsLeastOf word rows least →
     (IsOfRow rows found → ⊥) ⊎ (least ≡ Some number) → IsFree (content_of n seen) number ⊎ (IsUnknown n seen rows number ⊎ HasShapeAt rows number word)
@@ -76,7 +48,7 @@ stopped {n = n} {seen = seen} {history = history} {rows = rows} {word = word} {n
   table = shown;
   why = why_last n history rows word number found least told is differs;
   known = λ lesser low within. known_kept n seen history rows lesser keeps (h.known lesser low);
-  others = none_lesser rows word number h.above;
+  others = λ lesser low here. Prim.grind (arith, h.above here.0 here.1 here.3, here.2);
 }
 
 -- after all numbers
@@ -87,7 +59,7 @@ beyond n seen rows word number is h = record {
   table = nothing_at n seen number (Prim.grind (arith, h.above is.0.0 is.0.1 is.0.3, is.0.2));
   why = inr (inr is.0);
   known = λ lesser low within. h.known lesser within;
-  others = none_lesser rows word number is.1;
+  others = λ lesser low here. Prim.grind (arith, is.1 here.0 here.1 here.3, here.2);
 }
 
 -- ---- a full table shows more patterns than numbers

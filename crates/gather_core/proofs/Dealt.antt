@@ -1,17 +1,7 @@
 -- Where the rows of shares are, by blocks of numbers.
 use Rattle.std.proofs.Common.{◌≡◌, ℕ, ◌+◌, ◌<◌, ◌==◌, true, false, cond, List, [], ◌∷◌, ◌++◌, length, map, get_or, take, Result, Ok, ap, sym, subst, ◌∙◌, arith, append-nil}
-use Rattle.std.specs.Prelude.{slice_set, All}
+use Rattle.gather_core.proofs.Common.{slice_set, All, AllocError, Dealt, nat_tests, map-set, map-append, get_or-map, get_or-set_same, get_or-set_other, length-map, take_more, filter-append, All-push, Row, row_at, blank, Held, all_rows, block_of, rows_in, placed_at, noted, IsDealt, AreDealt}
 use Rattle.std.specs.Global.{Vec}
-use Rattle.std.specs.declared.alloc.AllocError.{AllocError}
-use Rattle.gather_core.specs.declared.dealing.Dealt.{Dealt}
-use Rattle.std.proofs.lemmas.Bool.Decides.{nat_tests}
-use Rattle.std.proofs.lemmas.List.{map-set, map-append, get_or-map, get_or-set_same, get_or-set_other, length-map, take_more}
-use Rattle.std.proofs.lemmas.List.Elements.{filter-append, All-push}
-use Rattle.share_core.specs.declared.rows.Row.{Row}
-use Rattle.share_core.specs.Rows.{row_at, blank}
-use Rattle.share_core.specs.Shares.{Held}
-use Rattle.gather_core.specs.Checking.{all_rows}
-use Rattle.gather_core.specs.Inner.Dealing.{block_of, rows_in, placed_at, noted, IsDealt, AreDealt}
 use Rattle.gather_core.proofs.Strangers.{flat_map_next}
 
 -- ---- lists

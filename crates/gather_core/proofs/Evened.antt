@@ -1,25 +1,11 @@
 -- Totals of numbers whose rows are of one pattern.
-use Rattle.std.proofs.Common.{◌≡◌, ℕ, ◌+◌, ◌<◌, ◌≤◌, inl, inr, ⊎_elim, List, [], ◌∷◌, ◌++◌, length, get_or, find, Option, Some, None, refl, ap, sym, subst, ◌∙◌, arith}
-use Rattle.std.specs.Prelude.{slice_set}
-use Rattle.std.proofs.lemmas.Bool.{cases_eq}
-use Rattle.std.proofs.lemmas.Bool.Decides.{nat_tests}
-use Rattle.std.proofs.lemmas.List.{get_or-set_same, get_or-set_other}
-use Rattle.std.proofs.lemmas.List.Elements.{Contains-push}
-use Rattle.share_core.specs.declared.rows.Row.{Row}
-use Rattle.share_core.specs.Rows.{row_of}
-use Rattle.gather_core.specs.Checking.{is_stranger, stranger_in}
-use Rattle.share_core.specs.Totals.{with_row, IsTooMuch}
-use Rattle.gather_core.specs.Inner.Dealing.{block_of, rows_in}
-use Rattle.gather_core.specs.Inner.Blocks.{rows_at, IsLike, AreLike, IsEven, AreEven, IsUnlike, AreAlikeAt, IsOddAt, HasOdd}
-use Rattle.gather_core.proofs.Totalled.{rows_none, stranger_same, one_number, one_found, found_between, total_between, large_between, total_kept, total_with, found_before, large_with, large_more}
-use Rattle.gather_core.proofs.Strangers.{stranger_append}
+use Rattle.std.proofs.Common.{◌≡◌, ℕ, ◌+◌, ◌<◌, ◌≤◌, inl, inr, ⊎_elim, List, [], ◌∷◌, ◌++◌, length, get_or, Option, Some, None, ap, sym, subst, ◌∙◌, arith}
+use Rattle.gather_core.proofs.Common.{slice_set, cases_eq, nat_tests, get_or-set_same, get_or-set_other, Contains-push, Row, row_of, stranger_in, with_row, IsTooMuch, block_of, rows_in, IsLike, AreLike, IsEven, AreEven, IsUnlike, AreAlikeAt, IsOddAt, HasOdd}
+use Rattle.gather_core.proofs.Totalled.{one_number, one_found, found_same, stranger_same, total_same, large_same, total_kept, total_with, found_with, large_with, large_more}
+use Rattle.gather_core.proofs.Strangers.{stranger_none, stranger_append}
 use Rattle.gather_core.proofs.Stood.{like_all}
 
 -- ---- one row more
-pub stranger_none : (rows : List Row) (number : ℕ) (found : Option ℕ) → row_of rows number ≡ None → stranger_in rows number found ≡ None
-stranger_none rows number found none =
-    Prim.grind (arith, stranger_same rows number found, ap (find (is_stranger number found)) (rows_none rows number none))
-
 -- the strangers of more rows, where there is none before
 stranger_more : (rows more : List Row) (number : ℕ) (found : Option ℕ) → stranger_in rows number found ≡ None → stranger_in more number found ≡ None → stranger_in (rows ++ more) number found ≡ None
 stranger_more rows more number found none later = Prim.grind (arith, stranger_append rows more number found)
@@ -75,31 +61,22 @@ evens_with rows from at totals row total both same inside is sum like h place lo
     ]
 
 -- ---- the rows of a block
-same_at : (all : List Row) (block number : ℕ) → block_of number ≡ block → rows_at number (rows_in block all) ≡ rows_at number all
-same_at [] block number is = refl
-same_at (row ∷ all) block number is = Prim.grind (arith, nat_tests, same_at all block number is)
-
-stranger_between : (rows others : List Row) (number : ℕ) (found : Option ℕ) → rows_at number rows ≡ rows_at number others → stranger_in rows number found ≡ stranger_in others number found
-stranger_between rows others number found same =
-    Prim.grind (arith, stranger_same rows number found, ap (find (is_stranger number found)) same, stranger_same others number found)
-
 -- the totals of numbers of a block are those of all rows
 pub evens_in : (all : List Row) (block from : ℕ) (totals : List (Option Row)) → ((place : ℕ) → place < length totals → block_of (from + place) ≡ block) →
     AreEven (rows_in block all) from totals → AreEven all from totals
 evens_in all block from totals of h place low =
     let number = from + place in
-    let same = same_at all block number (of place low) in
     let total = get_or totals place None in
     record {
-      total_is = total_between (rows_in block all) all number total same (h place low).total_is;
-      alike = like_weaker (rows_in block all) all number total (λ found none. sym (stranger_between (rows_in block all) all number found same) ∙ none) (h place low).alike;
+      total_is = total_same all block number total (of place low) (h place low).total_is;
+      alike = like_weaker (rows_in block all) all number total (λ found none. sym (stranger_same all block number found (of place low)) ∙ none) (h place low).alike;
     }
 
 -- ---- numbers that have no total
 -- what was odd stays so with more rows
 alike_before : (rows more : List Row) (number : ℕ) → AreAlikeAt (rows ++ more) number → AreAlikeAt rows number
 alike_before rows more number alike row is =
-    Prim.grind (arith, stranger_append rows more number (Some row.shape), alike row (found_before rows more number row is))
+    Prim.grind (arith, stranger_append rows more number (Some row.shape), alike row, found_with rows more number)
 
 pub odds_more : (rows more : List Row) (from high : ℕ) → HasOdd rows from high → HasOdd (rows ++ more) from high
 odds_more rows more from high h = record { number = h.number; low = h.low; inside = h.inside; odd = λ alike. large_more rows more h.number (h.odd (alike_before rows more h.number alike)) }
@@ -109,7 +86,7 @@ odd_with : (rows : List Row) (number : ℕ) (total : Option Row) (row : Row) →
 odd_with rows number None row same unlike h alike = absurd unlike
 odd_with rows number (Some total) row same unlike h alike =
     let first = h.total_is.first_row in
-    let none = alike first (found_before rows (row ∷ []) number first h.total_is.found) in
+    let none = alike first (Prim.grind (arith, found_with rows (row ∷ []) number, h.total_is.found)) in
     let one = like_all (rows ++ row ∷ []) number (Some first.shape) row none (Contains-push rows row) same in
     ⊎_elim
     (λ (other : total.shape ≡ row.shape → ⊥). absurd (other (h.total_is.shape ∙ (let equal : first.shape ≡ row.shape = cc in equal))))
@@ -128,12 +105,10 @@ odds_with rows from at totals row total same inside is unlike h = record {
 -- what is odd among the rows of a block is so among all
 alike_in : (all : List Row) (block number : ℕ) → block_of number ≡ block → AreAlikeAt all number → AreAlikeAt (rows_in block all) number
 alike_in all block number is alike row found =
-    let same = same_at all block number is in
-    stranger_between (rows_in block all) all number (Some row.shape) same ∙ alike row (sym (found_between (rows_in block all) all number same) ∙ found)
+    stranger_same all block number (Some row.shape) is ∙ alike row (sym (found_same all block number is) ∙ found)
 
 pub odds_in : (all : List Row) (block from high : ℕ) → ((number : ℕ) → from ≤ number → number < high → block_of number ≡ block) → HasOdd (rows_in block all) from high → HasOdd all from high
 odds_in all block from high of h =
     let here = of h.number h.low h.inside in
-    let large = λ (alike : AreAlikeAt all h.number).
-    large_between (rows_in block all) all h.number (same_at all block h.number here) (h.odd (alike_in all block h.number here alike)) in
+    let large = λ (alike : AreAlikeAt all h.number). large_same all block h.number here (h.odd (alike_in all block h.number here alike)) in
     record { number = h.number; low = h.low; inside = h.inside; odd = large }

@@ -1,27 +1,9 @@
 -- The dictionary of all shares is that of their games.
 use Rattle.std.proofs.Common.{◌≡◌, ℕ, ◌+◌, ◌<◌, ◌==◌, cond, List, [], ◌∷◌, ◌++◌, length, Some, refl, ap, ap₂, sym, subst, ◌∙◌, All, Contains, arith, Bool}
-use Rattle.std.specs.Prelude.{sum_by, slice_get}
-use Rattle.std.specs.List.{AllByRecursion, AllZip}
-use Rattle.std.proofs.lemmas.List.{map-append}
-use Rattle.std.proofs.lemmas.List.Elements.{All-head, All-tail, recursion_from_All, All-nil, All-append}
-use Rattle.std.proofs.lemmas.List.Sums.{sum_by-cons, sum_by-append}
-use Rattle.shape_core.specs.declared.words.Kinds.{Kinds}
-use Rattle.shape_dict.specs.declared.entries.Entry.{Entry}
-use Rattle.shape_dict.specs.Contents.{Contents, IsDictionary}
-use Rattle.tally_core.specs.Counts.{Replayed, kinds_of, there_in, played_in}
-use Rattle.tally_core.specs.Games.{there_sum, played_sum, first_game, counted_entry, IsDictionaryOf, counts_diamonds}
-use Rattle.share_core.specs.declared.rows.Row.{Row}
-use Rattle.share_core.specs.Rows.{there_of, played_of, first_of, earlier, ArePlayedThere}
-use Rattle.share_core.specs.Shares.{Held, Added, replayed_of, game_of, first_in, IsShareOf, IsShare}
-use Rattle.gather_core.specs.Covering.{all_games, Covers}
-use Rattle.gather_core.specs.Checking.{all_rows}
-use Rattle.gather_core.specs.Gathering.{gathered_entry, all_moves, all_added, replayed_games, HaveGames, IsGathered, AreWithin}
-use Rattle.share_core.proofs.Raised.{earlier_assoc}
-use Rattle.share_core.proofs.Added.{first_append}
+use Rattle.gather_core.proofs.Common.{sum_by, slice_get, AllByRecursion, AllZip, map-append, All-head, All-tail, recursion_from_All, All-nil, All-append, sum_by-cons, sum_by-append, Kinds, Entry, Contents, IsDictionary, Replayed, kinds_of, there_in, played_in, there_sum, played_sum, first_game, counted_entry, IsDictionaryOf, counts_diamonds, Row, there_of, played_of, first_of, earlier, ArePlayedThere, Held, Added, replayed_of, first_in, IsShareOf, IsShare, all_games, Covers, all_rows, gathered_entry, all_moves, all_added, replayed_games, HaveGames, IsGathered, AreWithin, IsPermutation, IsNonDecreasingBy, AreEntriesBelow}
+use Rattle.share_core.proofs.Added.{first_append, first_in_append}
 use Rattle.gather_core.proofs.Numbered.{numbers_of, AreBelow, sum_numbered, length-numbered, game_found, Contains-flat_map, first_numbered}
-use Rattle.std.specs.List.Sorted.{IsPermutation, IsNonDecreasingBy}
 use Rattle.tally_core.proofs.PlayedPatterns.{CanonicalStays, AroundStays}
-use Rattle.gather_core.specs.Inner.Totals.{AreEntriesBelow}
 use Rattle.tally_core.proofs.RisingDictionary.{is_dictionary}
 use Rattle.gather_core.proofs.Ordered.{sorted_rises, sorted_shapes, sorted_entry}
 
@@ -32,12 +14,6 @@ abbrev AreOfKinds : Kinds → List Held → Type 0
 AreOfKinds kinds shares = AllByRecursion (λ (share : Held). share.kinds ≡ kinds) shares
 
 -- ---- what the rows of all shares say is what their games count
-first_in_append : (kinds : Kinds) (added more : List Added) (shape : ℕ) → first_in kinds (added ++ more) shape ≡ earlier (first_in kinds added shape) (first_in kinds more shape)
-first_in_append kinds [] more shape = refl
-first_in_append kinds (one ∷ added) more shape =
-    ap (earlier (game_of kinds one shape)) (first_in_append kinds added more shape)
-    ∙ sym (earlier_assoc (game_of kinds one shape) (first_in kinds added shape) (first_in kinds more shape))
-
 record AreTogether (kinds : Kinds) (addeds : List (List Added)) (shares : List Held) : Type 0 where
   there : (shape : ℕ) → there_of (all_rows shares) shape ≡ sum_by (λ one. there_in (kinds_of kinds) (replayed_of one) shape) (all_added addeds)
   played : (shape : ℕ) → played_of (all_rows shares) shape ≡ sum_by (λ one. played_in (kinds_of kinds) (replayed_of one) shape) (all_added addeds)
@@ -161,9 +137,7 @@ module _ (canonical : CanonicalStays) (around : AroundStays) (kinds : Kinds) (ga
       let lists = games_each shares (recursion_from_All IsShare shares of) in
       let have : HaveGames kinds games lists.0 shares = record { each = lists.1; of_kinds = of_kinds; within = within; covers = covers } in
       record {
-        dictionary =
-            subst (λ m. IsDictionary (record { games = games; moves = m; entries = sorted; counts_diamonds = diamonds })) (sym moves_are)
-            (subst (λ b. IsDictionary (record { games = games; moves = all_moves shares; entries = sorted; counts_diamonds = b })) (sym diamonds_are) (dictionary_of lists.0 have));
+        dictionary = rw (moves_are, diamonds_are) (dictionary_of lists.0 have);
         games_counted = refl;
         moves = moves_are;
         diamonds = diamonds_are;

@@ -1,3 +1,4 @@
+mod Common
 mod Covered
 mod Strangers
 mod Stood

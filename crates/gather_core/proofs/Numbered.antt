@@ -2,23 +2,8 @@
 -- over their numbers, where each of them is in the order of the numbers, and which is the first that
 -- has a pattern.
 use Rattle.std.proofs.Common.{◌≡◌, ℕ, ◌+◌, ◌<◌, ◌≤◌, ◌==◌, true, false, cond, zero, suc, List, [], ◌∷◌, length, map, Some, refl, ap, sym, ◌∙◌, arith, zero-add, add-zero, nat_lt, min, get_or, Option, None, subst, Contains}
-use Rattle.std.specs.Prelude.{sum_by, slice_get}
-use Rattle.std.specs.List.{AllByRecursion, flat_map}
-use Rattle.std.proofs.lemmas.Bool.Decides.{nat_tests}
-use Rattle.std.proofs.lemmas.List.Sums.{sum_by-cons, position_or_len_is}
-use Rattle.std.proofs.lemmas.List.{length-map}
-use Rattle.shape_core.specs.Word.{count_from}
-use Rattle.tally_core.specs.Counts.{Replayed, kinds_of, there_in}
+use Rattle.gather_core.proofs.Common.{sum_by, slice_get, AllByRecursion, flat_map, nat_tests, sum_by-cons, position_or_len_is, length-map, count_from, Replayed, kinds_of, there_in, Covers, times_of, Added, replayed_of, first_in, replayed_at, replayed_games, option_map, Contains-append_left, Contains-append_right, All-contains, All-from_recursion, slice_get-map, get_or_from_slice_get, Kinds, first_game, earlier}
 use Rattle.tally_core.proofs.DoubleCounting.{sum-none, sum-same}
-use Rattle.gather_core.specs.Covering.{Covers, times_of}
-use Rattle.share_core.specs.Shares.{Added, replayed_of, first_in}
-use Rattle.gather_core.specs.Gathering.{replayed_at, replayed_games}
-use Rattle.std.specs.Option.{option_map}
-use Rattle.std.proofs.lemmas.List.Elements.{Contains-append_left, Contains-append_right, All-contains, All-from_recursion}
-use Rattle.std.proofs.lemmas.Option.{slice_get-map, get_or_from_slice_get}
-use Rattle.shape_core.specs.declared.words.Kinds.{Kinds}
-use Rattle.tally_core.specs.Games.{first_game}
-use Rattle.share_core.specs.Rows.{earlier}
 
 -- ---- the numbers from some number on
 length-count_from : (first n : ℕ) → length (count_from first n) ≡ n
@@ -145,14 +130,11 @@ game_found games added one in' below covers =
     game_at games added one.game low ∙ ap (λ g. Some g) (replayed_it added in'.0 one in'.1 in'.2 (covers one.game low))
 
 -- what is in a list that one of several gives is in all of them together
-flat_map_at : {X Y : Type 0} (f : X → List Y) (xs : List X) (place : ℕ) (x : X) (y : Y) → place < length xs → get_or xs place x ≡ x → Contains (f x) y →
-    Contains (flat_map f xs) y
-flat_map_at f [] place x y low is in' = absurd (omega arith)
-flat_map_at f (z ∷ xs) zero x y low is in' = Contains-append_left (f z) (flat_map f xs) y (subst (λ w. Contains (f w) y) (sym is) in')
-flat_map_at f (z ∷ xs) (suc place) x y low is in' = Contains-append_right (f z) (flat_map f xs) y (flat_map_at f xs place x y (omega arith) is in')
-
 pub Contains-flat_map : {X Y : Type 0} (f : X → List Y) (xs : List X) (x : X) (y : Y) → Contains xs x → Contains (f x) y → Contains (flat_map f xs) y
-Contains-flat_map f xs x y outer inner = flat_map_at f xs outer.0 x y outer.1 outer.2 inner
+Contains-flat_map f [] x y (place, low, is) inner = absurd (omega arith)
+Contains-flat_map f (z ∷ xs) x y (zero, low, is) inner = Contains-append_left (f z) (flat_map f xs) y (rw is inner)
+Contains-flat_map f (z ∷ xs) x y (suc place, low, is) inner =
+    Contains-append_right (f z) (flat_map f xs) y (Contains-flat_map f xs x y (place, omega arith, is) inner)
 
 -- ---- the first number that has some
 abbrev pub IsFirst : (ℕ → ℕ) → Option ℕ → Type 0

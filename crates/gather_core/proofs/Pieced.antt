@@ -1,31 +1,12 @@
 -- Totals of numbers, one number after another.
-use Rattle.std.proofs.Common.{◌≡◌, ℕ, zero, suc, ◌+◌, ◌-◌, ◌*◌, min, ◌<◌, ◌≤◌, List, [], ◌∷◌, ◌++◌, get_or, length, drop, Option, Some, None, refl, ap, sym, subst, ◌∙◌, arith, append-nil, add-one, ⊎_elim}
-use Rattle.std.specs.List.{filter_map, cons_option}
-use Rattle.std.specs.Option.{option_map}
+use Rattle.std.proofs.Common.{◌≡◌, ℕ, zero, suc, ◌+◌, ◌-◌, min, ◌<◌, ◌≤◌, List, [], ◌∷◌, ◌++◌, get_or, length, drop, Option, Some, None, refl, ap, sym, subst, ◌∙◌, arith, append-nil, add-one, ⊎_elim}
+use Rattle.gather_core.proofs.Common.{filter_map, cons_option, option_map, cases_lt, filter_map-append, count_from, Row, row_of, stranger_in, unlike_of, IsTotal, none_summed, AreSums, AreAlikeAt, summed_as, total_at, totals_of, AreTotals}
 use Rattle.std.proofs.Math.Seq.{drop-cons}
-use Rattle.std.proofs.Math.Nat.{add-mul, one-mul}
-use Rattle.std.proofs.lemmas.Bool.{cases_lt}
-use Rattle.std.proofs.lemmas.List.{drop_all}
-use Rattle.std.proofs.lemmas.List.Elements.{filter_map-append}
-use Rattle.shape_core.specs.Word.{count_from}
-use Rattle.share_core.specs.declared.rows.Row.{Row}
-use Rattle.share_core.specs.Rows.{row_of}
-use Rattle.gather_core.specs.Checking.{stranger_in}
-use Rattle.gather_core.specs.Inner.Checking.{unlike_of}
-use Rattle.gather_core.specs.Inner.Totals.{IsTotal}
-use Rattle.gather_core.specs.Inner.Numbers.{none_summed, AreSums}
-use Rattle.gather_core.specs.Inner.Blocks.{AreAlikeAt}
-use Rattle.gather_core.specs.Inner.Pieces.{summed_as, total_at, totals_of, AreTotals}
-use Rattle.gather_core.proofs.Evened.{stranger_none}
+use Rattle.gather_core.proofs.Strangers.{stranger_none}
 use Rattle.gather_core.proofs.Stood.{like_one, like_all}
 use Rattle.gather_core.proofs.Totalled.{found_in, first_none}
 
 -- ---- one number
--- and back
-no_row : (all : List Row) (number : ℕ) (o : Option Row) → option_map (summed_as all number) o ≡ None → o ≡ None
-no_row all number None h = refl
-no_row all number (Some row) h = absurd cc
-
 number_of : (all : List Row) (number : ℕ) (o : Option Row) (total : Row) → option_map (summed_as all number) o ≡ Some total → total.number ≡ number
 number_of all number None total h = absurd cc
 number_of all number (Some row) total h = Prim.grind (arith)
@@ -118,7 +99,7 @@ no_first_total all number high rest low other h =
 -- no rows are together what nothing is
 pub sums_nothing : (all : List Row) (number : ℕ) (found : Option ℕ) → None ≡ total_at all number → AreSums all number found none_summed
 sums_nothing all number found is =
-    let none = no_row all number (row_of all number) (sym is) in
+    let none : row_of all number ≡ None = Prim.grind (arith) in
     record { first = sym (first_none all number none); stranger = sym (stranger_none all number found none) }
 
 -- ---- a total and the pattern that a table has
@@ -150,17 +131,9 @@ stranger_total all number found total held is unlike =
     ] refl is
 
 -- ---- a place in totals
--- past the last one no total is left
-pub nothing_left : (rows : List Row) (next number : ℕ) → length rows ≤ next → (row : Row) (tail : List Row) → drop next rows ≡ row ∷ tail → row.number ≡ number → ⊥
-nothing_left rows next number past row tail is same = absurd (cc (drop_all next rows past))
-
 pub next_of : (rows : List Row) (next : ℕ) (row : Row) → next < length rows → row ≡ get_or rows next row → drop next rows ≡ row ∷ drop (next + 1) rows
 next_of rows next row inside is =
     drop-cons rows next row inside ∙ ap (λ (r : Row). r ∷ drop (suc next) rows) (sym is) ∙ ap (λ k. row ∷ drop k rows) (sym (add-one next))
-
--- ---- where pieces begin
-pub next_begin : (high span first from next place : ℕ) → from ≡ min high (first + place * span) → next ≡ min high (from + span) → next ≡ min high (first + (place + 1) * span)
-next_begin high span first from next place is more = Prim.grind (arith, add-mul place 1 span, one-mul span)
 
 -- a piece's totals, also where it would begin after the last number
 pub totals_within : (rows : List Row) (high low span : ℕ) (totals : List Row) → AreTotals rows low (min high (low + span)) totals → AreTotals rows (min high low) (min high (low + span)) totals

@@ -1,14 +1,9 @@
 -- The row of the least number among those that are looked for, row by row.
-use Rattle.std.proofs.Common.{◌≡◌, ◌<◌, ◌≤◌, List, [], ◌∷◌, ◌++◌, Option, Some, None, refl, subst, ◌∙◌, arith, Contains, ⊎_elim}
-use Rattle.std.proofs.lemmas.Bool.Decides.{nat_tests}
-use Rattle.std.proofs.lemmas.List.Elements.{Contains-push, Contains-push_cases, Contains-get_or, Contains-append_left}
-use Rattle.share_core.specs.declared.rows.Row.{Row}
-use Rattle.share_core.specs.Rows.{row_at, row_of, blank}
-use Rattle.share_core.proofs.Found.{found_none}
+use Rattle.std.proofs.Common.{◌≡◌, ◌<◌, ◌≤◌, List, [], ◌∷◌, ◌++◌, Option, Some, None, refl, subst, arith, Contains, ⊎_elim}
+use Rattle.gather_core.proofs.Common.{nat_tests, Contains-push, Contains-push_cases, Contains-get_or, Contains-append_left, Row, row_at, row_of, blank, found_none, IsSought, IsLeastSought}
 use Rattle.gather_core.specs.declared.leasts.Sought.{Sought}
 use Rattle.gather_core.specs.declared.leasts.Sought.TheVariants as sought
-use Rattle.gather_core.specs.Inner.Leasts.{IsSought, IsLeastSought}
-use Rattle.gather_core.proofs.Totalled.{found_later, found_before}
+use Rattle.gather_core.proofs.Totalled.{found_with}
 
 -- what holds of each row holds with one more
 each_with : (P : Row → Type 0) (rows : List Row) (row : Row) → P row → ((other : Row) → Contains rows other → P other) →
@@ -21,7 +16,7 @@ found_last : (rows : List Row) (row : Row) → ((other : Row) → Contains rows 
     row_of (rows ++ row ∷ []) row.number ≡ Some row
 found_last rows row absent =
     let none = found_none rows row.number (λ place low. absent (row_at rows place) (Contains-get_or rows place (blank 0 0) low)) in
-    found_later rows (row ∷ []) row.number none ∙ Prim.grind (arith, nat_tests)
+    Prim.grind (arith, nat_tests, found_with rows (row ∷ []) row.number, none)
 
 -- a row that is not looked for, or is of no lesser number
 pub sought_stays : (looked : Sought) (rows : List Row) (least row : Row) → (IsSought looked row.number row.shape → least.number ≤ row.number) →
@@ -31,7 +26,7 @@ sought_stays (sought.Pattern shape) rows least row above h = (
   each_with (λ r. r.shape ≡ shape → least.number ≤ r.number) rows row above h.1,
 )
 sought_stays (sought.From number) rows least row above h =
-    (h.0, found_before rows (row ∷ []) least.number least h.1, each_with (λ r. number ≤ r.number → least.number ≤ r.number) rows row above h.2)
+    (h.0, Prim.grind (arith, found_with rows (row ∷ []) least.number, h.1), each_with (λ r. number ≤ r.number → least.number ≤ r.number) rows row above h.2)
 
 pub sought_other : (looked : Sought) (rows : List Row) (least : Option Row) (row : Row) → (IsSought looked row.number row.shape → ⊥) →
     IsLeastSought looked rows least → IsLeastSought looked (rows ++ row ∷ []) least

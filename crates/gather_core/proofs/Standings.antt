@@ -1,32 +1,19 @@
 -- Rows of patterns that a table has at their numbers, before and after a game was added to their
 -- share or refused.
 use Rattle.std.proofs.Common.{◌≡◌, ℕ, List, ◌++◌, Option, Some, None, ap, sym, subst, ◌∙◌, arith, ⊎_elim, Contains}
-use Rattle.std.proofs.lemmas.List.{get_or_default, map-append}
-use Rattle.std.proofs.lemmas.List.Elements.{Contains-get_or, Contains-append_cases}
+use Rattle.gather_core.proofs.Common.{one_key, map-append, Contains-get_or, Contains-append_cases, Kinds, IsNumber, Happened, content_of, Keeps, Row, row_at, blank, Held, Stand, same_length}
 use Rattle.go_record.specs.Actions.{Actions}
-use Rattle.shape_core.specs.declared.words.Kinds.{Kinds}
-use Rattle.probe_core.specs.Sequential.{IsNumber}
-use Rattle.slot_table.specs.declared.entries.Happened.{Happened}
-use Rattle.slot_table.specs.History.{content_of, Keeps}
-use Rattle.share_core.specs.declared.rows.Row.{Row}
+use Rattle.share_core.proofs.Indexed.{row_there}
 use Rattle.share_core.specs.declared.faults.HarvestFault.TheVariants as fault
-use Rattle.share_core.specs.Rows.{row_at, blank}
 use Rattle.share_core.specs.Raising.{Numbered}
-use Rattle.share_core.specs.Shares.{Held}
 use Rattle.share_core.specs.Adding.{AreFresh, HasGrown, IsKept, IsAddFault}
-use Rattle.gather_core.specs.Checking.{Stand}
-use Rattle.share_core.proofs.Raised.{same_length}
-
--- what is in a list is at some place of it
-at_place : (P : Row → Type 0) (rows : List Row) (row : Row) (there : Contains rows row) → P (row_at rows there.0) → P row
-at_place P rows row there h = subst P (get_or_default rows there.0 (blank 0 0) row there.1 ∙ there.2) h
 
 -- old rows and new ones that count nothing yet
 stand_both : (n : ℕ) (seen history : List Happened) (kinds : Kinds) (actions : Actions) (rows fresh : List Row) → Keeps n seen history → AreFresh n history kinds actions fresh → Stand n seen rows →
     Stand n history (rows ++ fresh)
 stand_both n seen history kinds actions rows fresh keeps made stand row among = ⊎_elim
     (λ (old : Contains rows row). keeps.numbers row.shape row.number (stand row old))
-    (λ (new : Contains fresh row). at_place (λ (r : Row). IsNumber (content_of n history) r.shape r.number) fresh row new (made new.0 new.1).2)
+    (λ (new : Contains fresh row). rw (row_there fresh row new) at (made new.0 new.1).2)
     (Contains-append_cases rows fresh row among)
 
 pub stand_grown : (n : ℕ) (seen history : List Happened) (actions : Actions) (old new : Held) → Keeps n seen history → HasGrown n history actions old new → Stand n seen old.rows → Stand n history new.rows
@@ -38,7 +25,7 @@ stand_grown n seen history actions old new keeps grown stand row among =
     let long = same_length new.rows all (grown.numbered ∙ sym (map-append numbered old.rows grown.fresh)) in
     let place = among.0 in
     let low = among.1 in
-    at_place P new.rows row among (⊎_elim
+    subst P (row_there new.rows row among) (⊎_elim
     (λ (same : row_at new.rows place ≡ row_at all place). subst P (sym same) (both (row_at all place) (Contains-get_or all place (blank 0 0) (omega arith))))
     (λ (stands : P (row_at new.rows place)). stands)
     (grown.stands place low))
@@ -46,10 +33,6 @@ stand_grown n seen history actions old new keeps grown stand row among =
 pub stand_kept : (n : ℕ) (seen history : List Happened) (actions : Actions) (old new : Held) → Keeps n seen history → IsKept n history actions old new → Stand n seen old.rows → Stand n history new.rows
 stand_kept n seen history actions old new keeps kept stand =
     subst (Stand n history) (sym (ap (λ (h : Held). h.rows) kept.same)) (stand_both n seen history old.kinds actions old.rows kept.fresh keeps kept.made stand)
-
--- a number has one key
-one_key : (n : ℕ) (seen : List Happened) (key other number : ℕ) → IsNumber (content_of n seen) key number → IsNumber (content_of n seen) other number → key ≡ other
-one_key n seen key other number h k = Prim.grind (arith, h.stands, k.stands)
 
 pub no_stranger : (n : ℕ) (seen : List Happened) (game : ℕ) (actions : Actions) (old new : Held) (number : ℕ) (of_share of_table : Option ℕ) → Stand n seen new.rows →
     IsAddFault n seen game actions old new (fault.Stranger number of_share of_table) → ⊥

@@ -1,40 +1,13 @@
 -- Rows that are compared with what a table has, number by number, and shares that agree with it,
 -- ready to be added up.
-use Rattle.std.proofs.Common.{◌≡◌, ℕ, ◌+◌, ◌<◌, ◌≤◌, ◌==◌, Bool, true, false, not, ◌&&◌, zero, suc, List, [], ◌∷◌, length, get_or, find, Option, Some, None, ap, sym, subst, ◌∙◌, arith, Contains, ⊎_elim, refl, inl, inr, All}
-use Rattle.std.specs.Option.{option_map}
+use Rattle.std.proofs.Common.{◌≡◌, ℕ, ◌+◌, ◌<◌, ◌≤◌, false, not, zero, suc, List, [], ◌∷◌, length, get_or, Option, Some, None, sym, subst, arith, Contains, ⊎_elim, refl, inl, inr, All}
+use Rattle.gather_core.proofs.Common.{cases_lt, nat_tests, IsNumber, Happened, content_of, IsLegal, length-content, Row, stranger_in, row_of, is_shape, shape_at, Stand, StandBelow, all_rows, TellsAt, IsBeyondFault, AreBelow, blank, All-from_get_or, Contains-get_or, Contains-append_right, Contains-append_left, Contains-push, Known, one_number, one_key, number_below, Held, all_games, Covers, AreOneEach, IsGatherFault, AreAlikeAt, IsVisitFault, AreVisited, Differs}
 use Rattle.std.proofs.Math.ListN.{get_or-eq_default}
-use Rattle.std.proofs.lemmas.Bool.{cases_lt}
-use Rattle.std.proofs.lemmas.Bool.Decides.{nat_tests}
-use Rattle.probe_core.specs.Sequential.{IsNumber}
-use Rattle.slot_table.specs.declared.entries.Happened.{Happened}
-use Rattle.slot_table.specs.History.{content_of, IsLegal}
-use Rattle.slot_table.proofs.Histories.{length-content}
-use Rattle.share_core.specs.declared.rows.Row.{Row}
 use Rattle.share_core.specs.declared.faults.HarvestFault.{HarvestFault}
 use Rattle.share_core.specs.declared.faults.HarvestFault.TheVariants as fault
-use Rattle.gather_core.specs.Checking.{stranger_in, is_stranger, is_shape, shape_at, Stand, StandBelow, all_rows}
-use Rattle.gather_core.specs.Inner.Checking.{IsFound, IsStandFault, IsBeyondFault}
-use Rattle.share_core.specs.Rows.{AreBelow, blank}
-use Rattle.std.specs.Prelude.{Result, Ok, Err, OnOk}
-use Rattle.std.proofs.lemmas.List.Elements.{All-from_get_or, Contains-get_or, Contains-append_right, Contains-append_left, Contains-push}
-use Rattle.slot_table.specs.Passes.{Known}
-use Rattle.slot_table.proofs.Contents.{one_number, one_key, number_below}
-use Rattle.share_core.specs.declared.faults.HarvestFault.TheVariants as fault
-use Rattle.share_core.specs.Shares.{Held}
-use Rattle.gather_core.specs.Covering.{all_games, Covers}
-use Rattle.gather_core.specs.Inner.Gathering.{AreOneEach}
-use Rattle.gather_core.specs.GatherFaults.{IsGatherFault}
-use Rattle.gather_core.specs.Inner.Blocks.{AreAlikeAt}
-use Rattle.gather_core.specs.Inner.Visiting.{IsVisitFault, AreVisited}
-use Rattle.gather_core.specs.declared.agreeing.Differs.{Differs}
 use Rattle.gather_core.proofs.Totalled.{large_pattern, found_in}
 
 -- ---- no stranger is found
-none_found : (p : Row → Bool) (rows : List Row) (k : ℕ) (d : Row) → k < length rows → option_map (λ (r : Row). r.shape) (find p rows) ≡ None → p (get_or rows k d) ≡ false
-none_found p [] k d low none = absurd (omega arith)
-none_found p (row ∷ rows) zero d low none = Prim.grind (arith)
-none_found p (row ∷ rows) (suc k) d low none = Prim.grind (arith, none_found p rows k d)
-
 -- what a test of a pattern tells
 pub like_one : (found : Option ℕ) (shape : ℕ) → not (is_shape found shape) ≡ false → found ≡ Some shape
 like_one None shape h = absurd cc
@@ -42,21 +15,19 @@ like_one (Some one) shape h = Prim.grind (arith, nat_tests)
 
 -- a row of the number is then of the pattern
 pub like_all : (rows : List Row) (number : ℕ) (found : Option ℕ) (row : Row) → stranger_in rows number found ≡ None → Contains rows row → row.number ≡ number → found ≡ Some row.shape
-like_all rows number found row none among same =
-    let passes = none_found (is_stranger number found) rows among.0 row among.1 none in
-    let here : is_stranger number found row ≡ false = ap (is_stranger number found) (sym among.2) ∙ passes in
-    let test : (row.number == number) ≡ true = Prim.grind (arith, nat_tests) in
-    like_one found row.shape (sym (ap (λ b. b && not (is_shape found row.shape)) test) ∙ here)
+like_all [] number found row none (place, low, is) same = absurd (omega arith)
+like_all (r ∷ rows) number found row none (zero, low, is) same = Prim.grind (arith, nat_tests, like_one found row.shape)
+like_all (r ∷ rows) number found row none (suc place, low, is) same =
+    Prim.grind (arith, λ (fewer : stranger_in rows number found ≡ None). like_all rows number found row fewer (place, omega arith, is) same)
 
 -- ---- number by number
-pub stand_more : (n : ℕ) (seen : List Happened) (rows : List Row) (number : ℕ) (found : Option ℕ) → IsFound n seen number found →
+pub stand_more : (n : ℕ) (seen : List Happened) (rows : List Row) (number : ℕ) (found : Option ℕ) → TellsAt n seen number found →
     stranger_in rows number found ≡ None → StandBelow n seen rows number → StandBelow n seen rows (number + 1)
 stand_more n seen rows number found told none h row among low = ⊎_elim
     (λ (before : row.number < number). h row among before)
     (λ (last : number ≤ row.number).
     let same : row.number ≡ number = omega arith in
-    subst (IsNumber (content_of n seen) row.shape) (sym same)
-    (subst (IsFound n seen number) (like_all rows number found row none among same) told))
+    rw same (rw (like_all rows number found row none among same) at told))
     (cases_lt row.number number)
 
 -- a number that is none of the table's shows nothing
@@ -64,18 +35,6 @@ pub nothing_at : (n : ℕ) (seen : List Happened) (number : ℕ) → n ≤ numbe
 nothing_at n seen number high =
     let long : length (content_of n seen) ≡ n = length-content n seen in
     sym (get_or-eq_default (content_of n seen) None (let l : length (content_of n seen) ≤ number = omega arith in l))
-
-pub beyond_fault : (n : ℕ) (seen : List Happened) (rows : List Row) (found : HarvestFault) → StandBelow n seen rows n → IsBeyondFault n rows found → IsStandFault n seen rows found
-beyond_fault n seen rows (fault.Stranger number of_share None) h f = record {
-  first = f.1;
-  some = f.2;
-  table = nothing_at n seen number f.0;
-  least = λ row among low. ⊎_elim
-      (λ (before : row.number < n). h row among before)
-      (λ (beyond : n ≤ row.number). let least = f.3 row among beyond in absurd (omega arith))
-      (cases_lt row.number n);
-}
-beyond_fault n seen rows _ h f = absurd f
 
 -- ---- all rows
 -- rows of the patterns of a table are of numbers below its own
@@ -101,15 +60,16 @@ all_stand {n = n} {rows = rows} {new = new} same below h = λ row among. h.stand
 -- or some is
 pub beyond_visited : {O : Type 0} (n slots : ℕ) (rows : List Row) (first new : Known O) (found : HarvestFault) → slots ≡ n → StandBelow n new.seen rows n → IsBeyondFault slots rows found →
     IsVisitFault n rows first new found
-beyond_visited n slots rows first new (fault.Stranger number of_share None) same h f =
-    beyond_fault n new.seen rows (fault.Stranger number of_share None) h (subst (λ k. IsBeyondFault k rows (fault.Stranger number of_share None)) same f)
+beyond_visited n slots rows first new (fault.Stranger number of_share None) same h f = record {
+  first = f.1;
+  some = f.2;
+  table = nothing_at n new.seen number (omega (arith, same, f.0));
+  least = λ row among low. ⊎_elim
+      (λ (before : row.number < n). h row among before)
+      (λ (beyond : n ≤ row.number). absurd (omega (arith, low, beyond, same, f.3 row among)))
+      (cases_lt row.number n);
+}
 beyond_visited n slots rows first new _ same h f = absurd f
-
-pub beyond_table : {O : Type 0} (n slots games : ℕ) (shares : List Held) (first new : Known O) (found : HarvestFault) → slots ≡ n → Covers games (all_games shares) →
-    StandBelow n new.seen (all_rows shares) n → IsBeyondFault slots (all_rows shares) found → IsGatherFault n games shares first new found
-beyond_table n slots games shares first new (fault.Stranger number of_share None) same covers h f =
-    (covers, beyond_visited n slots (all_rows shares) first new (fault.Stranger number of_share None) same h f)
-beyond_table n slots games shares first new _ same covers h f = absurd f
 
 -- what ends a visit is what is told
 pub visit_fault : {O : Type 0} (n games : ℕ) (shares : List Held) (first new : Known O) (found : HarvestFault) → Covers games (all_games shares) → IsLegal n new.seen →
@@ -118,7 +78,7 @@ visit_fault n games shares first new fault.Memory covers legal h = tt
 visit_fault n games shares first new (fault.Stranger number of_share of_table) covers legal h = (covers, h)
 visit_fault n games shares first new (fault.Marks number of_shares of_table) covers legal h = (covers, h.0, h.1)
 visit_fault n games shares first new fault.Overflow covers legal h =
-    let large = large_pattern (all_rows shares) h.2.0 (one_each n new.seen (all_rows shares) legal h.0) h.2.1 in
+    let large = large_pattern (all_rows shares) h.2.0 (row_of (all_rows shares) h.2.0) refl (one_each n new.seen (all_rows shares) legal h.0) h.2.1 in
     (covers, h.0, h.1, ⊎_elim (λ there. inl there) (λ played. inr (inl played)) large)
 visit_fault n games shares first new _ covers legal h = absurd h
 
@@ -135,8 +95,3 @@ stand_alike n seen rows stand number row is =
     no_strangers rows number row.shape (λ r among same.
     one_key n seen r.shape row.shape number (subst (IsNumber (content_of n seen) r.shape) same (stand r among))
     (subst (IsNumber (content_of n seen) row.shape) found.1 (stand row found.0)))
-
--- what holds anyway holds where a call answers well
-pub anyway : {T E : Type 0} {P : Type 0} (r : Result T E) → P → OnOk r P
-anyway (Ok x) p = p
-anyway (Err e) p = tt

@@ -1,22 +1,10 @@
 -- Rows of which one is of another pattern than was asked for, and the rows of one number, share by
 -- share.
-use Rattle.std.proofs.Common.{◌≡◌, ℕ, ◌+◌, ◌<◌, suc, List, [], ◌∷◌, ◌++◌, length, get_or, take, find, Option, Some, None, refl, ap, subst, ◌∙◌, arith, append-nil, sym}
-use Rattle.std.specs.Option.{option_or}
-use Rattle.std.proofs.lemmas.Bool.Decides.{nat_tests}
-use Rattle.std.proofs.lemmas.List.{take_more}
-use Rattle.std.proofs.lemmas.List.Folds.{find-append}
+use Rattle.std.proofs.Common.{◌≡◌, ℕ, ◌+◌, ◌<◌, List, [], ◌∷◌, ◌++◌, length, get_or, take, Option, Some, None, refl, ap, ◌∙◌, arith, append-nil, sym}
+use Rattle.gather_core.proofs.Common.{option_or, take_more, find-append, Row, row_of, AreOfNumbers, first_at, earlier, is_stranger, stranger_in, unlike_of, tail_numbers, AreSums, earlier_none, flat_map}
 use Rattle.std.proofs.lemmas.Grind.{flat_map-append}
-use Rattle.share_core.specs.declared.rows.Row.{Row}
-use Rattle.share_core.specs.Rows.{row_of, AreOfNumbers, first_at, earlier}
-use Rattle.share_core.specs.Inner.Rows.{HasNoRow}
-use Rattle.gather_core.specs.Checking.{is_stranger, stranger_in}
-use Rattle.gather_core.specs.Inner.Checking.{unlike_of}
-use Rattle.share_core.proofs.Found.{tail_numbers, others_differ}
 use Rattle.gather_core.specs.declared.numbers.NumberSums.{NumberSums}
-use Rattle.gather_core.specs.Inner.Numbers.{AreSums}
-use Rattle.share_core.proofs.Raised.{earlier_none}
-use Rattle.gather_core.proofs.Totalled.{first_none, first_one, first_more}
-use Rattle.std.specs.List.{flat_map}
+use Rattle.gather_core.proofs.Totalled.{no_others, first_none, first_one, first_more}
 
 -- what lists give, and the next one
 pub flat_map_next : {X Y : Type 0} (f : X → List Y) (xs : List X) (i : ℕ) (x : X) → i < length xs → x ≡ get_or xs i x →
@@ -26,11 +14,9 @@ flat_map_next f xs i x inside is =
     ∙ ap (λ ys. flat_map f (take i xs) ++ ys) (append-nil (f (get_or xs i x)) ∙ ap f (sym is))
 
 -- ---- strangers
-no_stranger : (rows : List Row) (number : ℕ) (found : Option ℕ) → HasNoRow rows number → find (is_stranger number found) rows ≡ None
-no_stranger [] number found h = refl
-no_stranger (row ∷ rows) number found h =
-    let differ = h 0 (omega arith) in
-    Prim.grind (arith, nat_tests, no_stranger rows number found (λ place low same. h (suc place) (omega arith) same))
+pub stranger_none : (rows : List Row) (number : ℕ) (found : Option ℕ) → row_of rows number ≡ None → stranger_in rows number found ≡ None
+stranger_none [] number found none = refl
+stranger_none (row ∷ rows) number found none = Prim.grind (arith, stranger_none rows number found)
 
 -- what is asked of one row
 abbrev pub asked : Option Row → Option ℕ → Option ℕ
@@ -41,8 +27,7 @@ asked (Some row) found = unlike_of row found
 pub stranger_of_row : (rows : List Row) (number : ℕ) (found : Option ℕ) → AreOfNumbers rows → stranger_in rows number found ≡ asked (row_of rows number) found
 stranger_of_row [] number found h = refl
 stranger_of_row (row ∷ rows) number found h =
-    let none = λ (same : row.number ≡ number). no_stranger rows number found (subst (HasNoRow rows) same (others_differ row rows h)) in
-    Prim.grind (arith, nat_tests, none, stranger_of_row rows number found (tail_numbers row rows h))
+    Prim.grind (arith, no_others row rows number h, stranger_none rows number found, stranger_of_row rows number found (tail_numbers row rows h))
 
 pub stranger_append : (rows more : List Row) (number : ℕ) (found : Option ℕ) → stranger_in (rows ++ more) number found ≡ option_or (stranger_in rows number found) (stranger_in more number found)
 stranger_append rows more number found = Prim.grind (arith, find-append (is_stranger number found) rows more)

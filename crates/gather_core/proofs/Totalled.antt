@@ -1,22 +1,6 @@
 -- The rows of one number, added up, also where they are those of a block of numbers.
-use Rattle.std.proofs.Common.{◌≡◌, ℕ, ◌+◌, ◌<◌, ◌==◌, true, cond, zero, suc, List, [], ◌∷◌, ◌++◌, length, get_or, Option, Some, None, refl, ap, ap₂, sym, subst, ◌∙◌, arith, Contains, find, ◌≤◌, ◌^◌, ⊎_elim, ◌⊎◌, inl, inr}
-use Rattle.std.specs.Prelude.{sum_by}
-use Rattle.std.proofs.lemmas.Bool.Decides.{nat_tests}
-use Rattle.std.proofs.lemmas.List.Sums.{sum_by-cons, sum_by-append}
-use Rattle.share_core.specs.declared.rows.Row.{Row}
-use Rattle.share_core.specs.Rows.{row_of, first_at, earlier, AreOfNumbers, there_of, played_of, first_of}
-use Rattle.share_core.specs.Inner.Rows.{HasNoRow}
-use Rattle.gather_core.specs.Inner.Totals.{IsTotalAt, IsLargeAt, there_at, played_at}
-use Rattle.share_core.specs.Totals.{with_row, IsTooMuch}
-use Rattle.share_core.proofs.Raised.{earlier_none, earlier_assoc}
-use Rattle.share_core.proofs.Found.{tail_numbers, others_differ, found_none, row_among}
-use Rattle.std.proofs.lemmas.List.Folds.{find-append}
-use Rattle.std.specs.Option.{option_or}
-use Rattle.gather_core.specs.Checking.{is_stranger}
-use Rattle.gather_core.specs.Inner.Blocks.{rows_at}
-use Rattle.std.specs.List.{AllByRecursion}
-use Rattle.std.proofs.lemmas.List.Elements.{All-weaker, All-contains_itself, recursion_from_All}
-use Rattle.gather_core.specs.Inner.Gathering.{AreOneEach}
+use Rattle.std.proofs.Common.{◌≡◌, ℕ, ◌+◌, ◌==◌, true, cond, zero, suc, List, [], ◌∷◌, ◌++◌, Option, Some, None, refl, ap, ap₂, sym, subst, ◌∙◌, arith, Contains, ◌≤◌, ◌^◌, ⊎_elim, ◌⊎◌, inl, inr}
+use Rattle.gather_core.proofs.Common.{sum_by, nat_tests, sum_by-cons, sum_by-append, Row, row_of, first_at, earlier, AreOfNumbers, there_of, played_of, first_of, IsTotalAt, IsLargeAt, there_at, played_at, with_row, IsTooMuch, earlier_none, earlier_assoc, tail_numbers, others_differ, found_none, row_among, find-append, option_or, rows_in, block_of, stranger_in, AllByRecursion, All-weaker, All-contains_itself, recursion_from_All, AreOneEach}
 
 -- what a row counts
 abbrev pub at_number : (Row → ℕ) → List Row → ℕ → ℕ
@@ -32,13 +16,11 @@ pub first_none : (rows : List Row) (number : ℕ) → row_of rows number ≡ Non
 first_none [] number none = refl
 first_none (row ∷ rows) number none = Prim.grind (arith, first_none rows number)
 
-none_at : (rows : List Row) (place number : ℕ) (row : Row) → row_of rows number ≡ None → place < length rows → get_or rows place row ≡ row → row.number ≡ number → ⊥
-none_at [] place number row none low is same = absurd (omega arith)
-none_at (r ∷ rows) zero number row none low is same = Prim.grind (arith, nat_tests)
-none_at (r ∷ rows) (suc place) number row none low is same = Prim.grind (arith, nat_tests, none_at rows place number row)
-
 pub none_in : (rows : List Row) (number : ℕ) (row : Row) → row_of rows number ≡ None → Contains rows row → row.number ≡ number → ⊥
-none_in rows number row none in' same = none_at rows in'.0 number row none in'.1 in'.2 same
+none_in [] number row none (place, low, is) same = absurd (omega arith)
+none_in (r ∷ rows) number row none (zero, low, is) same = Prim.grind (arith, nat_tests)
+none_in (r ∷ rows) number row none (suc place, low, is) same =
+    Prim.grind (arith, nat_tests, λ (fewer : row_of rows number ≡ None). none_in rows number row fewer (place, omega arith, is) same)
 
 -- ---- rows of which one is of a number
 pub found_number : (rows : List Row) (number : ℕ) (row : Row) → row_of rows number ≡ Some row → row.number ≡ number
@@ -51,7 +33,7 @@ found_in rows number row is = (row_among rows number row is, found_number rows n
 pub no_others : (row : Row) (rows : List Row) (number : ℕ) → AreOfNumbers (row ∷ rows) → (row.number == number) ≡ true → row_of rows number ≡ None
 no_others row rows number h same =
     let equal : row.number ≡ number = Prim.grind (arith, nat_tests) in
-    found_none rows number (subst (HasNoRow rows) equal (others_differ row rows h))
+    found_none rows number (rw equal at (others_differ row rows h))
 
 sum_one : (count : Row → ℕ) (rows : List Row) (number : ℕ) (row : Row) → AreOfNumbers rows → row_of rows number ≡ Some row → at_number count rows number ≡ count row
 sum_one count [] number row h is = absurd cc
@@ -70,11 +52,8 @@ first_one (r ∷ rows) number row h is =
     Prim.grind (arith, no_others r rows number h, first_none rows number, earlier_none r.first, first_one rows number row (tail_numbers r rows h))
 
 -- ---- more rows
-pub found_later : (rows more : List Row) (number : ℕ) → row_of rows number ≡ None → row_of (rows ++ more) number ≡ row_of more number
-found_later rows more number none = find-append (λ (r : Row). r.number == number) rows more ∙ ap (λ o. option_or o (row_of more number)) none
-
-pub found_before : (rows more : List Row) (number : ℕ) (found : Row) → row_of rows number ≡ Some found → row_of (rows ++ more) number ≡ Some found
-found_before rows more number found is = find-append (λ (r : Row). r.number == number) rows more ∙ ap (λ o. option_or o (row_of more number)) is
+pub found_with : (rows more : List Row) (number : ℕ) → row_of (rows ++ more) number ≡ option_or (row_of rows number) (row_of more number)
+found_with rows more number = find-append (λ (r : Row). r.number == number) rows more
 
 pub first_more : (rows more : List Row) (number : ℕ) → first_at (rows ++ more) number ≡ earlier (first_at rows number) (first_at more number)
 first_more [] more number = refl
@@ -95,10 +74,10 @@ sum_with count rows more number row h is = Prim.grind (arith, sum_more count row
 
 -- a share has no row of the number
 pub total_kept : (rows more : List Row) (number : ℕ) (total : Option Row) → row_of more number ≡ None → IsTotalAt rows number total → IsTotalAt (rows ++ more) number total
-total_kept rows more number None none h = found_later rows more number h ∙ none
+total_kept rows more number None none h = Prim.grind (arith, found_with rows more number)
 total_kept rows more number (Some total) none h = record {
   first_row = h.first_row;
-  found = found_before rows more number h.first_row h.found;
+  found = Prim.grind (arith, found_with rows more number, h.found);
   shape = h.shape;
   there = h.there ∙ sum_kept (λ (r : Row). r.there) rows more number none;
   played = h.played ∙ sum_kept (λ (r : Row). r.played) rows more number none;
@@ -110,7 +89,7 @@ pub total_with : (rows more : List Row) (number : ℕ) (total : Option Row) (row
     IsTotalAt (rows ++ more) number (Some (with_row total row))
 total_with rows more number None row numbers is h = record {
   first_row = row;
-  found = found_later rows more number h ∙ is;
+  found = Prim.grind (arith, found_with rows more number);
   shape = refl;
   there = Prim.grind (arith, sum_with (λ (r : Row). r.there) rows more number row numbers is, sum_none (λ (r : Row). r.there) rows number h);
   played = Prim.grind (arith, sum_with (λ (r : Row). r.played) rows more number row numbers is, sum_none (λ (r : Row). r.played) rows number h);
@@ -118,7 +97,7 @@ total_with rows more number None row numbers is h = record {
 }
 total_with rows more number (Some total) row numbers is h = record {
   first_row = h.first_row;
-  found = found_before rows more number h.first_row h.found;
+  found = Prim.grind (arith, found_with rows more number, h.found);
   shape = h.shape;
   there = ap (λ n. n + row.there) h.there ∙ sum_with (λ (r : Row). r.there) rows more number row numbers is;
   played = ap (λ n. n + row.played) h.played ∙ sum_with (λ (r : Row). r.played) rows more number row numbers is;
@@ -141,48 +120,39 @@ large_more rows more number large =
     let played = sum_more (λ (r : Row). r.played) rows more number in
     Prim.grind (arith)
 
--- ---- what the rows of a number tell of all rows
-first_same : (rows : List Row) (number : ℕ) → first_at (rows_at number rows) number ≡ first_at rows number
-first_same [] number = refl
-first_same (row ∷ rows) number = Prim.grind (arith, first_same rows number)
+-- ---- the rows of a block tell of its numbers what all rows do
+pub found_same : (all : List Row) (block number : ℕ) → block_of number ≡ block → row_of (rows_in block all) number ≡ row_of all number
+found_same [] block number is = refl
+found_same (row ∷ all) block number is = Prim.grind (arith, nat_tests, found_same all block number is)
 
-pub found_same : (rows : List Row) (number : ℕ) → row_of (rows_at number rows) number ≡ row_of rows number
-found_same [] number = refl
-found_same (row ∷ rows) number = Prim.grind (arith, found_same rows number)
+first_same : (all : List Row) (block number : ℕ) → block_of number ≡ block → first_at (rows_in block all) number ≡ first_at all number
+first_same [] block number is = refl
+first_same (row ∷ all) block number is = Prim.grind (arith, nat_tests, first_same all block number is)
 
-sum_same : (count : Row → ℕ) (rows : List Row) (number : ℕ) → at_number count (rows_at number rows) number ≡ at_number count rows number
-sum_same count [] number = refl
-sum_same count (row ∷ rows) number =
+pub stranger_same : (all : List Row) (block number : ℕ) (found : Option ℕ) → block_of number ≡ block → stranger_in (rows_in block all) number found ≡ stranger_in all number found
+stranger_same [] block number found is = refl
+stranger_same (row ∷ all) block number found is = Prim.grind (arith, nat_tests, stranger_same all block number found is)
+
+sum_same : (count : Row → ℕ) (all : List Row) (block number : ℕ) → block_of number ≡ block → at_number count (rows_in block all) number ≡ at_number count all number
+sum_same count [] block number is = refl
+sum_same count (row ∷ all) block number is =
     let one = λ (r : Row). cond (r.number == number) (count r) 0 in
-    Prim.grind (arith, sum_by-cons one row rows, sum_by-cons one row (rows_at number rows), sum_same count rows number)
+    Prim.grind (arith, nat_tests, sum_by-cons one row all, sum_by-cons one row (rows_in block all), sum_same count all block number is)
 
-pub stranger_same : (rows : List Row) (number : ℕ) (found : Option ℕ) → find (is_stranger number found) (rows_at number rows) ≡ find (is_stranger number found) rows
-stranger_same [] number found = refl
-stranger_same (row ∷ rows) number found = Prim.grind (arith, stranger_same rows number found)
-
-pub found_between : (rows others : List Row) (number : ℕ) → rows_at number rows ≡ rows_at number others → row_of rows number ≡ row_of others number
-found_between rows others number same = sym (found_same rows number) ∙ ap (λ (rs : List Row). row_of rs number) same ∙ found_same others number
-
-sum_between : (count : Row → ℕ) (rows others : List Row) (number : ℕ) → rows_at number rows ≡ rows_at number others → at_number count rows number ≡ at_number count others number
-sum_between count rows others number same = sym (sum_same count rows number) ∙ ap (λ (rs : List Row). at_number count rs number) same ∙ sum_same count others number
-
--- so rows that are the same at a number have the same total
-pub total_between : (rows others : List Row) (number : ℕ) (total : Option Row) → rows_at number rows ≡ rows_at number others → IsTotalAt rows number total → IsTotalAt others number total
-total_between rows others number None same h = sym (found_between rows others number same) ∙ h
-total_between rows others number (Some total) same h = record {
+pub total_same : (all : List Row) (block number : ℕ) (total : Option Row) → block_of number ≡ block → IsTotalAt (rows_in block all) number total → IsTotalAt all number total
+total_same all block number None is h = sym (found_same all block number is) ∙ h
+total_same all block number (Some total) is h = record {
   first_row = h.first_row;
-  found = sym (found_between rows others number same) ∙ h.found;
+  found = sym (found_same all block number is) ∙ h.found;
   shape = h.shape;
-  there = h.there ∙ sum_between (λ (r : Row). r.there) rows others number same;
-  played = h.played ∙ sum_between (λ (r : Row). r.played) rows others number same;
-  first = h.first ∙ sym (first_same rows number) ∙ ap (λ (rs : List Row). first_at rs number) same ∙ first_same others number;
+  there = h.there ∙ sum_same (λ (r : Row). r.there) all block number is;
+  played = h.played ∙ sum_same (λ (r : Row). r.played) all block number is;
+  first = h.first ∙ first_same all block number is;
 }
 
-pub large_between : (rows others : List Row) (number : ℕ) → rows_at number rows ≡ rows_at number others → IsLargeAt rows number → IsLargeAt others number
-large_between rows others number same h =
-    let there = sum_between (λ (r : Row). r.there) rows others number same in
-    let played = sum_between (λ (r : Row). r.played) rows others number same in
-    Prim.grind (arith)
+pub large_same : (all : List Row) (block number : ℕ) → block_of number ≡ block → IsLargeAt (rows_in block all) number → IsLargeAt all number
+large_same all block number is h =
+    Prim.grind (arith, sum_same (λ (r : Row). r.there) all block number is, sum_same (λ (r : Row). r.played) all block number is)
 
 -- ---- one row
 pub one_number : (row : Row) → AreOfNumbers (row ∷ [])
@@ -191,23 +161,15 @@ one_number row one other low high same = omega arith
 pub one_found : (row : Row) (number : ℕ) → row.number ≡ number → row_of (row ∷ []) number ≡ Some row
 one_found row number same = Prim.grind (arith, nat_tests)
 
--- ---- rows of different numbers
-pub rows_none : (rows : List Row) (number : ℕ) → row_of rows number ≡ None → rows_at number rows ≡ []
-rows_none [] number none = refl
-rows_none (row ∷ rows) number none = Prim.grind (arith, rows_none rows number)
-
 -- ---- the rows of a number are those of a pattern
 abbrev AreAlike : ℕ → ℕ → List Row → Type 0
 AreAlike number shape rows = AllByRecursion (λ (row : Row). (row.number == number) ≡ (row.shape == shape)) rows
-
-alike_tests : (a b c d : ℕ) → (a ≡ b → c ≡ d) → (c ≡ d → a ≡ b) → (a == b) ≡ (c == d)
-alike_tests a b c d to from = Prim.grind (arith, nat_tests, to, from)
 
 are_alike : (rows : List Row) (one : Row) → AreOneEach rows → Contains rows one → AreAlike one.number one.shape rows
 are_alike rows one h in' =
     recursion_from_All (λ (row : Row). (row.number == one.number) ≡ (row.shape == one.shape)) rows
     (All-weaker (Contains rows) (λ (row : Row). (row.number == one.number) ≡ (row.shape == one.shape))
-    (λ row among. alike_tests row.number one.number row.shape one.shape (h row one among in').0 (h row one among in').1) rows (All-contains_itself rows))
+    (λ row among. Prim.grind (arith, nat_tests, (h row one among in').0, (h row one among in').1)) rows (All-contains_itself rows))
 
 sum_alike : (count : Row → ℕ) (number shape : ℕ) (rows : List Row) → AreAlike number shape rows → at_number count rows number ≡ sum_by (λ row. cond (row.shape == shape) (count row) 0) rows
 sum_alike count number shape [] alike = refl
@@ -235,17 +197,13 @@ has_sums rows number one h is =
     (sum_alike (λ (r : Row). r.there) number one.shape rows alike, sum_alike (λ (r : Row). r.played) number one.shape rows alike, first_alike number one.shape rows alike)
 
 -- a sum that is too large is that of some pattern
-large_for : (rows : List Row) (number : ℕ) (found : Option Row) → row_of rows number ≡ found → AreOneEach rows → IsLargeAt rows number →
+pub large_pattern : (rows : List Row) (number : ℕ) (found : Option Row) → row_of rows number ≡ found → AreOneEach rows → IsLargeAt rows number →
     ((shape : ℕ) × (2 ^ 64 ≤ there_of rows shape)) ⊎ ((shape : ℕ) × (2 ^ 64 ≤ played_of rows shape))
-large_for rows number None is h large =
+large_pattern rows number None is h large =
     absurd (Prim.grind (arith, sum_none (λ (r : Row). r.there) rows number is, sum_none (λ (r : Row). r.played) rows number is))
-large_for rows number (Some one) is h large =
+large_pattern rows number (Some one) is h large =
     let sums = has_sums rows number one h is in
     ⊎_elim
     (λ (many : 2 ^ 64 ≤ there_at rows number). inl (one.shape, Prim.grind (arith, sums.0)))
     (λ (many : 2 ^ 64 ≤ played_at rows number). inr (one.shape, Prim.grind (arith, sums.1)))
     large
-
-pub large_pattern : (rows : List Row) (number : ℕ) → AreOneEach rows → IsLargeAt rows number →
-    ((shape : ℕ) × (2 ^ 64 ≤ there_of rows shape)) ⊎ ((shape : ℕ) × (2 ^ 64 ≤ played_of rows shape))
-large_pattern rows number h large = large_for rows number (row_of rows number) refl h large

@@ -1,33 +1,12 @@
 -- A table and the rows of shares, number by number.
-use Rattle.std.specs.Prelude.{Result, Ok, Err, OnOk}
-use Rattle.std.proofs.Common.{◌≡◌, ℕ, ◌+◌, ◌<◌, ◌≤◌, IfSome, Contains, arith, false, List, [], ◌∷◌, ◌++◌, Option, Some, None, refl, ap, sym, subst, ◌∙◌, add-one, append-nil, true, eqb}
-use Rattle.std.specs.Option.{is_some, option_eq}
-use Rattle.std.proofs.lemmas.List.Elements.{Contains-append_left}
-use Rattle.slot_table.specs.declared.entries.Happened.{Happened}
+use Rattle.std.proofs.Common.{◌≡◌, ℕ, ◌+◌, ◌<◌, ◌≤◌, IfSome, Contains, arith, false, List, [], ◌∷◌, ◌++◌, Option, Some, None, refl, ap, sym, subst, ◌∙◌, add-one, append-nil}
+use Rattle.gather_core.proofs.Common.{Result, Ok, Err, OnOk, is_some, Contains-append_left, Happened, Known, IsLater, Keeps, TellsAt, least_at, IsAtMost, later_through, Row, Differs, first_at, stranger_in, shape_at, IsStranger, AgreeBelow, AreVisited, IfSome_then, AsksOnly, calls_through, calls_seen}
 use Rattle.slot_table.specs.declared.entries.Happened.TheVariants as call
-use Rattle.slot_table.specs.Passes.{Known, IsLater}
-use Rattle.slot_table.specs.History.{Keeps, TellsAt, least_at, IsAtMost}
-use Rattle.slot_table.proofs.Later.{later_through}
 use Rattle.slot_table.proofs.Leasts.{marked_games}
-use Rattle.share_core.specs.declared.rows.Row.{Row}
-use Rattle.gather_core.specs.declared.agreeing.Differs.{Differs}
-use Rattle.share_core.specs.Rows.{first_at}
 use Rattle.gather_core.specs.Agreeing.{agreeing_firsts}
-use Rattle.gather_core.specs.Checking.{stranger_in, shape_at, IsStranger}
-use Rattle.gather_core.specs.Inner.Checking.{IsFound}
-use Rattle.gather_core.specs.Inner.Visiting.{AgreeBelow, AreVisited}
 use Rattle.gather_core.proofs.Stood.{stand_more}
-use Rattle.std.proofs.lemmas.Option.{IfSome_then}
-use Rattle.std.proofs.lemmas.Bool.Decides.{nat_tests}
-use Rattle.share_core.specs.Entering.{AsksOnly}
-use Rattle.share_core.proofs.Entered.{calls_through, calls_seen}
 
 -- ---- one number
--- the pattern that a table tells is the number's
-told_found : (n : ℕ) (seen : List Happened) (number : ℕ) (found : Option ℕ) → TellsAt n seen number found → IsFound n seen number found
-told_found n seen number None told = tt
-told_found n seen number (Some shape) told = told
-
 -- what asks for least games alone, and then again, and what asks nothing
 pub asks_through : {O : Type 0} {n : ℕ} {one other third : Known O} → AsksOnly n one other → AsksOnly n other third → AsksOnly n one third
 asks_through {n = n} {one = one} {other = other} {third = third} h k = calls_through n (λ _ _. ⊥) (λ _ _. ⊥) one other third h k
@@ -109,7 +88,7 @@ pub visited_more : {O : Type 0} {n : ℕ} {rows : List Row} {number : ℕ} {firs
     (AgreeBelow n rows number first look before → AgreeBelow n rows (number + 1) first new after) → AreVisited n rows (number + 1) first new after
 visited_more {n = n} {rows = rows} {number = number} {first = first} {old = old} {look = look} {before = before} h later found told none keeps agree =
     let before_it = λ (row : Row) (among : Contains rows row) (low : row.number < number). later.keeps.numbers row.shape row.number (h.stand row among low) in
-    let here = stand_more n look.seen rows number found (told_found n look.seen number found told) none before_it in
+    let here = stand_more n look.seen rows number found told none before_it in
     record {
       stand = λ row among low. keeps.numbers row.shape row.number (here row among low);
       agree = agree (looked n rows number first old look before later h.agree);
@@ -119,10 +98,3 @@ visited_more {n = n} {rows = rows} {number = number} {first = first} {old = old}
 pub both_ok : {T E : Type 0} {P Q R : Type 0} (r : Result T E) → (P → Q → R) → OnOk r P → OnOk r Q → OnOk r R
 both_ok (Ok x) f p q = f p q
 both_ok (Err e) f p q = tt
-
--- ---- least games that are compared
-pub games_agree : (one other : Option ℕ) → true ≡ option_eq eqb one other → one ≡ other
-games_agree one other h = Prim.grind (arith, nat_tests)
-
-pub games_differ : (one other : Option ℕ) → false ≡ option_eq eqb one other → one ≡ other → ⊥
-games_differ one other h same = Prim.grind (arith, nat_tests)

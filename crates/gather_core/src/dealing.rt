@@ -9,9 +9,6 @@ use std::thread::{Threads, map_indices};
 /// A block has 2^SHIFT numbers: few enough that their totals stay in a near cache.
 pub(crate) const SHIFT: u32 = 13;
 
-/// Fewer rows than this are not worth a thread.
-const LEAST: usize = 65_536;
-
 /// The places of a share's rows, those of each block of numbers together.
 #[derive(Drop)]
 pub(crate) struct Dealt {
@@ -57,21 +54,6 @@ fn deal(alloc: Global, share: &Share, count: usize) -> Result<Dealt, AllocError>
     Ok(Dealt { blocks })
 }
 
-/// The same for each share, one after another.
-fn deal_each(
-    alloc: Global,
-    shares: &[Share],
-    count: usize,
-) -> Result<Vec<Result<Dealt, AllocError>>, AllocError>
-    ensures { IfOk result (λ dealt. AreDealt shares.now count dealt.items) }
-{
-    let mut dealt = Vec::with_capacity(alloc, shares.len())?;
-    for share in shares {
-        dealt.push(deal(alloc, share, count))?;
-    }
-    Ok(dealt)
-}
-
 /// How many rows shares have together.
 pub(crate) fn rows_in(shares: &[Share]) -> usize {
     let mut rows: usize = 0;
@@ -81,7 +63,7 @@ pub(crate) fn rows_in(shares: &[Share]) -> usize {
     rows
 }
 
-/// The same as `deal_each`, where there are many rows in as many threads as there are shares.
+/// Deals the rows of each share, in as many threads as there are shares.
 pub(crate) fn deal_all<R: Threads + Sync>(
     rt: &R,
     alloc: Global,
@@ -90,8 +72,5 @@ pub(crate) fn deal_all<R: Threads + Sync>(
 ) -> Result<Vec<Result<Dealt, AllocError>>, AllocError>
     ensures { IfOk result (λ dealt. AreDealt shares.now count dealt.items) }
 {
-    if rows_in(shares) < LEAST {
-        return deal_each(alloc, shares, count);
-    }
     map_indices(rt, alloc, shares.len(), &|i| deal(alloc, &shares[i], count))
 }

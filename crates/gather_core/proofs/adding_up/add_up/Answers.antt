@@ -1,5 +1,5 @@
 use Rattle.std.proofs.Common.{sym, subst}
-use Rattle.gather_core.specs.Gathering.{IsGathered}
+use Rattle.gather_core.proofs.Common.{IsGathered}
 use Rattle.gather_core.proofs.Gathered.{is_gathered}
 use Rattle.gather_core.proofs.adding_up.add_up.Goals as goal
 

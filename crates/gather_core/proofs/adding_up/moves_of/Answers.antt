@@ -1,7 +1,5 @@
 use Rattle.std.proofs.Common.{◌<◌, length, ap, subst, arith}
-use Rattle.std.proofs.lemmas.List.Sums.{sum_by_more}
-use Rattle.std.proofs.lemmas.List.Elements.{All-more}
-use Rattle.share_core.specs.Shares.{Held, IsShare}
+use Rattle.gather_core.proofs.Common.{sum_by_more, All-more, Held, IsShare}
 use Rattle.gather_core.proofs.adding_up.moves_of.Goals as goal
 
 pub loop-share-preserved : goal.loop-share-preserved

@@ -1,6 +1,5 @@
 use Rattle.std.proofs.Common.{◌≡◌, All, take}
-use Rattle.share_core.specs.Shares.{IsShare}
-use Rattle.gather_core.specs.Gathering.{all_moves}
+use Rattle.gather_core.proofs.Common.{IsShare, all_moves}
 use Rattle.gather_core.proofs.adding_up.moves_of.Given as goal
 
 -- the shares so far

@@ -1,11 +1,5 @@
 use Rattle.std.proofs.Common.{◌≡◌, ◌+◌, ◌-◌, ◌<◌, ◌∷◌, [], ◌++◌, ℕ, true, false, List, length, get_or, Option, Some, None, IfSome, IfNone, sym, ◌∙◌, arith}
-use Rattle.std.specs.Prelude.{slice_set}
-use Rattle.std.proofs.lemmas.List.{length-set, get_or_default}
-use Rattle.std.proofs.lemmas.Bool.{OnFalse_from}
-use Rattle.std.specs.Option.{is_some}
-use Rattle.share_core.specs.declared.rows.Row.{Row}
-use Rattle.share_core.specs.Totals.{with_row}
-use Rattle.gather_core.specs.Inner.Blocks.{IsLike, AreEven}
+use Rattle.gather_core.proofs.Common.{slice_set, length-set, get_or_default, OnFalse_from, is_some, Row, with_row, IsLike, AreEven}
 use Rattle.gather_core.proofs.Evened.{evens_other, evens_with, odds_with}
 use Rattle.gather_core.proofs.blocks.add_one.Goals as goal
 use Rattle.gather_core.proofs.blocks.add_one.Goals.{then-is_some, else-is_some, then-number-from-via-then-number-from, then-number-from-via-else-number-from+then-number-from-2}

@@ -1,5 +1,5 @@
 use Rattle.std.proofs.Common.{◌≡◌, ◌++◌, map, take}
-use Rattle.share_core.specs.Rows.{row_at}
+use Rattle.gather_core.proofs.Common.{row_at}
 use Rattle.gather_core.proofs.blocks.add_rows.Given as goal
 
 -- the rows at the places so far were added

@@ -1,8 +1,5 @@
 use Rattle.std.proofs.Common.{◌≡◌, ◌+◌, ◌∷◌, [], ◌++◌, List, length, take, drop, subst, ◌∙◌}
-use Rattle.std.proofs.lemmas.Bool.{OnFalse_at}
-use Rattle.std.proofs.lemmas.List.{take_more, take-append-drop}
-use Rattle.share_core.specs.declared.rows.Row.{Row}
-use Rattle.gather_core.specs.Inner.Blocks.{HasOdd}
+use Rattle.gather_core.proofs.Common.{OnFalse_at, take_more, take-append-drop, Row, HasOdd}
 use Rattle.gather_core.proofs.Evened.{odds_more}
 use Rattle.gather_core.proofs.blocks.add_up_rows.Goals as goal
 

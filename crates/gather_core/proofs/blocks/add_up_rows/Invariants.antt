@@ -1,5 +1,5 @@
 use Rattle.std.proofs.Common.{◌≡◌, take, length}
-use Rattle.gather_core.specs.Inner.Blocks.{AreEven}
+use Rattle.gather_core.proofs.Common.{AreEven}
 use Rattle.gather_core.proofs.blocks.add_up_rows.Given as goal
 
 -- the totals of the rows so far

@@ -1,5 +1,5 @@
 use Rattle.std.proofs.Common.{◌≡◌, ap, sym, ◌∙◌, arith}
-use Rattle.gather_core.specs.Inner.Dealing.{placed_at}
+use Rattle.gather_core.proofs.Common.{placed_at}
 use Rattle.gather_core.proofs.Dealt.{dealt_of, placed_is, rows_in_more}
 use Rattle.gather_core.proofs.blocks.collect.Goals as goal
 

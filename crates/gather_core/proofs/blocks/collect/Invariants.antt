@@ -1,6 +1,5 @@
 use Rattle.std.proofs.Common.{◌≡◌, take}
-use Rattle.gather_core.specs.Checking.{all_rows}
-use Rattle.gather_core.specs.Inner.Dealing.{rows_in}
+use Rattle.gather_core.proofs.Common.{all_rows, rows_in}
 use Rattle.gather_core.proofs.blocks.collect.Given as goal
 
 -- the rows of the shares so far

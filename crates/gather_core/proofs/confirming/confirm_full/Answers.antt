@@ -1,6 +1,5 @@
 use Rattle.std.proofs.Common.{◌≡◌, [], subst, ◌∙◌, arith}
-use Rattle.slot_table.proofs.Later.{later_through}
-use Rattle.gather_core.specs.Checking.{all_rows}
+use Rattle.gather_core.proofs.Common.{later_through, all_rows}
 use Rattle.gather_core.proofs.Confirmed.{AreConfirmed, confirmed_more, stopped, beyond}
 use Rattle.gather_core.proofs.confirming.confirm_full.Goals as goal
 

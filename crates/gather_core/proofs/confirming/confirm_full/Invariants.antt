@@ -1,6 +1,5 @@
 use Rattle.std.proofs.Common.{[]}
-use Rattle.slot_table.specs.Passes.{IsPassOf, IsLater}
-use Rattle.gather_core.specs.Checking.{all_rows}
+use Rattle.gather_core.proofs.Common.{IsPassOf, IsLater, all_rows}
 use Rattle.gather_core.proofs.Confirmed.{AreConfirmed}
 use Rattle.gather_core.proofs.confirming.confirm_full.Given as goal
 

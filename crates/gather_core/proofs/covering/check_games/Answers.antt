@@ -1,6 +1,5 @@
 use Rattle.std.proofs.Common.{◌≡◌, ◌<◌, false, length, sym, ◌∙◌, arith}
-use Rattle.std.proofs.lemmas.List.{get_or_default}
-use Rattle.gather_core.specs.Covering.{times_of, all_games}
+use Rattle.gather_core.proofs.Common.{get_or_default, times_of, all_games}
 use Rattle.gather_core.proofs.Covered.{once_each}
 use borrow.Author.Count.{below_more}
 use Rattle.gather_core.proofs.covering.check_games.Goals as goal

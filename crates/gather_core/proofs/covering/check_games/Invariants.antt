@@ -1,5 +1,5 @@
 use Rattle.std.proofs.Common.{◌≡◌, ◌<◌, ℕ}
-use Rattle.gather_core.specs.Covering.{times_of, all_games}
+use Rattle.gather_core.proofs.Common.{times_of, all_games}
 use Rattle.gather_core.proofs.covering.check_games.Given as goal
 
 -- the games so far are in the shares once

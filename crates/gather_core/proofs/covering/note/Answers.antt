@@ -1,7 +1,6 @@
-use Rattle.std.proofs.Common.{◌∷◌, [], ◌++◌, Some, false, refl, ap, sym, ◌∙◌}
-use Rattle.std.proofs.lemmas.List.{get_or_default}
-use Rattle.gather_core.specs.Inner.Covering.{AreNoted}
-use Rattle.gather_core.proofs.Covered.{noted_new, noted_first, noted_again}
+use Rattle.std.proofs.Common.{◌≡◌, Some, false, refl, sym, ◌∙◌}
+use Rattle.gather_core.proofs.Common.{get_or_default, earlier}
+use Rattle.gather_core.proofs.Covered.{noted_new, noted_again}
 use Rattle.gather_core.proofs.covering.note.Goals as goal
 use Rattle.gather_core.proofs.covering.note.Goals.{in-None, in-Some}
 
@@ -13,7 +12,8 @@ returns-then-not-index-clause-noted c list h =
 pub returns-clause-noted : goal.returns-clause-noted
 returns-clause-noted c list h =
     let read = c.index.ensures ∙ get_or_default c.args.seen.now.games.items c.args.game c.index.result.now false c.requires in
-    elim c.match-seen.branch as (λ _. AreNoted (list ++ c.args.game ∷ []) (record { games = c.args.seen.now.games; twice = c.match-seen.seen })) [
-      | in-None w ↦ noted_first list c.args.game c.args.seen.now _ c.requires (sym read ∙ c.if-not-index.false) refl w.in-None.is w.seen-is h
-      | in-Some w ↦ noted_again list c.args.game w.in-Some.least c.args.seen.now _ c.requires (sym read ∙ c.if-not-index.false) refl w.in-Some.is (w.seen-is ∙ ap (λ m. Some m) w.min.ensures) h
-    ]
+    let twice : c.match-seen.seen ≡ earlier c.args.seen.now.twice (Some c.args.game) = elim c.match-seen.branch [
+      | in-None w ↦ rw w.in-None.is w.seen-is
+      | in-Some w ↦ rw (w.in-Some.is, ← w.min.ensures) w.seen-is
+    ] in
+    noted_again list c.args.game c.args.seen.now _ c.requires (sym read ∙ c.if-not-index.false) refl twice h

@@ -1,5 +1,5 @@
 use Rattle.std.proofs.Common.{◌∷◌, [], ◌++◌, take, get_or, ◌∙◌, arith, append_assoc}
-use Rattle.std.proofs.lemmas.List.{take_more, take_all}
+use Rattle.gather_core.proofs.Common.{take_more, take_all}
 use Rattle.gather_core.proofs.covering.note_all.Goals as goal
 
 pub loop-game-preserved : goal.loop-game-preserved

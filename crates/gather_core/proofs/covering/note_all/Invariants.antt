@@ -1,5 +1,5 @@
 use Rattle.std.proofs.Common.{◌≡◌, ℕ, List, ◌++◌, length, take}
-use Rattle.gather_core.specs.Inner.Covering.{AreNoted}
+use Rattle.gather_core.proofs.Common.{AreNoted}
 use Rattle.gather_core.proofs.covering.note_all.Given as goal
 
 -- the games so far are noted

@@ -1,6 +1,5 @@
 use Rattle.std.proofs.Common.{take, ◌∙◌}
-use Rattle.share_core.specs.Shares.{Held}
-use Rattle.gather_core.specs.Covering.{all_games}
+use Rattle.gather_core.proofs.Common.{Held, all_games}
 use Rattle.gather_core.proofs.Strangers.{flat_map_next}
 use Rattle.gather_core.proofs.covering.seen_of.Goals as goal
 

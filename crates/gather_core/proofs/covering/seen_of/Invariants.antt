@@ -1,6 +1,5 @@
 use Rattle.std.proofs.Common.{◌≡◌, length, take}
-use Rattle.gather_core.specs.Covering.{all_games}
-use Rattle.gather_core.specs.Inner.Covering.{AreNoted}
+use Rattle.gather_core.proofs.Common.{all_games, AreNoted}
 use Rattle.gather_core.proofs.covering.seen_of.Given as goal
 
 -- the games of the shares so far are noted

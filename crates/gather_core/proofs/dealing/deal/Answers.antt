@@ -1,8 +1,5 @@
 use Rattle.std.proofs.Common.{◌≡◌, length, ap, ◌∙◌, arith}
-use Rattle.std.proofs.lemmas.List.{get_or_default}
-use Rattle.share_core.specs.declared.rows.Row.{Row}
-use Rattle.share_core.specs.Rows.{row_at, blank}
-use Rattle.gather_core.specs.Inner.Dealing.{block_of, placed_at}
+use Rattle.gather_core.proofs.Common.{get_or_default, Row, row_at, blank, block_of, placed_at}
 use Rattle.gather_core.proofs.Dealt.{dealt_more, within_more}
 use Rattle.gather_core.proofs.dealing.deal.Goals as goal
 

@@ -1,6 +1,5 @@
 use Rattle.std.proofs.Common.{◌≡◌, ℕ, ◌<◌, length, map, take, All}
-use Rattle.share_core.specs.Rows.{row_at}
-use Rattle.gather_core.specs.Inner.Dealing.{placed_at, rows_in}
+use Rattle.gather_core.proofs.Common.{row_at, placed_at, rows_in}
 use Rattle.gather_core.proofs.dealing.deal.Given as goal
 
 -- the places so far were dealt

@@ -1,5 +1,5 @@
 use Rattle.std.proofs.Common.{◌≡◌, ℕ, [], length}
-use Rattle.gather_core.specs.Inner.Dealing.{placed_at}
+use Rattle.gather_core.proofs.Common.{placed_at}
 use Rattle.gather_core.proofs.dealing.empty_lists.Given as goal
 
 -- as many lists were made as turns of the loop are over, all empty

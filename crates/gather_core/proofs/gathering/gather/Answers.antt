@@ -1,10 +1,7 @@
 use Rattle.std.proofs.Common.{◌≡◌, ◌≤◌, ◌^◌, sym, subst, ◌∙◌, inr}
-use Rattle.std.proofs.lemmas.Result.{err_from_is_err_and, IfErr-weaker}
+use Rattle.gather_core.proofs.Common.{err_from_is_err_and, IfErr-weaker, IfOk-weaker, all_rows, all_moves, IsGatherFault}
 use Rattle.share_core.specs.declared.faults.HarvestFault.TheVariants as fault
-use Rattle.gather_core.specs.Checking.{all_rows}
-use Rattle.gather_core.specs.Gathering.{all_moves}
-use Rattle.gather_core.specs.GatherFaults.{IsGatherFault}
-use Rattle.gather_core.proofs.Stood.{all_below, one_each, all_stand, beyond_table, visit_fault, anyway}
+use Rattle.gather_core.proofs.Stood.{all_below, one_each, all_stand, beyond_visited, visit_fault}
 use Rattle.gather_core.proofs.gathering.gather.Goals as goal
 
 pub returns-in_err-visited-clause-fault : goal.returns-in_err-visited-clause-fault
@@ -21,10 +18,13 @@ returns-in-Some-clause-fault g c =
 
 pub returns-in_err-check_beyond-clause-fault : goal.returns-in_err-check_beyond-clause-fault
 returns-in_err-check_beyond-clause-fault g c =
-    let slots = c.slots.ensures.value ∙ c.capacity.ensures.slots in
+    let n = c.args.table.now.slots in
+    let new = c.visit_all.new.pass in
+    let found = c.in_err-check_beyond.field-0.0 in
     let p = err_from_is_err_and c.from_residual-in_err-check_beyond.result c.from_residual-in_err-check_beyond.ensures.1 in
-    rw (p.1, p.2) (beyond_table c.args.table.now.slots c.slots.result c.args.games c.args.shares.now c.args.pass.now c.visit_all.new.pass c.in_err-check_beyond.field-0.0 slots
-    c.in_ok-check_games.ensures.ok c.in_ok-visited.ensures.ok.stand c.in_err-check_beyond.ensures.fault)
+    let beyond = beyond_visited n c.slots.result (all_rows c.args.shares.now) c.args.pass.now new found (c.slots.ensures.value ∙ c.capacity.ensures.slots)
+    c.in_ok-visited.ensures.ok.stand c.in_err-check_beyond.ensures.fault in
+    rw (p.1, p.2) (visit_fault n c.args.games c.args.shares.now c.args.pass.now new found c.in_ok-check_games.ensures.ok c.visit_all.ensures.pass.legal beyond)
 
 pub add_up-requires-clause-entries : goal.add_up-requires-clause-entries
 add_up-requires-clause-entries g c =
@@ -36,7 +36,8 @@ add_up-requires-clause-entries g c =
 
 pub returns-clause-stand : goal.returns-clause-stand
 returns-clause-stand g c =
-    anyway c.add_up.result (all_stand (c.slots.ensures.value ∙ c.capacity.ensures.slots) c.in_ok-check_beyond.ensures.ok c.in_ok-visited.ensures.ok)
+    IfOk-weaker c.add_up.result _ _
+    (λ _ _. all_stand (c.slots.ensures.value ∙ c.capacity.ensures.slots) c.in_ok-check_beyond.ensures.ok c.in_ok-visited.ensures.ok) c.add_up.ensures.ok
 
 pub returns-clause-fault : goal.returns-clause-fault
 returns-clause-fault g c =

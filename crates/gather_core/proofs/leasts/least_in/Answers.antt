@@ -1,5 +1,5 @@
 use Rattle.std.proofs.Common.{◌∷◌, [], ◌++◌, take, append_assoc}
-use Rattle.std.proofs.lemmas.List.{take_more}
+use Rattle.gather_core.proofs.Common.{take_more}
 use Rattle.gather_core.proofs.leasts.least_in.Goals as goal
 
 pub loop-row-preserved : goal.loop-row-preserved

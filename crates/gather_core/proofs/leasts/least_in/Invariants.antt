@@ -1,6 +1,5 @@
 use Rattle.std.proofs.Common.{List, ◌++◌, take}
-use Rattle.share_core.specs.declared.rows.Row.{Row}
-use Rattle.gather_core.specs.Inner.Leasts.{IsLeastSought}
+use Rattle.gather_core.proofs.Common.{Row, IsLeastSought}
 use Rattle.gather_core.proofs.leasts.least_in.Given as goal
 
 -- the least of the rows so far

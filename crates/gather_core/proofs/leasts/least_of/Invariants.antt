@@ -1,6 +1,5 @@
 use Rattle.std.proofs.Common.{take}
-use Rattle.gather_core.specs.Checking.{all_rows}
-use Rattle.gather_core.specs.Inner.Leasts.{IsLeastSought}
+use Rattle.gather_core.proofs.Common.{all_rows, IsLeastSought}
 use Rattle.gather_core.proofs.leasts.least_of.Given as goal
 
 -- the least of the rows of the shares so far

@@ -1,5 +1,5 @@
 use Rattle.std.proofs.Common.{sym, subst, ◌∙◌}
-use Rattle.gather_core.specs.Inner.Leasts.{IsSought}
+use Rattle.gather_core.proofs.Common.{IsSought}
 use Rattle.gather_core.proofs.SoughtRows.{sought_other, sought_first, sought_lower, sought_stays}
 use Rattle.gather_core.proofs.leasts.lesser.Goals as goal
 

@@ -1,6 +1,5 @@
 use Rattle.std.proofs.Common.{ap, ◌∙◌}
-use Rattle.std.specs.Option.{option_or}
-use Rattle.share_core.specs.Rows.{earlier}
+use Rattle.gather_core.proofs.Common.{option_or, earlier}
 use Rattle.gather_core.proofs.Strangers.{sums_with}
 use Rattle.gather_core.proofs.numbers.add.Goals as goal
 

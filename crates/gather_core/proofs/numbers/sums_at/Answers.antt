@@ -1,6 +1,5 @@
 use Rattle.std.proofs.Common.{take, sym}
-use Rattle.gather_core.specs.Checking.{all_rows}
-use Rattle.share_core.specs.Shares.{Held}
+use Rattle.gather_core.proofs.Common.{all_rows, Held}
 use Rattle.gather_core.proofs.Strangers.{sums_kept, flat_map_next}
 use Rattle.gather_core.proofs.numbers.sums_at.Goals as goal
 use Rattle.gather_core.proofs.numbers.sums_at.Goals.{in-Some, in_default}

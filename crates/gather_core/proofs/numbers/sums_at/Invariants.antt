@@ -1,6 +1,5 @@
 use Rattle.std.proofs.Common.{take}
-use Rattle.gather_core.specs.Checking.{all_rows}
-use Rattle.gather_core.specs.Inner.Numbers.{AreSums}
+use Rattle.gather_core.proofs.Common.{all_rows, AreSums}
 use Rattle.gather_core.proofs.numbers.sums_at.Given as goal
 
 -- the rows of the shares so far

@@ -1,9 +1,5 @@
 use Rattle.std.proofs.Common.{◌≡◌, ℕ, ◌+◌, ◌-◌, List, length, subst, ◌∙◌, arith}
-use Rattle.std.proofs.lemmas.Bool.{OnFalse_at}
-use Rattle.share_core.specs.declared.rows.Row.{Row}
-use Rattle.gather_core.specs.Checking.{all_rows}
-use Rattle.gather_core.specs.Inner.Dealing.{block_of}
-use Rattle.gather_core.specs.Inner.Blocks.{HasOdd}
+use Rattle.gather_core.proofs.Common.{OnFalse_at, Row, all_rows, block_of, HasOdd}
 use Rattle.gather_core.proofs.Evened.{evens_in, odds_in}
 use Rattle.gather_core.proofs.pieces.add_block.Goals as goal
 

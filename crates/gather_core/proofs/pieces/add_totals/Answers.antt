@@ -1,5 +1,5 @@
 use Rattle.std.proofs.Common.{◌≡◌, ◌+◌, ◌≤◌, Some, None, arith}
-use Rattle.std.proofs.lemmas.List.{get_or_default}
+use Rattle.gather_core.proofs.Common.{get_or_default}
 use Rattle.gather_core.proofs.Pieced.{totals_none, totals_some}
 use Rattle.gather_core.proofs.pieces.add_totals.Goals as goal
 use Rattle.gather_core.proofs.pieces.add_totals.Goals.{in-Some+in_ok-push, in_default}

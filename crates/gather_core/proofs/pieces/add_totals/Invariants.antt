@@ -1,7 +1,5 @@
 use Rattle.std.proofs.Common.{◌+◌, ◌≤◌, ℕ, List}
-use Rattle.share_core.specs.declared.rows.Row.{Row}
-use Rattle.gather_core.specs.Inner.Blocks.{AreEven}
-use Rattle.gather_core.specs.Inner.Pieces.{AreTotals}
+use Rattle.gather_core.proofs.Common.{Row, AreEven, AreTotals}
 use Rattle.gather_core.proofs.pieces.add_totals.Given as goal
 
 -- the totals so far were added

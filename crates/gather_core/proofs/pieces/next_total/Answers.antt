@@ -1,12 +1,12 @@
 use Rattle.std.proofs.Common.{◌≡◌, ℕ, ◌<◌, List, ◌+◌, drop, ap, sym, ◌∙◌, arith}
-use Rattle.share_core.specs.declared.rows.Row.{Row}
-use Rattle.gather_core.proofs.Pieced.{first_total, no_first_total, nothing_left, next_of}
+use Rattle.gather_core.proofs.Common.{Row, drop_all}
+use Rattle.gather_core.proofs.Pieced.{first_total, no_first_total, next_of}
 use Rattle.gather_core.proofs.pieces.next_total.Goals as goal
 
 pub returns-then-next-rows : goal.returns-then-next-rows
 returns-then-next-rows c =
     let none = λ (all : List Row) (high : ℕ) (low : c.args.number < high). no_first_total all c.args.number high (drop c.args.next.now c.args.rows.now) low
-    (nothing_left c.args.rows.now c.args.next.now c.args.number (omega arith)) in
+    (λ row tail left same. absurd (cc (drop_all c.args.next.now c.args.rows.now (omega arith)))) in
     record { total = λ all high low h. (none all high low h).0; rest = λ all high low h. (none all high low h).1 }
 
 pub returns-then-number : goal.returns-then-number

@@ -1,6 +1,5 @@
 use Rattle.std.proofs.Common.{◌≡◌, ◌+◌, ◌-◌, length, take, drop, length-append, length-take, length-drop, subst, arith}
-use Rattle.gather_core.specs.Checking.{all_rows}
-use Rattle.gather_core.specs.Inner.Pieces.{AreTotals}
+use Rattle.gather_core.proofs.Common.{all_rows, AreTotals}
 use Rattle.gather_core.proofs.pieces.piece_of.Goals as goal
 
 pub loop-low-preserved : goal.loop-low-preserved

@@ -1,6 +1,5 @@
 use Rattle.std.proofs.Common.{◌≡◌, ◌≤◌, ◌-◌, min, length}
-use Rattle.gather_core.specs.Checking.{all_rows}
-use Rattle.gather_core.specs.Inner.Pieces.{AreTotals}
+use Rattle.gather_core.proofs.Common.{all_rows, AreTotals}
 use Rattle.gather_core.proofs.pieces.piece_of.Given as goal
 
 -- the numbers of the blocks so far are in the piece

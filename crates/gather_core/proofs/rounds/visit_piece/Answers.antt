@@ -1,8 +1,5 @@
 use Rattle.std.proofs.Common.{List, sym, subst}
-use Rattle.std.proofs.lemmas.Result.{on_ok_weaker}
-use Rattle.share_core.specs.declared.rows.Row.{Row}
-use Rattle.gather_core.specs.Checking.{all_rows}
-use Rattle.gather_core.specs.Inner.Pieces.{AreTotals, IsPiece}
+use Rattle.gather_core.proofs.Common.{on_ok_weaker, Row, all_rows, AreTotals, IsPiece}
 use Rattle.gather_core.proofs.rounds.visit_piece.Goals as goal
 
 pub returns-in-Ok-clause-ok : goal.returns-in-Ok-clause-ok

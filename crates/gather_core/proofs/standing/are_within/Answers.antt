@@ -1,9 +1,5 @@
 use Rattle.std.proofs.Common.{List, take, subst, arith, Contains, ⊎_elim}
-use Rattle.std.proofs.lemmas.List.{take_all}
-use Rattle.std.proofs.lemmas.List.Elements.{Contains-append_cases}
-use Rattle.share_core.specs.Shares.{Held}
-use Rattle.gather_core.specs.Checking.{all_rows}
-use Rattle.share_core.specs.Rows.{AreBelow}
+use Rattle.gather_core.proofs.Common.{take_all, Contains-append_cases, Held, all_rows, AreBelow}
 use Rattle.gather_core.proofs.Strangers.{flat_map_next}
 use Rattle.gather_core.proofs.standing.are_within.Goals as goal
 

@@ -1,6 +1,5 @@
 use Rattle.std.proofs.Common.{take}
-use Rattle.gather_core.specs.Checking.{all_rows}
-use Rattle.share_core.specs.Rows.{AreBelow}
+use Rattle.gather_core.proofs.Common.{all_rows, AreBelow}
 use Rattle.gather_core.proofs.standing.are_within.Given as goal
 
 -- the rows of the shares so far are of the table's numbers

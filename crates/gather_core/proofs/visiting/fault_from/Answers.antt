@@ -1,12 +1,7 @@
 use Rattle.std.proofs.Common.{Option, ◌≡◌, ℕ, ◌≤◌, List, subst, ◌∙◌, arith}
-use Rattle.share_core.specs.declared.rows.Row.{Row}
-use Rattle.gather_core.specs.Inner.Blocks.{HasOdd}
-use Rattle.gather_core.specs.Checking.{all_rows}
-use Rattle.gather_core.specs.Inner.Visiting.{AreVisited}
+use Rattle.gather_core.proofs.Common.{Row, HasOdd, all_rows, AreVisited, Known, Differs}
 use Rattle.gather_core.proofs.Stood.{all_stand, stand_alike, beyond_visited}
 use Rattle.gather_core.proofs.Visits.{asks_through}
-use Rattle.slot_table.specs.Passes.{Known}
-use Rattle.gather_core.specs.declared.agreeing.Differs.{Differs}
 use Rattle.gather_core.proofs.visiting.fault_from.Goals as goal
 
 -- the loop has ended, and there was a number to begin with, so all numbers were visited

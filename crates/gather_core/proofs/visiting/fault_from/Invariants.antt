@@ -1,7 +1,4 @@
-use Rattle.slot_table.specs.Passes.{IsPassOf}
-use Rattle.gather_core.specs.Checking.{all_rows}
-use Rattle.share_core.specs.Entering.{AsksOnly}
-use Rattle.gather_core.specs.Inner.Visiting.{IsVisit}
+use Rattle.gather_core.proofs.Common.{IsPassOf, all_rows, AsksOnly, IsVisit}
 use Rattle.gather_core.proofs.visiting.fault_from.Given as goal
 
 -- the numbers so far were visited

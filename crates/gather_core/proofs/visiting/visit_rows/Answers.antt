@@ -1,5 +1,5 @@
 use Rattle.std.proofs.Common.{sym, ◌∙◌}
-use Rattle.gather_core.specs.Checking.{all_rows}
+use Rattle.gather_core.proofs.Common.{all_rows}
 use Rattle.gather_core.proofs.Visits.{stranger_found, visited_more, asks_through, asks_seen}
 use Rattle.gather_core.proofs.visiting.visit_rows.Goals as goal
 

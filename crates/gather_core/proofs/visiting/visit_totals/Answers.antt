@@ -1,6 +1,5 @@
 use Rattle.std.proofs.Common.{◌≡◌, subst, arith}
-use Rattle.std.proofs.lemmas.Result.{err_from_is_err_and}
-use Rattle.gather_core.specs.Inner.Visiting.{AreVisited}
+use Rattle.gather_core.proofs.Common.{err_from_is_err_and, AreVisited}
 use Rattle.gather_core.proofs.Visits.{asks_through}
 use Rattle.gather_core.proofs.visiting.visit_totals.Goals as goal
 

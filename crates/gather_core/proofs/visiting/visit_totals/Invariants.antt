@@ -1,9 +1,5 @@
 use Rattle.std.proofs.Common.{List, drop}
-use Rattle.slot_table.specs.Passes.{IsPassOf}
-use Rattle.share_core.specs.declared.rows.Row.{Row}
-use Rattle.share_core.specs.Entering.{AsksOnly}
-use Rattle.gather_core.specs.Inner.Pieces.{AreTotals}
-use Rattle.gather_core.specs.Inner.Visiting.{IsVisit}
+use Rattle.gather_core.proofs.Common.{IsPassOf, Row, AsksOnly, AreTotals, IsVisit}
 use Rattle.gather_core.proofs.visiting.visit_totals.Given as goal
 
 -- the numbers so far were visited, and the totals of the others are left
