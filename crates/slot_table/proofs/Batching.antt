@@ -21,7 +21,7 @@ use Rattle.slot_table.specs.History.{content_of, IsLegal, Begins, Tells}
 use Rattle.slot_table.specs.Passes.{Known, IsLater}
 use Rattle.slot_table.specs.Telling.{IsSearch, PassedOthers, Stepped, entries_of}
 use Rattle.slot_table.specs.Batches.{entered, entered_as, answer_at, IsTold, AreMade, AreTold, IsFullBefore, AreEnteredUntil}
-use Rattle.slot_table.specs.Inner.Batches.{loads_at, followed, HasFollowed, IsLooked, look_at, AreLooked, ended, rest_of, IsAnswerOf, IsPassed, AreChosen, ArePassed, IsOnItsWay}
+use Rattle.slot_table.specs.Inner.Batches.{loads_at, followed, HasFollowed, IsLooked, look_at, AreLooked, ended, rest_of, IsAnswerOf, IsPassed, AreChosen, ArePassed}
 use Rattle.slot_table.proofs.Deciding.{passed_stays}
 use Rattle.slot_table.proofs.Lasting.{tells_stay, told_stays}
 use Rattle.slot_table.proofs.Later.{later_self, later_through}
@@ -77,17 +77,13 @@ pub search_at : (n : ℕ) (place : ℕ → ℕ → ℕ) (key index : ℕ) (seen 
 search_at n place key index seen within small passed = record { within = within; small = small; enters = λ e. cc; passed = passed }
 
 -- after a look that met another key the next place is loaded
-pub passed_runs : (n : ℕ) (place : ℕ → ℕ → ℕ) (key : ℕ) (look : Look) → IsPassed n key look → followed n place key look ≡ Runs (loads_at key (look.index + 1))
+passed_runs : (n : ℕ) (place : ℕ → ℕ → ℕ) (key : ℕ) (look : Look) → IsPassed n key look → followed n place key look ≡ Runs (loads_at key (look.index + 1))
 passed_runs n place key look passed =
     let apart : look.index + 1 ≢ n = (let h : look.index + 1 < n = passed.more in λ e. omega (arith, h, e))
     in let e0 : (look.word == 0) ≡ false = ne_eqb look.word 0 passed.taken
     in let e1 : (look.word == code_of key) ≡ false = ne_eqb look.word (code_of key) passed.other
     in let e2 : (look.index + 1 == n) ≡ false = ne_eqb (look.index + 1) n apart
     in rw (e0, e1, e2) refl
-
--- after a look at a free place it is taken
-pub free_runs : (n : ℕ) (place : ℕ → ℕ → ℕ) (key : ℕ) (look : Look) → look.word ≡ 0 → IsOnItsWay n place key look
-free_runs n place key look free = rw free (_, refl)
 
 pub next_search : (n : ℕ) (place : ℕ → ℕ → ℕ) (seen : List Happened) (key : ℕ) (look : Look) → IsPassed n key look → IsLooked n place seen key look
     → IsSearch n place (loads_at key (look.index + 1)) seen

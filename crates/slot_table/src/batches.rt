@@ -1,12 +1,11 @@
 //! Keys that are entered together: the lines of memory of all come at once.
-ghost use Rattle.std.specs.Prelude.{◌≡◌, ℕ, ◌^◌, ◌<◌, ◌≤◌, true, false, length};
+ghost use Rattle.std.specs.Prelude.{◌≡◌, ℕ, ◌^◌, ◌<◌, ◌≤◌, true, length};
 ghost use Rattle.probe_core.specs.declared.calls.Answer.TheVariants as answer;
-ghost use Rattle.slot_table.specs.Batches.{entered, answer_at, IsTold, AreMade, AreTold};
+ghost use Rattle.slot_table.specs.Batches.{entered, answer_at, AreMade, AreTold};
 ghost use Rattle.slot_table.specs.Batches.{IsFullBefore, AreEnteredUntil};
-ghost use Rattle.slot_table.specs.Inner.Batches.{look_at, followed, ended, rest_of, IsLooked};
-ghost use Rattle.slot_table.specs.Inner.Batches.{AreLooked, AreChosen, ArePassed, IsPassed};
-ghost use Rattle.slot_table.specs.Inner.Batches.{IsAnswerOf, IsOnItsWay};
-ghost use Rattle.slot_table.specs.Passes.{IsPassOf, IsAlone, IsLater, Known};
+ghost use Rattle.slot_table.specs.Inner.Batches.{look_at, ended, AreLooked, AreChosen, ArePassed};
+ghost use Rattle.slot_table.specs.Inner.Batches.{IsPassed};
+ghost use Rattle.slot_table.specs.Passes.{IsPassOf, IsAlone, Known};
 
 use crate::passes::Pass;
 use crate::tables::SlotTable;
@@ -35,14 +34,6 @@ fn is_passed(key: Key, look: Look, slots: usize) -> bool
     ensures { result ≡ true → IsPassed slots key look }
 {
     look.word != 0 && look.word != key.bits() + 1 && look.index + 1 != slots
-}
-
-/// Whether a look ended its key's call: it met the key, or another one at the last place.
-fn is_ended(key: Key, look: Look, slots: usize) -> bool
-    requires { look.index < slots }
-    ensures { result ≡ false → (place : ℕ → ℕ → ℕ) → IsOnItsWay slots place key look }
-{
-    look.word == key.bits() + 1 || (look.word != 0 && look.index + 1 == slots)
 }
 
 /// Whether no number was free.
@@ -189,29 +180,6 @@ impl<O: ProbeOrder> SlotTable<O> {
         }
     }
 
-    /// Brings the call of a look to its end. Where no number was free for an earlier key, that is
-    /// left undone if the look did not end it: the answer is `Absent` then, and nothing was
-    /// entered.
-    fn end_one(&self, pass: &mut Pass<O>, key: Key, look: Look, full: bool) -> Answer
-        requires pass { IsPassOf self.now pass.old }
-        requires looked { IsLooked self.now.slots (O.place_of self.now.order)
-            pass.old.seen key look }
-        ensures pass { IsPassOf self.now pass.new }
-        ensures later { IsLater self.now.slots pass.old
-            (rest_of key (followed self.now.slots (O.place_of self.now.order)
-            key look) result) pass.new }
-        ensures alone { IsAlone pass.old → IsAlone pass.new }
-        ensures answer { IsAnswerOf (followed self.now.slots
-            (O.place_of self.now.order) key look) result }
-        ensures told { IsTold self.now.slots pass.new.seen key result }
-        ensures left { result ≡ answer.Absent → full ≡ true }
-    {
-        if full && !is_ended(key, look, self.capacity().slots()) {
-            return Answer::Absent;
-        }
-        self.go_on(pass, key, look)
-    }
-
     /// Brings the calls of looks to their ends, in the order of the keys. The answer is whether no
     /// number was free for some key; after the first such, only those calls end that have ended by
     /// their looks.
@@ -240,7 +208,7 @@ impl<O: ProbeOrder> SlotTable<O> {
     {
         let mut full = false;
         for i in 0..keys.len() {
-            let answer = self.end_one(pass, keys[i], looks[i], full);
+            let answer = self.go_on(pass, keys[i], looks[i], full);
             answers[i] = answer;
             full = full || is_full(answer);
         }

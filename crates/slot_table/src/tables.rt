@@ -1,9 +1,11 @@
 //! Tables of numbers for keys, as threads call them.
-ghost use Rattle.std.specs.Prelude.{◌≡◌, ◌-◌, ◌*◌, ◌^◌, ◌<◌, [], ◌∷◌, IfOk, None, length};
+ghost use Rattle.std.specs.Prelude.{◌≡◌, ◌-◌, ◌*◌, ◌^◌, ◌<◌, [], ◌∷◌, IfOk, None, true, length};
 ghost use Rattle.std.specs.Prelude.{slice_index_or};
 ghost use Rattle.std.specs.List.{repeat};
 ghost use Rattle.probe_core.specs.declared.calls.Call.TheVariants as call;
+ghost use Rattle.probe_core.specs.declared.calls.Answer.TheVariants as answer;
 ghost use Rattle.probe_core.specs.Machine.{key_of};
+ghost use Rattle.slot_table.specs.Batches.{IsTold};
 ghost use Rattle.slot_table.specs.declared.entries.Happened.TheVariants as entry;
 ghost use Rattle.slot_table.specs.History.{content_of, least_at, Tells, TellsAt, IsAtMost};
 ghost use Rattle.slot_table.specs.Passes.{IsPassOf, IsLater, IsAlone, calls_of, Saw, Made, Met};
@@ -182,8 +184,9 @@ impl<O: ProbeOrder> SlotTable<O> {
     }
 
     /// The answer of the key's `enter`, of which this was the last look: it ended there, or goes on
-    /// from there to its end.
-    pub(crate) fn go_on(&self, pass: &mut Pass<O>, key: Key, look: Look) -> Answer
+    /// from there to its end. Where no number was free for an earlier key, it does not go on: the
+    /// answer is `Absent` then, and nothing was entered.
+    pub(crate) fn go_on(&self, pass: &mut Pass<O>, key: Key, look: Look, full: bool) -> Answer
         requires pass { IsPassOf self.now pass.old }
         requires looked { IsLooked self.now.slots (O.place_of self.now.order)
             pass.old.seen key look }
@@ -193,10 +196,12 @@ impl<O: ProbeOrder> SlotTable<O> {
             key look) result) pass.new }
         ensures answer { IsAnswerOf (followed self.now.slots
             (O.place_of self.now.order) key look) result }
-        ensures told { Tells self.now.slots pass.new.seen (call.Enter key) result }
+        ensures told { IsTold self.now.slots pass.new.seen key result }
+        ensures left { result ≡ answer.Absent → full ≡ true }
     {
         let probe = Probe::at(&self.order, Call::Enter(key), look.index);
         match probe.told(look.word) {
+            Turn::On(_) if full => Answer::Absent,
             Turn::On(next) => steps::run(&self.words.shared, &mut pass.seat, next),
             Turn::Done(answer) => answer,
         }

@@ -51,10 +51,6 @@ abbrev pub IsAnswerOf : Followed → Answer → Type 0
 IsAnswerOf (Runs machine) found = Unit {0}
 IsAnswerOf (Answers one) found = one ≡ found
 
--- after a look the call goes on
-abbrev pub IsOnItsWay : ℕ → (ℕ → ℕ → ℕ) → ℕ → Look → Type 0
-IsOnItsWay n place key look = (machine : Machine) × (followed n place key look ≡ Runs machine)
-
 -- a look met another key, and the key has a place after it
 pub record IsPassed (n key : ℕ) (look : Look) : Type 0 where
   pub taken : look.word ≢ 0

@@ -16,26 +16,26 @@ loop-i-preserved g c =
     let answers = c.loop-i.answers in
     let i = c.loop-i.i in
     let look = look_at looks i in
-    let answer = c.end_one-answer.result in
+    let answer = c.go_on-answer.result in
     let old = c.loop-i.pass in
-    let new = c.end_one-answer.new.pass in
+    let new = c.go_on-answer.new.pass in
     let inv = c.loop-i.invariant in
     let inside : i < length keys = omega arith in
     let room : i < length answers = omega (arith, inside, inv.long) in
     let read = key_read keys i c.index-keys-i.result inside c.index-keys-i.is in
-    let later = subst (λ k. IsLater n old (rest_of k (followed n place k look) answer) new) read c.end_one-answer.ensures.later in
-    let same = subst (λ k. IsAnswerOf (followed n place k look) answer) read c.end_one-answer.ensures.answer in
-    let told = subst (λ k. IsTold n new.seen k answer) read c.end_one-answer.ensures.told in
+    let later = subst (λ k. IsLater n old (rest_of k (followed n place k look) answer) new) read c.go_on-answer.ensures.later in
+    let same = subst (λ k. IsAnswerOf (followed n place k look) answer) read c.go_on-answer.ensures.answer in
+    let told = subst (λ k. IsTold n new.seen k answer) read c.go_on-answer.ensures.told in
     record {
-      pass = c.end_one-answer.ensures.pass;
+      pass = c.go_on-answer.ensures.pass;
       long = length-set answers i answer ∙ inv.long;
       made = λ first made. made_more n (entered (take i keys) answers ++ ended n place (drop i keys) (drop i looks)) (rest_of (slice_index keys i) (followed n place (slice_index keys i) look) answer)
           (entered (take (i + 1) keys) (slice_set answers i answer) ++ ended n place (drop (i + 1) keys) (drop (i + 1) looks)) first old new (inv.made first made) later
           (next_end n place keys looks answers i answer inside c.requires.long (sym inv.long) old.seen (inv.looked i inside) same);
-      alone = λ was. c.end_one-answer.ensures.alone (inv.alone was);
-      looked = looks_stay n place old.seen new.seen keys looks (length keys) c.end_one-answer.ensures.pass.legal later.begins inv.looked;
-      told = told_more n old.seen new.seen keys answers i answer room c.end_one-answer.ensures.pass.legal later.begins inv.told told;
-      until = until_more answers i answer room inv.until (λ absent. inv.full (c.end_one-answer.ensures.left absent));
+      alone = λ was. later.alone (inv.alone was);
+      looked = looks_stay n place old.seen new.seen keys looks (length keys) c.go_on-answer.ensures.pass.legal later.begins inv.looked;
+      told = told_more n old.seen new.seen keys answers i answer room c.go_on-answer.ensures.pass.legal later.begins inv.told told;
+      until = until_more answers i answer room inv.until (λ absent. inv.full (c.go_on-answer.ensures.left absent));
       full = λ is. elim c.if-full.branch [
         | then-full w ↦ full_later (slice_set answers i answer) i (i + 1) (omega arith)
             (full_more answers i i answer (omega arith) (inv.full w.if-full.true))
