@@ -19,7 +19,8 @@ const BLOCK: usize = 128;
 
 /// Where the rows of the first meetings' patterns are likely to be, a block of them or all where
 /// they are fewer, and how many these are: at the first place, or where that is another pattern's,
-/// at the one after it. No look waits for the one before it.
+/// at the one after it. No look waits for the one before it. A row may begin in one line of memory
+/// and end in the next, so both its ends are looked at.
 fn likely_places(rows: &[Entry], meetings: &[Meeting]) -> ([usize; BLOCK], usize)
     requires { 0 < length rows.now }
     ensures block { result.1 ≤ BLOCK }
@@ -31,7 +32,7 @@ fn likely_places(rows: &[Entry], meetings: &[Meeting]) -> ([usize; BLOCK], usize
         let shape = meetings[i].shape;
         let place = home(shape, rows.len());
         let row = rows[place];
-        let other = (row.shape != shape) & (row.there != 0);
+        let other = (row.shape != shape) & !is_free(&row);
         places[i] = place + other as usize;
     }
     (places, looked)
@@ -50,8 +51,8 @@ fn count_new(rows: &[Entry], meetings: &[Meeting]) -> usize
     let (places, looked) = likely_places(rows, meetings);
     let mut count = 0;
     for i in 0..looked {
-        let place = places[i].min(rows.len() - 1);
-        count += (rows[place].shape != meetings[i].shape) as usize;
+        let row = rows[places[i].min(rows.len() - 1)];
+        count += ((row.shape != meetings[i].shape) | is_free(&row)) as usize;
     }
     count
 }
