@@ -1,13 +1,13 @@
 -- What rows count of a pattern.
-use Rattle.std.proofs.Common.{◌≡◌, ℕ, zero, suc, ◌+◌, ◌^◌, ◌<◌, ◌≤◌, ◌==◌, nat_eq, Bool, true, false, not, ◌&&◌, cond, List, [], ◌∷◌, length, take, slice_set, Option, Some, None, refl, ap, ap₂, sym, ◌∙◌, arith}
+use Rattle.std.proofs.Common.{◌≡◌, ℕ, zero, suc, ◌+◌, ◌^◌, ◌<◌, ◌≤◌, ◌==◌, nat_eq, Bool, true, false, not, ◌&&◌, cond, List, [], ◌∷◌, length, take, slice_set, Some, None, refl, ap, ap₂, sym, ◌∙◌, arith}
 use Rattle.std.specs.List.{AllByRecursion, IsDistinct}
 use Rattle.std.specs.Map.{keys_of}
 use Rattle.std.proofs.lemmas.Bool.Decides.{nat_tests}
 use Rattle.std.proofs.lemmas.List.Sums.{length-filter, count_by-le-length, sum_by-set}
 use Rattle.std.proofs.lemmas.Map.Keys.{IsDistinct-cons}
 use Rattle.shape_dict.specs.declared.entries.Entry.{Entry}
-use Rattle.tally_core.specs.Inner.Counter.{count_in, uses_at, one_pattern, used, used_again, AreCounts, IsCountingFault}
-use Rattle.tally_core.specs.Inner.Entries.{pair_of, pairs_of, counts_of}
+use Rattle.tally_core.specs.Inner.Counter.{count_in, uses_at, one_pattern, used_again, AreCounts, IsCountingFault}
+use Rattle.tally_core.specs.Inner.Entries.{pair_of, pairs_of, counts_of, counted_with}
 use Rattle.tally_core.specs.Inner.Rows.{is_taken, taken_of, row_at, counted_row, AreRows, IsFound}
 use Rattle.tally_core.specs.declared.faults.TallyFault.TheVariants as fault
 use Rattle.tally_core.proofs.Lasting.{all-of}
@@ -57,27 +57,27 @@ put_count (first ∷ rows) (suc place) shape row within some same only =
     Prim.grind (arith, nat_tests, counts-cons first (slice_set rows place row) shape, counts-cons first rows shape, only 0)
 
 -- a row that counts more
-pub counted_taken : (row : Entry) (shape there played : ℕ) (first : Option ℕ) → 0 < there + played → is_taken (counted_row row shape there played first) ≡ true
-counted_taken row shape there played first some = Prim.grind (arith, nat_tests)
+pub counted_taken : (row entry : Entry) → 0 < entry.there + entry.played → is_taken (counted_row row entry) ≡ true
+counted_taken row entry some = Prim.grind (arith, nat_tests)
 
 -- so a pattern was counted again
-pub put_counts : (rows : List Entry) (place shape there played : ℕ) (first : Option ℕ) (row more : Entry) → IsFound rows shape place → 0 < there + played → row ≡ row_at rows place →
-    more ≡ counted_row row shape there played first →
-    AreCounts (used first (one_pattern shape there) (one_pattern shape played) (counts_of rows)) (counts_of (slice_set rows place more))
-put_counts rows place shape there played first row more found some read is =
+pub put_counts : (rows : List Entry) (place : ℕ) (entry row more : Entry) → IsFound rows entry.shape place → 0 < entry.there + entry.played → row ≡ row_at rows place →
+    more ≡ counted_row row entry → AreCounts (counted_with entry (counts_of rows)) (counts_of (slice_set rows place more))
+put_counts rows place entry row more found some read is =
     rw (is, read)
-    (let new = counted_row (row_at rows place) shape there played first in
-    used_one first shape there played (pair_of new).1 (counts_of rows) (counts_of (slice_set rows place new))
-    (let before = found_count rows place shape found.within found.same found.only in Prim.grind (arith, nat_tests, first_used-some first there played some))
-    (λ key. put_count rows place key new found.within (counted_taken (row_at rows place) shape there played first some) found.same found.only))
+    (let new = counted_row (row_at rows place) entry in
+    used_one entry.first entry.shape entry.there entry.played (pair_of new).1 (counts_of rows) (counts_of (slice_set rows place new))
+    (let before = found_count rows place entry.shape found.within found.same found.only in Prim.grind (arith, nat_tests, first_used-some entry.first entry.there entry.played some))
+    (λ key. put_count rows place key new found.within (counted_taken (row_at rows place) entry some) found.same found.only))
 
 -- the sum of its counts passes what fits
-pub put_fault : (rows : List Entry) (place shape there played : ℕ) (first : Option ℕ) → IsFound rows shape place → 2 ^ 64 ≤ (row_at rows place).there + (row_at rows place).played + there + played →
-    IsCountingFault 0 (used first (one_pattern shape there) (one_pattern shape played) (counts_of rows)) fault.Overflow
-put_fault rows place shape there played first found large =
-    let uses = again-uses first (one_pattern shape there shape) (one_pattern shape played shape) (counts_of rows shape) in
+pub put_fault : (rows : List Entry) (place : ℕ) (entry : Entry) → IsFound rows entry.shape place →
+    2 ^ 64 ≤ (row_at rows place).there + (row_at rows place).played + entry.there + entry.played → IsCountingFault 0 (counted_with entry (counts_of rows)) fault.Overflow
+put_fault rows place entry found large =
+    let shape = entry.shape in
+    let uses = again-uses entry.first (one_pattern shape entry.there shape) (one_pattern shape entry.played shape) (counts_of rows shape) in
     let before = ap uses_at (found_count rows place shape found.within found.same found.only) in
-    (shape, Prim.grind (arith, nat_tests, uses, all-of shape there, all-of shape played, before, large))
+    (shape, Prim.grind (arith, nat_tests, uses, all-of shape entry.there, all-of shape entry.played, before, large))
 
 -- and one place more is taken, where it was free
 pub put_length : (rows : List Entry) (place : ℕ) (row : Entry) → place < length rows → is_taken row ≡ true →
@@ -109,12 +109,12 @@ none_before (first ∷ rows) (suc i) within only =
 
 -- with one row more its pattern was counted as often as the row says
 pub take_counts : (rows : List Entry) (i : ℕ) → AreRows rows → i < length rows →
-    AreCounts (used (row_at rows i).first (one_pattern (row_at rows i).shape (row_at rows i).there) (one_pattern (row_at rows i).shape (row_at rows i).played) (counts_of (take i rows))) (counts_of (take (suc i) rows))
+    AreCounts (counted_with (row_at rows i) (counts_of (take i rows))) (counts_of (take (suc i) rows))
 take_counts rows i are within =
     let row = row_at rows i in
     let only = λ (taken : is_taken row ≡ true). λ (other : ℕ). are.once i other taken in
     let more = λ (shape : ℕ). take_count rows i shape within only in
-    elim (is_taken row) as (λ b. is_taken row ≡ b → AreCounts (used row.first (one_pattern row.shape row.there) (one_pattern row.shape row.played) (counts_of (take i rows))) (counts_of (take (suc i) rows))) [
+    elim (is_taken row) as (λ b. is_taken row ≡ b → AreCounts (counted_with row (counts_of (take i rows))) (counts_of (take (suc i) rows))) [
       | true ↦ λ taken.
           used_one row.first row.shape row.there row.played (pair_of row).1 (counts_of (take i rows)) (counts_of (take (suc i) rows))
           (ap (used_again row.first row.there row.played) (none_before rows i within (only taken)) ∙ first_used-some row.first row.there row.played (Prim.grind (arith, nat_tests)))

@@ -6,7 +6,7 @@ use crate::faults::TallyFault;
 use crate::meetings::Meeting;
 use crate::places::{find, free_rows, home, is_free};
 use shape_core::Shape;
-use shape_dict::{Entry, FirstGame};
+use shape_dict::Entry;
 use std::alloc::{AllocError, Global};
 use std::marker::Model;
 
@@ -57,19 +57,18 @@ fn count_new(rows: &[Entry], meetings: &[Meeting]) -> usize
     count
 }
 
-/// The row that was found for a pattern, or is free, once the pattern was there and was played this
-/// often again; `first` is the first game where the row was free. None where a count passes
-/// 2^64 - 1.
-fn counted(row: &Entry, shape: Shape, there: u64, played: u64, first: FirstGame) -> Option<Entry>
-    ensures some { IfSome result (λ more. more
-        ≡ counted_row row.now shape there played first) }
-    ensures none { IfNone result (2 ^ 64 ≤ row.now.there + row.now.played + there + played) }
+/// The row that was found for an entry's pattern, or is free, once it has the entry's counts
+/// besides; a free one gets the entry's first game. None where a count passes 2^64 - 1.
+fn counted(row: &Entry, entry: &Entry) -> Option<Entry>
+    ensures some { IfSome result (λ more. more ≡ counted_row row.now entry.now) }
+    ensures none { IfNone result
+        (2 ^ 64 ≤ row.now.there + row.now.played + entry.now.there + entry.now.played) }
 {
     Some(Entry {
-        shape,
-        there: row.there.checked_add(there)?,
-        played: row.played.checked_add(played)?,
-        first: if is_free(row) { first } else { row.first },
+        shape: entry.shape,
+        there: row.there.checked_add(entry.there)?,
+        played: row.played.checked_add(entry.played)?,
+        first: if is_free(row) { entry.first } else { row.first },
     })
 }
 
@@ -104,9 +103,8 @@ impl Counts {
     ghost use Rattle.std.specs.Prelude.{All, OnOk, IfOk, IfErr};
     ghost use Rattle.std.specs.List.{IsDistinct};
     ghost use Rattle.std.specs.Map.{keys_of};
-    ghost use Rattle.tally_core.specs.Inner.Counter.{count_in, one_pattern, used, AreCounts};
-    ghost use Rattle.tally_core.specs.Inner.Counter.{IsCountingFault};
-    ghost use Rattle.tally_core.specs.Inner.Entries.{entry_of_pair, counts_of};
+    ghost use Rattle.tally_core.specs.Inner.Counter.{count_in, AreCounts, IsCountingFault};
+    ghost use Rattle.tally_core.specs.Inner.Entries.{entry_of_pair, counts_of, counted_with};
     ghost use Rattle.tally_core.specs.Inner.Rows.{AreRows};
     ghost use Rattle.tally_core.specs.Entries.{IsShape};
 
@@ -176,33 +174,27 @@ impl Counts {
         }
     }
 
-    /// Counts a pattern as being there and being played this often again, where it has a row or a
-    /// place is free. Where it has no count yet, this is its first game. `TallyFault::Memory` comes
-    /// where no place is free. It takes no memory.
-    fn enter(
-        &mut self,
-        shape: Shape,
-        there: u64,
-        played: u64,
-        first: FirstGame,
-    ) -> Result<(), TallyFault>
-        ensures ok { OnOk result (AreCounts (used first (one_pattern shape there)
-            (one_pattern shape played) (count_in self.old)) (count_in self.new)) }
-        ensures fault { IfErr result (IsCountingFault 0 (used first (one_pattern shape there)
-            (one_pattern shape played) (count_in self.old))) }
+    /// Counts a pattern as being there and being played as often again as the entry says, where it
+    /// has a row or a place is free. Where it has no count yet, the entry's game is its first.
+    /// `TallyFault::Memory` comes where no place is free. It takes no memory.
+    fn enter(&mut self, entry: &Entry) -> Result<(), TallyFault>
+        ensures ok { OnOk result
+            (AreCounts (counted_with entry.now (count_in self.old)) (count_in self.new)) }
+        ensures fault { IfErr result
+            (IsCountingFault 0 (counted_with entry.now (count_in self.old))) }
     {
-        if there == 0 && played == 0 {
+        if is_free(entry) {
             return Ok(());
         }
-        let Some(place) = find(self.rows.as_slice(), shape) else {
+        let Some(place) = find(self.rows.as_slice(), entry.shape) else {
             return Err(TallyFault::Memory);
         };
         let row = self.rows[place];
-        let Some(more) = counted(&row, shape, there, played, first) else {
+        let Some(more) = counted(&row, entry) else {
             return Err(TallyFault::Overflow);
         };
         // Its word is the least of its images.
-        let _ = shape.word();
+        let _ = entry.shape.word();
         self.taken += is_free(&row) as usize;
         self.rows[place] = more;
         Ok(())
@@ -217,7 +209,7 @@ impl Counts {
             (AreCounts (counts_of rows.now) (count_in self.new)) }
     {
         for row in rows {
-            let Ok(()) = self.enter(row.shape, row.there, row.played, row.first) else {
+            let Ok(()) = self.enter(row) else {
                 return Err(AllocError);
             };
         }
@@ -236,24 +228,17 @@ impl Counts {
         Ok(())
     }
 
-    /// Counts a pattern as being there and being played this often again. Where it has no count
-    /// yet, this is its first game. It takes memory where a quarter of the places would not stay
-    /// free for what is expected.
-    pub fn add(
-        &mut self,
-        shape: Shape,
-        there: u64,
-        played: u64,
-        first: FirstGame,
-    ) -> Result<(), TallyFault>
-        ensures ok { OnOk result (AreCounts (used first (one_pattern shape there)
-            (one_pattern shape played) (count_in self.old)) (count_in self.new)) }
-        ensures fault { IfErr result (IsCountingFault 0 (used first (one_pattern shape there)
-            (one_pattern shape played) (count_in self.old))) }
+    /// Counts a pattern as being there and being played as often again as the entry says. Where it
+    /// has no count yet, the entry's game is its first. It takes memory where a quarter of the
+    /// places would not stay free for what is expected.
+    pub fn add(&mut self, entry: Entry) -> Result<(), TallyFault>
+        ensures ok { OnOk result
+            (AreCounts (counted_with entry (count_in self.old)) (count_in self.new)) }
+        ensures fault { IfErr result (IsCountingFault 0 (counted_with entry (count_in self.old))) }
     {
         if self.taken.saturating_add(self.expected) >= self.rows.len() / 4 * 3 {
             self.grow()?;
         }
-        self.enter(shape, there, played, first)
+        self.enter(&entry)
     }
 }

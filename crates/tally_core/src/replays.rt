@@ -8,7 +8,7 @@ use crate::faults::TallyFault;
 use crate::meetings::Meeting;
 use crate::walks::Walk;
 use go_record::Record;
-use shape_dict::FirstGame;
+use shape_dict::{Entry, FirstGame};
 
 /// Counts what was met in a game.
 fn count_meetings(
@@ -22,7 +22,12 @@ fn count_meetings(
 {
     for (i, meeting) in meetings.iter().enumerate() {
         counts.expect(meetings, i);
-        counts.add(meeting.shape, meeting.there, meeting.played, game)?;
+        counts.add(Entry {
+            shape: meeting.shape,
+            there: meeting.there,
+            played: meeting.played,
+            first: game,
+        })?;
     }
     Ok(())
 }

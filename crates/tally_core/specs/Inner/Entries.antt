@@ -3,7 +3,7 @@ use Rattle.std.specs.Prelude.{◌≡◌, ℕ, List, map, Option, Some, None}
 use Rattle.shape_dict.specs.declared.entries.Entry.{Entry}
 use Rattle.shape_dict.specs.Contents.{entry_of}
 use Rattle.tally_core.specs.Inner.Count.{Count}
-use Rattle.tally_core.specs.Inner.Counter.{count_in}
+use Rattle.tally_core.specs.Inner.Counter.{count_in, one_pattern, used}
 use Rattle.tally_core.specs.Inner.Rows.{taken_of}
 
 -- an entry's pattern, and its count
@@ -19,6 +19,11 @@ pairs_of entries = map pair_of entries
 -- the count of a pattern that rows have, if they have one
 abbrev pub counts_of : List Entry → ℕ → Option Count
 counts_of rows shape = count_in (pairs_of (taken_of rows)) shape
+
+-- what each pattern's count is once that of an entry was there and was played as often again as the entry says, in its game
+abbrev pub counted_with : Entry → (ℕ → Option Count) → ℕ → Option Count
+counted_with entry before =
+    used entry.first (one_pattern entry.shape entry.there) (one_pattern entry.shape entry.played) before
 
 abbrev pub entry_of_pair : ℕ × Count → Entry
 entry_of_pair pair = record { shape = pair.0; there = pair.1.there; played = pair.1.played; first = pair.1.first }

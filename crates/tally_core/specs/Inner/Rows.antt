@@ -1,6 +1,6 @@
 -- Rows by their patterns: each pattern has a way through the places, and its row stands at one of them, where all places
 -- before it on the way are taken.
-use Rattle.std.specs.Prelude.{◌≡◌, ℕ, zero, suc, ◌+◌, ◌*◌, ◌/◌, ◌%◌, ◌^◌, ◌<◌, ◌==◌, nat_lt, Bool, true, List, length, filter, All, Option, None, slice_index_or, if◌then◌else◌}
+use Rattle.std.specs.Prelude.{◌≡◌, ℕ, zero, suc, ◌+◌, ◌*◌, ◌/◌, ◌%◌, ◌^◌, ◌<◌, ◌==◌, nat_lt, Bool, true, List, length, filter, All, None, slice_index_or, if◌then◌else◌}
 use Rattle.shape_dict.specs.declared.entries.Entry.{Entry}
 use Rattle.tally_core.specs.Entries.{IsShape}
 
@@ -29,10 +29,14 @@ is_taken row = nat_lt 0 (row.there + row.played)
 abbrev pub taken_of : List Entry → List Entry
 taken_of rows = filter is_taken rows
 
--- a pattern's row, or a free one, once the pattern was there and was played this often again; a free one gets this first game
-abbrev pub counted_row : Entry → ℕ → ℕ → ℕ → Option ℕ → Entry
-counted_row row shape there played first =
-    record { shape = shape; there = row.there + there; played = row.played + played; first = if is_taken row then row.first else first }
+-- the row of an entry's pattern, or a free one, once it has the entry's counts besides; a free one gets the entry's first game
+abbrev pub counted_row : Entry → Entry → Entry
+counted_row row entry = record {
+  shape = entry.shape;
+  there = row.there + entry.there;
+  played = row.played + entry.played;
+  first = if is_taken row then row.first else entry.first;
+}
 
 -- what is at a place, and past the end nothing
 abbrev pub row_at : List Entry → ℕ → Entry

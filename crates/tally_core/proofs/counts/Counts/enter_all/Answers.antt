@@ -1,7 +1,7 @@
 use Rattle.std.proofs.Common.{ap, sym, ◌∙◌, add-one, take}
 use Rattle.shape_dict.specs.declared.entries.Entry.{Entry}
-use Rattle.tally_core.specs.Inner.Counter.{one_pattern, used, used_again}
-use Rattle.tally_core.specs.Inner.Entries.{counts_of}
+use Rattle.tally_core.specs.Inner.Counter.{one_pattern, used_again}
+use Rattle.tally_core.specs.Inner.Entries.{counts_of, counted_with}
 use Rattle.tally_core.proofs.RowLookups.{take_counts}
 use Rattle.tally_core.proofs.Ways.{read_at}
 use Rattle.tally_core.proofs.counts.Counts.enter_all.Goals as goal
@@ -13,5 +13,5 @@ loop-row-preserved c shape =
     let row = c.row-item.result in
     c.in-Ok.ensures.ok shape
     ∙ ap (used_again row.first (one_pattern row.shape row.there shape) (one_pattern row.shape row.played shape)) (c.loop-row.invariant shape)
-    ∙ ap (λ (r : Entry). used r.first (one_pattern r.shape r.there) (one_pattern r.shape r.played) (counts_of (take i rows)) shape) (read_at rows i row c.row-item.is c.loop-row-test.true)
+    ∙ ap (λ (r : Entry). counted_with r (counts_of (take i rows)) shape) (read_at rows i row c.row-item.is c.loop-row-test.true)
     ∙ sym (take_counts rows i c.requires.rows c.loop-row-test.true shape) ∙ ap (λ n. counts_of (take n rows) shape) (sym (add-one i))
