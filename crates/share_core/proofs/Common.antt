@@ -7,7 +7,7 @@ pub use Rattle.share_core.specs.Adding.{HasGrown, HasItsRow, IsAddFault, IsAdded
 pub use Rattle.share_core.specs.Entering.{AsksOnly, CallsOnly, EntersOnly, IsCall}
 pub use Rattle.share_core.specs.Inner.Adding.{HasFresh}
 pub use Rattle.share_core.specs.Inner.Entering.{AreEntered, AreEnteredAs, AreMarked, IsEntered, IsMarkAmong, IsMarkAt, IsRefused, MarksOnly}
-pub use Rattle.share_core.specs.Inner.Making.{AreBelow, AreNumbered, AreRowed, Gained, IsBelow, IsFaultFor, IsMade, IsMadeFor, IsMakingFault, IsRowAt, answer_at, entered_at}
+pub use Rattle.share_core.specs.Inner.Making.{AreBelow, AreNumbered, AreRowed, Gained, IsBelow, IsFaultFor, IsMade, IsMadeFor, IsMakingFault, IsRowAt, entered_at}
 pub use Rattle.share_core.specs.Inner.Raising.{AreRaised, AreRowsOf, IsAmongFirst, game_met, meeting_at, raised}
 pub use Rattle.share_core.specs.Inner.Rows.{HasNoRow, IsIn, IsIndexed, IsLast, bucket_of, chain_length, chained, past, place_in}
 pub use Rattle.share_core.specs.Raising.{Numbered, numbered_of, weight_among, weight_of}
@@ -16,7 +16,7 @@ pub use Rattle.share_core.specs.Shares.{Added, Held, IsPatternOf, IsShare, IsSha
 pub use Rattle.share_core.specs.declared.entering.Entered.{Entered}
 pub use Rattle.share_core.specs.declared.faults.HarvestFault.{HarvestFault}
 pub use Rattle.share_core.specs.declared.rows.Row.{Row}
-pub use Rattle.slot_table.specs.Batches.{AreEnteredUntil, AreMade, AreTold, IsFullBefore, IsTold, entered}
+pub use Rattle.slot_table.specs.Batches.{AreEnteredUntil, AreMade, AreTold, IsFullBefore, IsTold, answer_at, entered}
 pub use Rattle.slot_table.specs.History.{Begins, IsAtMost, IsLegal, Keeps, Tells, content_of, least_at}
 pub use Rattle.slot_table.specs.Passes.{IsLater, IsPassOf, Known, calls_of}
 pub use Rattle.slot_table.specs.declared.entries.Happened.{Happened}

@@ -1,15 +1,10 @@
 -- The rows of a block of numbers, those of all shares, and the totals of its numbers.
-use Rattle.std.specs.Prelude.{◌≡◌, ◌≢◌, ℕ, ◌+◌, ◌<◌, ◌≤◌, ◌==◌, ◌⊎◌, ⊤, List, length, slice_index_or, Option, Some, None}
-use Rattle.std.specs.List.{filter}
+use Rattle.std.specs.Prelude.{◌≡◌, ◌≢◌, ℕ, ◌+◌, ◌<◌, ◌≤◌, ◌⊎◌, ⊤, List, length, slice_index_or, Option, Some, None}
 use Rattle.share_core.specs.declared.rows.Row.{Row}
 use Rattle.gather_core.specs.Checking.{stranger_in}
 use Rattle.share_core.specs.Rows.{row_of}
 use Rattle.share_core.specs.Totals.{IsTooMuch}
 use Rattle.gather_core.specs.Inner.Totals.{IsTotalAt, IsLargeAt}
-
--- the rows of a number, in their order
-abbrev pub rows_at : ℕ → List Row → List Row
-rows_at number rows = filter (λ row. row.number == number) rows
 
 -- a row is of the pattern of a total, if there is one
 abbrev pub IsLike : Option Row → Row → Type 0

@@ -1,16 +1,10 @@
 -- What the definitions of `Checking` serve inside the crate.
-use Rattle.std.specs.Prelude.{◌≡◌, ℕ, ◌≤◌, if◌then◌else◌, List, Option, Some, None, IfSome, Contains}
-use Rattle.probe_core.specs.Sequential.{IsNumber}
+use Rattle.std.specs.Prelude.{◌≡◌, ℕ, ◌≤◌, if◌then◌else◌, List, Option, Some, None, Contains}
 use Rattle.slot_table.specs.declared.entries.Happened.{Happened}
-use Rattle.slot_table.specs.History.{content_of}
 use Rattle.share_core.specs.declared.rows.Row.{Row}
 use Rattle.share_core.specs.declared.faults.HarvestFault.{HarvestFault}
 use Rattle.share_core.specs.declared.faults.HarvestFault.TheVariants as fault
 use Rattle.gather_core.specs.Checking.{is_shape, stranger_in, IsStranger}
-
--- the pattern that was found at a number, if one was, is the number's, as it then is for ever after
-abbrev pub IsFound : ℕ → List Happened → ℕ → Option ℕ → Type 0
-IsFound n seen number found = IfSome found (λ shape. IsNumber (content_of n seen) shape number)
 
 -- why rows are not those of a table
 abbrev pub IsStandFault : ℕ → List Happened → List Row → HarvestFault → Type 0

@@ -4,12 +4,13 @@ use Rattle.probe_core.specs.declared.calls.Answer.{Answer}
 use Rattle.probe_core.specs.declared.calls.Answer.TheVariants as answer
 use Rattle.probe_core.specs.Sequential.{IsNumber, IsAbsent, IsFull}
 use Rattle.slot_table.specs.declared.entries.Happened.{Happened}
+use Rattle.slot_table.specs.Batches.{answer_at}
 use Rattle.slot_table.specs.History.{content_of, least_at, IsAtMost}
 use Rattle.slot_table.specs.Passes.{Known}
 use Rattle.share_core.specs.declared.entering.Entered.{Entered}
 use Rattle.tally_core.specs.declared.meetings.Meeting.{Meeting}
 use Rattle.share_core.specs.Inner.Raising.{meeting_at}
-use Rattle.share_core.specs.Inner.Making.{answer_at, entered_at}
+use Rattle.share_core.specs.Inner.Making.{entered_at}
 use Rattle.share_core.specs.Entering.{CallsOnly}
 
 -- it marked such games at such numbers alone, and entered nothing

@@ -2,6 +2,7 @@
 use Rattle.std.specs.Prelude.{◌≡◌, ◌≢◌, ℕ, ◌<◌, ◌++◌, ◌∷◌, [], ◌⊎◌, false, List, length, Some, slice_index_or, slice_index}
 use Rattle.probe_core.specs.declared.calls.Answer.{Answer}
 use Rattle.probe_core.specs.declared.calls.Answer.TheVariants as answer
+use Rattle.slot_table.specs.Batches.{answer_at}
 use Rattle.share_core.specs.declared.rows.Row.{Row}
 use Rattle.share_core.specs.declared.entering.Entered.{Entered}
 use Rattle.tally_core.specs.declared.meetings.Meeting.{Meeting}
@@ -24,10 +25,6 @@ IsRowFault number shape rows fault.Memory = Unit {0}
 IsRowFault number shape rows (fault.Stranger at (Some held) (Some other)) =
     (at ≡ number) × (other ≡ shape) × (held ≢ shape) × HasRow rows number held
 IsRowFault number shape rows found = ⊥
-
--- what was answered for the meeting at a place
-abbrev pub answer_at : List Answer → ℕ → Answer
-answer_at answers i = slice_index_or answers i answer.Absent
 
 -- a number that was answered is below this one
 abbrev pub IsBelow : ℕ → Answer → Type 0
