@@ -1,5 +1,5 @@
 //! The places of rows, each found by its pattern: open addressing, each place followed by the next.
-ghost use Rattle.std.specs.Prelude.{◌≡◌, ◌+◌, ◌<◌, [], not, IfSome, IfOk};
+ghost use Rattle.std.specs.Prelude.{◌≡◌, ◌+◌, ◌<◌, [], not, length, IfSome, IfOk};
 ghost use Rattle.tally_core.specs.Entries.{IsShape};
 ghost use Rattle.tally_core.specs.Inner.Rows.{mixed_of, home_of, next_place, is_taken, taken_of};
 ghost use Rattle.tally_core.specs.Inner.Rows.{AreRows, IsFound};
@@ -93,6 +93,7 @@ fn free_row() -> Entry
 pub(crate) fn free_rows(alloc: Global, places: usize) -> Result<Vec<Entry>, AllocError>
     ensures rows { IfOk result (λ rows. AreRows rows.items) }
     ensures free { IfOk result (λ rows. taken_of rows.items ≡ []) }
+    ensures length { IfOk result (λ rows. length rows.items ≡ places) }
 {
     let mut rows = Vec::new(alloc);
     rows.resize(places, free_row())?;
