@@ -1,6 +1,7 @@
 //! Shares: what workers have counted over the shared table of numbers.
 #![tactic(auto)]
 
+mod ahead;
 mod chains;
 mod entering;
 mod faults;

@@ -4,30 +4,12 @@ ghost use Rattle.probe_core.specs.declared.calls.Answer.TheVariants as answer;
 ghost use Rattle.share_core.specs.Inner.Making.{IsBelow, AreBelow, IsMadeFor, IsFaultFor};
 ghost use Rattle.share_core.specs.Inner.Making.{AreRowed, Gained, IsMakingFault};
 
+use crate::ahead::{BLOCK, count_new};
 use crate::faults::HarvestFault;
 use crate::rows::Rows;
 use probe_core::Answer;
 use shape_core::Shape;
 use tally_core::Meeting;
-
-/// Whether a row is needed for what was answered, as far as the index alone tells.
-fn looks_new(rows: &Rows, answer: Answer) -> bool {
-    match answer {
-        Answer::Number(number) => rows.looks_new(number),
-        Answer::Absent | Answer::Full => false,
-    }
-}
-
-/// How many of these numbers need a row, as far as the index alone tells. It has no branch that
-/// depends on the index, so no look waits for the one before it. Their lines of memory come
-/// together, and `make` finds them in a cache.
-fn count_new(rows: &Rows, answers: &[Answer]) -> usize {
-    let mut count = 0;
-    for answer in answers {
-        count += looks_new(rows, *answer) as usize;
-    }
-    count
-}
 
 /// The place of a number's row, which is made where there is none, and then counts nothing. Where
 /// no number was answered it is any place.
@@ -66,9 +48,11 @@ pub(crate) fn make_all(
     ensures length { OnOk result (length places.new.items ≡ length meetings.now) }
     ensures fault { IfErr result (IsMakingFault meetings.now answers.now rows.new) }
 {
-    rows.reserve(count_new(rows, answers))?;
     places.clear();
     for (i, answer) in answers.iter().enumerate() {
+        if i % BLOCK == 0 {
+            rows.reserve(count_new(rows, &meetings[i..], &answers[i..]))?;
+        }
         let place = make_one(rows, slots, *answer, meetings[i].shape)?;
         let Ok(()) = places.push(place) else {
             return Err(HarvestFault::Memory);

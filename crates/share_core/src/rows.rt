@@ -143,11 +143,6 @@ impl Rows {
         self.chains().place(number)
     }
 
-    /// Whether a number's bucket has no row. It reads no row.
-    pub fn looks_new(&self, number: usize) -> bool {
-        self.chains().last_in(number >> self.shift).is_none()
-    }
-
     /// Makes room for this many rows more, if there are rows already. After a refusal the rows are
     /// as they were.
     pub fn reserve(&mut self, count: usize) -> Result<(), AllocError>
