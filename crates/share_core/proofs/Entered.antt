@@ -1,6 +1,6 @@
 -- Passes that enter patterns and mark games, one call after another.
 use Rattle.std.proofs.Common.{◌≡◌, ℕ, ◌<◌, ◌⊎◌, List, [], ◌∷◌, ◌++◌, length, subst, arith, inl, inr, ⊎_elim, Contains, refl, sym, ◌∙◌, slice_index}
-use Rattle.share_core.proofs.Common.{All-from_recursion, All-contains, All-weaker, recursion_from_All, Contains-append_cases, AllByRecursion, Answer, Happened, Keeps, IsLegal, Begins, Tells, content_of, AreTold, IsTold, IsFullBefore, IsAbsent, IsFull, shapes_of, length-map, get_or-map, Known, IsLater, calls_of, Entered, Meeting, meeting_at, answer_at, IsCall, CallsOnly, IsEntered}
+use Rattle.share_core.proofs.Common.{All-from_recursion, All-contains, All-weaker, recursion_from_All, Contains-append_cases, AllByRecursion, Answer, Happened, Keeps, IsLegal, Begins, content_of, AreTold, IsTold, IsFullBefore, IsAbsent, IsFull, shapes_of, length-map, get_or-map, Known, IsLater, calls_of, Entered, Meeting, meeting_at, answer_at, IsCall, CallsOnly, IsEntered}
 use Rattle.probe_core.specs.declared.calls.Answer.TheVariants as answer
 use Rattle.probe_core.specs.declared.calls.Call.TheVariants as asked
 use Rattle.slot_table.specs.declared.entries.Happened.TheVariants as call

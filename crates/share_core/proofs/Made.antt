@@ -1,9 +1,8 @@
 -- Rows that are made for the patterns of a game, for one number after another.
 use Rattle.std.proofs.Common.{◌≡◌, ℕ, ◌+◌, ◌<◌, List, [], ◌∷◌, ◌++◌, length, suc, Some, refl, ap, sym, ◌∙◌, arith, append_assoc, length-append, ⊎_elim, get_or, take, drop, length-take}
-use Rattle.share_core.proofs.Common.{slice_index, sum_by, append-nil, length-map, get_or-take, take-append-drop, drop_more, All-get_or, All-from_get_or, sum_by-cons, sum_by-append, Actions, Kinds, Answer, IsNumber, Happened, content_of, Tells, Known, entered, AreMade, AreTold, IsTold, Meeting, kinds_of, there_in, IsWalk, shapes_of, Row, HarvestFault, row_at, blank, weight_of, IsPatternOf, HasItsRow, IsPrepareFault, IsEntryOf, IsRowed, IsRowedAfter, IsCall, EntersOnly, AsksOnly, HasFresh, IsRefused, meeting_at, IsBelow, AreBelow, IsMade, IsMadeFor, IsRowAt, AreRowed, Gained, IsFaultFor, IsMakingFault, answer_at}
+use Rattle.share_core.proofs.Common.{slice_index, sum_by, append-nil, length-map, get_or-take, take-append-drop, drop_more, All-get_or, All-from_get_or, sum_by-cons, sum_by-append, Actions, Kinds, Answer, IsNumber, Happened, content_of, Known, entered, AreMade, AreTold, IsTold, Meeting, kinds_of, there_in, IsWalk, shapes_of, Row, HarvestFault, row_at, blank, weight_of, IsPatternOf, HasItsRow, IsPrepareFault, IsEntryOf, IsRowed, IsRowedAfter, IsCall, EntersOnly, AsksOnly, HasFresh, IsRefused, meeting_at, IsBelow, AreBelow, IsMade, IsMadeFor, IsRowAt, AreRowed, Gained, IsFaultFor, IsMakingFault, answer_at}
 use Rattle.std.proofs.Math.ListN.{get_or-append}
 use Rattle.probe_core.specs.declared.calls.Answer.TheVariants as answer
-use Rattle.probe_core.specs.declared.calls.Call.TheVariants as asked
 use Rattle.slot_table.proofs.Entered.{all_made}
 use Rattle.share_core.specs.declared.faults.HarvestFault.TheVariants as fault
 use Rattle.share_core.specs.Making.{HasRow}

@@ -4,7 +4,7 @@ ghost use Rattle.std.specs.Prelude.{◌≡◌, ℕ, ◌<◌, ◌≤◌, length, 
 ghost use Rattle.probe_core.specs.declared.calls.Answer.TheVariants as answer;
 ghost use Rattle.slot_table.specs.Batches.{answer_at};
 ghost use Rattle.share_core.specs.Rows.{row_at};
-ghost use Rattle.share_core.specs.Inner.Rows.{bucket_of, place_in};
+ghost use Rattle.share_core.specs.Inner.Rows.{bucket_of, place_in, HasNoRow};
 
 use crate::kept_rows::KeptRow;
 use crate::rows::Rows;
@@ -91,10 +91,14 @@ fn held_at(
 }
 
 /// How many of the first numbers, a block of them, seem to have no row of their pattern, as far as
-/// the last rows of their buckets tell. `make` finds all of these rows in a cache.
+/// the last rows of their buckets tell: one at least, where some have none. `make` finds all of
+/// these rows in a cache.
 #[inline(never)]
 pub(crate) fn count_new(rows: &Rows, meetings: &[Meeting], answers: &[Answer]) -> usize
-    ensures { result ≤ length answers.now }
+    ensures few { result ≤ length answers.now }
+    ensures some { (i number : ℕ) → i < BLOCK → i < length answers.now → i < length meetings.now
+        → answer_at answers.now i ≡ answer.Number number → HasNoRow rows.now number
+        → 0 < result }
 {
     let chains = rows.chains();
     let count = answers.len().min(meetings.len()).min(BLOCK);
