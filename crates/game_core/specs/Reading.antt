@@ -27,3 +27,4 @@ pub record IsNextGame (before after : Reading) (job : WrittenGame) : Type 0 wher
 pub record HasNoGame (before after : Reading) : Type 0 where
   pub all : HasReadAll after.bytes after.report
   pub games : after.report.games ≡ before.report.games
+  pub no_fault : after.fault ≡ None
