@@ -68,8 +68,8 @@ fn harvest_over<R: Threads + Wait + Sync, G: Gate>(
     harvest_on(rt, alloc, settings, &table, &mut pass, bytes, gate)
 }
 
-/// Counts a collection by this thread alone, in a map that nobody shares. None where it has more
-/// patterns than a table of 2^k slots has numbers.
+/// Counts a collection by this thread, in a map that nobody shares. None where it has more patterns
+/// than a table of 2^k slots has numbers.
 fn count_alone<R: Threads + Sync>(
     rt: &R,
     alloc: Global,
@@ -97,12 +97,12 @@ fn count_alone<R: Threads + Sync>(
 /// have the number of workers, the exponent k and the kinds of pattern. It is what `count_plain`
 /// answers, whatever the gate, the number of workers and their turns. This project's own.
 ///
-/// One worker alone needs no table that threads share: this thread counts then, in a map, threads
-/// sort what it has counted, and the gate is not asked. Several workers count a small input over a
-/// smaller table, which takes less time and memory. Where the map would have more than 2^k
-/// patterns, or the smaller table has no room for them, it is counted once more over a table of 2^k
-/// slots, and the gate is told of each game again. It takes memory for the table, and what
-/// `harvest_on` takes.
+/// One worker alone needs no table that threads share: this thread counts then, in a map, while
+/// another one walks games for it; threads sort what it has counted, and the gate is not asked.
+/// Several workers count a small input over a smaller table, which takes less time and memory.
+/// Where the map would have more than 2^k patterns, or the smaller table has no room for them, it
+/// is counted once more over a table of 2^k slots, and the gate is told of each game again. It
+/// takes memory for the table, and what `harvest_on` takes.
 ///
 /// # Errors
 ///

@@ -31,3 +31,4 @@ pub mod NextGame
 pub mod MorePatterns
 pub mod RowLookups
 pub mod Ways
+pub mod WalkedGames

@@ -9,3 +9,4 @@ pub mod Place
 pub mod Rows
 pub mod Sight
 pub mod Standing
+pub mod Walkers

@@ -1,4 +1,4 @@
-//! A whole collection, counted on one thread.
+//! A whole collection, counted by one thread.
 ghost use Rattle.std.specs.Prelude.{◌≡◌, ℕ, ◌^◌, ◌<◌, ◌≤◌, List, All, map, length, OnOk, IfOk, IfErr};
 ghost use Rattle.std.specs.Prelude.{IfSome, IfNone};
 ghost use Rattle.std.specs.List.Sorted.{IsStrictlyIncreasing};
@@ -10,12 +10,12 @@ ghost use Rattle.tally_core.specs.declared.counting.Counter.{Counter};
 ghost use Rattle.tally_core.specs.declared.faults.TallyFault.TheVariants as fault;
 ghost use Rattle.sgf_core.specs.Limit.{most_bytes};
 
-use crate::counting::{Counter, count_games};
+use crate::counting::{Counter, count_games, count_games_beside};
 use crate::dictionaries::{entries_of, entries_within};
 use crate::faults::TallyFault;
 use crate::gathering::dictionary_of;
-use crate::walks::Walk;
-use game_core::{Games, Report};
+use crate::walkers::Walker;
+use game_core::Report;
 use shape_core::Kinds;
 use shape_dict::{Dictionary, Entry};
 use std::alloc::Global;
@@ -38,7 +38,8 @@ fn likely_patterns(bytes: usize, most: usize) -> usize {
 
 /// Counts the games of a collection, with a report on its trees, unless they have more patterns
 /// than `most`: then it is None, at the first game with which there are.
-fn counter_of(
+fn counter_of<R: Threads + Sync>(
+    rt: &R,
     alloc: Global,
     kinds: Kinds,
     most: usize,
@@ -52,14 +53,13 @@ fn counter_of(
     ensures large { most_bytes < length bytes.now
         → IfErr result (λ found. found ≡ fault.Sgf sgf.TooLarge) }
 {
-    let mut games = Games::new(bytes)?;
+    let mut walker = Walker::begin(alloc, kinds, bytes)?;
     let mut counter = Counter::new(alloc, likely_patterns(bytes.len(), most));
-    let mut walk = Walk::begin(alloc, kinds);
-    let all = count_games(alloc, &mut walk, &mut counter, &mut games, most)?;
+    let all = count_games_beside(rt, &mut walker, &mut counter, most)?;
     if !all {
         return Ok(None);
     }
-    Ok(Some((counter, games.report())))
+    Ok(Some((counter, walker.report())))
 }
 
 /// What a collection is counted as whose trees were all counted, with these moves and this report,
@@ -76,12 +76,16 @@ fn counted_of(kinds: Kinds, moves: u64, report: Report, entries: Vec<Entry>) -> 
     Counted { dictionary, report }
 }
 
-/// Counts a whole collection on one thread, unless it has more patterns than `most`: then it is
-/// None, at the first tree with which there are. It is the dictionary of the games, which are
-/// numbered from 0 in their order, and how many of the trees are games, are of other games, and are
-/// refused. `kinds` says which kinds of pattern are counted. Where there are many patterns, threads
-/// sort the dictionary: `threads`, rounded up to a power of two, 64 at most. The answer is the
-/// same. It takes memory for the largest tree and its record, for the board, and for each pattern.
+/// Counts a whole collection, unless it has more patterns than `most`: then it is None, at the
+/// first tree with which there are. It is the dictionary of the games, which are numbered from 0 in
+/// their order, and how many of the trees are games, are of other games, and are refused. `kinds`
+/// says which kinds of pattern are counted.
+///
+/// A thread reads and walks games while this one counts those before them. Where there are many
+/// patterns, threads sort the dictionary: `threads`, rounded up to a power of two, 64 at most. The
+/// answer is the same where no thread can be started. It takes memory for the largest tree, for the
+/// board, for the records and the patterns of the games that are walked meanwhile, and for each
+/// pattern.
 ///
 /// # Errors
 ///
@@ -103,7 +107,7 @@ pub fn count_within<R: Threads + Sync>(
     ensures large { most_bytes < length bytes.now
         → IfErr result (λ found. found ≡ fault.Sgf sgf.TooLarge) }
 {
-    let Some((counter, report)) = counter_of(alloc, kinds, most, bytes)? else {
+    let Some((counter, report)) = counter_of(rt, alloc, kinds, most, bytes)? else {
         return Ok(None);
     };
     let Counter { counts, moves } = counter;
@@ -127,8 +131,11 @@ pub fn count_plain(alloc: Global, kinds: Kinds, bytes: &[u8]) -> Result<Counted,
     ensures large { most_bytes < length bytes.now
         → IfErr result (λ found. found ≡ fault.Sgf sgf.TooLarge) }
 {
+    let mut walker = Walker::begin(alloc, kinds, bytes)?;
+    let mut counter = Counter::new(alloc, likely_patterns(bytes.len(), usize::MAX));
     // A map has at most 2^63 patterns.
-    let (counter, report) = counter_of(alloc, kinds, usize::MAX, bytes)?.unwrap();
+    let _ = count_games(&mut walker, &mut counter, usize::MAX)?;
+    let report = walker.report();
     let Counter { counts, moves } = counter;
     Ok(counted_of(kinds, moves, report, entries_of(counts)))
 }

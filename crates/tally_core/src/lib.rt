@@ -18,6 +18,7 @@ mod sides;
 mod sights;
 mod stays;
 mod tallies;
+mod walkers;
 mod walks;
 
 pub use collections::{Counted, count_plain, count_within};

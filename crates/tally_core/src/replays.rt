@@ -11,7 +11,7 @@ use go_record::Record;
 use shape_dict::{Entry, FirstGame};
 
 /// Counts what was met in a game.
-fn count_meetings(
+pub(crate) fn count_meetings(
     counts: &mut Counts,
     meetings: &[Meeting],
     game: FirstGame,

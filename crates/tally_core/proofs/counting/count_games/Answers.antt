@@ -7,10 +7,10 @@ use Rattle.tally_core.proofs.counting.count_games.Goals as goal
 
 pub returns-in_default-clause-counted : goal.returns-in_default-clause-counted
 returns-in_default-clause-counted c =
-    let kinds = c.args.walk.now.kinds in
-    let bytes = c.args.games.now.bytes in
-    let after = c.next_job.new.self in
-    let none = subst (λ o. IfNone o (HasNoGame c.game.games after)) c.in_default.is c.in_ok-job.ensures.none in
+    let kinds = c.args.walker.now.walk.kinds in
+    let bytes = c.args.walker.now.games.bytes in
+    let after = c.next.new.self.games in
+    let none = subst (λ o. IfNone o (HasNoGame c.game.walker.games after)) c.in_default.is c.in_ok-game.ensures.none in
     counts_all kinds bytes after.report c.game.counter
-    (subst (λ b. HasReadAll b after.report) (c.next_job.ensures.bytes ∙ c.game.invariant.bytes) none.all)
+    (subst (λ b. HasReadAll b after.report) (c.next.ensures.bytes ∙ c.game.invariant.bytes) none.all)
     (subst (λ number. CountsUpTo kinds bytes number c.game.counter) (sym none.games) c.game.invariant.counted)

@@ -4,13 +4,13 @@ use Rattle.tally_core.proofs.counting.count_games.Given as goal
 
 abbrev pub invariant-game : goal.invariant-game
 invariant-game l = record {
-  bytes : l.games.bytes ≡ l.fn.games.bytes;
-  no_fault : l.games.fault ≡ None;
-  kinds : l.walk.kinds ≡ l.fn.walk.kinds;
-  counted : CountsUpTo l.fn.walk.kinds l.fn.games.bytes l.games.report.games l.counter;
-  within : IsWithin l.games.from l.counter;
+  bytes : l.walker.games.bytes ≡ l.fn.walker.games.bytes;
+  no_fault : l.walker.games.fault ≡ None;
+  kinds : l.walker.walk.kinds ≡ l.fn.walker.walk.kinds;
+  counted : CountsUpTo l.fn.walker.walk.kinds l.fn.walker.games.bytes l.walker.games.report.games l.counter;
+  within : IsWithin l.walker.games.from l.counter;
 }
 
 -- each turn reads a game, and an input has at most 2 ^ 28 of them
 abbrev pub decreases-game : goal.decreases-game
-decreases-game l = 2 ^ 28 - l.games.report.games
+decreases-game l = 2 ^ 28 - l.walker.games.report.games

@@ -1,0 +1,130 @@
+//! Games that are read and walked, some at a time, before they are counted.
+ghost use Rattle.std.specs.Prelude.{◌≡◌, ◌<◌, ◌≤◌, ◌^◌, ℕ, length, None, IfOk, IfErr, IfSome};
+ghost use Rattle.std.specs.Prelude.{IfNone, OnOk, false};
+ghost use Rattle.sgf_core.specs.declared.faults.SgfFault.TheVariants as sgf;
+ghost use Rattle.game_core.specs.Reading.{HasNoGame};
+ghost use Rattle.tally_core.specs.Counted.{IsCountFault};
+ghost use Rattle.tally_core.specs.Faults.{reading_fault};
+ghost use Rattle.tally_core.specs.Inner.Walkers.{IsNextWalked, HasWalked};
+ghost use Rattle.tally_core.specs.declared.faults.TallyFault.TheVariants as tally_fault;
+ghost use Rattle.sgf_core.specs.Limit.{most_bytes};
+
+use crate::faults::TallyFault;
+use crate::meetings::Meeting;
+use crate::walks::Walk;
+use game_core::{Games, Job, Report};
+use go_record::few_actions;
+use sgf_core::few_values;
+use shape_core::Kinds;
+use std::alloc::Global;
+
+/// A game of an input that was walked: its job, how many moves onto empty points it has, and what
+/// it met.
+#[derive(Drop)]
+pub struct WalkedGame<'a> {
+    pub job: Job<'a>,
+    pub moves: u64,
+    pub meetings: Vec<Meeting>,
+}
+
+/// Reads the games of an input one after another, and walks them.
+#[derive(Drop)]
+pub struct Walker<'a> {
+    pub alloc: Global,
+    pub games: Games<'a>,
+    pub walk: Walk,
+}
+
+impl<'a> Walker<'a> {
+    /// Nothing of this input was read yet. It takes no memory.
+    pub fn begin(alloc: Global, kinds: Kinds, bytes: &'a [u8]) -> Result<Walker<'a>, TallyFault>
+        ensures kinds { IfOk result (λ walker. walker.walk.kinds ≡ kinds) }
+        ensures games { IfOk result (λ walker. walker.games ≡ record {
+          bytes = bytes.now;
+          from = 0;
+          report = record { games = 0; others = 0; refused = 0 };
+          fault = None;
+          ended = false;
+        }) }
+        ensures small { OnOk result (length bytes.now ≤ most_bytes) }
+        ensures fault { IfErr result (IsCountFault bytes.now) }
+        ensures large { most_bytes < length bytes.now
+            → IfErr result (λ found. found ≡ tally_fault.Sgf sgf.TooLarge) }
+    {
+        let games = Games::new(bytes)?;
+        Ok(Walker {
+            alloc,
+            games,
+            walk: Walk::begin(alloc, kinds),
+        })
+    }
+
+    /// What the trees are that were read so far.
+    pub fn report(&self) -> Report
+        ensures { result ≡ self.now.games.report }
+    {
+        self.games.report()
+    }
+
+    /// Walks the next game, or answers None where none is left. It takes memory for its tree, its
+    /// record and what it met.
+    pub fn next(&mut self) -> Result<Option<WalkedGame<'a>>, TallyFault>
+        requires small { length self.old.games.bytes ≤ most_bytes }
+        requires no_fault { self.old.games.fault ≡ None }
+        ensures bytes { self.new.games.bytes ≡ self.old.games.bytes }
+        ensures kinds { self.new.walk.kinds ≡ self.old.walk.kinds }
+        ensures walked { IfOk result (λ found. IfSome found
+            (IsNextWalked self.old.walk.kinds self.old.games self.new.games)) }
+        ensures none { IfOk result (λ found. IfNone found
+            (HasNoGame self.old.games self.new.games)) }
+        ensures no_fault { OnOk result (self.new.games.fault ≡ None) }
+        ensures fault { IfErr result (IsCountFault self.old.games.bytes) }
+        ensures met { IfErr result (λ found. IfSome self.new.games.fault
+            (λ met. found ≡ reading_fault met)) }
+    {
+        // A record has no more actions than its main line has values, and that has fewer than the
+        // tree has bytes.
+        few_actions();
+        few_values();
+        let Some(job) = self.games.next_job(self.alloc)? else {
+            return Ok(None);
+        };
+        let moves = self.walk.walk(job.record())?;
+        let mut meetings = Vec::new(self.alloc);
+        meetings.extend_from_slice(self.walk.meetings())?;
+        Ok(Some(WalkedGame {
+            job,
+            moves,
+            meetings,
+        }))
+    }
+
+    /// Walks games until they have this many meetings together or none is left, and lists them in
+    /// place of those that were listed. The answer is whether some may be left.
+    pub fn walk_on(
+        &mut self,
+        most: usize,
+        walked: &mut Vec<WalkedGame<'a>>,
+    ) -> Result<bool, TallyFault>
+        requires small { length self.old.games.bytes ≤ most_bytes }
+        requires no_fault { self.old.games.fault ≡ None }
+        requires some { 0 < most }
+        ensures kinds { self.new.walk.kinds ≡ self.old.walk.kinds }
+        ensures walked { IfOk result
+            (HasWalked self.old.walk.kinds self.old.games self.new.games walked.new.items) }
+        ensures fault { IfErr result (IsCountFault self.old.games.bytes) }
+        ensures met { IfErr result (λ found. IfSome self.new.games.fault
+            (λ met. found ≡ reading_fault met)) }
+    {
+        walked.clear();
+        let mut met: usize = 0;
+        'game: while met < most {
+            let Some(game) = self.next()? else {
+                return Ok(false);
+            };
+            met = met.saturating_add(game.meetings.len());
+            walked.push(game)?;
+        }
+        Ok(true)
+    }
+}
