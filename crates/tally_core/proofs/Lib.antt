@@ -32,3 +32,4 @@ pub mod MorePatterns
 pub mod RowLookups
 pub mod Ways
 pub mod WalkedGames
+pub mod CountedAgain

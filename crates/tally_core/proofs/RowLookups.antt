@@ -1,8 +1,9 @@
 -- What rows count of a pattern.
-use Rattle.std.proofs.Common.{◌≡◌, ℕ, zero, suc, ◌+◌, ◌^◌, ◌<◌, ◌≤◌, ◌==◌, nat_eq, Bool, true, false, not, ◌&&◌, cond, List, [], ◌∷◌, length, take, slice_set, Some, None, refl, ap, ap₂, sym, ◌∙◌, arith}
+use Rattle.std.proofs.Common.{◌≡◌, ℕ, zero, suc, ◌+◌, ◌^◌, ◌<◌, ◌≤◌, ◌==◌, nat_eq, Bool, true, false, not, ◌&&◌, cond, List, [], ◌∷◌, length, take, slice_set, Some, None, refl, ap, ap₂, sym, ◌∙◌, arith, All}
 use Rattle.std.specs.List.{AllByRecursion, IsDistinct}
 use Rattle.std.specs.Map.{keys_of}
 use Rattle.std.proofs.lemmas.Bool.Decides.{nat_tests}
+use Rattle.std.proofs.lemmas.List.Elements.{All-weaker, filter_passes}
 use Rattle.std.proofs.lemmas.List.Sums.{length-filter, count_by-le-length, sum_by-set}
 use Rattle.std.proofs.lemmas.Map.Keys.{IsDistinct-cons}
 use Rattle.shape_dict.specs.declared.entries.Entry.{Entry}
@@ -148,3 +149,12 @@ distinct (first ∷ rows) once =
 
 pub once_among : (rows : List Entry) → AreRows rows → IsDistinct nat_eq (keys_of (pairs_of (taken_of rows)))
 once_among rows are = distinct rows are.once
+
+-- each row that is taken counts something
+counts_some : (row : Entry) → is_taken row ≡ true → 0 < row.there + row.played
+counts_some row taken = Prim.grind (arith, nat_tests)
+
+pub all_count : (rows : List Entry) → All (λ row. 0 < row.there + row.played) (taken_of rows)
+all_count rows =
+    All-weaker (λ row. is_taken row ≡ true) (λ row. 0 < row.there + row.played) counts_some (taken_of rows)
+    (filter_passes is_taken rows)

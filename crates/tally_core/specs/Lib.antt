@@ -8,4 +8,5 @@ pub mod Tally
 pub mod Limits
 pub mod Faults
 pub mod Counted
+pub mod GameCounts
 pub mod Inner

@@ -146,6 +146,7 @@ impl Counts {
     pub fn len(&self) -> usize
         ensures len { result ≡ length self.now }
         ensures once { IsDistinct nat_eq (keys_of self.now) }
+        ensures counted { All (λ pair. 0 < pair.1.there + pair.1.played) self.now }
         ensures small { length self.now < 2 ^ 63 }
     {
         self.taken
@@ -155,6 +156,7 @@ impl Counts {
     pub fn into_entries(self) -> Vec<Entry>
         ensures entries { result.items ≡ map entry_of_pair self }
         ensures shapes { All IsShape result.items }
+        ensures counted { All (λ entry. 0 < entry.there + entry.played) result.items }
         ensures once { IsDistinct nat_eq (keys_of self) }
     {
         let mut rows = self.rows;

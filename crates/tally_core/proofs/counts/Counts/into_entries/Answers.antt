@@ -1,11 +1,12 @@
-use Rattle.std.proofs.Common.{rules, ◌≡◌, Bool, true, false, not, refl, ap, map, sym, subst, ◌∙◌, All}
+use Rattle.std.proofs.Common.{rules, ◌≡◌, ◌+◌, ◌<◌, Bool, true, false, not, refl, ap, map, sym, subst, ◌∙◌, All}
 use Rattle.std.proofs.lemmas.Fn.{filter_same}
 use Rattle.std.proofs.lemmas.List.Elements.{All-filter}
+use Rattle.shape_dict.specs.declared.entries.Entry.{Entry}
 use Rattle.tally_core.specs.Entries.{IsShape}
 use Rattle.tally_core.specs.Inner.Entries.{entry_of_pair}
 use Rattle.tally_core.specs.Inner.Rows.{is_taken, taken_of}
 use Rattle.tally_core.proofs.Entered.{entries_of-pairs}
-use Rattle.tally_core.proofs.RowLookups.{once_among}
+use Rattle.tally_core.proofs.RowLookups.{once_among, all_count}
 use Rattle.tally_core.proofs.counts.Counts.into_entries.Goals as goal
 
 twice : (b : Bool) → not (not b) ≡ b
@@ -20,6 +21,11 @@ returns-clause-entries c = kept c ∙ sym (entries_of-pairs (taken_of c.self.ins
 
 pub returns-clause-shapes : goal.returns-clause-shapes
 returns-clause-shapes c = subst (All IsShape) (sym (kept c)) (All-filter is_taken IsShape c.self.inside.rows.items c.self.invariant.0.shapes)
+
+pub returns-clause-counted : goal.returns-clause-counted
+returns-clause-counted c =
+    let counts : Entry → Type 0 = λ (row : Entry). 0 < row.there + row.played in
+    subst (All counts) (sym (kept c)) (all_count c.self.inside.rows.items)
 
 pub returns-clause-once : goal.returns-clause-once
 returns-clause-once c = rw (sym c.self.view_is) (once_among c.self.inside.rows.items c.self.invariant.0)
