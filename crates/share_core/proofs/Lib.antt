@@ -6,3 +6,7 @@ pub mod Raised
 pub mod Entered
 mod Made
 pub mod Added
+pub mod WordRows
+pub mod Numbered
+pub mod NumberedShares
+pub mod EntryRows

@@ -3,6 +3,7 @@ pub mod Adding
 pub mod Entering
 pub mod Ledgers
 pub mod Making
+pub mod Numbering
 pub mod Preparing
 pub mod Raising
 pub mod Rows

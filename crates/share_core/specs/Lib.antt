@@ -6,5 +6,6 @@ pub mod Entering
 pub mod Shares
 pub mod Adding
 pub mod ShareRows
+pub mod WordShares
 pub mod Faults
 pub mod Inner

@@ -25,7 +25,7 @@ pub(crate) struct Entered {
 }
 
 /// The key of a pattern: its canonical word.
-fn key_of(shape: Shape) -> Key
+pub(crate) fn key_of(shape: Shape) -> Key
     ensures { result ≡ shape }
 {
     Key::new(shape.word().bits()).unwrap()
@@ -40,6 +40,34 @@ fn list_keys(keys: &mut Vec<Key>, meetings: &[Meeting]) -> Result<(), HarvestFau
     for meeting in meetings {
         keys.push(key_of(meeting.shape))?;
     }
+    Ok(())
+}
+
+/// Enters these keys, of which most are left after the first for which no number was free. The
+/// answers of the last ones give way to those of these.
+///
+/// # Errors
+///
+/// `Memory` where memory was refused; then nothing was entered.
+pub(crate) fn enter_keys<O: ProbeOrder>(
+    table: &SlotTable<O>,
+    pass: &mut Pass<O>,
+    keys: &[Key],
+    answers: &mut Vec<Answer>,
+) -> Result<(), HarvestFault>
+    requires { IsPassOf table.now pass.old }
+    ensures pass { IsPassOf table.now pass.new }
+    ensures made { OnOk result
+        (AreMade table.now.slots (entered keys.now answers.new.items) pass.old pass.new) }
+    ensures told { OnOk result
+        (AreTold table.now.slots pass.new.seen keys.now answers.new.items) }
+    ensures until { OnOk result (AreEnteredUntil answers.new.items (length keys.now)) }
+    ensures length { OnOk result (length answers.new.items ≡ length keys.now) }
+    ensures same { OnErr result (pass.new ≡ pass.old) }
+    ensures fault { IfErr result (λ found. found ≡ fault.Memory) }
+{
+    answers.resize(keys.len(), Answer::Absent)?;
+    table.enter_all(pass, keys, answers.as_mut_slice());
     Ok(())
 }
 
@@ -68,9 +96,7 @@ pub(crate) fn enter_all<O: ProbeOrder>(
     ensures fault { IfErr result (λ found. found ≡ fault.Memory) }
 {
     list_keys(keys, meetings)?;
-    answers.resize(meetings.len(), Answer::Absent)?;
-    table.enter_all(pass, keys.as_slice(), answers.as_mut_slice());
-    Ok(())
+    enter_keys(table, pass, keys.as_slice(), answers)
 }
 
 /// Whether a game is to be marked where this was the least that was.

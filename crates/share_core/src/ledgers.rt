@@ -38,6 +38,7 @@ impl Model for Ledger {
 
 impl Ledger {
     ghost use Rattle.std.specs.Prelude.{◌≡◌, ◌≤◌, []};
+    ghost use Rattle.share_core.specs.Raising.{weight_of};
 
     /// Nothing was counted yet. Each bucket of the rows' index has 2^shift numbers. It takes no
     /// memory.
@@ -50,6 +51,20 @@ impl Ledger {
             moves: 0,
             weight: 0,
             rows: Rows::begin(alloc, shift),
+        }
+    }
+
+    /// These games with these moves, whose patterns have these rows. The weight is that of the
+    /// rows.
+    pub fn of_rows(games: Vec<u64>, moves: u64, weight: u64, rows: Rows) -> Ledger
+        requires { weight ≡ weight_of rows }
+        ensures { result ≡ record { games = games.items; moves = moves; rows = rows } }
+    {
+        Ledger {
+            games,
+            moves,
+            weight,
+            rows,
         }
     }
 

@@ -1,18 +1,19 @@
 //! Shares: what workers have counted over the shared table of numbers.
 #![tactic(auto)]
 
-mod ahead;
 mod chains;
 mod entering;
 mod faults;
 mod kept_rows;
 mod ledgers;
 mod making;
+mod numbering;
 mod rows;
 mod share_rows;
 mod shares;
 mod small;
 mod sums;
+mod word_shares;
 mod workings;
 
 pub use faults::HarvestFault;
@@ -20,3 +21,4 @@ pub use kept_rows::KeptRow;
 pub use rows::Row;
 pub use share_rows::ShareRows;
 pub use shares::Share;
+pub use word_shares::WordShare;

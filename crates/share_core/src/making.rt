@@ -4,7 +4,6 @@ ghost use Rattle.probe_core.specs.declared.calls.Answer.TheVariants as answer;
 ghost use Rattle.share_core.specs.Inner.Making.{IsBelow, AreBelow, IsMadeFor, IsFaultFor};
 ghost use Rattle.share_core.specs.Inner.Making.{AreRowed, Gained, IsMakingFault};
 
-use crate::ahead::{BLOCK, count_new};
 use crate::faults::HarvestFault;
 use crate::rows::Rows;
 use probe_core::Answer;
@@ -50,9 +49,6 @@ pub(crate) fn make_all(
 {
     places.clear();
     for (i, answer) in answers.iter().enumerate() {
-        if i % BLOCK == 0 {
-            rows.reserve(count_new(rows, &meetings[i..], &answers[i..]))?;
-        }
         let place = make_one(rows, slots, *answer, meetings[i].shape)?;
         let Ok(()) = places.push(place) else {
             return Err(HarvestFault::Memory);

@@ -94,7 +94,8 @@ impl Rows {
     ghost use Rattle.sgf_core.specs.Limit.{most_bytes};
     ghost use Rattle.std.specs.Prelude.{◌≡◌, ◌+◌, ◌^◌, ◌<◌, ◌≤◌, ◌++◌, ◌∷◌, [], length};
     ghost use Rattle.std.specs.Prelude.{IfSome, IfNone, IfOk, IfErr, OnErr, slice_set};
-    ghost use Rattle.share_core.specs.Rows.{row_at, blank, AreOfNumbers};
+    ghost use Rattle.share_core.specs.Rows.{row_at, AreOfNumbers};
+    ghost use Rattle.share_core.specs.declared.faults.HarvestFault.TheVariants as fault;
     ghost use Rattle.share_core.specs.Inner.Rows.{HasNoRow, IsIndexed};
     ghost use Rattle.share_core.specs.ShareRows.{IsLeastFrom};
     ghost use Rattle.share_core.specs.Inner.Making.{IsMade, IsRowFault};
@@ -111,6 +112,19 @@ impl Rows {
             older: Vec::new(alloc),
             rows: Vec::new(alloc),
         }
+    }
+
+    /// The same, with room for this many rows.
+    pub fn with_room(alloc: Global, shift: u32, count: usize) -> Result<Rows, AllocError>
+        requires { shift ≤ 8 }
+        ensures { IfOk result (λ rows. rows ≡ []) }
+    {
+        Ok(Rows {
+            shift,
+            index: Vec::new(alloc),
+            older: Vec::with_capacity(alloc, count)?,
+            rows: Vec::with_capacity(alloc, count)?,
+        })
     }
 
     /// The rows, in their order.
@@ -141,17 +155,6 @@ impl Rows {
         ensures none { IfNone result (HasNoRow self.now number) }
     {
         self.chains().place(number)
-    }
-
-    /// Makes room for this many rows more, if there are rows already. After a refusal the rows are
-    /// as they were.
-    pub fn reserve(&mut self, count: usize) -> Result<(), AllocError>
-        ensures { self.new ≡ self.old }
-    {
-        if self.rows.is_empty() {
-            return Ok(());
-        }
-        self.rows.reserve(count)
     }
 
     /// The row of the least number at or above this one that has a row. It looks up each number up
@@ -190,25 +193,27 @@ impl Rows {
                 Err(HarvestFault::stranger(number, held.word(), Some(shape.word())))
             };
         }
-        self.append(slots, number, shape)
+        self.append(slots, KeptRow::blank(number, shape))
     }
 
-    /// Makes a row for a number that has none. It is the last of its bucket.
-    fn append(&mut self, slots: usize, number: usize, shape: Shape) -> Result<usize, HarvestFault>
-        requires number { number < slots }
+    /// Puts a row after the others, of a number that has none. It is the last of its bucket. The
+    /// index gets room for the buckets of this many slots, where it has less. After want of memory
+    /// the rows are as they were.
+    pub fn append(&mut self, slots: usize, row: KeptRow) -> Result<usize, HarvestFault>
+        requires number { row.number < slots }
         requires few { slots ≤ 2 ^ 22 }
-        requires none { HasNoRow self.old number }
+        requires none { HasNoRow self.old row.number }
         ensures ok { IfOk result (λ place. (place ≡ length self.old)
-            × (self.new ≡ self.old ++ blank number shape ∷ [])) }
-        ensures fault { IfErr result (λ found. IsRowFault number shape self.old found) }
+            × (self.new ≡ self.old ++ row ∷ [])) }
+        ensures fault { IfErr result (λ found. found ≡ fault.Memory) }
         ensures same { OnErr result (self.new ≡ self.old) }
     {
         let place = self.rows.as_slice().len();
-        let bucket = number >> self.shift;
+        let bucket = row.number() >> self.shift;
         widen(&mut self.index, ((slots - 1) >> self.shift) + 1)?;
         make_room(&mut self.rows, self.index.len())?;
         chain(&mut self.older, self.shift, self.index[bucket])?;
-        self.rows.push_reserved(KeptRow::blank(number, shape));
+        self.rows.push_reserved(row);
         self.index[bucket] = SmallOption::of(place);
         Ok(place)
     }

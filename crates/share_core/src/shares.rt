@@ -98,10 +98,31 @@ impl Share {
           rows = [];
         } }
     {
+        let ledger = Ledger::begin(alloc, shift_for(workers));
+        Share::of_ledger(alloc, worker, kinds, ledger)
+    }
+
+    /// The share of this worker that has counted this.
+    pub(crate) fn of_ledger(alloc: Global, worker: usize, kinds: Kinds, ledger: Ledger) -> Share
+        requires { IsShare (record {
+          worker = worker;
+          kinds = kinds;
+          games = ledger.games;
+          moves = ledger.moves;
+          rows = ledger.rows;
+        }) }
+        ensures { result ≡ record {
+          worker = worker;
+          kinds = kinds;
+          games = ledger.games;
+          moves = ledger.moves;
+          rows = ledger.rows;
+        } }
+    {
         Share {
             worker,
             workings: Workings::begin(alloc, kinds),
-            ledger: Ledger::begin(alloc, shift_for(workers)),
+            ledger,
         }
     }
 

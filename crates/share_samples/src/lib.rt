@@ -3,12 +3,13 @@
 #![tactic(auto)]
 
 ghost use Rattle.std.specs.Prelude.{◌≡◌, ◌^◌, ◌<◌, ◌∷◌, [], Some, SomeIff};
-ghost use Rattle.std.specs.Prelude.{IfOk, IfErr, OnOk, IfSome, IfNone};
+ghost use Rattle.std.specs.Prelude.{IfOk, IfErr, OnOk, IfSome, IfNone, All};
 ghost use Rattle.sgf_core.specs.Limit.{most_bytes};
 ghost use Rattle.go_record.specs.Actions.{Actions};
 ghost use Rattle.shape_core.specs.declared.words.Kinds.TheVariants as kinds;
 ghost use Rattle.slot_table.specs.Passes.{IsPassOf};
 ghost use Rattle.share_core.specs.Adding.{IsAdded, IsAddFault};
+ghost use Rattle.share_core.specs.Shares.{IsShare};
 ghost use Rattle.share_samples.specs.Samples.{IsPattern, IsFirstGame, HasOneGame, IsRefused};
 
 use game_core::Games;
@@ -16,7 +17,7 @@ use go_record::Record;
 use probe_core::{Capacity, OddStep, ProbeOrder};
 use shape_core::{Kinds, Shape, Word};
 use shape_dict::{Entry, FirstGame};
-use share_core::{HarvestFault, Share};
+use share_core::{HarvestFault, Share, WordShare};
 use slot_table::{Pass, SlotTable};
 use std::alloc::Global;
 
@@ -139,4 +140,16 @@ pub fn add_written<O: ProbeOrder>(
 {
     let game_record = record_of(alloc, bytes)?;
     Some(share.add(table, pass, game, &game_record))
+}
+
+/// What the worker 2 has counted by words of these games, the first under the number 0 and the
+/// second under 1, or why one was refused.
+pub fn words_of(alloc: Global, first: &Record, second: &Record) -> Result<WordShare, HarvestFault>
+    ensures share { IfOk result IsShare }
+    ensures small { IfOk result (λ words. All (λ game. game < most_bytes) words.games) }
+{
+    let mut words = WordShare::begin(alloc, 2, Kinds::Squares, 8);
+    words.add(0, first)?;
+    words.add(1, second)?;
+    Ok(words)
 }

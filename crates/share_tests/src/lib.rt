@@ -5,3 +5,5 @@
 mod rows;
 #[cfg(test)]
 mod shares;
+#[cfg(test)]
+mod words;

@@ -3,7 +3,6 @@ use Rattle.share_core.proofs.Common.{get_or_default, err_from_is_err_and}
 use Rattle.probe_core.specs.declared.calls.Answer.TheVariants as answer
 use Rattle.share_core.proofs.Made.{gained_more, rowed_more, making_fault}
 use Rattle.share_core.proofs.making.make_all.Goals as goal
-use Rattle.share_core.proofs.making.make_all.Goals.{then-i-eq0+in_ok-reserve, else-i-eq0}
 
 pub returns-in_err-place-clause-fault : goal.returns-in_err-place-clause-fault
 returns-in_err-place-clause-fault c =
@@ -13,8 +12,8 @@ returns-in_err-place-clause-fault c =
     let inside : i < length answers = c.loop-i-test.true in
     let read = get_or_default meetings i c.index-meetings-i.result (record { shape = 0; there = 0; played = 0 })
     (omega (arith, inside, c.requires.length)) in
-    let p = err_from_is_err_and c.from_residual-in_err-place.result c.from_residual-in_err-place.ensures.1 in
-    rw (p.1, p.2, c.in_err-place.ensures.same) (making_fault meetings answers c.if-i-eq0.rows i _ c.in_err-place.field-0.0 inside
+    let p = err_from_is_err_and c.from_residual.result c.from_residual.ensures.1 in
+    rw (p.1, p.2, c.in_err-place.ensures.same) (making_fault meetings answers c.loop-i.rows i _ c.in_err-place.field-0.0 inside
     (get_or_default answers i answer.Absent (answer.Number 0) inside) (rw read at c.in_err-place.ensures.fault))
 
 pub returns-in_default-clause-gained : goal.returns-in_default-clause-gained
@@ -24,10 +23,8 @@ returns-in_default-clause-gained c =
     let inside : i < length answers = c.loop-i-test.true in
     let read = get_or_default c.args.meetings.now i c.index-meetings-i.result (record { shape = 0; there = 0; played = 0 })
     (omega (arith, inside, c.requires.length)) in
-    let same : c.if-i-eq0.rows ≡ c.loop-i.rows =
-    elim c.if-i-eq0.branch [ then-i-eq0+in_ok-reserve w ↦ w.rows-is ∙ w.reserve.ensures | else-i-eq0 w ↦ w.rows-is ] in
     gained_more c.loop-i.invariant.gained c.make_one.new.rows i c.in_ok-place.place _ inside
-    (get_or_default answers i answer.Absent (answer.Number 0) inside) (rw (read, same) at c.in_ok-place.ensures.ok)
+    (get_or_default answers i answer.Absent (answer.Number 0) inside) (rw read at c.in_ok-place.ensures.ok)
 
 pub loop-i-preserved : goal.loop-i-preserved
 loop-i-preserved c =
@@ -41,9 +38,7 @@ loop-i-preserved c =
     let read = get_or_default meetings i c.index-meetings-i.result (record { shape = 0; there = 0; played = 0 })
     (omega (arith, inside, c.requires.length)) in
     let is = get_or_default answers i answer.Absent (answer.Number 0) inside in
-    let same : c.if-i-eq0.rows ≡ c.loop-i.rows =
-    elim c.if-i-eq0.branch [ then-i-eq0+in_ok-reserve w ↦ w.rows-is ∙ w.reserve.ensures | else-i-eq0 w ↦ w.rows-is ] in
-    let made = rw (read, same) at c.in_ok-place.ensures.ok in
+    let made = rw read at c.in_ok-place.ensures.ok in
     let items = c.in-Ok.ensures.items in
     record {
       gained = gained_more inv.gained c.make_one.new.rows i place _ inside is made;

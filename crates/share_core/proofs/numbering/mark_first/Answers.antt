@@ -1,0 +1,17 @@
+use Rattle.std.proofs.Common.{◌∷◌, [], refl, sym, ◌∙◌}
+use Rattle.slot_table.specs.declared.entries.Happened.TheVariants as call
+use Rattle.share_core.specs.Inner.Numbering.{IsMarkOfFirst}
+use Rattle.share_core.proofs.Entered.{calls_through}
+use Rattle.share_core.proofs.numbering.mark_first.Goals as goal
+
+pub returns-then-not-early-clause-marks : goal.returns-then-not-early-clause-marks
+returns-then-not-early-clause-marks g c =
+    let n = c.args.table.now.slots in
+    let marks = IsMarkOfFirst c.args.number c.args.entry.now in
+    calls_through n (λ _ _. ⊥) marks c.args.pass.now c.first.new.pass c.mark.new.pass
+    (record { made = call.First c.args.number c.first.result ∷ []; later = c.first.ensures.later; only = (tt, tt) })
+    (record {
+      made = call.Marked c.args.number c.in-Some.game ∷ [];
+      later = c.mark.ensures.later;
+      only = ((refl, sym c.get.ensures ∙ c.in-Some.is), tt);
+    })
