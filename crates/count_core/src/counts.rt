@@ -42,26 +42,25 @@ fn counted_text<T: Threads + Wait + Sync, G: Gate>(
 
 /// Reads a collection and writes a text of the dictionary of its games; the answer is how many
 /// trees it has of each sort. The kinds of pattern that are counted are those of the settings:
-/// where diamonds are not counted, texts 2 and 3 say so, and text 1 is that of the squares. This
-/// thread reads, and as many workers as the settings say count. They number the patterns in one
-/// table of 2^k slots, or of fewer for a small input; the text is the same whatever the settings'
+/// where diamonds are not counted, texts 2 and 3 say so, and text 1 is that of the squares. As many
+/// workers as the settings say count, three where it is two. They number the patterns in one table
+/// of 2^k slots, or of fewer for a small input; the text is the same whatever the settings'
 /// workers. As many threads as there are workers, 4 at least and 16 at most, make it, in parts that
-/// are written one after another. It takes memory for the input, the table, and for each
-/// thread for the largest tree and its record, the board, and each pattern; and for the text.
+/// are written one after another. It takes memory for the input, the table, and for each thread for
+/// the largest tree and its record, the board, and each pattern; and for the text.
 ///
 /// The gate is for a test or a display of progress: it is told which worker is about to count which
-/// game, and is told so again where the patterns had no room in a small table. It changes no
-/// answer.
+/// game, and is told so again where a number was wanting. It changes no answer.
 ///
 /// # Errors
 ///
 /// `Read` where the reader failed; `Memory` where memory for the input was refused, `Harvest` with
-/// F6 where that for counting was or a thread was not started, `Dict` with X6 where that for the
-/// text was. Else `Harvest` with S4 where the collection has more than 2^28 bytes, else with its
-/// first fault of syntax (S1 to S3), else with F1 where it has more than 2^k patterns: which of
-/// these comes is determined by the input and the settings. Nothing is written then. `Write` where
-/// the writer failed: exactly that number of bytes of the text is out. F2 to F4, F8 and F9 never
-/// come.
+/// F6 where that for counting was, or where a thread was not started for the count that comes to
+/// F1, `Dict` with X6 where that for the text was. Else `Harvest` with S4 where the collection has
+/// more than 2^28 bytes, else with its first fault of syntax (S1 to S3), else with F1 where it has
+/// more than 2^k patterns: which of these comes is determined by the input and the settings.
+/// Nothing is written then. `Write` where the writer failed: exactly that number of bytes of the
+/// text is out. F2 to F4, F8 and F9 never come.
 pub fn run_count<T: Threads + Wait + Sync, G: Gate, R: Read, W: Write>(
     rt: &T,
     alloc: Global,

@@ -17,3 +17,4 @@ mod Parted
 mod Promised
 mod OwnTables
 mod Alone
+mod ByWords

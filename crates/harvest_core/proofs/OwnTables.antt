@@ -1,5 +1,5 @@
--- What was counted over a table of fewer slots was so over one of more, and so was each fault but that it was full.
-use Rattle.std.proofs.Common.{◌≡◌, ℕ, ◌<◌, ◌≤◌, List, [], ◌∷◌, length, slice_set, slice_index_or, Some, None, ◌∙◌, sym, inl, inr, arith}
+-- What was counted over a table of fewer slots was so over one of more, and why an input was not read is why it was not counted.
+use Rattle.std.proofs.Common.{◌≡◌, ℕ, ◌<◌, ◌≤◌, List, [], ◌∷◌, length, slice_set, slice_index_or, Option, Some, None, IfSome, ◌∙◌, sym, inl, inr, arith}
 use Rattle.std.proofs.lemmas.Bool.{cases_eq}
 use Rattle.std.proofs.lemmas.List.{get_or-set_other, length-set, get_or-replicate, length-replicate}
 use Rattle.std.proofs.lemmas.Grind.{get_or-set_at}
@@ -16,7 +16,7 @@ use Rattle.share_core.specs.declared.faults.HarvestFault.{HarvestFault}
 use Rattle.share_core.specs.declared.faults.HarvestFault.TheVariants as fault
 use Rattle.tally_core.specs.declared.collections.Counted.{Counted}
 use Rattle.harvest_core.specs.Harvest.{IsHarvest, IsHarvestRefused}
-use Rattle.harvest_core.specs.Inner.OwnTables.{IsOtherThanFull}
+use Rattle.harvest_core.specs.Inner.Reading.{IsReadFault}
 
 -- a table has at least the numbers of another, and at these the same keys
 record IsPart (few more : Table) : Type 0 where
@@ -81,14 +81,20 @@ harvest_of_more m n seen kinds bytes counted order harvest =
       few = omega (arith, few, order);
     }
 
-pub refused_of_more : (m n : ℕ) (bytes : List ℕ) (kinds : Kinds) (found : HarvestFault) → IsOtherThanFull found
-    → IsHarvestRefused m bytes kinds found → IsHarvestRefused n bytes kinds found
-refused_of_more m n bytes kinds (fault.Full game word) other refused = absurd other
-refused_of_more m n bytes kinds (fault.Missing game) other refused = refused
-refused_of_more m n bytes kinds (fault.Twice game) other refused = refused
-refused_of_more m n bytes kinds (fault.Stranger number of_share of_table) other refused = refused
-refused_of_more m n bytes kinds fault.BadSettings other refused = refused
-refused_of_more m n bytes kinds fault.Memory other refused = refused
-refused_of_more m n bytes kinds (fault.Sgf found) other refused = refused
-refused_of_more m n bytes kinds fault.Overflow other refused = refused
-refused_of_more m n bytes kinds (fault.Marks number of_shares of_table) other refused = refused
+pub some_of_more : (m n : ℕ) (kinds : Kinds) (bytes : List ℕ) (found : Option Counted) → m ≤ n
+    → IfSome found (λ (counted : Counted). (seen : List Happened) × IsHarvest m seen kinds bytes counted)
+    → IfSome found (λ (counted : Counted). (seen : List Happened) × IsHarvest n seen kinds bytes counted)
+some_of_more m n kinds bytes None order harvest = tt
+some_of_more m n kinds bytes (Some counted) order harvest = (harvest.0, harvest_of_more m n harvest.0 kinds bytes counted order harvest.1)
+
+-- why an input was not read is why it was not counted
+pub refused_reading : (n : ℕ) (bytes : List ℕ) (kinds : Kinds) (found : HarvestFault) → IsReadFault bytes found → IsHarvestRefused n bytes kinds found
+refused_reading n bytes kinds fault.Memory is = tt
+refused_reading n bytes kinds (fault.Sgf found) is = is
+refused_reading n bytes kinds (fault.Full game word) is = absurd is
+refused_reading n bytes kinds (fault.Missing game) is = absurd is
+refused_reading n bytes kinds (fault.Twice game) is = absurd is
+refused_reading n bytes kinds (fault.Stranger number of_share of_table) is = absurd is
+refused_reading n bytes kinds fault.BadSettings is = absurd is
+refused_reading n bytes kinds fault.Overflow is = absurd is
+refused_reading n bytes kinds (fault.Marks number of_shares of_table) is = absurd is

@@ -1,7 +1,7 @@
 -- What serves the contracts of private functions, and invariants: nothing here has to be believed.
+pub mod Counting
 pub mod Crew
 pub mod Harvest
-pub mod OwnTables
 pub mod Parted
 pub mod Reading
 pub mod Working

@@ -2,7 +2,8 @@
 
 /// What whoever counts a game calls before it. A gate changes no answer.
 pub trait Gate: Sync {
-    /// A worker is about to count a game. Workers are numbered from 1; 0 is the thread that reads.
+    /// A worker is about to count a game. Workers are numbered from 0; over a table of somebody
+    /// else's 0 is the thread that reads.
     fn at(&self, worker: usize, game: u64);
 }
 

@@ -64,7 +64,7 @@ fn explain<O: ProbeOrder>(
 }
 
 /// The dictionary of all shares, of an input that was read.
-fn count_of<R: Threads + Sync, O: ProbeOrder>(
+pub(crate) fn count_of<R: Threads + Sync, O: ProbeOrder>(
     rt: &R,
     alloc: Global,
     kinds: Kinds,

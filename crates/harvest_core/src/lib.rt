@@ -5,8 +5,11 @@
 //! those of all shares together. `Overflow` never comes: no count of an input is too large.
 #![tactic(auto)]
 
+mod by_words;
+mod counting;
 mod gates;
 mod harvesting;
+mod jobs_read;
 mod own_tables;
 mod parting;
 mod reading;

@@ -1,15 +1,14 @@
-//! A collection counted over tables of its own: by one worker in a map, and by several over a small
-//! table where the input is small.
+//! A collection counted over tables of its own: by one worker in a map, by several by words over a
+//! table that is likely large enough, and where it is not game by game over the largest.
 ghost use Rattle.std.specs.Prelude.{◌≡◌, ◌⊎◌, ◌^◌, ◌<◌, ◌≤◌, List, length, IfOk, IfErr, IfSome};
 ghost use Rattle.std.specs.Prelude.{IsErrAnd};
-ghost use Rattle.std.specs.Bool.{OnFalse};
 ghost use Rattle.sgf_core.specs.Limit.{most_bytes};
 ghost use Rattle.sgf_core.specs.declared.faults.SgfFault.TheVariants as sgf;
 ghost use Rattle.slot_table.specs.declared.entries.Happened.{Happened};
 ghost use Rattle.share_core.specs.declared.faults.HarvestFault.TheVariants as fault;
 ghost use Rattle.harvest_core.specs.Harvest.{IsHarvest, IsHarvestRefused};
-ghost use Rattle.harvest_core.specs.Inner.OwnTables.{IsOtherThanFull};
 
+use crate::by_words::count_by_words;
 use crate::gates::Gate;
 use crate::harvesting::{harvest_on, stakes_come_together};
 use probe_core::{Capacity, OddStep};
@@ -37,14 +36,8 @@ fn likely_exponent(bytes: usize, most: u32) -> u32
     (slots.ilog2() + 1).min(most)
 }
 
-/// Whether no number was free for a pattern.
-fn is_full(counted: &Result<Counted, HarvestFault>) -> bool
-    ensures { OnFalse result (IfErr counted.now IsOtherThanFull) }
-{
-    matches!(counted, Err(HarvestFault::Full { .. }))
-}
-
-/// The same as `harvest` over one new table, of 2^exponent slots.
+/// The same as `harvest`, game by game over one new table, of 2^exponent slots. A worker that was
+/// not started is want of memory.
 fn harvest_over<R: Threads + Wait + Sync, G: Gate>(
     rt: &R,
     alloc: Global,
@@ -93,23 +86,53 @@ fn count_alone<R: Threads + Sync>(
     Ok(Some(counted))
 }
 
-/// Counts a whole collection by several workers over a new table of 2^k slots, where the settings
-/// have the number of workers, the exponent k and the kinds of pattern. It is what `count_plain`
-/// answers, whatever the gate, the number of workers and their turns. This project's own.
+/// Counts a collection by words: by this thread alone in a map, or by several workers over a table
+/// that mostly has room for the patterns. None where a number was wanting, or where there are more
+/// patterns than a table of 2^k slots has numbers.
+fn count_likely<R: Threads + Sync, G: Gate>(
+    rt: &R,
+    alloc: Global,
+    settings: Settings,
+    bytes: &[u8],
+    gate: &G,
+) -> Result<Option<Counted>, HarvestFault>
+    ensures large { most_bytes < length bytes.now
+        → IfErr result (λ found. (found ≡ fault.Memory) ⊎ (found ≡ fault.Sgf sgf.TooLarge)) }
+    ensures harvest { IfOk result (λ found. IfSome found (λ counted. (seen : List Happened)
+        × IsHarvest (2 ^ settings.k) seen settings.kinds bytes.now counted)) }
+    ensures fault { IfErr result (IsHarvestRefused (2 ^ settings.k) bytes.now settings.kinds) }
+{
+    if settings.workers() == 1 {
+        return count_alone(rt, alloc, settings, bytes);
+    }
+    let likely = likely_exponent(bytes.len(), u32::from(settings.k()));
+    count_by_words(rt, alloc, settings, likely, bytes, gate)
+}
+
+/// Counts a whole collection by one worker or several, with at most 2^k patterns, where the
+/// settings have the number of workers, the exponent k and the kinds of pattern. It is what
+/// `count_plain` answers, whatever the gate, the number of workers and their turns. This project's
+/// own.
 ///
 /// One worker alone needs no table that threads share: this thread counts then, in a map, while
 /// another one walks games for it; threads sort what it has counted, and the gate is not asked.
-/// Several workers count a small input over a smaller table, which takes less time and memory.
-/// Where the map would have more than 2^k patterns, or the smaller table has no room for them, it
-/// is counted once more over a table of 2^k slots, and the gate is told of each game again. It
-/// takes memory for the table, and what `harvest_on` takes.
+/// Several workers, three at least and numbered from 0, each take one game after another that
+/// nobody has taken, and count it in a map of their own; the gate is told of each game. When none
+/// is left they give their patterns numbers in one table, which for a small input has fewer slots,
+/// and so takes less time and memory. A worker whose thread cannot be started works in another
+/// one's.
+///
+/// Where the one map has more than 2^k patterns, or a number was wanting in the table of several,
+/// all is counted once more by `harvest_on`, game by game over a table of 2^k slots, and the gate
+/// is told of each game again. It takes memory for the table, for the records of all games, for
+/// each worker for the patterns of its games, for the dictionary, and then what `harvest_on` takes.
 ///
 /// # Errors
 ///
-/// `Memory` where memory was refused or a worker was not started. Else the answer is determined by
-/// the input and the settings: `Sgf` with S4 where the input has more than 2^28 bytes, else with
-/// its first fault of syntax; else `Full` where it has more than 2^k patterns, with a game of it
-/// and one of that game's patterns. No other fault comes.
+/// `Memory` where memory was refused, or where a worker was not started to count once more. Else
+/// the answer is determined by the input and the settings: `Sgf` with S4 where the input has more
+/// than 2^28 bytes, else with its first fault of syntax; else `Full` where it has more than 2^k
+/// patterns, with a game of it and one of that game's patterns. No other fault comes.
 pub fn harvest<R: Threads + Wait + Sync, G: Gate>(
     rt: &R,
     alloc: Global,
@@ -123,16 +146,9 @@ pub fn harvest<R: Threads + Wait + Sync, G: Gate>(
         × IsHarvest (2 ^ settings.k) seen settings.kinds bytes.now counted) }
     ensures fault { IfErr result (IsHarvestRefused (2 ^ settings.k) bytes.now settings.kinds) }
 {
-    if settings.workers() == 1 {
-        if let Some(counted) = count_alone(rt, alloc, settings, bytes)? {
-            return Ok(counted);
-        }
+    if let Some(counted) = count_likely(rt, alloc, settings, bytes, gate)? {
+        return Ok(counted);
     }
     let most = u32::from(settings.k());
-    let likely = likely_exponent(bytes.len(), most);
-    let counted = harvest_over(rt, alloc, settings, likely, bytes, gate);
-    if likely < most && is_full(&counted) {
-        return harvest_over(rt, alloc, settings, most, bytes, gate);
-    }
-    counted
+    harvest_over(rt, alloc, settings, most, bytes, gate)
 }

@@ -1,0 +1,49 @@
+use Rattle.std.proofs.Common.{◌≡◌, ◌<◌, ◌≤◌, ◌+◌, sym, subst, ap, arith, length}
+use Rattle.std.specs.Prelude.{slice_index_or}
+use Rattle.sgf_core.specs.Limit.{most_bytes}
+use Rattle.go_record.specs.Actions.{Actions}
+use Rattle.game_core.specs.Games.{IsGameOf, WrittenGame}
+use Rattle.job_core.specs.Rising.{past}
+use Rattle.share_core.specs.Adding.{IsAdded}
+use Rattle.harvest_core.specs.Working.{IsGame}
+use Rattle.harvest_core.specs.Inner.Counting.{IsCountedByWords}
+use Rattle.harvest_core.proofs.ByWords.{counted_none, counted_more, past_added, all_added}
+use Rattle.harvest_core.proofs.counting.count_games.Goals as goal
+
+pub loop-init : goal.loop-init
+loop-init g c =
+    let crowd = c.args.crowd.now in
+    let none = ap (λ h. length h.games) c.begin-words.ensures.words in
+    record {
+      counted = subst (IsCountedByWords crowd.bytes.now crowd.kinds) (sym c.begin-words.ensures.words) (counted_none crowd.bytes.now c.args.worker crowd.kinds);
+      above = (let e = ap (λ h. past h.games) c.begin-words.ensures.words in omega (arith, e));
+      earlier = λ k d below. absurd (omega (arith, below, none));
+      small = λ k d below. absurd (omega (arith, below, none));
+    }
+
+pub loop-preserved : goal.loop-preserved
+loop-preserved g c =
+    let crowd = c.args.crowd.now in
+    let old = c.loop.words in
+    let new = c.add.new.self in
+    let h = c.loop.invariant in
+    let at = c.fetch_add-at.result in
+    let job : WrittenGame = slice_index_or crowd.jobs.now at c.index-crowd-at.result in
+    let here : job.bytes ≡ crowd.bytes.now = c.requires.jobs at c.index-crowd-at.result c.if-at-crowd.false in
+    let is : IsGame crowd.bytes.now job.game job.actions = record {
+      at = job.at;
+      end = job.end;
+      is_of = subst (λ bs. IsGameOf bs job.game job.at job.end job.actions) here c.record.ensures.game;
+    } in
+    let added : IsAdded job.game job.actions old new = subst (λ k. IsAdded k job.actions old new) c.game-in-loop-2.ensures.number
+    (subst (λ (a : Actions). IsAdded c.game-in-loop-2.result a old new) c.record.ensures.value c.in_ok-add.ensures.added) in
+    let number = c.game.ensures.number in
+    let later : c.loop.past ≤ job.game = omega (arith, number, c.if-game-past.false) in
+    let next : c.game-past.result + 1 ≡ job.game + 1 = ap (λ n. n + 1) c.game-past.ensures.number in
+    let few : job.game < most_bytes = c.record.ensures.few in
+    record {
+      counted = counted_more crowd.bytes.now crowd.kinds job.game job.actions old new is added h.counted (omega (arith, h.above, later));
+      above = past_added job.game job.actions old new added (omega (arith, next));
+      earlier = all_added (c.game-past.result + 1) c.loop.past job.game job.actions old new added (omega (arith, next, later)) (omega (arith, next)) h.earlier;
+      small = all_added most_bytes most_bytes job.game job.actions old new added (omega arith) few h.small;
+    }

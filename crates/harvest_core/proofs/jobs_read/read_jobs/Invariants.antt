@@ -1,0 +1,13 @@
+use Rattle.std.proofs.Common.{◌≡◌, ◌^◌, ◌-◌, All}
+use Rattle.game_core.specs.Games.{WrittenGame}
+use Rattle.harvest_core.proofs.jobs_read.read_jobs.Given as goal
+
+abbrev pub invariant-loop-jobs : goal.invariant-loop-jobs
+invariant-loop-jobs l = record {
+  bytes : l.games.bytes ≡ l.bytes;
+  jobs : All (λ (job : WrittenGame). job.bytes ≡ l.bytes) l.jobs.items;
+}
+
+-- each turn reads a game, and an input has at most 2 ^ 28 of them
+abbrev pub decreases-loop-jobs : goal.decreases-loop-jobs
+decreases-loop-jobs l = 2 ^ 28 - l.games.report.games
