@@ -16,7 +16,7 @@ use crate::counting::{Crowd, Hand, count_share};
 use crate::gates::Gate;
 use crate::harvesting::count_of;
 use crate::jobs_read::read_jobs;
-use probe_core::{Capacity, OddStep};
+use probe_core::{Capacity, OddRuns};
 use shape_core::Kinds;
 use share_core::{HarvestFault, Share};
 use slot_table::{Pass, SlotTable};
@@ -33,8 +33,8 @@ const LEAST_WORKERS: usize = 3;
 /// What this many workers begin with, numbered from 0.
 fn hands_of(
     alloc: Global,
-    table: &SlotTable<OddStep>,
-    pass: &mut Pass<OddStep>,
+    table: &SlotTable<OddRuns>,
+    pass: &mut Pass<OddRuns>,
     workers: usize,
 ) -> Result<Vec<Hand>, AllocError>
     requires { IsPassOf table.now pass.old }
@@ -100,7 +100,7 @@ fn all_shares(
 fn shares_by<R: Threads + Sync, G: Gate>(
     rt: &R,
     crowd: &Crowd<'_, '_, G>,
-    pass: &mut Pass<OddStep>,
+    pass: &mut Pass<OddRuns>,
 ) -> Result<Option<Vec<Share>>, HarvestFault>
     requires pass { IsPassOf crowd.now.table.now pass.old }
     requires jobs { All (λ job. job.bytes ≡ crowd.now.bytes.now) crowd.now.jobs.now }
@@ -120,8 +120,8 @@ fn dictionary_of<R: Threads + Sync>(
     rt: &R,
     alloc: Global,
     kinds: Kinds,
-    table: &SlotTable<OddStep>,
-    pass: &mut Pass<OddStep>,
+    table: &SlotTable<OddRuns>,
+    pass: &mut Pass<OddRuns>,
     report: Report,
     shares: &[Share],
 ) -> Result<Option<Counted>, HarvestFault>
@@ -175,7 +175,7 @@ pub(crate) fn count_by_words<R: Threads + Sync, G: Gate>(
     let (read, made) = thread::join(
         rt,
         || read_jobs(alloc, bytes),
-        || SlotTable::new(alloc, OddStep { capacity }),
+        || SlotTable::new(alloc, OddRuns { capacity }),
     );
     let (table, mut pass) = made?;
     let (jobs, report) = read?;

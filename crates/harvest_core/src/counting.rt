@@ -8,7 +8,7 @@ ghost use Rattle.harvest_core.specs.Inner.Counting.{IsCountedByWords};
 
 use crate::gates::Gate;
 use job_core::Job;
-use probe_core::OddStep;
+use probe_core::OddRuns;
 use shape_core::Kinds;
 use share_core::{HarvestFault, Share, WordShare};
 use slot_table::{Pass, SlotTable};
@@ -20,7 +20,7 @@ use std::sync::atomic::{AtomicU64, Ordering};
 pub(crate) struct Crowd<'c, 'a, G: Gate> {
     pub alloc: Global,
     /// The table that numbers the patterns.
-    pub table: &'c SlotTable<OddStep>,
+    pub table: &'c SlotTable<OddRuns>,
     /// Who is told before each game.
     pub gate: &'c G,
     /// The kinds of pattern that are counted.
@@ -39,7 +39,7 @@ pub(crate) struct Crowd<'c, 'a, G: Gate> {
 #[derive(Drop)]
 pub(crate) struct Hand {
     pub number: usize,
-    pub pass: Pass<OddStep>,
+    pub pass: Pass<OddRuns>,
 }
 
 /// As many patterns as games of this many bytes mostly have: 2.3 a byte for some thirty games, and

@@ -27,3 +27,7 @@ step_of k mixed = (mixed / 2 ^ 20) % 2 ^ k / 2 * 2 + 1
 -- place i of a key where each place is followed by the one a step further
 abbrev pub odd_place : ℕ → ℕ → ℕ → ℕ
 odd_place k key i = (start_of k (mixed_of key) + i * step_of k (mixed_of key)) % 2 ^ k
+
+-- place i of a key where runs of 16 places follow one another, each as many runs further than the one before as the key's step
+abbrev pub runs_place : ℕ → ℕ → ℕ → ℕ
+runs_place k key i = (start_of k (mixed_of key) + i % 16 + i / 16 * 16 * step_of k (mixed_of key)) % 2 ^ k

@@ -24,7 +24,7 @@ pub use laws::{
     keys_have_one_number, legal_histories_go_on, longer_histories_keep_numbers,
     steps_tell_of_the_key, words_are_of_what_they_show,
 };
-pub use orders::{Linear, OddStep, ProbeOrder};
+pub use orders::{Linear, OddRuns, OddStep, ProbeOrder};
 pub use probes::{Probe, Turn};
 pub use solo::SoloTable;
 pub use worlds::World;

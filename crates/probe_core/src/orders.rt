@@ -1,8 +1,8 @@
 //! Probe orders: for each key, in which order the places of a table are probed.
 ghost use Rattle.std.specs.Prelude.{◌≡◌, ℕ, ◌+◌, ◌-◌, ◌*◌, ◌/◌, ◌%◌, ◌^◌, ◌<◌, ◌≤◌};
 ghost use Rattle.probe_core.specs.Order.{IsOrder, mixed_of, start_of, linear_place, step_of};
-ghost use Rattle.probe_core.specs.Order.{odd_place};
-ghost use Rattle.probe_core.specs.Stepping.{linear_is_order, steps_are_order};
+ghost use Rattle.probe_core.specs.Order.{odd_place, runs_place};
+ghost use Rattle.probe_core.specs.Stepping.{linear_is_order, steps_are_order, runs_are_order};
 
 use crate::capacities::Capacity;
 use crate::keys::Key;
@@ -116,4 +116,40 @@ impl ProbeOrder for OddStep {
     }
 
     ghost is_order = { λ order key. steps_are_order order.capacity key };
+}
+
+/// How many places of a run follow one another.
+const RUN: usize = 16;
+
+/// The order that goes on to the next place within a run of 16 places, and from run to run by a
+/// step of the key's own, which is odd. This is the project's own.
+///
+/// Place i of a key is `(start + i mod 16 + (i / 16) * 16 * s) mod N` for N slots, where the start
+/// and the step s are those of `OddStep`. So a place is mostly in the line of memory of the one
+/// before it or in the next one, and where a table is nearly full a key leaves the places that
+/// others of its start have taken.
+#[derive(Clone, Copy, Debug, PartialEq, Eq)]
+pub struct OddRuns {
+    /// How many slots the table has.
+    pub capacity: Capacity,
+}
+
+impl ProbeOrder for OddRuns {
+    ghost exponent = { λ order. order.capacity };
+
+    ghost place_of = { λ order. runs_place order.capacity };
+
+    fn capacity(&self) -> Capacity {
+        let OddRuns { capacity } = *self;
+        capacity
+    }
+
+    fn place(&self, key: Key, i: usize) -> usize {
+        let slots = self.capacity.slots();
+        let mixed = mixed(key);
+        let step = odd_step(mixed, self.capacity);
+        (start(mixed, self.capacity) + i % RUN + i / RUN * RUN * step) & (slots - 1)
+    }
+
+    ghost is_order = { λ order key. runs_are_order order.capacity key };
 }
