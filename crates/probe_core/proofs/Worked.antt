@@ -1,6 +1,6 @@
--- The definitions at worked values: keys 1, 5 and 6, and 16, 2 and 1 slots.
+-- The definitions at worked values: keys 1, 5 and 6, and 64, 16, 2 and 1 slots.
 use Rattle.std.proofs.Common.{◌≡◌, refl}
-use Rattle.probe_core.specs.Order.{mixed_of, start_of, linear_place, step_of, odd_place}
+use Rattle.probe_core.specs.Order.{mixed_of, start_of, linear_place, step_of, odd_place, runs_place}
 
 one_is_mixed : mixed_of 1 ≡ 0x9e37_79b9_7f4a_7c15
 one_is_mixed = refl
@@ -37,3 +37,9 @@ one_ends_at_four = refl
 
 five_ends_at_ten : odd_place 4 5 15 ≡ 10
 five_ends_at_ten = refl
+
+five_runs_to_twenty : runs_place 6 5 15 ≡ 20
+five_runs_to_twenty = refl
+
+five_runs_on_from_53 : runs_place 6 5 16 ≡ 53
+five_runs_on_from_53 = refl

@@ -6,7 +6,7 @@ ghost use Rattle.job_core.specs.Rule.{worker};
 use crate::jobs::{put_until_full, puts_an_end};
 use harvest_core::{FreeGate, Returned, Worker, harvest, harvest_on, work};
 use job_core::{Desk, Games, new_queue};
-use probe_core::{Capacity, Linear, OddStep, ProbeOrder};
+use probe_core::{Capacity, Linear, OddRuns, OddStep, ProbeOrder};
 use sgf_core::SgfFault;
 use shape_core::{Kinds, Word};
 use shape_dict::{Dictionary, Text};
@@ -129,6 +129,8 @@ fn any_order_of_probes_counts_the_same(rt: HostRuntime) -> Result<(), Fail> {
         assert_20(&rt, alloc, &bytes, &odd)?;
         let linear = counted_on(&rt, alloc, Linear { capacity }, settings, &bytes)?;
         assert_20(&rt, alloc, &bytes, &linear)?;
+        let runs = counted_on(&rt, alloc, OddRuns { capacity }, settings, &bytes)?;
+        assert_20(&rt, alloc, &bytes, &runs)?;
     }
     Ok(())
 }

@@ -1,5 +1,7 @@
 //! Keys, orders and probes seen from outside, with values worked out by hand.
-use probe_core::{Answer, Call, Capacity, Key, Linear, OddStep, Probe, ProbeOrder, Turn, Want};
+use probe_core::{
+    Answer, Call, Capacity, Key, Linear, OddRuns, OddStep, Probe, ProbeOrder, Turn, Want,
+};
 use std::process::Abort;
 
 fn capacity_of(rt: &impl Abort, k: u32) -> Capacity {
@@ -90,6 +92,42 @@ fn linear_goes_on_from_these_starts(rt: HostRuntime) {
     assert_places(&rt, &one, 6, &[0]);
 }
 
+/// The places of the order are runs of 16 that begin at these, one after another.
+fn assert_runs<O: ProbeOrder>(rt: &impl Abort, order: &O, key: u64, firsts: &[usize]) {
+    let key = key_of_bits(rt, key);
+    let slots = order.capacity().slots();
+    assert_eq!(rt; slots, 64);
+    assert_eq!(rt; firsts.len(), 4);
+    for i in 0..slots {
+        assert_eq!(rt;
+            order.place(key, i),
+            firsts[i / 16].wrapping_add(i % 16) % 64
+        );
+    }
+}
+
+#[test]
+fn odd_runs_go_through_these_places(rt: HostRuntime) {
+    let many = OddRuns {
+        capacity: capacity_of(&rt, 6),
+    };
+    assert_runs(&rt, &many, 1, &[39, 55, 7, 23]);
+    assert_runs(&rt, &many, 5, &[5, 53, 37, 21]);
+    let sixteen = OddRuns {
+        capacity: capacity_of(&rt, 4),
+    };
+    assert_places(
+        &rt,
+        &sixteen,
+        5,
+        &[1, 2, 3, 4, 5, 6, 7, 8, 9, 10, 11, 12, 13, 14, 15, 0],
+    );
+    let one = OddRuns {
+        capacity: capacity_of(&rt, 0),
+    };
+    assert_places(&rt, &one, 6, &[0]);
+}
+
 /// What a call wants after its steps found these words, or what it answered.
 fn after<O: ProbeOrder>(order: &O, call: Call, words: &[u64]) -> Result<Want, Answer> {
     let mut probe = Probe::begin(order, call);
@@ -160,4 +198,8 @@ fn probes_decide_by_the_table(rt: HostRuntime) {
         capacity: capacity_of(&rt, 1),
     };
     assert_decisions(&rt, &odd);
+    let runs = OddRuns {
+        capacity: capacity_of(&rt, 1),
+    };
+    assert_decisions(&rt, &runs);
 }
