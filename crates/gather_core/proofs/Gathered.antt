@@ -1,6 +1,6 @@
 -- The dictionary of all shares is that of their games.
 use Rattle.std.proofs.Common.{◌≡◌, ℕ, ◌+◌, ◌<◌, ◌==◌, cond, List, [], ◌∷◌, ◌++◌, length, Some, refl, ap, ap₂, sym, subst, ◌∙◌, All, Contains, arith, Bool}
-use Rattle.gather_core.proofs.Common.{sum_by, slice_get, AllByRecursion, AllZip, map-append, All-head, All-tail, recursion_from_All, All-nil, All-append, sum_by-cons, sum_by-append, Kinds, Entry, Contents, IsDictionary, Replayed, kinds_of, there_in, played_in, there_sum, played_sum, first_game, counted_entry, IsDictionaryOf, counts_diamonds, Row, there_of, played_of, first_of, earlier, ArePlayedThere, Held, Added, replayed_of, first_in, IsShareOf, IsShare, all_games, Covers, all_rows, gathered_entry, all_moves, all_added, replayed_games, HaveGames, IsGathered, AreWithin, IsPermutation, IsNonDecreasingBy, AreEntriesBelow}
+use Rattle.gather_core.proofs.Common.{sum_by, slice_get, AllByRecursion, AllZip, map-append, All-head, All-tail, recursion_from_All, All-nil, All-append, sum_by-cons, sum_by-append, Kinds, Entry, Contents, IsDictionary, Replayed, kinds_of, there_in, played_in, there_sum, played_sum, first_game, counted_entry, IsDictionaryOf, counts_diamonds, Row, there_of, played_of, first_of, earlier, ArePlayedThere, Held, Added, replayed_of, first_in, IsShareOf, IsShare, all_games, Covers, all_rows, gathered_entry, all_moves, all_added, replayed_games, HaveGames, IsGathered, AreWithin, IsPermutation, IsNonDecreasingBy, AreEntriesOf}
 use Rattle.share_core.proofs.Added.{first_append, first_in_append}
 use Rattle.gather_core.proofs.Numbered.{numbers_of, AreBelow, sum_numbered, length-numbered, game_found, Contains-flat_map, first_numbered}
 use Rattle.tally_core.proofs.PlayedPatterns.{CanonicalStays, AroundStays}
@@ -111,9 +111,8 @@ games_each (share ∷ shares) of =
     let rest = games_each shares of.1 in
     (of.0.added ∷ rest.0, (of.0.is_of, rest.1))
 
-module _ (canonical : CanonicalStays) (around : AroundStays) (kinds : Kinds) (games slots : ℕ) (shares : List Held) (entries sorted : List Entry)
-    (listed : AreEntriesBelow (all_rows shares) slots entries) (same : IsPermutation entries sorted) (up : IsNonDecreasingBy (λ (e : Entry). e.shape) sorted)
-    (below : All (λ (row : Row). row.number < slots) (all_rows shares)) where
+module _ (canonical : CanonicalStays) (around : AroundStays) (kinds : Kinds) (games : ℕ) (shares : List Held) (entries sorted : List Entry)
+    (listed : AreEntriesOf (all_rows shares) entries) (same : IsPermutation entries sorted) (up : IsNonDecreasingBy (λ (e : Entry). e.shape) sorted) where
   dictionary_of : (addeds : List (List Added)) → HaveGames kinds games addeds shares →
       IsDictionary (record { games = games; moves = all_moves shares; entries = sorted; counts_diamonds = counts_diamonds kinds })
   dictionary_of addeds have =
@@ -121,9 +120,9 @@ module _ (canonical : CanonicalStays) (around : AroundStays) (kinds : Kinds) (ga
       subst (λ m. IsDictionary (record { games = games; moves = m; entries = sorted; counts_diamonds = counts_diamonds kinds })) (sym (moves_gathered kinds games addeds shares have))
       (subst (λ n. IsDictionary (record { games = n; moves = sum_by (λ (game : Replayed). length game.occasions) all; entries = sorted; counts_diamonds = counts_diamonds kinds }))
       (length-numbered games (all_added addeds))
-      (is_dictionary canonical around all sorted (sorted_rises (all_rows shares) slots entries sorted listed same up) kinds
-      (sorted_shapes (all_rows shares) slots entries sorted listed same)
-      (λ shape. sorted_entry (all_rows shares) slots entries sorted listed same below shape ∙ entry_gathered kinds games addeds shares have shape)
+      (is_dictionary canonical around all sorted (sorted_rises (all_rows shares) entries sorted listed same up) kinds
+      (sorted_shapes (all_rows shares) entries sorted listed same)
+      (λ shape. sorted_entry (all_rows shares) entries sorted listed same shape ∙ entry_gathered kinds games addeds shares have shape)
       (λ shape.
       let there = there_gathered kinds games addeds shares have shape in
       let played = played_gathered kinds games addeds shares have shape in
@@ -141,5 +140,5 @@ module _ (canonical : CanonicalStays) (around : AroundStays) (kinds : Kinds) (ga
         games_counted = refl;
         moves = moves_are;
         diamonds = diamonds_are;
-        entries = sorted_entry (all_rows shares) slots entries sorted listed same below;
+        entries = sorted_entry (all_rows shares) entries sorted listed same;
       }

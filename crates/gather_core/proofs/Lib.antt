@@ -6,9 +6,7 @@ pub mod Gathered
 pub mod Numbered
 pub mod Ordered
 mod Totalled
-mod Dealt
-mod Evened
-mod Pieced
+mod Summed
 mod Visits
 pub mod Confirmed
 mod SoughtRows

@@ -1,10 +1,10 @@
--- Rows of which one is of another pattern than was asked for, and the rows of one number, share by
--- share.
-use Rattle.std.proofs.Common.{◌≡◌, ℕ, ◌+◌, ◌<◌, List, [], ◌∷◌, ◌++◌, length, get_or, take, Option, Some, None, refl, ap, ◌∙◌, arith, append-nil, sym}
-use Rattle.gather_core.proofs.Common.{option_or, take_more, find-append, Row, row_of, AreOfNumbers, first_at, earlier, is_stranger, stranger_in, unlike_of, tail_numbers, AreSums, earlier_none, flat_map}
+-- Rows of which one is of another pattern than was asked for, and the rows of one number, share by share.
+use Rattle.std.proofs.Common.{◌≡◌, ℕ, ◌+◌, ◌<◌, List, [], ◌∷◌, ◌++◌, length, get_or, take, Option, Some, None, cond, Contains, refl, ap, ◌∙◌, arith, append-nil, sym}
+use Rattle.gather_core.proofs.Common.{option_or, take_more, find-append, Row, row_of, AreOfNumbers, first_at, earlier, is_stranger, stranger_in, unlike_of, is_some, nat_tests, row_at, Contains-append_left, Contains-append_right, Contains-push, AreSums, earlier_none, flat_map}
 use Rattle.std.proofs.lemmas.Grind.{flat_map-append}
 use Rattle.gather_core.specs.declared.numbers.NumberSums.{NumberSums}
-use Rattle.gather_core.proofs.Totalled.{no_others, first_none, first_one, first_more}
+use Rattle.gather_core.proofs.Totalled.{found_in, first_none, first_one, first_more}
+use Rattle.share_core.proofs.Indexed.{row_there}
 
 -- what lists give, and the next one
 pub flat_map_next : {X Y : Type 0} (f : X → List Y) (xs : List X) (i : ℕ) (x : X) → i < length xs → x ≡ get_or xs i x →
@@ -18,32 +18,38 @@ pub stranger_none : (rows : List Row) (number : ℕ) (found : Option ℕ) → ro
 stranger_none [] number found none = refl
 stranger_none (row ∷ rows) number found none = Prim.grind (arith, stranger_none rows number found)
 
--- what is asked of one row
-abbrev pub asked : Option Row → Option ℕ → Option ℕ
-asked None found = None
-asked (Some row) found = unlike_of row found
+-- where all rows of a number are of a pattern, no other one is found
+pub stranger_alike : (rows : List Row) (number shape : ℕ) (found : Option ℕ) → ((row : Row) → Contains rows row → row.number ≡ number → row.shape ≡ shape) →
+    stranger_in rows number found ≡ cond (is_some (row_of rows number)) (unlike_of shape found) None
+stranger_alike [] number shape found alike = refl
+stranger_alike (row ∷ rows) number shape found alike =
+    let here = alike row (Contains-append_left (row ∷ []) rows row (Contains-push [] row)) in
+    Prim.grind (arith, nat_tests, here, stranger_alike rows number shape found (λ r among. alike r (Contains-append_right (row ∷ []) rows r among)))
 
--- in rows of different numbers only the row of the number may be a stranger
-pub stranger_of_row : (rows : List Row) (number : ℕ) (found : Option ℕ) → AreOfNumbers rows → stranger_in rows number found ≡ asked (row_of rows number) found
-stranger_of_row [] number found h = refl
-stranger_of_row (row ∷ rows) number found h =
-    Prim.grind (arith, no_others row rows number h, stranger_none rows number found, stranger_of_row rows number found (tail_numbers row rows h))
+-- in rows of different numbers the rows of a number are one
+alike_one : (rows : List Row) (number : ℕ) (row : Row) → AreOfNumbers rows → row_of rows number ≡ Some row → (r : Row) → Contains rows r → r.number ≡ number → r.shape ≡ row.shape
+alike_one rows number row h is r among same =
+    let found = found_in rows number row is in
+    let here = row_there rows r among in
+    let there = row_there rows row found.0 in
+    let place = h among.0 found.0.0 among.1 found.0.1 (ap (λ (x : Row). x.number) here ∙ same ∙ sym (ap (λ (x : Row). x.number) there ∙ found.1)) in
+    ap (λ (x : Row). x.shape) (sym here ∙ ap (row_at rows) place ∙ there)
 
 pub stranger_append : (rows more : List Row) (number : ℕ) (found : Option ℕ) → stranger_in (rows ++ more) number found ≡ option_or (stranger_in rows number found) (stranger_in more number found)
 stranger_append rows more number found = Prim.grind (arith, find-append (is_stranger number found) rows more)
 
 -- a share has no row of the number
-pub sums_kept : (rows more : List Row) (number : ℕ) (found : Option ℕ) (sums : NumberSums) → AreOfNumbers more → row_of more number ≡ None → AreSums rows number found sums →
+pub sums_kept : (rows more : List Row) (number : ℕ) (found : Option ℕ) (sums : NumberSums) → row_of more number ≡ None → AreSums rows number found sums →
     AreSums (rows ++ more) number found sums
-sums_kept rows more number found sums numbers none h = record {
+sums_kept rows more number found sums none h = record {
   first = h.first ∙ Prim.grind (arith, first_more rows more number, first_none more number none, earlier_none (first_at rows number));
-  stranger = h.stranger ∙ Prim.grind (arith, stranger_append rows more number found, stranger_of_row more number found numbers);
+  stranger = h.stranger ∙ Prim.grind (arith, stranger_append rows more number found, stranger_none more number found none);
 }
 
 -- a share has a row of it
 pub sums_with : (rows more : List Row) (number : ℕ) (found : Option ℕ) (sums new : NumberSums) (row : Row) → AreOfNumbers more → row_of more number ≡ Some row → AreSums rows number found sums →
-    new.first ≡ earlier sums.first row.first → new.stranger ≡ option_or sums.stranger (unlike_of row found) → AreSums (rows ++ more) number found new
+    new.first ≡ earlier sums.first row.first → new.stranger ≡ option_or sums.stranger (unlike_of row.shape found) → AreSums (rows ++ more) number found new
 sums_with rows more number found sums new row numbers is h first stranger = record {
   first = Prim.grind (arith, first, h.first, first_more rows more number, first_one more number row numbers is);
-  stranger = Prim.grind (arith, stranger, h.stranger, stranger_append rows more number found, stranger_of_row more number found numbers);
+  stranger = Prim.grind (arith, stranger, h.stranger, stranger_append rows more number found, stranger_alike more number row.shape found (alike_one more number row numbers is));
 }

@@ -1,6 +1,6 @@
 -- A table and the rows of shares, number by number.
 use Rattle.std.proofs.Common.{◌≡◌, ℕ, ◌+◌, ◌<◌, ◌≤◌, IfSome, Contains, arith, false, List, [], ◌∷◌, ◌++◌, Option, Some, None, refl, ap, sym, subst, ◌∙◌, add-one, append-nil}
-use Rattle.gather_core.proofs.Common.{Result, Ok, Err, OnOk, is_some, Contains-append_left, Happened, Known, IsLater, Keeps, TellsAt, least_at, IsAtMost, later_through, Row, Differs, first_at, stranger_in, shape_at, IsStranger, AgreeBelow, AreVisited, IfSome_then, AsksOnly, calls_through, calls_seen}
+use Rattle.gather_core.proofs.Common.{is_some, Contains-append_left, Happened, Known, IsLater, Keeps, TellsAt, least_at, IsAtMost, later_through, Row, Differs, first_at, stranger_in, shape_at, IsStranger, StandBelow, AgreeBelow, AreVisited, IfSome_then, AsksOnly, calls_through, calls_seen}
 use Rattle.slot_table.specs.declared.entries.Happened.TheVariants as call
 use Rattle.slot_table.proofs.Leasts.{marked_games}
 use Rattle.gather_core.specs.Agreeing.{agreeing_firsts}
@@ -70,15 +70,15 @@ looked n rows high first old new (Some differs) later h =
     )
 
 -- ---- one number
-pub stranger_found : {O : Type 0} {n : ℕ} {rows : List Row} {number : ℕ} {first old look : Known O} {before : Option Differs} →
-    AreVisited n rows number first old before → IsLater n old [] look → (held : ℕ) (found of_table stranger : Option ℕ) →
+pub stranger_found : {O : Type 0} {n : ℕ} {rows : List Row} {number : ℕ} {old look : Known O} →
+    StandBelow n old.seen rows number → IsLater n old [] look → (held : ℕ) (found of_table stranger : Option ℕ) →
     found ≡ shape_at n look.seen number → of_table ≡ found → stranger ≡ Some held → stranger ≡ stranger_in rows number found →
     IsStranger n look.seen rows number (Some held) of_table
 stranger_found {rows = rows} {number = number} h later held found of_table stranger told same some is = record {
   first = sym some ∙ is ∙ ap (stranger_in rows number) (sym same);
   some = (held, refl);
   table = same ∙ told;
-  least = λ row among low. later.keeps.numbers row.shape row.number (h.stand row among low);
+  least = λ row among low. later.keeps.numbers row.shape row.number (h row among low);
 }
 
 -- a number without a stranger. The look at it changes nothing of what is known of lesser numbers
@@ -93,8 +93,3 @@ visited_more {n = n} {rows = rows} {number = number} {first = first} {old = old}
       stand = λ row among low. keeps.numbers row.shape row.number (here row among low);
       agree = agree (looked n rows number first old look before later h.agree);
     }
-
--- what two clauses give where a call answers well
-pub both_ok : {T E : Type 0} {P Q R : Type 0} (r : Result T E) → (P → Q → R) → OnOk r P → OnOk r Q → OnOk r R
-both_ok (Ok x) f p q = f p q
-both_ok (Err e) f p q = tt

@@ -11,8 +11,9 @@ ghost use Rattle.gather_core.specs.GatherFaults.{IsGatherFault};
 use crate::adding_up::add_up;
 use crate::agreeing::marks_fault;
 use crate::covering::check_games;
-use crate::rounds::visit_all;
 use crate::standing::check_beyond;
+use crate::totals::Totals;
+use crate::visiting::visit_all;
 use probe_core::ProbeOrder;
 use shape_core::Kinds;
 use shape_dict::Dictionary;
@@ -25,10 +26,9 @@ use std::thread::Threads;
 /// pattern the sums of all rows, and the least game. A pattern that was never there is left out.
 ///
 /// Each number is asked once, in rising order, until one differs; what is marked after that is not
-/// judged. Nothing is entered or marked here. Where there are many patterns, threads add rows up,
-/// one fewer than there are shares and two at least, while this one asks and one more lists the
-/// entries. Then threads sort the dictionary: as many as there are shares, rounded up to a power of
-/// two, 64 at most. The answer is the same.
+/// judged. Nothing is entered or marked here. This thread adds up and asks. Then threads sort the
+/// dictionary: as many as there are shares, rounded up to a power of two, 64 at most. The answer is
+/// the same.
 ///
 /// The pass must be of the table, each share of these kinds, and each of its games below `games`.
 ///
@@ -62,10 +62,15 @@ pub fn gather<R: Threads + Sync, O: ProbeOrder>(
         (IsGatherFault table.now.slots games shares.now pass.old pass.new) }
 {
     check_games(alloc, games, shares)?;
-    let visited = visit_all(rt, alloc, table, pass, shares)?;
-    check_beyond(shares, table.capacity().slots())?;
-    if let Some(differs) = visited.differs {
+    let slots = table.capacity().slots();
+    let totals = Totals::of(alloc, slots, shares)?;
+    let differs = visit_all(table, pass, shares, &totals)?;
+    check_beyond(shares, &totals, slots)?;
+    if let Some(differs) = differs {
         return Err(marks_fault(differs));
     }
-    add_up(rt, kinds, games, visited.listed, shares)
+    let Some(totals) = totals else {
+        return Err(HarvestFault::Overflow);
+    };
+    add_up(rt, kinds, games, totals.into_entries(), shares)
 }

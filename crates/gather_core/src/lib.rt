@@ -8,19 +8,13 @@ mod covering;
 mod leasts;
 mod numbers;
 mod standing;
-
-// the sums of their rows
-mod blocks;
-mod dealing;
-mod pieces;
-mod rounds;
 mod visiting;
 
-// the entries of a dictionary
+// the dictionary of their rows
 mod adding_up;
 mod gathering;
 pub mod laws;
-mod listing;
+mod totals;
 
 pub use confirming::confirm_full;
 pub use gathering::gather;

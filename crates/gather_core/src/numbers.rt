@@ -6,7 +6,7 @@ ghost use Rattle.gather_core.specs.Checking.{all_rows};
 ghost use Rattle.gather_core.specs.Inner.Checking.{unlike_of};
 ghost use Rattle.gather_core.specs.Inner.Numbers.{none_summed, AreSums};
 
-use shape_core::Word;
+use shape_core::{Shape, Word};
 use share_core::{KeptRow, Share};
 
 /// What the rows of a number are together: the least of their games, and the pattern of the first
@@ -17,11 +17,11 @@ pub(crate) struct NumberSums {
     pub stranger: Option<Word>,
 }
 
-/// The pattern of a row, if it is another one than this.
-pub(crate) fn unlike(row: KeptRow, found: Option<u64>) -> Option<Word>
-    ensures { result ≡ unlike_of row found }
+/// A pattern, if it is another one than this.
+pub(crate) fn unlike(shape: Shape, found: Option<u64>) -> Option<Word>
+    ensures { result ≡ unlike_of shape found }
 {
-    let word = row.shape().word();
+    let word = shape.word();
     if found == Some(word.bits()) {
         None
     } else {
@@ -58,7 +58,7 @@ fn add(sums: NumberSums, row: KeptRow, found: Option<u64>) -> NumberSums
 {
     NumberSums {
         first: earlier(sums.first, row.first()),
-        stranger: sums.stranger.or(unlike(row, found)),
+        stranger: sums.stranger.or(unlike(row.shape(), found)),
     }
 }
 

@@ -1,11 +1,13 @@
 //! Rows of another pattern than the table has at their number, and rows of numbers that it does not
 //! have.
-ghost use Rattle.std.specs.Prelude.{◌≡◌, ◌^◌, ◌<◌, IfSome, OnOk, IfErr, IsTrue};
+ghost use Rattle.std.specs.Prelude.{◌≡◌, ◌^◌, ◌<◌, IfSome, OnOk, IfErr};
 ghost use Rattle.gather_core.specs.Checking.{all_rows};
 ghost use Rattle.gather_core.specs.Inner.Checking.{IsBeyondFault};
+ghost use Rattle.gather_core.specs.Inner.Summed.{AreTotals};
 ghost use Rattle.share_core.specs.Rows.{AreBelow};
 
 use crate::leasts::{Sought, least_of};
+use crate::totals::Totals;
 use probe_core::Key;
 use shape_core::Word;
 use share_core::{HarvestFault, Share};
@@ -32,26 +34,18 @@ pub(crate) fn word_of(bits: Option<u64>) -> Option<Word>
     }
 }
 
-/// Whether no share's rows go beyond a table of this many slots: then no row does. It reads no
-/// row.
-fn are_within(shares: &[Share], slots: usize) -> bool
-    ensures { IsTrue result → AreBelow slots (all_rows shares.now) }
-{
-    for share in shares {
-        if share.end() > slots {
-            return false;
-        }
-    }
-    true
-}
-
 /// Rows of a number that is none of the table's are of no pattern there. Rows are looked at only
-/// where an index goes beyond the table, as that of a share of a larger one.
-pub(crate) fn check_beyond(shares: &[Share], slots: usize) -> Result<(), HarvestFault>
+/// where they have no totals: those that have are all of the table's numbers.
+pub(crate) fn check_beyond(
+    shares: &[Share],
+    totals: &Option<Totals>,
+    slots: usize,
+) -> Result<(), HarvestFault>
+    requires { AreTotals slots (all_rows shares.now) totals.now }
     ensures ok { OnOk result (AreBelow slots (all_rows shares.now)) }
     ensures fault { IfErr result (IsBeyondFault slots (all_rows shares.now)) }
 {
-    if are_within(shares, slots) {
+    if totals.is_some() {
         return Ok(());
     }
     match least_of(shares, Sought::From(slots)) {

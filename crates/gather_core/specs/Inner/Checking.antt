@@ -11,9 +11,9 @@ abbrev pub IsStandFault : ℕ → List Happened → List Row → HarvestFault �
 IsStandFault n seen rows (fault.Stranger number of_share of_table) = IsStranger n seen rows number of_share of_table
 IsStandFault n seen rows found = ⊥
 
--- the pattern of a row, if it is another one than this
-abbrev pub unlike_of : Row → Option ℕ → Option ℕ
-unlike_of row found = if is_shape found row.shape then None else Some row.shape
+-- a pattern, if it is another one than this
+abbrev pub unlike_of : ℕ → Option ℕ → Option ℕ
+unlike_of shape found = if is_shape found shape then None else Some shape
 
 -- a row is of a number that a table of n does not have, and no other one is of a lesser such number
 abbrev pub IsBeyondFault : ℕ → List Row → HarvestFault → Type 0

@@ -1,9 +1,10 @@
 -- The rows of one number, those of all shares together, and the entries of a dictionary that they give.
-use Rattle.std.specs.Prelude.{◌≡◌, ℕ, ◌^◌, ◌<◌, ◌≤◌, ◌==◌, ◌⊎◌, nat_lt, if◌then◌else◌, List, [], ◌∷◌, map, sum_by, count_by, Option, Some, None, All, Contains}
+use Rattle.std.specs.Prelude.{◌≡◌, ◌≢◌, ℕ, zero, suc, ◌+◌, ◌^◌, ◌<◌, ◌≤◌, ◌==◌, ◌⊎◌, if◌then◌else◌, List, length, sum_by, Option, Some, None, All, Contains, slice_get, slice_index}
+use Rattle.std.specs.List.{AllPairs}
 use Rattle.shape_dict.specs.declared.entries.Entry.{Entry}
 use Rattle.tally_core.specs.Entries.{IsShape}
 use Rattle.share_core.specs.declared.rows.Row.{Row}
-use Rattle.share_core.specs.Rows.{row_of, first_at, there_of}
+use Rattle.share_core.specs.Rows.{AreBelow, earlier, row_of, first_at, there_of}
 use Rattle.gather_core.specs.Gathering.{gathered_entry}
 
 -- ---- one number
@@ -15,53 +16,62 @@ there_at rows number = sum_by (λ row. if row.number == number then row.there el
 abbrev pub played_at : List Row → ℕ → ℕ
 played_at rows number = sum_by (λ row. if row.number == number then row.played else 0) rows
 
--- a row has the sums of all rows of a number, and the pattern of the first of them
-pub record IsTotal (rows : List Row) (number : ℕ) (total : Row) : Type 0 where
-  pub first_row : Row
-  pub found : row_of rows number ≡ Some first_row
-  pub shape : total.shape ≡ first_row.shape
+-- an entry, if it is given, with what a row of its pattern counts besides
+abbrev pub with_row : Option Entry → Row → Entry
+with_row None row = record { shape = row.shape; there = row.there; played = row.played; first = row.first }
+with_row (Some total) row = record total { there = total.there + row.there; played = total.played + row.played; first = earlier total.first row.first }
+
+-- a number has rows, all of the pattern of an entry, which has their sums
+pub record IsTotal (rows : List Row) (number : ℕ) (total : Entry) : Type 0 where
+  pub one : Row
+  pub among : Contains rows one
+  pub numbered : one.number ≡ number
+  pub alike : (row : Row) → Contains rows row → row.number ≡ number → row.shape ≡ total.shape
   pub there : total.there ≡ there_at rows number
   pub played : total.played ≡ played_at rows number
   pub first : total.first ≡ first_at rows number
 
 -- what all rows of a number are together: none where it has no row
-abbrev pub IsTotalAt : List Row → ℕ → Option Row → Type 0
+abbrev pub IsTotalAt : List Row → ℕ → Option Entry → Type 0
 IsTotalAt rows number None = row_of rows number ≡ None
 IsTotalAt rows number (Some total) = IsTotal rows number total
+
+-- ---- rows that have no totals
+-- a row is of another pattern than a total, or a sum of both is 2 ^ 64 or more
+abbrev pub IsUnlike : Entry → Row → Type 0
+IsUnlike total row = (total.shape ≢ row.shape) ⊎ ((2 ^ 64 ≤ total.there + row.there) ⊎ (2 ^ 64 ≤ total.played + row.played))
 
 -- one of the sums of a number is 2 ^ 64 or more
 abbrev pub IsLargeAt : List Row → ℕ → Type 0
 IsLargeAt rows number = (2 ^ 64 ≤ there_at rows number) ⊎ (2 ^ 64 ≤ played_at rows number)
 
--- ---- entries
--- the entry of a row that counts something
-abbrev pub entries_of_row : Row → List Entry
-entries_of_row row =
-    if nat_lt 0 row.there
-    then record { shape = row.shape; there = row.there; played = row.played; first = row.first } ∷ []
-    else []
+-- the rows of each number are of one pattern
+abbrev pub AreAlike : List Row → Type 0
+AreAlike rows = (one other : Row) → Contains rows one → Contains rows other → one.number ≡ other.number → one.shape ≡ other.shape
 
--- the entry of a row, if it is given and counts something
-abbrev pub entries_of_total : Option Row → List Entry
-entries_of_total None = []
-entries_of_total (Some row) = entries_of_row row
+-- a row is of a number that a table of this many does not have, or of another pattern than one of its number, or a sum is too
+-- large
+abbrev pub IsOdd : ℕ → List Row → Type 0
+IsOdd slots rows = AreBelow slots rows → AreAlike rows → (number : ℕ) × IsLargeAt rows number
 
--- how many entries are of a pattern
-abbrev pub entries_with : List Entry → ℕ → ℕ
-entries_with entries shape = count_by (λ s. shape == s) (map (λ entry. entry.shape) entries)
+-- ---- numbers with their entries
+-- the entry of which this is one more than the place
+abbrev pub entry_below : List Entry → ℕ → Option Entry
+entry_below entries zero = None
+entry_below entries (suc place) = slice_get entries place
 
--- the pattern of an entry has a row of a number below this one
-abbrev pub IsOfRow : List Row → ℕ → Entry → Type 0
-IsOfRow rows high entry = (row : Row) × Contains rows row × (row.number < high) × (row.shape ≡ entry.shape)
+-- rows of numbers below `slots` were added up: the index has for each number one more than the place of its entry
+pub record IsSummed (slots : ℕ) (rows : List Row) (index : List ℕ) (entries : List Entry) : Type 0 where
+  pub long : length index ≡ slots
+  pub apart : (one other : ℕ) → 0 < slice_index index one → slice_index index one ≡ slice_index index other → one ≡ other
+  pub each : (place : ℕ) → place < length entries → (number : ℕ) × (slice_index index number ≡ place + 1)
+  pub totals : (number : ℕ) → IsTotalAt rows number (entry_below entries (slice_index index number))
+  pub shapes : All IsShape entries
 
--- the entries are what rows count, one for each pattern that was there and has a row of a number below this one
-pub record AreEntriesBelow (rows : List Row) (high : ℕ) (entries : List Entry) : Type 0 where
+-- ---- entries of a dictionary
+-- the entries are what rows count, one for each pattern that was there
+pub record AreEntriesOf (rows : List Row) (entries : List Entry) : Type 0 where
   pub each : All (λ entry. gathered_entry rows entry.shape ≡ Some entry) entries
   pub shapes : All IsShape entries
-  pub of_rows : All (IsOfRow rows high) entries
-  pub every : (row : Row) → Contains rows row → row.number < high → 0 < there_of rows row.shape → 1 ≤ entries_with entries row.shape
-  pub once : (shape : ℕ) → entries_with entries shape ≤ 1
-
--- the entries are what rows count, one for each pattern that was there
-abbrev pub AreEntriesOf : List Row → List Entry → Type 0
-AreEntriesOf rows entries = (high : ℕ) × AreEntriesBelow rows high entries × All (λ row. row.number < high) rows
+  pub every : (shape : ℕ) → 0 < there_of rows shape → (entry : Entry) × Contains entries entry × (entry.shape ≡ shape)
+  pub apart : AllPairs (λ one other. one.shape ≢ other.shape) entries

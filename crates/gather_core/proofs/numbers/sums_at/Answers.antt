@@ -15,5 +15,5 @@ loop-share-preserved c =
       | in-Some w ↦
           rw w.sums-is (w.add-sums.ensures before share.rows c.args.number c.kept_at.ensures.numbers (sym w.in-Some.ensures.row) c.loop-share.invariant)
       | in_default w ↦
-          rw w.sums-is (sums_kept before share.rows c.args.number c.args.found c.loop-share.sums c.kept_at.ensures.numbers (sym w.in_default.ensures.row) c.loop-share.invariant)
+          rw w.sums-is (sums_kept before share.rows c.args.number c.args.found c.loop-share.sums (sym w.in_default.ensures.row) c.loop-share.invariant)
     ])
