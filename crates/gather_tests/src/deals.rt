@@ -73,7 +73,7 @@ fn share_of<O: ProbeOrder>(
     ensures games { IfOk result (λ share. All (λ game. game < length records.now) share.games) }
 {
     // A share among 16 or 32 workers has a smaller index, with chains.
-    let mut share = Share::begin_among(alloc, turn, turn.saturating_mul(16), Kinds::Both);
+    let mut share = Share::begin(alloc, turn, Kinds::Both);
     for step in 0..records.len() {
         let game = if turn % 2 == 0 {
             step

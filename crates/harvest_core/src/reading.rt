@@ -156,7 +156,7 @@ pub(crate) fn read_games<'q, 'a, 't, R: Wait, O: ProbeOrder, G: Gate>(
 {
     let mut games = games;
     let mut own = own;
-    let mut worked = Worked::begin_among(alloc, 0, workers, own.kinds);
+    let mut worked = Worked::begin(alloc, 0, own.kinds);
     let outcome = read_all(rt, alloc, &mut games, &mut own, &mut worked);
     close(rt, &mut own.desk, workers);
     Reading {

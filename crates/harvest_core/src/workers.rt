@@ -60,12 +60,12 @@ pub fn work<'q, 'a, R: Wait, O: ProbeOrder, G: Gate>(
         pass,
         gate,
         number,
-        workers,
         kinds,
+        ..
     } = worker;
     let mut desk = desk;
     let mut pass = pass;
-    let mut worked = Worked::begin_among(alloc, number, workers, kinds);
+    let mut worked = Worked::begin(alloc, number, kinds);
     for _ in rt.forever() {
         match desk.draw(rt) {
             Some(Item::Job(job)) => worked.count(table, &mut pass, gate, &job),

@@ -34,20 +34,8 @@ impl Worked {
         ensures worked { (bytes : List ℕ) → IsWorked bytes kinds result.share }
         ensures refused { result.refused ≡ None }
     {
-        Worked::begin_among(alloc, worker, 1, kinds)
-    }
-
-    /// The same, of one of this many workers.
-    pub(crate) fn begin_among(alloc: Global, worker: usize, workers: usize, kinds: Kinds) -> Worked
-        ensures worker { result.share.worker ≡ worker }
-        ensures kinds { result.share.kinds ≡ kinds }
-        ensures games { result.share.games ≡ [] }
-        ensures rows { result.share.rows ≡ [] }
-        ensures worked { (bytes : List ℕ) → IsWorked bytes kinds result.share }
-        ensures refused { result.refused ≡ None }
-    {
         Worked {
-            share: Share::begin_among(alloc, worker, workers, kinds),
+            share: Share::begin(alloc, worker, kinds),
             refused: None,
         }
     }

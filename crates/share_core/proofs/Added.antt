@@ -1,13 +1,13 @@
 -- Shares to which a game was added, or that refused it, and what a table has then.
 use Rattle.std.proofs.Common.{◌≡◌, ℕ, ◌+◌, ◌<◌, ◌==◌, cond, suc, List, [], ◌∷◌, ◌++◌, length, Some, None, refl, ap, ap₂, sym, ◌∙◌, arith, inl, inr, ⊎_elim, All}
-use Rattle.share_core.proofs.Common.{sum_by, slice_index, cases_eq, nat_tests, map-append, All-head, All-tail, Contains-get_or, sum_by_push, sum_by-cons, Actions, Kinds, Answer, IsNumber, Happened, content_of, Keeps, Known, Meeting, kinds_of, there_in, played_in, IsWalk, IsAmong, there_among, Row, Entered, HarvestFault, row_at, blank, first_of, earlier, numbered_of, weight_of, CallsOnly, EntersOnly, Held, Added, replayed_of, game_of, first_in, IsShareOf, IsShare, IsAdded, HasGrown, IsKept, IsMarked, IsAddFault, IsEntryOf, IsRowed, IsRowedAfter, IsMarkOf, HasFresh, AreEntered, AreMarked, MarksOnly, IsMarkAmong, AreNumbered, entered_at, game_met, meeting_at, AreRaised, AreRowsOf}
+use Rattle.share_core.proofs.Common.{sum_by, cases_eq, nat_tests, map-append, All-head, All-tail, Contains-get_or, sum_by_push, sum_by-cons, Actions, Kinds, Answer, IsNumber, Happened, content_of, Keeps, Known, Meeting, kinds_of, there_in, played_in, IsWalk, there_among, Row, HarvestFault, row_at, blank, first_of, earlier, numbered_of, weight_of, CallsOnly, EntersOnly, Held, Added, replayed_of, game_of, first_in, IsShareOf, IsShare, IsAdded, HasGrown, IsKept, IsMarked, IsAddFault, IsEntryOf, IsRowed, IsRowedAfter, IsMarkOf, HasFresh, IsPrepared, AreMarked, MarksOnly, IsMarkAmong, IsOf, answer_at, game_met, meeting_at, AreRaised}
 use Rattle.probe_core.specs.declared.calls.Answer.TheVariants as answer
 use Rattle.tally_core.specs.Occasions.{AreOccasions}
 use Rattle.share_core.specs.declared.faults.HarvestFault.TheVariants as fault
 use Rattle.share_core.specs.Inner.Ledgers.{Totals, CountsIn, IsCountFault}
-use Rattle.share_core.proofs.Raised.{numbered, earlier_none, earlier_assoc, same_shape, same_number, same_length}
+use Rattle.share_core.proofs.Raised.{numbered, earlier_none, earlier_assoc, has_row_stays}
 use Rattle.share_core.proofs.Made.{AreBlank, same_sum, met_pattern}
-use Rattle.share_core.proofs.Entered.{both_all, calls_through, calls_weaker}
+use Rattle.share_core.proofs.Entered.{both_all, calls_through, calls_weaker, told_at}
 
 -- ---- rows that count nothing
 first_none : (fresh : List Row) (shape : ℕ) → AreBlank fresh → first_of fresh shape ≡ None
@@ -128,12 +128,7 @@ met_at (m ∷ meetings) shape some =
 -- ---- rows that were raised are of the same numbers and patterns
 rowed_stays : (rows new : List Row) → numbered_of new ≡ numbered_of rows → (key : ℕ) (found : Answer) → IsRowed rows key found →
     IsRowed new key found
-rowed_stays rows new same key (answer.Number number) h = record {
-  place = h.place;
-  within = omega (arith, same_length new rows same, h.within);
-  number_is = same_number new rows h.place same ∙ h.number_is;
-  shape_is = same_shape new rows h.place same ∙ h.shape_is;
-}
+rowed_stays rows new same key (answer.Number number) h = has_row_stays rows new number key same h
 rowed_stays rows new same key _ h = tt
 
 rowed_after : (one : HarvestFault) (rows : List Row) (key : ℕ) (found : Answer) → IsRowed rows key found →
@@ -161,14 +156,10 @@ abbrev pub totals_of : Held → Totals
 totals_of held = record { games = held.games; moves = held.moves; rows = held.rows }
 
 -- it has rows besides, and is the same in all else
-pub prepared : (worker : ℕ) {n : ℕ} {seen : List Happened} {kinds other : Kinds} {actions : Actions} {old new : Totals} →
-    HasFresh n seen kinds actions old.rows new.rows → other ≡ kinds → new ≡ record old { rows = new.rows } →
-    IsKept n seen actions (held_as worker kinds old) (held_as worker other new)
-prepared worker h same_kinds same =
-    let games = ap (λ (t : Totals). t.games) same in
-    let moves = ap (λ (t : Totals). t.moves) same in
-    let rows = h.rows in
-    record { fresh = h.fresh; made = h.made; same = cc }
+pub prepared : (worker : ℕ) (totals : Totals) {n : ℕ} {seen : List Happened} {kinds other : Kinds} {actions : Actions}
+    {rows : List Row} → HasFresh n seen kinds actions totals.rows rows → other ≡ kinds →
+    IsKept n seen actions (held_as worker kinds totals) (held_as worker other (record totals { rows = rows }))
+prepared worker totals h same_kinds = let rows = h.rows in record { fresh = h.fresh; made = h.made; same = cc }
 
 module _ {n : ℕ} {seen : List Happened} {actions : Actions} {old mid : Held} (kept : IsKept n seen actions old mid) where
   none_counted : AreBlank kept.fresh
@@ -192,54 +183,37 @@ module _ {n : ℕ} {seen : List Happened} {actions : Actions} {old mid : Held} (
   count_fault game new _ walk h = absurd h
 
 -- ---- the game was walked, its patterns have numbers, and these have rows
-pub record IsReady (n : ℕ) (seen : List Happened) (game : ℕ) (kinds : Kinds) (actions : Actions) (meetings : List Meeting)
-    (entered : List Entered) (places : List ℕ) (rows : List Row) (moves : ℕ) : Type 0 where
-  pub walked : IsWalk kinds actions meetings moves
-  pub among : IsAmong meetings
-  pub each : AreEntered n seen game meetings entered
-  pub all : length entered ≡ length meetings
-  pub rows_are : AreRowsOf meetings places rows
-  pub numbered : AreNumbered entered places rows
-
 module _ {n game moves : ℕ} {seen : List Happened} {kinds : Kinds} {actions : Actions} {meetings : List Meeting}
-    {entered : List Entered} {places : List ℕ} {rows new : List Row}
-    (ready : IsReady n seen game kinds actions meetings entered places rows moves)
-    (raised : AreRaised meetings places game rows new) where
-  -- the number of the row of a meeting is that of its pattern
-  stands_at : (i : ℕ) → i < length meetings →
-      IsNumber (content_of n seen) (row_at new (slice_index places i)).shape (row_at new (slice_index places i)).number
-  stands_at i inside =
-      let here : i < length places = omega (arith, inside, ready.rows_are.each) in
-      let at = slice_index places i in
-      let shape = same_shape new rows at raised.numbered ∙ ready.rows_are.of_shape i here in
-      let number = same_number new rows at raised.numbered ∙ ready.numbered i here in
-      rw (shape, number) (ready.each i (omega (arith, inside, ready.all))).number
+    {answers : List Answer} {rows new : List Row} (ready : IsPrepared n seen kinds actions meetings answers rows moves)
+    (raised : AreRaised meetings meetings answers game rows new) where
+  -- a row of what was answered for a meeting is of the number of its pattern
+  stands_of : (i : ℕ) (row : Row) → i < length meetings → IsOf (answer_at answers i) (meeting_at meetings i).shape row →
+      IsNumber (content_of n seen) row.shape row.number
+  stands_of i row inside is_of =
+      rw is_of.1 (told_at n seen meetings answers i (answer.Number row.number) ready.told inside is_of.0).1
 
   -- a mark at a number that was entered is at that of a pattern of the game, and at that of its row
-  mark_of : {history : List Happened} → Keeps n seen history → (number marked : ℕ) → IsMarkAmong entered game number marked →
+  mark_of : {history : List Happened} → Keeps n seen history → (number marked : ℕ) → IsMarkAmong answers game number marked →
       IsMarkOf n history kinds actions new game number marked
   mark_of keeps number marked h =
       let i = h.1.0 in
-      let inside : i < length meetings = omega (arith, h.1.1, ready.all) in
-      let here : i < length places = omega (arith, inside, ready.rows_are.each) in
-      let at = slice_index places i in
-      let row = row_at new at in
-      let number_is : row.number ≡ number = same_number new rows at raised.numbered ∙ ready.numbered i here ∙ h.1.2 in
-      let shape_is = same_shape new rows at raised.numbered ∙ ready.rows_are.of_shape i here in
+      let inside : i < length meetings = omega (arith, h.1.1, ready.rowed.long) in
+      let begun = raised.begun i inside in
+      let row = row_at new begun.0 in
+      let number_is : row.number ≡ number = cc (begun.2.0, h.1.2) in
       record {
         game_is = h.0;
         row = row;
-        there = Contains-get_or new at (blank 0 0)
-            (omega (arith, same_length new rows raised.numbered, ready.rows_are.within i here));
+        there = Contains-get_or new begun.0 (blank 0 0) begun.1;
         number_is = number_is;
-        first = raised.begun i inside;
-        pattern = rw shape_is (met_pattern ready.walked i inside);
-        stands = keeps.numbers row.shape number (rw number_is at (stands_at i inside));
+        first = begun.3;
+        pattern = rw begun.2.1 (met_pattern ready.walked i inside);
+        stands = keeps.numbers row.shape number (rw number_is at (stands_of i row inside begun.2));
       }
 
   -- what was entered, and then marked
   pub calls_for : {O : Type 0} {first old last : Known O} → EntersOnly n (IsEntryOf kinds actions (IsRowed rows)) first old →
-      MarksOnly n (IsMarkAmong entered game) old last → Keeps n seen last.seen →
+      MarksOnly n (IsMarkAmong answers game) old last → Keeps n seen last.seen →
       CallsOnly n (IsEntryOf kinds actions (IsRowed new)) (IsMarkOf n last.seen kinds actions new game) first last
   calls_for {first = first} {old = old} {last = last} before after keeps =
       let enters = IsEntryOf kinds actions (IsRowed new) in
@@ -249,13 +223,13 @@ module _ {n game moves : ℕ} {seen : List Happened} {kinds : Kinds} {actions : 
       (λ key found entry.
       record { pattern = entry.pattern; has_row = rowed_stays rows new raised.numbered key found entry.has_row })
       (λ number marked none. absurd none) before)
-      (calls_weaker n (λ _ _. ⊥) enters (IsMarkAmong entered game) marks old last (λ key found none. absurd none)
+      (calls_weaker n (λ _ _. ⊥) enters (IsMarkAmong answers game) marks old last (λ key found none. absurd none)
       (mark_of keeps) after)
 
-module _ {n game moves : ℕ} {seen : List Happened} {actions : Actions} {meetings : List Meeting} {entered : List Entered}
-    {places : List ℕ} {old mid : Held} {after : Totals} (kept : IsKept n seen actions old mid)
-    (ready : IsReady n seen game old.kinds actions meetings entered places mid.rows moves)
-    (counts : CountsIn game moves meetings places (totals_of mid) after) where
+module _ {n game moves : ℕ} {seen : List Happened} {actions : Actions} {meetings : List Meeting} {answers : List Answer}
+    {old mid : Held} {after : Totals} (kept : IsKept n seen actions old mid)
+    (ready : IsPrepared n seen old.kinds actions meetings answers mid.rows moves)
+    (counts : CountsIn game moves meetings answers (totals_of mid) after) where
   pub counted : IsAdded game actions old (held_as mid.worker mid.kinds after)
   counted = record {
     occasions = ready.walked.occasions;
@@ -285,23 +259,24 @@ module _ {n game moves : ℕ} {seen : List Happened} {actions : Actions} {meetin
         (row.0, row.1, keeps.numbers (row_at kept.fresh k).shape (row_at kept.fresh k).number row.2);
     numbered = counts.rows.numbered ∙ ap numbered_of (rows_are kept)
         ∙ map-append numbered old.rows kept.fresh;
-    stands = λ place inside. ⊎_elim
-        (λ (met : (i : ℕ) × (i < length meetings) × (slice_index places i ≡ place)).
-        inr (keeps.numbers (row_at after.rows place).shape (row_at after.rows place).number
-        (rw met.2 at (stands_at ready counts.rows met.0 met.1))))
-        (λ (same : row_at after.rows place ≡ row_at mid.rows place).
-        inl (same ∙ ap (λ (rs : List Row). row_at rs place) (rows_are kept)))
+    stands = λ place inside.
+        let row = row_at after.rows place in
+        ⊎_elim
+        (λ (same : row ≡ row_at mid.rows place). inl (same ∙ ap (λ (rs : List Row). row_at rs place) (rows_are kept)))
+        (λ (met : (i : ℕ) × (i < length meetings) × IsOf (answer_at answers i) (meeting_at meetings i).shape row).
+        inr (keeps.numbers row.shape row.number (stands_of ready counts.rows met.0 row met.1 met.2)))
         (counts.rows.others place);
   }
 
-  pub marked : {history : List Happened} → Keeps n seen history → AreMarked history game entered →
+  pub marked : {history : List Happened} → Keeps n seen history → AreMarked history game answers (length answers) →
       IsMarked n history game actions old (held_as mid.worker mid.kinds after)
   unfolding counted
   marked keeps marks = (
     counted,
     λ shape some.
         let met = met_at meetings shape (omega (arith, some, ready.walked.there shape)) in
-        let low : met.0 < length entered = omega (arith, met.1, ready.all) in
-        let number = (entered_at entered met.0).number in
-        (number, keeps.numbers shape number (rw met.2 at (ready.each met.0 low).number), marks met.0 low),
+        let low : met.0 < length answers = omega (arith, met.1, ready.rowed.long) in
+        let row = ready.rowed.each met.0 low in
+        let told = told_at n seen meetings answers met.0 (answer.Number row.0) ready.told met.1 row.1 in
+        (row.0, keeps.numbers shape row.0 (rw met.2 at told.1), marks met.0 row.0 low row.1),
   )

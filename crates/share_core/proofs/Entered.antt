@@ -1,10 +1,10 @@
 -- Passes that enter patterns and mark games, one call after another.
 use Rattle.std.proofs.Common.{◌≡◌, ℕ, ◌<◌, ◌⊎◌, List, [], ◌∷◌, ◌++◌, length, subst, arith, inl, inr, ⊎_elim, Contains, refl, sym, ◌∙◌, slice_index}
-use Rattle.share_core.proofs.Common.{All-from_recursion, All-contains, All-weaker, recursion_from_All, Contains-append_cases, AllByRecursion, Answer, Happened, Keeps, IsLegal, Begins, content_of, AreTold, IsTold, IsFullBefore, IsAbsent, IsFull, shapes_of, length-map, get_or-map, Known, IsLater, calls_of, Entered, Meeting, meeting_at, answer_at, IsCall, CallsOnly, IsEntered}
+use Rattle.share_core.proofs.Common.{All-from_recursion, All-contains, All-weaker, recursion_from_All, Contains-append_cases, AllByRecursion, Answer, Happened, content_of, AreMade, entered, AreTold, IsTold, IsFullBefore, IsAbsent, IsFull, shapes_of, length-map, get_or-map, Known, IsLater, calls_of, Meeting, meeting_at, answer_at, AreNumbers, IsCall, CallsOnly, EntersOnly}
 use Rattle.probe_core.specs.declared.calls.Answer.TheVariants as answer
 use Rattle.probe_core.specs.declared.calls.Call.TheVariants as asked
 use Rattle.slot_table.specs.declared.entries.Happened.TheVariants as call
-use Rattle.slot_table.proofs.Lasting.{told_stays}
+use Rattle.slot_table.proofs.Entered.{all_made}
 use Rattle.slot_table.proofs.Later.{later_self, later_through}
 
 -- ---- which calls a pass made
@@ -56,13 +56,14 @@ calls_are n enters marks old new h e there =
     ⊎_elim inl (λ (since : Contains h.made e). inr (All-contains P h.made e (All-from_recursion P h.made h.only) since))
     (Contains-append_cases (calls_of old) h.made e (subst (λ (calls : List Happened). Contains calls e) h.later.calls there))
 
--- ---- what was entered stays so
-pub entered_kept : {n game shape : ℕ} {seen history : List Happened} {entered : Entered} → Keeps n seen history →
-    IsEntered n seen game shape entered → IsEntered n history game shape entered
-entered_kept {game = game} {shape = shape} {entered = entered} keeps h = record {
-  within = h.within;
-  number = keeps.numbers shape entered.number h.number;
-  marked = λ early. keeps.marks entered.number game (h.marked early);
+-- the calls of a batch enter its keys, each with its answer
+pub batch_enters : {O : Type 0} {n : ℕ} (enters : ℕ → Answer → Type 0) (keys : List ℕ) (answers : List Answer) {old new : Known O} →
+    AreMade n (entered keys answers) old new → ((i : ℕ) → i < length keys → enters (slice_index keys i) (answer_at answers i)) →
+    EntersOnly n enters old new
+batch_enters {n = n} enters keys answers {old = old} {new = new} made each = record {
+  made = made.made;
+  later = made.later;
+  only = all_made n (IsCall enters (λ _ _. ⊥)) keys answers old new made each;
 }
 
 -- ---- what was answered
@@ -82,16 +83,9 @@ pub told_at : (n : ℕ) (seen : List Happened) (meetings : List Meeting) (answer
 told_at n seen meetings answers i found told inside is =
     rw (← is, ← shape_at meetings i inside) (told i (omega (arith, length-map meetings (λ (m : Meeting). m.shape), inside)))
 
--- what was answered tells later too
-pub told_later : (n : ℕ) (seen history : List Happened) (keys : List ℕ) (answers : List Answer) → IsLegal n history →
-    Begins seen history → AreTold n seen keys answers → AreTold n history keys answers
-told_later n seen history keys answers legal begins told i inside = told_stays n seen history (slice_index keys i)
-    (answer_at answers i) legal begins (told i inside)
-
 -- the first answer that is no number tells that the key has none and that none is free
 pub tells_refused : (n : ℕ) (seen : List Happened) (key place : ℕ) (answers : List Answer) →
-    ((i : ℕ) → i < place → (number : ℕ) × (answer_at answers i ≡ answer.Number number)) →
-    (found : Answer) → ((k : ℕ) → found ≡ answer.Number k → ⊥) → (found ≡ answer.Absent → IsFullBefore answers place) →
+    AreNumbers answers place → (found : Answer) → ((k : ℕ) → found ≡ answer.Number k → ⊥) → (found ≡ answer.Absent → IsFullBefore answers place) →
     IsTold n seen key found → IsAbsent (content_of n seen) key × IsFull (content_of n seen)
 tells_refused n seen key place answers numbers (answer.Number number) none after told = absurd (none number refl)
 tells_refused n seen key place answers numbers answer.Full none after told = told

@@ -1,32 +1,19 @@
 -- Indexes of rows: what they say of the rows, and what stays when one is widened, and when a row
 -- is made or changed.
-use Rattle.std.proofs.Common.{◌≡◌, ℕ, zero, suc, ◌+◌, ◌*◌, ◌/◌, ◌%◌, ◌^◌, ◌<◌, ◌≤◌, true, List, [], ◌∷◌, ◌++◌, length, map, eqb, Option, Some, None, refl, ap, sym, ◌∙◌, arith, length-append, ⊎_elim, div-mul-le_self, div-one, mod-eq_of_lt, Contains}
-use Rattle.share_core.proofs.Common.{IsDistinct, list_any, cases_lt, nat_tests, length-set, get_or_past, get_or_push, get_or-map, length-map, get_or_default, Row, row_at, blank, AreOfNumbers, place_in, bucket_of, IsIn, IsLast, chained, chain_length, IsIndexed, HasNoRow}
+use Rattle.std.proofs.Common.{◌≡◌, ℕ, suc, ◌+◌, ◌*◌, ◌^◌, ◌<◌, ◌≤◌, true, List, [], ◌∷◌, ◌++◌, length, map, eqb, Option, Some, None, refl, ap, sym, ◌∙◌, arith, length-append, ⊎_elim, Contains}
+use Rattle.share_core.proofs.Common.{IsDistinct, list_any, cases_lt, nat_tests, length-set, get_or_past, get_or_push, get_or-map, length-map, get_or_default, Row, row_at, blank, AreOfNumbers, place_in, bucket_of, IsIn, IsLast, IsIndexed, HasNoRow}
 use Rattle.std.proofs.Math.ListN.{set, get_or-append}
-use Rattle.std.proofs.Math.Pow.{pow_mono}
-use Rattle.std.proofs.lemmas.Nat.{le-div, mul-le, pow_pos}
 use Rattle.std.proofs.lemmas.Map.Keys.{IsDistinct-from_apart}
 use Rattle.std.proofs.lemmas.Map.Steps.{length-le_from_distinct_below}
-use Rattle.share_core.specs.ShareRows.{IsLeastFrom}
+use Rattle.share_core.specs.Rows.{AreBelow}
 use Rattle.share_core.proofs.Places.{each_more, put_at}
-
--- ---- buckets
-pub bucket_rises : (shift low high : ℕ) → low ≤ high → bucket_of shift low ≤ bucket_of shift high
-bucket_rises shift low high h =
-    le-div (low / 2 ^ shift) high (2 ^ shift) (pow_pos shift) (omega (arith, h, div-mul-le_self low (2 ^ shift)))
-
--- the numbers of the buckets of an index
-pub shifted : (shift buckets : ℕ) → shift ≤ 8 → buckets ≤ 2 ^ 22 → (buckets * 2 ^ shift) % 2 ^ 64 ≡ buckets * 2 ^ shift
-shifted shift buckets narrow few =
-    let high : buckets * 2 ^ shift ≤ 2 ^ 22 * 2 ^ 8 = mul-le buckets (2 ^ shift) (2 ^ 22) (2 ^ 8) few (pow_mono narrow) in
-    mod-eq_of_lt (omega arith)
 
 -- ---- an index
 -- the bucket of each row is one of it
-bucket_within : {shift : ℕ} {index older : List (Option ℕ)} {rows : List Row} → IsIndexed shift index older rows → (place : ℕ) →
-    place < length rows → bucket_of shift (row_at rows place).number < length index
-bucket_within {shift = shift} {index = index} {rows = rows} h place low =
-    let bucket = bucket_of shift (row_at rows place).number in
+bucket_within : {index older : List (Option ℕ)} {rows : List Row} → IsIndexed index older rows → (place : ℕ) →
+    place < length rows → bucket_of (row_at rows place).number < length index
+bucket_within {index = index} {rows = rows} h place low =
+    let bucket = bucket_of (row_at rows place).number in
     ⊎_elim
     (λ (inside : bucket < length index). inside)
     (λ (over : length index ≤ bucket).
@@ -47,8 +34,7 @@ within [] n h q is = absurd cc
 within (row ∷ rows) n h q is =
     Prim.grind (arith, nat_tests, h 0 (omega arith), within rows n (λ place inside. h (suc place) (omega arith)) q)
 
-pub few_rows : {shift : ℕ} {index older : List (Option ℕ)} {rows : List Row} → IsIndexed shift index older rows →
-    length rows ≤ 2 ^ 22
+pub few_rows : {index older : List (Option ℕ)} {rows : List Row} → IsIndexed index older rows → length rows ≤ 2 ^ 22
 few_rows {rows = rows} h =
     let few = length-le_from_distinct_below (map (λ (row : Row). row.number) rows) (2 ^ 22) (distinct rows h.numbers)
     (within rows (2 ^ 22) h.small) in
@@ -67,76 +53,48 @@ pub step_beyond : (rows : List Row) (from low : ℕ) → HasNoRow rows low → A
 step_beyond rows from low none h row among high =
     omega (arith, h row among high, none among.0 among.1, ap (λ (r : Row). r.number) (row_there rows row among))
 
--- none is found at the end of an index
-pub no_row : {shift : ℕ} {index older : List (Option ℕ)} {rows : List Row} → IsIndexed shift index older rows → (from low : ℕ) →
-    length index * 2 ^ shift ≤ low → AreBeyond rows from low → IsLeastFrom from rows None
-no_row {shift = shift} {index = index} {rows = rows} indexed from low long h row among =
+-- all numbers are below those after the last bucket
+pub below_end : {index older : List (Option ℕ)} {rows : List Row} → IsIndexed index older rows → AreBelow (length index * 16) rows
+below_end {rows = rows} h row among =
     let number = ap (λ (r : Row). r.number) (row_there rows row among) in
-    let inside = bucket_within indexed among.0 among.1 in
-    let least = le-div (length index) (row_at rows among.0).number (2 ^ shift) (pow_pos shift) in
-    Prim.grind (arith, number, inside, least, long, h row among)
+    omega (arith, number, bucket_within h among.0 among.1)
 
 -- ---- the last row of a bucket
-in_others : (shift bucket : ℕ) (rows others : List Row) (low high : ℕ) (found : Option ℕ) → low ≤ high →
-    ((place : ℕ) → place < low → (row_at others place).number ≡ (row_at rows place).number) → IsIn shift bucket rows low found →
-    IsIn shift bucket others high found
-in_others shift bucket rows others low high None up same is = tt
-in_others shift bucket rows others low high (Some found) up same is =
-    ((let below : found < high = omega (arith, is.0, up) in below), ap (bucket_of shift) (same found is.0) ∙ is.1)
+in_others : (bucket : ℕ) (rows others : List Row) (low high : ℕ) (found : Option ℕ) → low ≤ high →
+    ((place : ℕ) → place < low → (row_at others place).number ≡ (row_at rows place).number) → IsIn bucket rows low found →
+    IsIn bucket others high found
+in_others bucket rows others low high None up same is = tt
+in_others bucket rows others low high (Some found) up same is =
+    ((let below : found < high = omega (arith, is.0, up) in below), ap bucket_of (same found is.0) ∙ is.1)
 
 -- it is the same among rows that have the same numbers, and then further ones of other buckets
-same_last : {shift bucket : ℕ} {rows : List Row} {low : ℕ} {found : Option ℕ} → IsLast shift bucket rows low found →
+same_last : {bucket : ℕ} {rows : List Row} {low : ℕ} {found : Option ℕ} → IsLast bucket rows low found →
     (others : List Row) (high : ℕ) → low ≤ high →
     ((place : ℕ) → place < low → (row_at others place).number ≡ (row_at rows place).number) →
-    ((place : ℕ) → low ≤ place → place < high → bucket_of shift (row_at others place).number ≡ bucket → ⊥) →
-    IsLast shift bucket others high found
-same_last {shift = shift} {bucket = bucket} {rows = rows} {low = low} {found = found} h others high up same none = record {
-  there = in_others shift bucket rows others low high found up same h.there;
+    ((place : ℕ) → low ≤ place → place < high → bucket_of (row_at others place).number ≡ bucket → ⊥) →
+    IsLast bucket others high found
+same_last {bucket = bucket} {rows = rows} {low = low} {found = found} h others high up same none = record {
+  there = in_others bucket rows others low high found up same h.there;
   last = λ place beyond inside is. ⊎_elim
-      (λ (before : place < low). h.last place beyond before (sym (ap (bucket_of shift) (same place before)) ∙ is))
+      (λ (before : place < low). h.last place beyond before (sym (ap bucket_of (same place before)) ∙ is))
       (λ (after : low ≤ place). none place after inside is)
       (cases_lt place low);
 }
 
 -- ---- an index that is widened
 -- an index that has the same for each bucket is one of the same rows
-pub widened : {shift : ℕ} {index older : List (Option ℕ)} {rows : List Row} → IsIndexed shift index older rows →
-    (wider : List (Option ℕ)) → ((bucket : ℕ) → place_in wider bucket ≡ place_in index bucket) → length wider ≤ 2 ^ 22 →
-    IsIndexed shift wider older rows
+pub widened : {index older : List (Option ℕ)} {rows : List Row} → IsIndexed index older rows → (wider : List (Option ℕ)) →
+    ((bucket : ℕ) → place_in wider bucket ≡ place_in index bucket) → length wider ≤ 2 ^ 22 → IsIndexed wider older rows
 widened h wider same few = record {
   last = λ bucket. rw (same bucket) (h.last bucket);
   before = h.before;
   level = h.level;
   numbers = h.numbers;
   small = h.small;
-  narrow = h.narrow;
   few = few;
 }
 
 -- ---- one row more
--- what is noted for the rows before
-old_chain : (shift : ℕ) (older : List (Option ℕ)) (last : Option ℕ) (long place : ℕ) → length older ≡ chain_length shift long →
-    place < long → place_in (chained shift older last) place ≡ place_in older place
-old_chain zero older last long place level low = refl
-old_chain (suc shift) older last long place level low = get_or-append older (last ∷ []) None place (omega arith)
-
--- and for the new one: where each bucket has one number, there was no row of its bucket
-new_chain : (shift number : ℕ) (older : List (Option ℕ)) (last : Option ℕ) (rows : List Row) →
-    length older ≡ chain_length shift (length rows) → HasNoRow rows number →
-    IsLast shift (bucket_of shift number) rows (length rows) last →
-    IsLast shift (bucket_of shift number) rows (length rows) (place_in (chained shift older last) (length rows))
-new_chain zero number older last rows level none h =
-    rw (get_or_past older (length rows) None (omega arith)) (record {
-      there = tt;
-      last = λ place low inside is. none place inside (sym (div-one (row_at rows place).number) ∙ is ∙ div-one number);
-    })
-new_chain (suc shift) number older last rows level none h = rw (get_or_push older last None (length rows) level) h
-
-new_level : (shift : ℕ) (older : List (Option ℕ)) (last : Option ℕ) (long : ℕ) → length older ≡ chain_length shift long →
-    length (chained shift older last) ≡ chain_length shift (long + 1)
-new_level zero older last long level = level
-new_level (suc shift) older last long level = omega (arith, length-append older (last ∷ []))
-
 new_numbers : (rows : List Row) (row : Row) → HasNoRow rows row.number → AreOfNumbers rows → AreOfNumbers (rows ++ row ∷ [])
 new_numbers rows row none h one other low high =
     each_more (λ i (r : Row). r.number ≡ (row_at (rows ++ row ∷ []) other).number → i ≡ other) rows row (blank 0 0)
@@ -146,46 +104,44 @@ new_numbers rows row none h one other low high =
     (λ j inside same. absurd (none j inside (sym same))) (λ _. refl) other high) one low
 
 -- a number that had no row gets one, at the end
-pub appended : {shift : ℕ} {index older : List (Option ℕ)} {rows : List Row} → IsIndexed shift index older rows → (row : Row) →
-    bucket_of shift row.number < length index → row.number < 2 ^ 22 → HasNoRow rows row.number →
-    IsIndexed shift (set index (bucket_of shift row.number) (Some (length rows)))
-    (chained shift older (place_in index (bucket_of shift row.number))) (rows ++ row ∷ [])
-appended {shift = shift} {index = index} {older = older} {rows = rows} h row within low none =
-    let bucket = bucket_of shift row.number in
-    let further = chained shift older (place_in index bucket) in
+pub appended : {index older : List (Option ℕ)} {rows : List Row} → IsIndexed index older rows → (row : Row) →
+    bucket_of row.number < length index → row.number < 2 ^ 22 → HasNoRow rows row.number →
+    IsIndexed (set index (bucket_of row.number) (Some (length rows)))
+    (older ++ place_in index (bucket_of row.number) ∷ []) (rows ++ row ∷ [])
+appended {index = index} {older = older} {rows = rows} h row within low none =
+    let bucket = bucket_of row.number in
+    let before = place_in index bucket in
     let all = rows ++ row ∷ [] in
     let longer : length all ≡ length rows + 1 = length-append rows (row ∷ []) in
     let old = λ (p : ℕ) (inside : p < length rows). ap (λ (r : Row). r.number)
     (get_or-append rows (row ∷ []) (blank 0 0) p inside) in
     let new = λ (p : ℕ) (at_end : length rows ≡ p). ap (λ (r : Row). r.number) (get_or_push rows row (blank 0 0) p at_end) in
     record {
-      last = λ asked. put_at (λ b found. IsLast shift b all (length all) found) index bucket (Some (length rows)) None within
+      last = λ asked. put_at (λ b found. IsLast b all (length all) found) index bucket (Some (length rows)) None within
           (record {
-            there = ((let l : length rows < length all = omega arith in l), ap (bucket_of shift) (new (length rows) refl));
+            there = ((let l : length rows < length all = omega arith in l), ap bucket_of (new (length rows) refl));
             last = λ place beyond inside _. absurd (omega arith);
           })
           asked
           (λ other. same_last (h.last asked) all (length all) (omega arith) old
-          (λ place after inside is. other (sym is ∙ ap (bucket_of shift) (new place (omega arith)))));
-      before = each_more (λ place (r : Row). IsLast shift (bucket_of shift r.number) all place (place_in further place))
+          (λ place after inside is. other (sym is ∙ ap bucket_of (new place (omega arith)))));
+      before = each_more (λ place (r : Row). IsLast (bucket_of r.number) all place (place_in (older ++ before ∷ []) place))
           rows row (blank 0 0)
-          (λ place inside. rw (old_chain shift older (place_in index bucket) (length rows) place h.level inside)
+          (λ place inside. rw (get_or-append older (before ∷ []) None place (omega (arith, h.level, inside)))
           (same_last (h.before place inside) all place (omega arith) (λ p below. old p (omega arith))
           (λ p up down _. absurd (omega arith))))
-          (same_last (new_chain shift row.number older (place_in index bucket) rows h.level none (h.last bucket)) all
-          (length rows) (omega arith) old
-          (λ p up down _. absurd (omega arith)));
-      level = new_level shift older (place_in index bucket) (length rows) h.level ∙ ap (chain_length shift) (sym longer);
+          (rw (get_or_push older before None (length rows) h.level)
+          (same_last (h.last bucket) all (length rows) (omega arith) old (λ p up down _. absurd (omega arith))));
+      level = omega (arith, length-append older (before ∷ []), longer, h.level);
       numbers = new_numbers rows row none h.numbers;
       small = each_more (λ _ (r : Row). r.number < 2 ^ 22) rows row (blank 0 0) h.small low;
-      narrow = h.narrow;
       few = omega (arith, length-set index bucket (Some (length rows)), h.few);
     }
 
 -- ---- a row that is changed
 -- a row that is put at the place of one of its number
-pub put : {shift : ℕ} {index older : List (Option ℕ)} {rows : List Row} → IsIndexed shift index older rows → (at : ℕ)
-    (row : Row) → at < length rows → row.number ≡ (row_at rows at).number → IsIndexed shift index older (set rows at row)
+pub put : {index older : List (Option ℕ)} {rows : List Row} → IsIndexed index older rows → (at : ℕ) (row : Row) →
+    at < length rows → row.number ≡ (row_at rows at).number → IsIndexed index older (set rows at row)
 put {rows = rows} h at row within number =
     let long : length (set rows at row) ≡ length rows = length-set rows at row in
     let same = λ (place : ℕ).
@@ -197,9 +153,8 @@ put {rows = rows} h at row within number =
       before = λ place inside. rw (same place)
           (same_last (h.before place (omega arith)) (set rows at row) place (omega arith) (λ p _. same p)
           (λ p up down _. absurd (omega arith)));
-      level = h.level ∙ ap (chain_length _) (sym long);
+      level = h.level ∙ sym long;
       numbers = λ one other low high equal. h.numbers one other (omega arith) (omega arith) (sym (same one) ∙ equal ∙ same other);
       small = λ place inside. omega (arith, h.small place (omega arith), same place);
-      narrow = h.narrow;
       few = h.few;
     }

@@ -8,5 +8,3 @@ mod Made
 pub mod Added
 pub mod WordRows
 pub mod Numbered
-pub mod NumberedShares
-pub mod EntryRows

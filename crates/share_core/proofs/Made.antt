@@ -1,13 +1,11 @@
 -- Rows that are made for the patterns of a game, for one number after another.
-use Rattle.std.proofs.Common.{◌≡◌, ℕ, ◌+◌, ◌<◌, List, [], ◌∷◌, ◌++◌, length, suc, Some, refl, ap, sym, ◌∙◌, arith, append_assoc, length-append, ⊎_elim, get_or, take, drop, length-take}
-use Rattle.share_core.proofs.Common.{slice_index, sum_by, append-nil, length-map, get_or-take, take-append-drop, drop_more, All-get_or, All-from_get_or, sum_by-cons, sum_by-append, Actions, Kinds, Answer, IsNumber, Happened, content_of, Known, entered, AreMade, AreTold, IsTold, Meeting, kinds_of, there_in, IsWalk, shapes_of, Row, HarvestFault, row_at, blank, weight_of, IsPatternOf, HasItsRow, IsPrepareFault, IsEntryOf, IsRowed, IsRowedAfter, IsCall, EntersOnly, AsksOnly, HasFresh, IsRefused, meeting_at, IsBelow, AreBelow, IsMade, IsMadeFor, IsRowAt, AreRowed, Gained, IsFaultFor, IsMakingFault, answer_at}
+use Rattle.std.proofs.Common.{◌≡◌, ℕ, ◌+◌, ◌<◌, ◌⊎◌, List, [], ◌∷◌, ◌++◌, length, suc, Some, refl, ap, sym, ◌∙◌, arith, append_assoc, length-append, ⊎_elim, take, drop, length-take}
+use Rattle.share_core.proofs.Common.{sum_by, length-map, get_or-take, take-append-drop, drop_more, All-get_or, All-from_get_or, sum_by-cons, sum_by-append, Actions, Kinds, Answer, IsNumber, Happened, content_of, Known, entered, AreMade, AreTold, AreEnteredUntil, IsTold, Meeting, kinds_of, there_in, IsWalk, shapes_of, Row, HarvestFault, row_at, blank, IsPatternOf, HasItsRow, IsPrepareFault, IsEntryOf, IsRowed, IsRowedAfter, EntersOnly, HasFresh, AreNumbers, IsFirstRefusal, meeting_at, IsBelow, AreBelow, IsBlankOf, IsRowFault, Gained, HaveRows, AreRowed, IsMakingFault, answer_at}
 use Rattle.std.proofs.Math.ListN.{get_or-append}
 use Rattle.probe_core.specs.declared.calls.Answer.TheVariants as answer
-use Rattle.slot_table.proofs.Entered.{all_made}
 use Rattle.share_core.specs.declared.faults.HarvestFault.TheVariants as fault
-use Rattle.share_core.specs.Making.{HasRow}
 use Rattle.share_core.proofs.Places.{each_more}
-use Rattle.share_core.proofs.Entered.{calls_through, calls_weaker, shape_at, told_at}
+use Rattle.share_core.proofs.Entered.{batch_enters, shape_at, told_at, tells_refused}
 
 -- ---- rows that count nothing
 abbrev pub AreBlank : List Row → Type 0
@@ -28,69 +26,41 @@ same_sum f zero rows fresh h = omega (arith, sum_by-append f rows fresh, light f
 is_blank : (row : Row) (number shape : ℕ) → row ≡ blank number shape → row ≡ blank row.number row.shape
 is_blank row number shape is = is ∙ ap (λ (r : Row). blank r.number r.shape) (sym is)
 
-pub same_weight : {meetings : List Meeting} {answers : List Answer} {old new : List Row} → Gained meetings answers old new →
-    weight_of new ≡ weight_of old
-same_weight {old = old} h =
-    ap weight_of h.rows
-    ∙ same_sum (λ (r : Row). r.there + r.played) (λ _ _. refl) old h.fresh (λ k inside. is_blank _ _ _ (h.each k inside).3)
-
 -- ---- one meeting more
 -- its row, where it got a number
 pub gained_more : {meetings : List Meeting} {answers : List Answer} {old rows : List Row} → Gained meetings answers old rows →
-    (new : List Row) (i place : ℕ) (found : Answer) → i < length answers → answer_at answers i ≡ found →
-    IsMadeFor found (meeting_at meetings i).shape place rows new → Gained meetings answers old new
-gained_more {meetings = meetings} {answers = answers} {old = old} h new i place (answer.Number number) inside answered made =
-    let row = blank number (meeting_at meetings i).shape in
-    ⊎_elim (λ same. rw same h)
-    (λ more. record {
-      fresh = h.fresh ++ row ∷ [];
-      rows = more ∙ ap (λ (rs : List Row). rs ++ row ∷ []) h.rows ∙ append_assoc old h.fresh (row ∷ []);
-      each = each_more (λ _ (r : Row). (j : ℕ) × (j < length answers) × (answer_at answers j ≡ answer.Number r.number)
-          × (r ≡ blank r.number (meeting_at meetings j).shape)) h.fresh row (blank 0 0) h.each (i, inside, answered, refl);
-    })
-    made.rows
-gained_more h new i place _ inside answered made = rw made h
-
--- no row was lost or changed
-extended : (found : Answer) (shape place : ℕ) (rows new : List Row) → IsMadeFor found shape place rows new →
-    (more : List Row) × (new ≡ rows ++ more)
-extended (answer.Number n) shape place rows new made =
-    ⊎_elim (λ (same : new ≡ rows). ([], same ∙ sym (append-nil rows))) (λ more. (blank n shape ∷ [], more)) made.rows
-extended _ shape place rows new made = ([], made ∙ sym (append-nil rows))
-
-stays_at : (rows more : List Row) (p number shape : ℕ) → IsRowAt rows p number shape → IsRowAt (rows ++ more) p number shape
-stays_at rows more p number shape h =
-    let same = get_or-append rows more (blank 0 0) p h.within in
+    (new : List Row) (i : ℕ) → i < length answers →
+    (new ≡ rows) ⊎ IsBlankOf (answer_at answers i) (meeting_at meetings i).shape rows new → Gained meetings answers old new
+gained_more {meetings = meetings} {answers = answers} {old = old} {rows = rows} h new i inside grown = ⊎_elim
+    (λ (same : new ≡ rows). rw same h)
+    (λ (more : IsBlankOf (answer_at answers i) (meeting_at meetings i).shape rows new).
+    let row = blank more.0 (meeting_at meetings i).shape in
     record {
+      fresh = h.fresh ++ row ∷ [];
+      rows = more.2 ∙ ap (λ (rs : List Row). rs ++ row ∷ []) h.rows ∙ append_assoc old h.fresh (row ∷ []);
+      each = each_more (λ _ (r : Row). (j : ℕ) × (j < length answers) × (answer_at answers j ≡ answer.Number r.number)
+          × (r ≡ blank r.number (meeting_at meetings j).shape)) h.fresh row (blank 0 0) h.each (i, inside, more.1, refl);
+    })
+    grown
+
+-- rows of numbers that were answered stay among more rows
+rowed_more : (rows more : List Row) (key : ℕ) (found : Answer) → IsRowed rows key found → IsRowed (rows ++ more) key found
+rowed_more rows more key (answer.Number number) h =
+    let same = get_or-append rows more (blank 0 0) h.place h.within in
+    record {
+      place = h.place;
       within = omega (arith, length-append rows more, h.within);
       number_is = ap (λ (r : Row). r.number) same ∙ h.number_is;
       shape_is = ap (λ (r : Row). r.shape) same ∙ h.shape_is;
     }
+rowed_more rows more key _ h = tt
 
--- the rows of the meetings so far, and of one more
-pub rowed_more : (meetings : List Meeting) (answers : List Answer) (places : List ℕ) (rows new : List Row) (place : ℕ)
-    (found : Answer) → answer_at answers (length places) ≡ found →
-    IsMadeFor found (meeting_at meetings (length places)).shape place rows new → AreRowed meetings answers places rows →
-    AreRowed meetings answers (places ++ place ∷ []) new
-rowed_more meetings answers places rows new place found answered made h j number inside =
-    let shape = (meeting_at meetings (length places)).shape in
-    let all = extended found shape place rows new made in
-    each_more (λ k p. answer_at answers k ≡ answer.Number number → IsRowAt new p number (meeting_at meetings k).shape)
-    places place 0
-    (λ k low is. rw all.1 (stays_at rows all.0 (slice_index places k) number (meeting_at meetings k).shape (h k number low is)))
-    (λ is.
-    let one : IsMade number shape place rows new = rw (sym answered ∙ is) at made in
-    record { within = one.within; number_is = one.number_is; shape_is = one.shape_is })
-    j inside
-
--- a fault at one number is one of them all
-pub making_fault : (meetings : List Meeting) (answers : List Answer) (rows : List Row) (i : ℕ) (found : Answer)
-    (one : HarvestFault) → i < length answers → answer_at answers i ≡ found →
-    IsFaultFor found (meeting_at meetings i).shape rows one → IsMakingFault meetings answers rows one
-making_fault meetings answers rows i (answer.Number number) fault.Memory inside answered h = tt
-making_fault meetings answers rows i (answer.Number number) (fault.Stranger at (Some held) (Some other)) inside answered h =
-    (i, inside, answered ∙ ap answer.Number (sym h.0), h.1, λ same. h.2 (same ∙ h.1), rw h.0 h.3)
-making_fault meetings answers rows i _ _ inside answered h = absurd h
+pub rowed_later : (found : Answer) (shape : ℕ) (rows new : List Row) → (new ≡ rows) ⊎ IsBlankOf found shape rows new →
+    (key : ℕ) (other : Answer) → IsRowed rows key other → IsRowed new key other
+rowed_later found shape rows new grown key other h = ⊎_elim
+    (λ (same : new ≡ rows). rw same h)
+    (λ (more : IsBlankOf found shape rows new). rw more.2 (rowed_more rows (blank more.0 shape ∷ []) key other h))
+    grown
 
 -- ---- the meetings of a game
 -- what is met in a game is a pattern of it
@@ -117,11 +87,11 @@ answer_below n seen shape (answer.Number number) told = told.0
 answer_below n seen shape _ told = tt
 
 -- where some number got no row
-pub unrowed : (meetings : List Meeting) (answers : List Answer) (rows : List Row) (one : HarvestFault) →
-    IsMakingFault meetings answers rows one → (key : ℕ) (found : Answer) → IsRowedAfter one rows key found
-unrowed meetings answers rows fault.Memory h key found = tt
-unrowed meetings answers rows (fault.Stranger at (Some held) (Some other)) h key found = tt
-unrowed meetings answers rows _ h key found = absurd h
+pub unrowed : (found : Answer) (shape : ℕ) (rows : List Row) (one : HarvestFault) → IsRowFault found shape rows one →
+    (key : ℕ) (other : Answer) → IsRowedAfter one rows key other
+unrowed found shape rows fault.Memory h key other = tt
+unrowed found shape rows (fault.Stranger at (Some held) (Some pattern)) h key other = tt
+unrowed found shape rows _ h key other = absurd h
 
 module _ {n : ℕ} {seen : List Happened} {kinds : Kinds} {actions : Actions} {meetings : List Meeting} {answers : List Answer}
     {moves : ℕ} (h : AreAnswered n seen kinds actions meetings answers moves) where
@@ -131,6 +101,12 @@ module _ {n : ℕ} {seen : List Happened} {kinds : Kinds} {actions : Actions} {m
   number_at : (i number : ℕ) → i < length answers → answer_at answers i ≡ answer.Number number →
       IsNumber (content_of n seen) (meeting_at meetings i).shape number
   number_at i number low is = (told_at n seen meetings answers i (answer.Number number) h.told (omega (arith, low, h.long)) is).1
+
+  pub below_of : AreBelow n answers
+  below_of i low =
+      let found = answer_at answers i in
+      answer_below n seen (meeting_at meetings i).shape found
+      (told_at n seen meetings answers i found h.told (omega (arith, low, h.long)) refl)
 
   pub fresh_of : {old new : List Row} → Gained meetings answers old new → HasFresh n seen kinds actions old new
   fresh_of gained = record {
@@ -143,80 +119,61 @@ module _ {n : ℕ} {seen : List Happened} {kinds : Kinds} {actions : Actions} {m
         (is_blank _ _ _ made.3, rw shape (pattern_at made.0 made.1), rw shape (number_at made.0 row.number made.1 made.2));
   }
 
-  pub stranger_of : (game : ℕ) (rows : List Row) (found : HarvestFault) → IsMakingFault meetings answers rows found →
-      IsPrepareFault n seen game kinds actions rows found
-  stranger_of game rows fault.Memory fails = tt
-  stranger_of game rows (fault.Stranger at (Some held) (Some other)) fails =
-      (rw fails.3 (pattern_at fails.0 fails.1), rw fails.3 (number_at fails.0 at fails.1 fails.2), fails.4, fails.5)
-  stranger_of game rows _ fails = absurd fails
+  pub making_fault : (game : ℕ) (rows : List Row) (one : HarvestFault) → IsMakingFault meetings answers rows one →
+      IsPrepareFault n seen game kinds actions rows one
+  making_fault game rows fault.Memory fails = tt
+  making_fault game rows (fault.Stranger at (Some held) (Some other)) (i, low, (is, shape, differs, row)) =
+      (rw shape (pattern_at i low), rw shape (number_at i at low is), (λ same. differs (same ∙ shape)), row)
+  making_fault game rows _ fails = absurd fails.2
 
-  pub below_of : AreBelow n answers
-  below_of i low =
-      let found = answer_at answers i in
-      answer_below n seen (meeting_at meetings i).shape found
-      (told_at n seen meetings answers i found h.told (omega (arith, low, h.long)) refl)
+  -- where no number was free, the first pattern that got none is told
+  pub full_of : (game place : ℕ) {rows : List Row} → AreEnteredUntil answers (length meetings) →
+      HaveRows meetings answers (length answers) rows → IsFirstRefusal answers place →
+      IsPrepareFault n seen game kinds actions rows (fault.Full game (meeting_at meetings place).shape)
+  full_of game place {rows = rows} until have refused =
+      let shapes = shapes_of meetings in
+      let within : place < length meetings = omega (arith, refused.within, h.long) in
+      let tells = tells_refused n seen (meeting_at meetings place).shape place answers refused.before (answer_at answers place) refused.none
+      (until place within) (told_at n seen meetings answers place _ h.told within refl) in
+      let long : length shapes ≡ length meetings = length-map meetings (λ (m : Meeting). m.shape) in
+      let parts = sym (take-append-drop place shapes)
+      ∙ ap (λ rest. take place shapes ++ rest) (drop_more shapes place 0 (omega arith)) in (
+        refl,
+        pattern_at place refused.within,
+        tells.0,
+        tells.1,
+        record {
+          meetings = meetings;
+          moves = moves;
+          walked = h.walked;
+          before = take place shapes;
+          after = drop (place + 1) shapes;
+          in_walk = parts ∙ ap (λ s. take place shapes ++ s ∷ drop (place + 1) shapes) (shape_at meetings place within);
+          rowed = All-from_get_or (HasItsRow n seen rows) (take place shapes) 0 (λ i inside.
+              let before : i < place = omega (arith, inside, length-take place shapes) in
+              let low : i < length answers = omega (arith, before, refused.within) in
+              let number = refused.before i before in
+              rw (get_or-take place shapes i 0 before ∙ shape_at meetings i (omega (arith, low, h.long)))
+              (number.0, number_at i number.0 low number.1, rw number.1 at (have i low)));
+        },
+      )
 
-  -- ---- rows of the numbers that were answered
-  module _ (places : List ℕ) {rows : List Row} (as_many : length places ≡ length meetings)
-      (rowed : AreRowed meetings answers places rows) where
-    row_of_answered : (i number : ℕ) → i < length answers → answer_at answers i ≡ answer.Number number →
-        HasRow rows number (meeting_at meetings i).shape
-    row_of_answered i number low is =
-        let row = rowed i number (omega (arith, as_many, low, h.long)) is in
-        record { place = slice_index places i; within = row.within; number_is = row.number_is; shape_is = row.shape_is }
-
-    pub rowed_at : (i : ℕ) (found : Answer) → i < length answers → answer_at answers i ≡ found →
-        IsRowed rows (meeting_at meetings i).shape found
-    rowed_at i (answer.Number number) low is = row_of_answered i number low is
-    rowed_at i _ low is = tt
-
-    -- the pattern that was refused is the first
-    pub full_of : (game shape : ℕ) → IsRefused n seen meetings answers shape →
-        IsPrepareFault n seen game kinds actions rows (fault.Full game shape)
-    full_of game shape refused =
-        let k = refused.place in
-        let shapes = shapes_of meetings in
-        let long : length shapes ≡ length meetings = length-map meetings (λ (m : Meeting). m.shape) in
-        let within = refused.within in
-        let here : get_or shapes k 0 ≡ shape = shape_at meetings k within ∙ sym refused.shape_is in
-        let parts = sym (take-append-drop k shapes) ∙ ap (λ rest. take k shapes ++ rest) (drop_more shapes k 0 (omega arith)) in (
-          refl,
-          rw refused.shape_is (pattern_at k (omega (arith, within, h.long))),
-          refused.absent,
-          refused.full,
-          record {
-            meetings = meetings;
-            moves = moves;
-            walked = h.walked;
-            before = take k shapes;
-            after = drop (k + 1) shapes;
-            in_walk = parts ∙ ap (λ s. take k shapes ++ s ∷ drop (k + 1) shapes) here;
-            rowed = All-from_get_or (HasItsRow n seen rows) (take k shapes) 0 (λ i inside.
-                let low : i < length answers = omega (arith, inside, length-take k shapes, within, h.long) in
-                let before = refused.before i (omega (arith, inside, length-take k shapes)) in
-                rw (get_or-take k shapes i 0 (omega (arith, inside, length-take k shapes))
-                ∙ shape_at meetings i (omega (arith, low, h.long)))
-                (before.0, number_at i before.0 low before.1, row_of_answered i before.0 low before.1));
-          },
-        )
-
-  -- ---- what was entered is of the game
-  -- the calls of a batch enter the game's patterns alone, and of each with its answer that is true which is true of each meeting
-  pub entries_of : {O : Type 0} (rowed : ℕ → Answer → Type 0) {old between new : Known O} →
-      AreMade n (entered (shapes_of meetings) answers) old between → AsksOnly n between new →
+  -- the calls of the batch enter the game's patterns, each with its answer
+  pub entries_of : {O : Type 0} (rowed : ℕ → Answer → Type 0) {old new : Known O} →
+      AreMade n (entered (shapes_of meetings) answers) old new →
       ((i : ℕ) → i < length answers → rowed (meeting_at meetings i).shape (answer_at answers i)) →
       EntersOnly n (IsEntryOf kinds actions rowed) old new
-  entries_of rowed {old = old} {between = between} {new = new} made asks each =
-      let enters = IsEntryOf kinds actions rowed in
-      calls_through n enters (λ _ _. ⊥) old between new
-      (record {
-        made = made.made;
-        later = made.later;
-        only = all_made n (IsCall enters (λ _ _. ⊥)) (shapes_of meetings) answers old between made
-            (λ i inside.
-            let met : i < length meetings = omega (arith, inside, length-map meetings (λ (m : Meeting). m.shape)) in
-            let low : i < length answers = omega (arith, met, h.long) in
-            rw (shape_at meetings i met) (record { pattern = pattern_at i low; has_row = each i low }));
-      })
-      (calls_weaker n (λ _ _. ⊥) enters (λ _ _. ⊥) (λ _ _. ⊥) between new (λ key found none. absurd none)
-      (λ number game none. none) asks)
+  entries_of rowed made each = batch_enters (IsEntryOf kinds actions rowed) (shapes_of meetings) answers made (λ i inside.
+      let met : i < length meetings = omega (arith, inside, length-map meetings (λ (m : Meeting). m.shape)) in
+      let low : i < length answers = omega (arith, met, h.long) in
+      rw (shape_at meetings i met) (record { pattern = pattern_at i low; has_row = each i low }))
+
+-- all patterns of a game got numbers, and these have rows
+pub all_rowed : {meetings : List Meeting} {answers : List Answer} {rows : List Row} → length answers ≡ length meetings →
+    AreNumbers answers (length answers) → HaveRows meetings answers (length answers) rows → AreRowed meetings answers rows
+all_rowed long numbers have = record {
+  long = long;
+  each = λ i low.
+      let number = numbers i low in
+      (number.0, number.1, rw number.1 at (have i low));
+}

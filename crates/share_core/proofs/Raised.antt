@@ -1,6 +1,7 @@
 -- Rows to which a game's meetings are added, one after another.
-use Rattle.std.proofs.Common.{◌≡◌, ℕ, ◌+◌, ◌<◌, ◌^◌, ◌==◌, cond, zero, suc, List, [], ◌∷◌, ◌++◌, length, take, map, Option, Some, None, get_or, refl, ap, sym, ◌∙◌, arith, length-take, inl, inr, ⊎_elim, ◌⊎◌}
-use Rattle.share_core.proofs.Common.{slice_index, sum_by, sum_by-set, sum_by_more, sum_by_more_le, get_or-le-sum_by, take_more, get_or_default, map-set, set-get_or, length-map, Row, IsAtMost, Meeting, row_at, blank, first_of, earlier, Numbered, numbered_of, weight_of, weight_among, raised, game_met, AreRaised, AreRowsOf, IsAmongFirst}
+use Rattle.std.proofs.Common.{◌≡◌, ℕ, ◌+◌, ◌<◌, ◌==◌, cond, ◌≤◌, zero, suc, List, [], ◌∷◌, ◌++◌, length, take, map, Option, Some, None, get_or, refl, ap, sym, ◌∙◌, arith, length-take, inl, inr, ⊎_elim, ◌⊎◌}
+use Rattle.share_core.proofs.Common.{sum_by, sum_by-set, sum_by_more, take_more, get_or_default, get_or-set_same, length-set, map-set, set-get_or, length-map, cases_lt, Answer, answer_at, Row, IsAtMost, IsOf, IsRaised, Meeting, meeting_at, row_at, blank, first_of, earlier, Numbered, numbered_of, raised, game_met, AreRaised}
+use Rattle.share_core.specs.Making.{HasRow}
 use Rattle.std.proofs.Math.ListN.{set, get_or-map}
 use Rattle.share_core.proofs.Places.{put_at}
 
@@ -41,6 +42,16 @@ same_number one other place h = ap (λ (n : Numbered). n.number) (same_numbered 
 pub same_length : (one other : List Row) → numbered_of one ≡ numbered_of other → length one ≡ length other
 same_length one other h = sym (length-map one numbered) ∙ ap length h ∙ length-map other numbered
 
+-- and so does a number's row
+pub has_row_stays : (rows new : List Row) (number shape : ℕ) → numbered_of new ≡ numbered_of rows → HasRow rows number shape →
+    HasRow new number shape
+has_row_stays rows new number shape same h = record {
+  place = h.place;
+  within = omega (arith, same_length new rows same, h.within);
+  number_is = same_number new rows h.place same ∙ h.number_is;
+  shape_is = same_shape new rows h.place same ∙ h.shape_is;
+}
+
 -- ---- one row
 first_put : (rows : List Row) (at shape : ℕ) (meeting : Meeting) (game : ℕ) → at < length rows →
     first_of (set rows at (raised (row_at rows at) meeting game)) shape
@@ -66,73 +77,60 @@ met_last : (game : ℕ) (meetings : List Meeting) (m : Meeting) (shape : ℕ) �
 met_last game [] m shape = Prim.grind (arith)
 met_last game (x ∷ meetings) m shape = Prim.grind (arith, met_last game meetings m shape)
 
--- the next meeting is read
-module _ {meetings : List Meeting} {places : List ℕ} {i game : ℕ} {old rows : List Row} {m : Meeting}
-    (of_rows : AreRowsOf meetings places old) (h : AreRaised (take i meetings) places game old rows)
-    (inside : i < length meetings) (is : m ≡ get_or meetings i m) where
-  -- the place of its row, the row, and the rows after it was added
-  abbrev place : ℕ
-  place = slice_index places i
-
+-- the next meeting is read, and its row is raised
+module _ {meetings : List Meeting} {answers : List Answer} {i game : ℕ} {old rows after : List Row} {m : Meeting}
+    (h : AreRaised (take i meetings) meetings answers game old rows) (inside : i < length meetings) (is : m ≡ get_or meetings i m)
+    (step : IsRaised (answer_at answers i) m game rows after) where
   abbrev row : Row
-  row = row_at rows place
-
-  abbrev after : List Row
-  after = set rows place (raised row m game)
-
-  row_within : place < length rows
-  row_within = omega (arith, same_length rows old h.numbered, of_rows.each, of_rows.within i)
-
-  row_of_shape : row.shape ≡ m.shape
-  row_of_shape =
-      same_shape rows old place h.numbered ∙ of_rows.of_shape i (omega (arith, of_rows.each))
-      ∙ ap (λ (x : Meeting). x.shape)
-      (sym (get_or_default meetings i m (record { shape = 0; there = 0; played = 0 }) inside) ∙ sym is)
-
-  -- it fits together with its row
-  pub fits : weight_of old + weight_among meetings < 2 ^ 64 → (row.there + m.there < 2 ^ 64) × (row.played + m.played < 2 ^ 64)
-  fits small =
-      let least = get_or-le-sum_by (λ (r : Row). r.there + r.played) rows place (blank 0 0) row_within in
-      let more = sum_by_more_le (λ (x : Meeting). x.there + x.played) meetings i m inside in
-      let same = ap (λ (x : Meeting). x.there + x.played) is in
-      let so_far = h.weight in
-      (omega arith, omega arith)
+  row = row_at rows step.place
 
   sum_put : (f : Row → ℕ) (g : Meeting → ℕ) → f (raised row m game) ≡ f row + g m →
       sum_by f rows ≡ sum_by f old + sum_by g (take i meetings) → sum_by f after ≡ sum_by f old + sum_by g (take (i + 1) meetings)
   sum_put f g more before =
-      let put = sum_by-set f rows place (raised row m game) (blank 0 0) row_within in
-      omega (arith, put, sum_by_more g meetings i m inside, ap g is, more, before)
+      let put = sum_by-set f rows step.place (raised row m game) (blank 0 0) step.within in
+      omega (arith, ap (sum_by f) step.rows, put, sum_by_more g meetings i m inside, ap g is, more, before)
 
-  pub raised_more : AreRaised (take (i + 1) meetings) places game old after
+  pub raised_more : AreRaised (take (i + 1) meetings) meetings answers game old after
   raised_more =
       let few = length-take i meetings in
       let more_few = length-take (i + 1) meetings in
+      let new = raised row m game in
+      let meeting = sym (get_or_default meetings i m (record { shape = 0; there = 0; played = 0 }) inside) ∙ sym is in
+      let is_of : IsOf (answer_at answers i) (meeting_at meetings i).shape new =
+      (step.is_of.0, step.is_of.1 ∙ ap (λ (x : Meeting). x.shape) (sym meeting)) in
       record {
-        numbered = numbered_put rows place m game ∙ h.numbered;
+        numbered = ap numbered_of step.rows ∙ numbered_put rows step.place m game ∙ h.numbered;
         there = λ shape.
             sum_put (λ (r : Row). cond (r.shape == shape) r.there 0) (λ (x : Meeting). cond (x.shape == shape) x.there 0)
-            (Prim.grind (arith, row_of_shape)) (h.there shape);
+            (Prim.grind (arith, step.is_of.1)) (h.there shape);
         played = λ shape.
             sum_put (λ (r : Row). cond (r.shape == shape) r.played 0) (λ (x : Meeting). cond (x.shape == shape) x.played 0)
-            (Prim.grind (arith, row_of_shape)) (h.played shape);
+            (Prim.grind (arith, step.is_of.1)) (h.played shape);
         first = λ shape.
             let front = take_more meetings i m inside ∙ ap (λ (x : Meeting). take i meetings ++ x ∷ []) (sym is) in
-            let put = first_put rows place shape m game row_within in
+            let put = first_put rows step.place shape m game step.within in
             let last = met_last game (take i meetings) m shape in
             let assoc = earlier_assoc (first_of old shape) (game_met game (take i meetings) shape) (if_met game m.shape shape) in
-            rw front (Prim.grind (arith, put, row_of_shape, h.first shape, last, assoc));
+            rw (step.rows, front) (Prim.grind (arith, put, step.is_of.1, h.first shape, last, assoc));
         weight = sum_put (λ (r : Row). r.there + r.played) (λ (x : Meeting). x.there + x.played) (omega arith) h.weight;
-        others = λ other.
-            put_at (λ p (r : Row). IsAmongFirst (length (take (i + 1) meetings)) places p ⊎ (r ≡ row_at old p)) rows place
-            (raised row m game)
-            (blank 0 0) row_within (inl (i, omega arith, refl)) other
-            (λ _. ⊎_elim (λ (met : IsAmongFirst (length (take i meetings)) places other).
-            inl (met.0, omega (arith, met.1), met.2)) inr (h.others other));
+        others = λ other. rw step.rows
+            (put_at (λ p (r : Row). (r ≡ row_at old p) ⊎ ((k : ℕ) × (k < length (take (i + 1) meetings))
+            × IsOf (answer_at answers k) (meeting_at meetings k).shape r)) rows step.place new (blank 0 0) step.within
+            (inr (i, omega arith, is_of)) other
+            (λ _. ⊎_elim inl (λ met. inr (met.0, omega (arith, met.1), met.2)) (h.others other)));
         begun = λ k low.
-            put_at (λ _ (r : Row). IsAtMost r.first game) rows place (raised row m game) (blank 0 0) row_within
-            (Prim.grind (arith)) (slice_index places k)
-            (λ away.
-            let apart : k ≡ i → ⊥ = λ same. away (ap (slice_index places) same) in
-            h.begun k (omega (arith, low, few, more_few, apart, inside)));
+            let IsBegun = λ (j : ℕ) (r : Row). IsOf (answer_at answers j) (meeting_at meetings j).shape r × IsAtMost r.first game in
+            let long : length after ≡ length rows = ap length step.rows ∙ length-set rows step.place new in
+            let begins : IsAtMost new.first game = Prim.grind (arith) in
+            ⊎_elim
+            (λ (before : k < i).
+            let met = h.begun k (omega (arith, before, few, inside)) in
+            let found = put_at (λ q (r : Row). q ≡ met.0 → IsBegun k r) rows step.place new (blank 0 0) step.within
+            (λ here. (rw here met.2, begins)) met.0 (λ _ _. (met.2, met.3)) refl in
+            (met.0, omega (arith, long, met.1), rw step.rows found.0, rw step.rows found.1))
+            (λ (last : i ≤ k).
+            let same : k ≡ i = omega (arith, last, low, more_few) in
+            let here = get_or-set_same rows step.place new (blank 0 0) step.within in
+            (step.place, omega (arith, long, step.within), rw (step.rows, same, here) is_of, rw (step.rows, here) begins))
+            (cases_lt k i);
       }

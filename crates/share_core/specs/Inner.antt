@@ -4,6 +4,5 @@ pub mod Entering
 pub mod Ledgers
 pub mod Making
 pub mod Numbering
-pub mod Preparing
 pub mod Raising
 pub mod Rows

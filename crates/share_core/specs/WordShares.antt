@@ -1,6 +1,5 @@
 -- What a worker has counted by words, and the share that it becomes when its patterns get numbers.
-use Rattle.std.specs.Prelude.{◌≡◌, ℕ, ◌+◌, ◌*◌, ◌^◌, ◌<◌, ◌≤◌, ◌⊎◌, List, length, map, Some, None, All, Contains, IfSome}
-use Rattle.sgf_core.specs.Limit.{most_bytes}
+use Rattle.std.specs.Prelude.{◌≡◌, ℕ, ◌+◌, ◌*◌, ◌^◌, ◌<◌, ◌≤◌, ◌⊎◌, List, length, Some, Contains, IfSome}
 use Rattle.go_record.specs.Actions.{Actions}
 use Rattle.shape_dict.specs.declared.entries.Entry.{Entry}
 use Rattle.probe_core.specs.declared.calls.Answer.{Answer}

@@ -1,13 +1,12 @@
 //! A game's patterns are entered into the table, and at last the game is marked at their numbers.
-ghost use Rattle.std.specs.Prelude.{◌≡◌, false, ◌-◌, ◌^◌, ◌<◌, length, IfSome, IfNone};
-ghost use Rattle.std.specs.Prelude.{IfOk, IfErr, OnOk, OnErr};
+ghost use Rattle.std.specs.Prelude.{◌≡◌, ◌-◌, ◌^◌, ◌<◌, length, IfSome, IfNone, IfErr, OnOk, OnErr};
 ghost use Rattle.slot_table.specs.Batches.{entered, AreMade, AreTold, AreEnteredUntil};
 ghost use Rattle.slot_table.specs.History.{least_at, IsAtMost};
 ghost use Rattle.slot_table.specs.Passes.{IsPassOf};
 ghost use Rattle.tally_core.specs.Walk.{shapes_of};
-ghost use Rattle.share_core.specs.Entering.{AsksOnly};
-ghost use Rattle.share_core.specs.Inner.Entering.{AreEntered, AreEnteredAs, IsRefused, AreMarked};
+ghost use Rattle.share_core.specs.Inner.Entering.{AreNumbers, IsFirstRefusal, AreMarked};
 ghost use Rattle.share_core.specs.Inner.Entering.{MarksOnly, IsMarkAt, IsMarkAmong};
+ghost use Rattle.share_core.specs.Inner.Making.{AreBelow};
 ghost use Rattle.share_core.specs.declared.faults.HarvestFault.TheVariants as fault;
 
 use crate::faults::HarvestFault;
@@ -15,14 +14,6 @@ use probe_core::{Answer, Key, ProbeOrder};
 use shape_core::Shape;
 use slot_table::{Pass, SlotTable};
 use tally_core::Meeting;
-
-/// What a pattern has in the table: its number, and whether a game has to be marked there, since
-/// the least game that was marked is none or a later one.
-#[derive(Clone, Copy)]
-pub(crate) struct Entered {
-    pub number: usize,
-    pub late: bool,
-}
 
 /// The key of a pattern: its canonical word.
 pub(crate) fn key_of(shape: Shape) -> Key
@@ -99,87 +90,64 @@ pub(crate) fn enter_all<O: ProbeOrder>(
     enter_keys(table, pass, keys.as_slice(), answers)
 }
 
-/// Whether a game is to be marked where this was the least that was.
-fn is_late(first: Option<u64>, game: u64) -> bool
-    ensures { result ≡ false → IsAtMost first game }
+/// The place of the first answer that is no number, if there is one.
+pub(crate) fn refused(answers: &[Answer]) -> Option<usize>
+    ensures some { IfSome result (IsFirstRefusal answers.now) }
+    ensures none { IfNone result (AreNumbers answers.now (length answers.now)) }
 {
-    match first {
-        None => true,
-        Some(first) => game < first,
+    for (i, found) in answers.iter().enumerate() {
+        let Answer::Number(_) = *found else {
+            return Some(i);
+        };
     }
+    None
 }
 
-/// Notes the numbers that a game's patterns got, and where the game has to be marked. Where one got
-/// none, the answer is the first such.
-///
-/// # Errors
-///
-/// `Memory` where memory was refused.
-pub(crate) fn note_all<O: ProbeOrder>(
+/// Marks a game at a number, unless one is marked there that is no later. Where no game is given
+/// nothing is done.
+pub(crate) fn mark_first<O: ProbeOrder>(
     table: &SlotTable<O>,
     pass: &mut Pass<O>,
-    entered: &mut Vec<Entered>,
-    answers: &[Answer],
-    meetings: &[Meeting],
-    game: u64,
-) -> Result<Option<Shape>, HarvestFault>
+    number: usize,
+    game: Option<u64>,
+)
     requires pass { IsPassOf table.now pass.old }
-    requires length { length answers.now ≡ length meetings.now }
-    requires told { AreTold table.now.slots pass.old.seen (shapes_of meetings.now) answers.now }
-    requires until { AreEnteredUntil answers.now (length meetings.now) }
+    requires number { number < table.now.slots }
+    requires game { IfSome game (λ game. game < 2 ^ 64 - 1) }
     ensures pass { IsPassOf table.now pass.new }
-    ensures asks { AsksOnly table.now.slots pass.old pass.new }
-    ensures each { OnOk result
-        (AreEntered table.now.slots pass.new.seen game meetings.now entered.new.items) }
-    ensures numbers { OnOk result (AreEnteredAs answers.now entered.new.items) }
-    ensures all { IfOk result (λ refused. IfNone refused
-        (length entered.new.items ≡ length meetings.now)) }
-    ensures refused { IfOk result (λ refused. IfSome refused
-        (IsRefused table.now.slots pass.new.seen meetings.now answers.now)) }
-    ensures fault { IfErr result (λ found. found ≡ fault.Memory) }
+    ensures marks { MarksOnly table.now.slots (IsMarkAt number game) pass.old pass.new }
+    ensures marked { IfSome game (IsAtMost (least_at number pass.new.seen)) }
 {
-    entered.clear();
-    for (i, answer) in answers.iter().enumerate() {
-        let Answer::Number(number) = *answer else {
-            return Ok(Some(meetings[i].shape));
-        };
-        let late = is_late(table.first(pass, number), game);
-        entered.push(Entered { number, late })?;
-    }
-    Ok(None)
-}
-
-/// Marks a game at a number if the number has no mark, or that of a later game.
-fn mark_one<O: ProbeOrder>(table: &SlotTable<O>, pass: &mut Pass<O>, one: Entered, game: u64)
-    requires pass { IsPassOf table.now pass.old }
-    requires number { one.number < table.now.slots }
-    requires late { one.late ≡ false → IsAtMost (least_at one.number pass.old.seen) game }
-    requires game { game < 2 ^ 64 - 1 }
-    ensures pass { IsPassOf table.now pass.new }
-    ensures later { MarksOnly table.now.slots (IsMarkAt one.number game) pass.old pass.new }
-    ensures marked { IsAtMost (least_at one.number pass.new.seen) game }
-{
-    if one.late {
-        table.mark(pass, one.number, game);
+    let Some(game) = game else {
+        return;
+    };
+    let is_early = match table.first(pass, number) {
+        None => false,
+        Some(first) => first <= game,
+    };
+    if !is_early {
+        table.mark(pass, number, game);
     }
 }
 
-/// Marks a game at each of these numbers where no game was marked that is no later.
+/// Marks a game at each of these numbers where no game is marked that is no later.
 pub(crate) fn mark_all<O: ProbeOrder>(
     table: &SlotTable<O>,
     pass: &mut Pass<O>,
-    entered: &[Entered],
-    meetings: &[Meeting],
+    answers: &[Answer],
     game: u64,
 )
     requires pass { IsPassOf table.now pass.old }
-    requires each { AreEntered table.now.slots pass.old.seen game meetings.now entered.now }
+    requires numbers { AreBelow table.now.slots answers.now }
     requires game { game < 2 ^ 64 - 1 }
     ensures pass { IsPassOf table.now pass.new }
-    ensures later { MarksOnly table.now.slots (IsMarkAmong entered.now game) pass.old pass.new }
-    ensures marked { AreMarked pass.new.seen game entered.now }
+    ensures marks { MarksOnly table.now.slots (IsMarkAmong answers.now game) pass.old pass.new }
+    ensures marked { AreMarked pass.new.seen game answers.now (length answers.now) }
 {
-    for one in entered {
-        mark_one(table, pass, *one, game);
+    for found in answers {
+        let Answer::Number(number) = *found else {
+            continue;
+        };
+        mark_first(table, pass, number, Some(game));
     }
 }

@@ -1,18 +1,15 @@
 //! Shares: what workers have counted over the shared table of numbers.
 #![tactic(auto)]
 
-mod chains;
 mod entering;
 mod faults;
 mod kept_rows;
 mod ledgers;
-mod making;
 mod numbering;
 mod rows;
 mod share_rows;
 mod shares;
 mod small;
-mod sums;
 mod word_shares;
 mod workings;
 

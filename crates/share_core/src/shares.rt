@@ -2,12 +2,11 @@
 ghost use Rattle.std.specs.Prelude.{◌≡◌, ◌^◌, ◌≤◌, length, IfErr, OnOk, OnErr};
 ghost use Rattle.sgf_core.specs.Limit.{most_bytes};
 
-use crate::chains::Chains;
 use crate::entering::mark_all;
 use crate::faults::HarvestFault;
 use crate::kept_rows::KeptRow;
 use crate::ledgers::Ledger;
-use crate::rows::Row;
+use crate::rows::{Row, Rows};
 use crate::share_rows::ShareRows;
 use crate::workings::Workings;
 use go_record::Record;
@@ -16,18 +15,6 @@ use shape_core::Kinds;
 use slot_table::{Pass, SlotTable};
 use std::alloc::Global;
 use std::marker::Model;
-
-/// Of which power of two the buckets of a share are, where this many workers count: 0 for up to 7
-/// workers, 1 for 8, 2 for up to 16, 3 for up to 32, 4 for up to 64, and so on, at most 8. The more
-/// workers there are, the fewer rows each share has.
-fn shift_for(workers: usize) -> u32
-    ensures { result ≤ 8 }
-{
-    if workers < 8 {
-        return 0;
-    }
-    ((workers - 1) / 2).ilog2().min(8)
-}
 
 /// What one worker has counted: games, each with all its patterns, under the numbers that these
 /// have in a table.
@@ -50,7 +37,7 @@ impl Model for Share {
     ghost view = { λ s. record {
       worker = s.worker;
       kinds = s.workings.walk.kinds;
-      games = s.ledger.games;
+      games = s.ledger.games.items;
       moves = s.ledger.moves;
       rows = s.ledger.rows;
     } };
@@ -58,7 +45,7 @@ impl Model for Share {
     ghost invariant = { λ s. IsShare (record {
       worker = s.worker;
       kinds = s.workings.walk.kinds;
-      games = s.ledger.games;
+      games = s.ledger.games.items;
       moves = s.ledger.moves;
       rows = s.ledger.rows;
     }) };
@@ -68,7 +55,6 @@ impl Share {
     ghost use Rattle.std.specs.Prelude.{◌≡◌, ◌^◌, ◌<◌, [], length, OnOk, OnErr, IfErr};
     ghost use Rattle.slot_table.specs.Passes.{IsPassOf};
     ghost use Rattle.share_core.specs.Rows.{row_of, AreOfNumbers, AreBelow};
-    ghost use Rattle.share_core.specs.Inner.Rows.{IsIndexed};
     ghost use Rattle.share_core.specs.Shares.{IsShare};
     ghost use Rattle.share_core.specs.Adding.{IsAdded, HasGrown, IsMarked, IsKept, IsAddFault};
     ghost use Rattle.share_core.specs.Adding.{IsEntryOf, IsRowed, IsRowedAfter, IsMarkOf};
@@ -84,21 +70,11 @@ impl Share {
           rows = [];
         } }
     {
-        Share::begin_among(alloc, worker, 1, kinds)
-    }
-
-    /// The same, of one of this many workers. The more there are, the less memory the share takes
-    /// later to find its rows by their numbers; nothing else depends on it.
-    pub fn begin_among(alloc: Global, worker: usize, workers: usize, kinds: Kinds) -> Share
-        ensures { result ≡ record {
-          worker = worker;
-          kinds = kinds;
-          games = [];
-          moves = 0;
-          rows = [];
-        } }
-    {
-        let ledger = Ledger::begin(alloc, shift_for(workers));
+        let ledger = Ledger {
+            games: Vec::new(alloc),
+            moves: 0,
+            rows: Rows::begin(alloc),
+        };
         Share::of_ledger(alloc, worker, kinds, ledger)
     }
 
@@ -107,14 +83,14 @@ impl Share {
         requires { IsShare (record {
           worker = worker;
           kinds = kinds;
-          games = ledger.games;
+          games = ledger.games.items;
           moves = ledger.moves;
           rows = ledger.rows;
         }) }
         ensures { result ≡ record {
           worker = worker;
           kinds = kinds;
-          games = ledger.games;
+          games = ledger.games.items;
           moves = ledger.moves;
           rows = ledger.rows;
         } }
@@ -138,14 +114,14 @@ impl Share {
         ensures games { result.now ≡ self.now.games }
         ensures share { IsShare self.now }
     {
-        self.ledger.games()
+        self.ledger.games.as_slice()
     }
 
     /// How many moves onto empty points the games have.
     pub fn moves(&self) -> u64
         ensures { result ≡ self.now.moves }
     {
-        self.ledger.moves()
+        self.ledger.moves
     }
 
     /// The row of a number of the table, if the share has one. It takes no memory.
@@ -165,19 +141,10 @@ impl Share {
         ensures numbers { AreOfNumbers self.now.rows }
     {
         let made = self.made_rows();
-        match self.ledger.rows().place(number) {
+        match self.ledger.rows.place(number) {
             Some(place) => Some(made[place]),
             None => None,
         }
-    }
-
-    /// The chains of the rows, by buckets of numbers.
-    fn chains(&self) -> Chains<'_>
-        ensures rows { result.rows.now ≡ self.now.rows }
-        ensures indexed { IsIndexed result.shift result.index.now result.older.now
-            self.now.rows }
-    {
-        self.ledger.rows().chains()
     }
 
     /// The rows, in their order. It takes no memory.
@@ -185,22 +152,14 @@ impl Share {
         ensures rows { result.now ≡ self.now.rows }
         ensures numbers { AreOfNumbers self.now.rows }
     {
-        self.ledger.rows().as_slice()
+        self.ledger.rows.as_slice()
     }
 
     /// A number above those of all rows. It reads no row.
     pub fn end(&self) -> usize
         ensures { AreBelow result self.now.rows }
     {
-        self.chains().end()
-    }
-
-    /// The rows in their order, of which there are few. It takes no memory.
-    pub fn small_rows(&self) -> &[KeptRow]
-        ensures rows { result.now ≡ self.now.rows }
-        ensures few { length result.now < 2 ^ 32 }
-    {
-        self.chains().rows
+        self.ledger.rows.end()
     }
 
     /// The rows, numbers rising. It takes no memory.
@@ -210,7 +169,7 @@ impl Share {
     {
         // Its contract says that no two rows are of one number.
         let _ = self.made_rows();
-        ShareRows::new(self.ledger.rows())
+        ShareRows::new(&self.ledger.rows)
     }
 
     /// Adds a game: each of its patterns is entered into the table, and what the game counts of it
@@ -257,14 +216,14 @@ impl Share {
         ensures fault { IfErr result
             (IsAddFault table.now.slots pass.new.seen game game_record.now self.old self.new) }
     {
+        let ledger = &mut self.ledger;
         let moves = self
             .workings
-            .prepare(&mut self.ledger, table, pass, game, game_record)?;
+            .prepare(&mut ledger.rows, table, pass, game, game_record)?;
         let meetings = self.workings.walk.meetings();
-        let entered = self.workings.entered.as_slice();
-        let places = self.workings.places.as_slice();
-        self.ledger.count(game, moves, meetings, places)?;
-        mark_all(table, pass, entered, meetings, game);
+        let answers = self.workings.answers.as_slice();
+        ledger.count(game, moves, meetings, answers)?;
+        mark_all(table, pass, answers, game);
         Ok(())
     }
 }

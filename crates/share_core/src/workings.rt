@@ -1,42 +1,53 @@
 //! What a share needs to count a game, kept from game to game.
-ghost use Rattle.std.specs.Prelude.{◌≡◌, ◌<◌, IfOk, IfErr, OnOk};
-ghost use Rattle.slot_table.specs.Passes.{IsPassOf};
-ghost use Rattle.share_core.specs.Adding.{IsPrepareFault, IsEntryOf, IsRowed, IsRowedAfter};
-ghost use Rattle.share_core.specs.Inner.Adding.{HasFresh};
-ghost use Rattle.share_core.specs.Entering.{EntersOnly};
-ghost use Rattle.share_core.specs.Inner.Preparing.{IsPrepared};
-ghost use Rattle.share_core.specs.declared.faults.HarvestFault.TheVariants as fault;
+ghost use Rattle.std.specs.Prelude.{◌≡◌, ◌^◌, ◌≤◌, length, OnOk, IfErr};
+ghost use Rattle.share_core.specs.Inner.Making.{AreBelow, HaveRows, Gained, IsMakingFault};
 
-use crate::entering::{Entered, enter_all, note_all};
+use crate::entering::{enter_all, refused};
 use crate::faults::HarvestFault;
-use crate::ledgers::Ledger;
+use crate::rows::Rows;
 use go_record::Record;
 use probe_core::{Answer, Key, ProbeOrder};
-use shape_core::{Kinds, Word};
+use shape_core::Kinds;
 use slot_table::{Pass, SlotTable};
 use std::alloc::Global;
-use tally_core::Walk;
+use tally_core::{Meeting, Walk};
 
-/// The walk of a game, the keys of its meetings and what was answered to them, their numbers, and
-/// the places of their rows.
+/// Makes rows for a game's meetings that got numbers, where these have none. They count nothing.
+fn make_all(
+    rows: &mut Rows,
+    slots: usize,
+    meetings: &[Meeting],
+    answers: &[Answer],
+) -> Result<(), HarvestFault>
+    requires length { length answers.now ≡ length meetings.now }
+    requires numbers { AreBelow slots answers.now }
+    requires slots { slots ≤ 2 ^ 22 }
+    ensures gained { Gained meetings.now answers.now rows.old rows.new }
+    ensures made { OnOk result (HaveRows meetings.now answers.now (length answers.now) rows.new) }
+    ensures fault { IfErr result (IsMakingFault meetings.now answers.now rows.new) }
+{
+    for (i, found) in answers.iter().enumerate() {
+        if let Err(fault) = rows.make(slots, *found, meetings[i].shape) {
+            return Err(fault);
+        }
+    }
+    Ok(())
+}
+
+/// The walk of a game, the keys of its meetings and what was answered to them.
 #[derive(Drop)]
 pub(crate) struct Workings {
     pub walk: Walk,
     keys: Vec<Key>,
-    answers: Vec<Answer>,
-    pub entered: Vec<Entered>,
-    pub places: Vec<usize>,
-}
-
-/// No number is free for a pattern of a game.
-fn full(game: u64, word: Word) -> HarvestFault
-    ensures { result ≡ fault.Full game word }
-{
-    HarvestFault::Full { game, word }
+    pub answers: Vec<Answer>,
 }
 
 impl Workings {
     ghost use Rattle.std.specs.Prelude.{◌≡◌, IfOk, IfErr, OnOk};
+    ghost use Rattle.slot_table.specs.Passes.{IsPassOf};
+    ghost use Rattle.share_core.specs.Adding.{IsPrepareFault, IsEntryOf, IsRowed, IsRowedAfter};
+    ghost use Rattle.share_core.specs.Entering.{EntersOnly};
+    ghost use Rattle.share_core.specs.Inner.Adding.{HasFresh, IsPrepared};
 
     /// Nothing was counted yet. It takes no memory.
     pub fn begin(alloc: Global, kinds: Kinds) -> Workings
@@ -46,8 +57,6 @@ impl Workings {
             walk: Walk::begin(alloc, kinds),
             keys: Vec::new(alloc),
             answers: Vec::new(alloc),
-            entered: Vec::new(alloc),
-            places: Vec::new(alloc),
         }
     }
 
@@ -58,10 +67,10 @@ impl Workings {
     ///
     /// `Full` where no number is free for a pattern, `Stranger` where a number's row is of another
     /// one; `Overflow` where the game has more actions than any input; `Memory` where memory was
-    /// refused. After each the ledger's games, moves and old rows are as they were.
+    /// refused. After each the old rows are as they were.
     pub fn prepare<O: ProbeOrder>(
         &mut self,
-        ledger: &mut Ledger,
+        rows: &mut Rows,
         table: &SlotTable<O>,
         pass: &mut Pass<O>,
         game: u64,
@@ -70,28 +79,28 @@ impl Workings {
         requires { IsPassOf table.now pass.old }
         ensures pass { IsPassOf table.now pass.new }
         ensures rowed { OnOk result (EntersOnly table.now.slots (IsEntryOf self.old.walk.kinds
-            game_record.now (IsRowed ledger.new.rows)) pass.old pass.new) }
+            game_record.now (IsRowed rows.new)) pass.old pass.new) }
         ensures enters { IfErr result (λ found. EntersOnly table.now.slots
-            (IsEntryOf self.old.walk.kinds game_record.now (IsRowedAfter found ledger.new.rows))
+            (IsEntryOf self.old.walk.kinds game_record.now (IsRowedAfter found rows.new))
             pass.old pass.new) }
         ensures kinds { self.new.walk.kinds ≡ self.old.walk.kinds }
-        ensures ledger { ledger.new ≡ record ledger.old { rows = ledger.new.rows } }
         ensures fresh { HasFresh table.now.slots pass.new.seen self.old.walk.kinds game_record.now
-            ledger.old.rows ledger.new.rows }
-        ensures ok { IfOk result (IsPrepared table.now.slots pass.new.seen game game_record.now
-            self.new ledger.new.rows) }
+            rows.old rows.new }
+        ensures ok { IfOk result (IsPrepared table.now.slots pass.new.seen self.old.walk.kinds
+            game_record.now self.new.walk.meetings self.new.answers.items rows.new) }
         ensures fault { IfErr result (IsPrepareFault table.now.slots pass.new.seen game
-            self.old.walk.kinds game_record.now ledger.new.rows) }
+            self.old.walk.kinds game_record.now rows.new) }
     {
         let moves = self.walk.walk(game_record)?;
         let meetings = self.walk.meetings();
         enter_all(table, pass, &mut self.keys, &mut self.answers, meetings)?;
         let answers = self.answers.as_slice();
-        let refused = note_all(table, pass, &mut self.entered, answers, meetings, game)?;
-        let slots = table.capacity().slots();
-        ledger.make_rows(&mut self.places, slots, meetings, answers)?;
-        match refused {
-            Some(shape) => Err(full(game, shape.word())),
+        make_all(rows, table.capacity().slots(), meetings, answers)?;
+        match refused(answers) {
+            Some(place) => Err(HarvestFault::Full {
+                game,
+                word: meetings[place].shape.word(),
+            }),
             None => Ok(moves),
         }
     }

@@ -1,11 +1,15 @@
 -- What the definitions of `Raising` serve inside the crate.
-use Rattle.std.specs.Prelude.{◌≡◌, ℕ, ◌+◌, ◌<◌, ◌==◌, ◌⊎◌, if◌then◌else◌, List, [], ◌∷◌, length, Option, Some, None, slice_index, slice_index_or}
+use Rattle.std.specs.Prelude.{◌≡◌, ℕ, ◌+◌, ◌<◌, ◌==◌, ◌⊎◌, if◌then◌else◌, List, [], ◌∷◌, length, Option, Some, None, slice_index_or, slice_set}
+use Rattle.probe_core.specs.declared.calls.Answer.{Answer}
+use Rattle.probe_core.specs.declared.calls.Answer.TheVariants as answer
 use Rattle.share_core.specs.declared.rows.Row.{Row}
+use Rattle.slot_table.specs.Batches.{answer_at}
 use Rattle.slot_table.specs.History.{IsAtMost}
 use Rattle.tally_core.specs.declared.meetings.Meeting.{Meeting}
 use Rattle.tally_core.specs.Walk.{there_among, played_among}
 use Rattle.share_core.specs.Rows.{row_at, there_of, played_of, first_of, earlier}
 use Rattle.share_core.specs.Raising.{numbered_of, weight_of, weight_among}
+use Rattle.share_core.specs.Making.{HasRow}
 
 -- a row with one meeting of a game more
 abbrev pub raised : Row → Meeting → ℕ → Row
@@ -26,22 +30,34 @@ game_met game (m ∷ meetings) shape = if m.shape == shape then Some game else g
 abbrev pub meeting_at : List Meeting → ℕ → Meeting
 meeting_at meetings i = slice_index_or meetings i (record { shape = 0; there = 0; played = 0 })
 
--- each meeting's row is of its pattern
-pub record AreRowsOf (meetings : List Meeting) (places : List ℕ) (rows : List Row) : Type 0 where
-  pub each : length places ≡ length meetings
-  pub within : (i : ℕ) → i < length places → slice_index places i < length rows
-  pub of_shape : (i : ℕ) → i < length places → (row_at rows (slice_index places i)).shape ≡ (meeting_at meetings i).shape
+-- a number was answered, and some row is of it and of this pattern
+abbrev pub HasRowFor : List Row → Answer → ℕ → Type 0
+HasRowFor rows found shape = (number : ℕ) × (found ≡ answer.Number number) × HasRow rows number shape
 
--- a place is one of the first n
-abbrev pub IsAmongFirst : ℕ → List ℕ → ℕ → Type 0
-IsAmongFirst count places place = (i : ℕ) × (i < count) × (slice_index places i ≡ place)
+-- each meeting got a number, and some row is of it and of the meeting's pattern
+pub record AreRowed (meetings : List Meeting) (answers : List Answer) (rows : List Row) : Type 0 where
+  pub long : length answers ≡ length meetings
+  pub each : (i : ℕ) → i < length answers → HasRowFor rows (answer_at answers i) (meeting_at meetings i).shape
 
--- rows to which the meetings of a game were added, each at its place
-pub record AreRaised (meetings : List Meeting) (places : List ℕ) (game : ℕ) (old new : List Row) : Type 0 where
+-- a row is of the number that was answered, and of this pattern
+abbrev pub IsOf : Answer → ℕ → Row → Type 0
+IsOf found shape row = (found ≡ answer.Number row.number) × (row.shape ≡ shape)
+
+-- a meeting was added to the row of the number that was answered for it
+pub record IsRaised (found : Answer) (meeting : Meeting) (game : ℕ) (old new : List Row) : Type 0 where
+  pub place : ℕ
+  pub within : place < length old
+  pub is_of : IsOf found meeting.shape (row_at old place)
+  pub rows : new ≡ slice_set old place (raised (row_at old place) meeting game)
+
+-- meetings of a game, the first of these, were added to rows, each to that of its number
+pub record AreRaised (added meetings : List Meeting) (answers : List Answer) (game : ℕ) (old new : List Row) : Type 0 where
   pub numbered : numbered_of new ≡ numbered_of old
-  pub there : (shape : ℕ) → there_of new shape ≡ there_of old shape + there_among meetings shape
-  pub played : (shape : ℕ) → played_of new shape ≡ played_of old shape + played_among meetings shape
-  pub first : (shape : ℕ) → first_of new shape ≡ earlier (first_of old shape) (game_met game meetings shape)
-  pub weight : weight_of new ≡ weight_of old + weight_among meetings
-  pub others : (place : ℕ) → IsAmongFirst (length meetings) places place ⊎ (row_at new place ≡ row_at old place)
-  pub begun : (i : ℕ) → i < length meetings → IsAtMost (row_at new (slice_index places i)).first game
+  pub there : (shape : ℕ) → there_of new shape ≡ there_of old shape + there_among added shape
+  pub played : (shape : ℕ) → played_of new shape ≡ played_of old shape + played_among added shape
+  pub first : (shape : ℕ) → first_of new shape ≡ earlier (first_of old shape) (game_met game added shape)
+  pub weight : weight_of new ≡ weight_of old + weight_among added
+  pub others : (place : ℕ) → (row_at new place ≡ row_at old place)
+      ⊎ ((i : ℕ) × (i < length added) × IsOf (answer_at answers i) (meeting_at meetings i).shape (row_at new place))
+  pub begun : (i : ℕ) → i < length added → (place : ℕ) × (place < length new)
+      × IsOf (answer_at answers i) (meeting_at meetings i).shape (row_at new place) × IsAtMost (row_at new place).first game

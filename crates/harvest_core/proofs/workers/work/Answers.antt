@@ -16,14 +16,14 @@ pub loop-init : goal.loop-init
 loop-init g c =
     let worker = c.args.worker in
     let n = worker.table.now.slots in
-    let begun = c.begin_among-worked.ensures in
+    let begun = c.begin-worked.ensures in
     record {
       pass = c.requires;
       number = begun.worker;
       worked = begun.worked worker.desk.bytes;
       refused = subst (IsRefused worker.desk.bytes worker.kinds) (sym begun.refused) tt;
-      drawn = drawn_none n worker.kinds worker.pass worker.desk c.begin_among-worked.result begun.games begun.rows begun.refused;
-      in_table = ([], later_self n worker.pass, begins_in_table n worker.pass.seen c.begin_among-worked.result begun.rows begun.refused);
+      drawn = drawn_none n worker.kinds worker.pass worker.desk c.begin-worked.result begun.games begun.rows begun.refused;
+      in_table = ([], later_self n worker.pass, begins_in_table n worker.pass.seen c.begin-worked.result begun.rows begun.refused);
     }
 
 pub loop-preserved-in-Some-Job : goal.loop-preserved-in-Some-Job

@@ -7,7 +7,7 @@ pub returns-in-Some-clause-row : goal.returns-in-Some-clause-row
 returns-in-Some-clause-row c =
     let rows = c.args.self.now.rows in
     let place = c.in-Some.place in
-    let some = rw (c.rows.ensures ∙ ap (λ (h : Held). h.rows) c.self.view_is) at c.in-Some.ensures.some in
+    let some = rw (ap (λ (h : Held). h.rows) c.self.view_is) at c.in-Some.ensures.some in
     let read = c.index-made-place.is
     ∙ ap (λ (rs : List Row). get_or rs place c.index-made-place.result) c.made_rows-made.ensures.rows
     ∙ get_or_default rows place c.index-made-place.result (blank 0 0) some.0 in
@@ -16,4 +16,4 @@ returns-in-Some-clause-row c =
 pub returns-in-None-clause-row : goal.returns-in-None-clause-row
 returns-in-None-clause-row c =
     sym (found_none c.args.self.now.rows c.args.number
-    (rw (c.rows.ensures ∙ ap (λ (h : Held). h.rows) c.self.view_is) at c.in-None.ensures.none))
+    (rw (ap (λ (h : Held). h.rows) c.self.view_is) at c.in-None.ensures.none))
