@@ -1,12 +1,13 @@
 -- Shares of games of an input that were counted by words, and the shares that they become.
 use Rattle.std.proofs.Common.{◌≡◌, ℕ, ◌<◌, ◌≤◌, ◌+◌, ◌==◌, cond, List, [], ◌∷◌, ◌++◌, ap, sym, subst, ◌∙◌, arith, refl, ⊎_elim, All, Contains}
-use Rattle.std.specs.Prelude.{sum_by}
+use Rattle.std.specs.Prelude.{sum_by, map}
 use Rattle.std.specs.List.{AllByRecursion}
-use Rattle.std.proofs.lemmas.List.{get_or_default}
+use Rattle.std.proofs.lemmas.List.{get_or_default, get_or-map, length-map}
 use Rattle.std.proofs.lemmas.List.Sums.{sum_by-cons, get_or-le-sum_by}
 use Rattle.std.proofs.lemmas.Bool.Decides.{nat_tests}
 use Rattle.std.proofs.Math.Nat.{eq-zero-or-pos}
 use Rattle.std.proofs.lemmas.List.Elements.{All-push, All-weaker, recursion_from_All}
+use Rattle.sgf_core.specs.Limit.{most_bytes}
 use Rattle.go_record.specs.Actions.{Actions}
 use Rattle.shape_core.specs.declared.words.Kinds.{Kinds}
 use Rattle.slot_table.specs.declared.entries.Happened.{Happened}
@@ -39,12 +40,13 @@ counted_none bytes worker kinds = record {
   };
   games = λ k d below. absurd (omega (arith, below));
   rises = omega arith;
+  small = λ k d below. absurd (omega (arith, below));
 }
 
 -- a game was added, whose number is above those of the others
 pub counted_more : (bytes : List ℕ) (kinds : Kinds) (game : ℕ) (actions : Actions) (old new : Held) → IsGame bytes game actions →
-    IsAdded game actions old new → IsCountedByWords bytes kinds old → past old.games ≤ game → IsCountedByWords bytes kinds new
-counted_more bytes kinds game actions old new is added h above =
+    IsAdded game actions old new → IsCountedByWords bytes kinds old → past old.games ≤ game → All (λ (one : ℕ). one < most_bytes) new.games → IsCountedByWords bytes kinds new
+counted_more bytes kinds game actions old new is added h above small =
     let one : Added = record { game = game; actions = actions; occasions = added.occasions } in
     record {
       kinds_are = added.kinds ∙ h.kinds_are;
@@ -53,6 +55,7 @@ counted_more bytes kinds game actions old new is added h above =
       games = All-push (λ (a : Added). IsGame bytes a.game a.actions) h.added one h.games is;
       rises = subst (λ games. Rising 0 games (past games)) (sym added.games)
           (subst (Rising 0 (old.games ++ game ∷ [])) (sym (past_on old.games game)) (rising_on 0 old.games (past old.games) game above h.rises));
+      small = small;
     }
 
 pub past_added : {last : ℕ} (game : ℕ) (actions : Actions) (old new : Held) → IsAdded game actions old new → game + 1 ≤ last → past new.games ≤ last
@@ -121,3 +124,7 @@ numbered_worked n seen bytes kinds words share h is =
           (pattern_among bytes share.kinds row.shape h.added of.replays (recursion_from_All (λ (one : Added). IsGame bytes one.game one.actions) h.added h.games)
           (omega (arith, some, all.there row.shape)));
     }
+
+-- what holds of all that a function gives
+pub unmapped : {X Y : Type 0} (P : X → Type 0) (f : Y → X) (ys : List Y) → All P (map f ys) → All (λ y. P (f y)) ys
+unmapped P f ys all k d below = subst P (get_or-map f ys k d (f d) below) (all k (f d) (let e = length-map ys f in omega (arith, below, e)))

@@ -1,6 +1,6 @@
 //! A collection counted by several workers, each by words.
 ghost use Rattle.std.specs.Prelude.{◌≡◌, ◌⊎◌, ◌^◌, ◌<◌, ◌≤◌, ℕ, List, All, length, IfOk, IfErr};
-ghost use Rattle.std.specs.Prelude.{IfSome, IsErrAnd};
+ghost use Rattle.std.specs.Prelude.{IfSome, IsErrAnd, Ok, map};
 ghost use Rattle.sgf_core.specs.Limit.{most_bytes};
 ghost use Rattle.sgf_core.specs.declared.faults.SgfFault.TheVariants as sgf;
 ghost use Rattle.shape_core.specs.declared.words.Kinds.{Kinds};
@@ -10,15 +10,16 @@ ghost use Rattle.game_core.specs.Games.{HasReadAll};
 ghost use Rattle.share_core.specs.declared.faults.HarvestFault.TheVariants as fault;
 ghost use Rattle.harvest_core.specs.Working.{IsWorked};
 ghost use Rattle.harvest_core.specs.Harvest.{IsHarvest};
+ghost use Rattle.harvest_core.specs.Inner.Counting.{IsCountedByWords};
 ghost use Rattle.harvest_core.specs.Inner.Reading.{IsReadFault};
 
-use crate::counting::{Crowd, Hand, count_share};
+use crate::counting::{Begun, Crowd, begin};
 use crate::gates::Gate;
 use crate::harvesting::count_of;
 use crate::jobs_read::read_jobs;
 use probe_core::{Capacity, OddRuns};
 use shape_core::Kinds;
-use share_core::{HarvestFault, Share};
+use share_core::{HarvestFault, Share, WordShare};
 use slot_table::{Pass, SlotTable};
 use std::alloc::{AllocError, Global};
 use std::sync::atomic::AtomicU64;
@@ -28,113 +29,146 @@ use tally_core::{Counted, Report, Settings};
 
 /// How many workers there are at least. One worker alone is two threads, one of which walks for the
 /// other; two that share a table would take longer than that.
-const LEAST_WORKERS: usize = 3;
+const LEAST_WORKERS: u8 = 3;
 
-/// What this many workers begin with, numbered from 0.
+/// What a worker has counted by words, and its pass of the table.
+#[derive(Drop)]
+struct Hand {
+    words: WordShare,
+    pass: Pass<OddRuns>,
+}
+
+/// What was counted by words, each with a pass of its own.
 fn hands_of(
     alloc: Global,
     table: &SlotTable<OddRuns>,
     pass: &mut Pass<OddRuns>,
-    workers: usize,
+    words: Vec<WordShare>,
 ) -> Result<Vec<Hand>, AllocError>
     requires { IsPassOf table.now pass.old }
     ensures pass { IsPassOf table.now pass.new }
-    ensures hands { IfOk result (λ hands. All (λ hand. IsPassOf table.now hand.pass) hands.items) }
+    ensures passes { IfOk result (λ hands. All (λ hand. IsPassOf table.now hand.pass) hands.items) }
+    ensures words { IfOk result (λ hands. map (λ hand. hand.words) hands.items ≡ words.items) }
 {
     let mut hands = Vec::new(alloc);
-    for number in 0..workers {
+    for one in words {
         hands.push(Hand {
-            number,
+            words: one,
             pass: table.split(pass),
         })?;
     }
     Ok(hands)
 }
 
-/// What each worker comes to, in their order, each in a thread of its own where one can be started.
-fn counted_by<R: Threads + Sync, G: Gate>(
-    rt: &R,
-    crowd: &Crowd<'_, '_, G>,
-    hands: Vec<Hand>,
-) -> Result<Vec<Result<Share, HarvestFault>>, AllocError>
-    requires jobs { All (λ job. job.bytes ≡ crowd.now.bytes.now) crowd.now.jobs.now }
-    requires hands { All (λ hand. IsPassOf crowd.now.table.now hand.pass) hands.items }
-    ensures { IfOk result (λ all.
-        All (λ one. IfOk one (IsWorked crowd.now.bytes.now crowd.now.kinds)) all.items) }
+/// The share of one worker that has counted games of an input by words: its patterns get numbers in
+/// the table. It takes memory for the rows.
+///
+/// # Errors
+///
+/// `Memory` where memory was refused; `Full` where no number is free for a pattern; `Overflow`
+/// where all counts together are too large.
+fn number_words(table: &SlotTable<OddRuns>, hand: Hand) -> Result<Share, HarvestFault>
+    requires pass { IsPassOf table.now hand.pass }
+    requires words { (bytes : List ℕ) × (kinds : Kinds) × IsCountedByWords bytes kinds hand.words }
+    ensures { (bytes : List ℕ) (kinds : Kinds) → IsCountedByWords bytes kinds hand.words
+        → IfOk result (IsWorked bytes kinds) }
 {
-    let work = |hand: Hand| -> Result<Share, HarvestFault>
-        requires jobs { All (λ job. job.bytes ≡ crowd.now.bytes.now) crowd.now.jobs.now }
-        requires pass { IsPassOf crowd.now.table.now hand.pass }
-        ensures { IfOk result (IsWorked crowd.entry.now.bytes.now crowd.entry.now.kinds) }
-    { count_share(crowd, hand) };
-    thread::map_vec(rt, hands, &work)
+    let Hand { words, pass } = hand;
+    let mut pass = pass;
+    words.number(table, &mut pass)
 }
 
-/// The shares of all workers, or None where one has none. Want of memory of any is told.
+/// What each becomes that was counted by words, in their order, each in a thread of its own where
+/// one can be started.
+fn numbered_by<R: Threads + Sync>(
+    rt: &R,
+    table: &SlotTable<OddRuns>,
+    hands: Vec<Hand>,
+) -> Result<Vec<Result<Share, HarvestFault>>, AllocError>
+    requires passes { All (λ hand. IsPassOf table.now hand.pass) hands.items }
+    requires words { (bytes : List ℕ) × (kinds : Kinds)
+        × All (λ hand. IsCountedByWords bytes kinds hand.words) hands.items }
+    ensures { (bytes : List ℕ) (kinds : Kinds)
+        → All (λ hand. IsCountedByWords bytes kinds hand.words) hands.items
+        → IfOk result (λ all. All (λ one. IfOk one (IsWorked bytes kinds)) all.items) }
+{
+    let number = |hand: Hand| -> Result<Share, HarvestFault>
+        requires pass { IsPassOf table.now hand.pass }
+        requires words { (bytes : List ℕ) × (kinds : Kinds)
+            × IsCountedByWords bytes kinds hand.words }
+        ensures { (bytes : List ℕ) (kinds : Kinds) → IsCountedByWords bytes kinds hand.words
+            → IfOk result (IsWorked bytes kinds) }
+    { number_words(table, hand) };
+    thread::map_vec(rt, hands, &number)
+}
+
+/// The shares of all workers, or None where one has none.
 fn all_shares(
     alloc: Global,
-    counted: Vec<Result<Share, HarvestFault>>,
+    numbered: Vec<Result<Share, HarvestFault>>,
 ) -> Result<Option<Vec<Share>>, HarvestFault>
-    ensures worked { (bytes : List ℕ) (kinds : Kinds)
-        → All (λ one. IfOk one (IsWorked bytes kinds)) counted.items
-        → IfOk result (λ found. IfSome found (λ shares. All (IsWorked bytes kinds) shares.items)) }
+    ensures shares { IfOk result (λ found. IfSome found
+        (λ shares. map (λ share. Ok share) shares.items ≡ numbered.items)) }
     ensures fault { IfErr result (λ found. found ≡ fault.Memory) }
 {
     let mut shares = Vec::new(alloc);
-    let mut wanting = false;
-    for one in counted {
+    for one in numbered {
         match one {
             Ok(share) => shares.push(share)?,
             Err(HarvestFault::Memory) => return Err(HarvestFault::Memory),
-            Err(_) => wanting = true,
+            Err(_) => return Ok(None),
         }
-    }
-    if wanting {
-        return Ok(None);
     }
     Ok(Some(shares))
 }
 
-/// The shares of as many workers as the crowd has, or None where one has none. The pass must be of
-/// the table.
-fn shares_by<R: Threads + Sync, G: Gate>(
+/// The shares of what was counted by words, in their order. None where a number was wanting. The
+/// pass must be of the table.
+fn shares_of<R: Threads + Sync>(
     rt: &R,
-    crowd: &Crowd<'_, '_, G>,
+    alloc: Global,
+    table: &SlotTable<OddRuns>,
     pass: &mut Pass<OddRuns>,
+    words: Vec<WordShare>,
 ) -> Result<Option<Vec<Share>>, HarvestFault>
-    requires pass { IsPassOf crowd.now.table.now pass.old }
-    requires jobs { All (λ job. job.bytes ≡ crowd.now.bytes.now) crowd.now.jobs.now }
-    ensures pass { IsPassOf crowd.now.table.now pass.new }
-    ensures worked { IfOk result (λ found. IfSome found
-        (λ shares. All (IsWorked crowd.now.bytes.now crowd.now.kinds) shares.items)) }
+    requires pass { IsPassOf table.now pass.old }
+    requires words { (bytes : List ℕ) × (kinds : Kinds)
+        × All (IsCountedByWords bytes kinds) words.items }
+    ensures pass { IsPassOf table.now pass.new }
+    ensures worked { (bytes : List ℕ) (kinds : Kinds)
+        → All (IsCountedByWords bytes kinds) words.items
+        → IfOk result (λ found. IfSome found (λ shares. All (IsWorked bytes kinds) shares.items)) }
     ensures fault { IfErr result (λ found. found ≡ fault.Memory) }
 {
-    let hands = hands_of(crowd.alloc, crowd.table, pass, crowd.workers)?;
-    let counted = counted_by(rt, crowd, hands)?;
-    all_shares(crowd.alloc, counted)
+    let hands = hands_of(alloc, table, pass, words)?;
+    let numbered = numbered_by(rt, table, hands)?;
+    all_shares(alloc, numbered)
 }
 
-/// The dictionary of all shares, of an input that was read, or None where they do not go together:
-/// a game is missing, or is in two of them.
+/// The dictionary of what was counted by words, of an input that was read. None where a number was
+/// wanting, or where the shares do not go together: a game is missing, or is in two of them.
 fn dictionary_of<R: Threads + Sync>(
     rt: &R,
     alloc: Global,
     kinds: Kinds,
-    table: &SlotTable<OddRuns>,
-    pass: &mut Pass<OddRuns>,
+    begun: Begun,
     report: Report,
-    shares: &[Share],
 ) -> Result<Option<Counted>, HarvestFault>
-    requires pass { IsPassOf table.now pass.old }
-    requires worked { (bytes : List ℕ) × HasReadAll bytes report
-        × All (IsWorked bytes kinds) shares.now }
+    requires pass { IsPassOf begun.table begun.pass }
+    requires words { (bytes : List ℕ) × HasReadAll bytes report
+        × All (IsCountedByWords bytes kinds) begun.words.items }
     ensures harvest { (bytes : List ℕ) → HasReadAll bytes report
-        → All (IsWorked bytes kinds) shares.now
+        → All (IsCountedByWords bytes kinds) begun.words.items
         → IfOk result (λ found. IfSome found (λ counted. (seen : List Happened)
-        × IsHarvest table.now.slots seen kinds bytes counted)) }
+        × IsHarvest begun.table.slots seen kinds bytes counted)) }
     ensures fault { IfErr result (λ found. found ≡ fault.Memory) }
 {
-    match count_of(rt, alloc, kinds, table, pass, report, shares) {
+    let Begun { table, pass, words } = begun;
+    let mut pass = pass;
+    let Some(shares) = shares_of(rt, alloc, &table, &mut pass, words)? else {
+        return Ok(None);
+    };
+    match count_of(rt, alloc, kinds, &table, &mut pass, report, &shares) {
         Ok(counted) => Ok(Some(counted)),
         Err(HarvestFault::Memory) => Err(HarvestFault::Memory),
         Err(_) => Ok(None),
@@ -145,7 +179,7 @@ fn dictionary_of<R: Threads + Sync>(
 /// each takes one game after another that nobody has taken, counts it by words, and gives its
 /// patterns numbers when no game is left. None where a number was wanting.
 ///
-/// The table is made while the games are read. Where a thread cannot be started, another one does
+/// The table is made while games are counted. Where a thread cannot be started, another one does
 /// its work. It takes memory for the table, for the records of all games, for each worker for the
 /// patterns of its games and the board, and for the dictionary.
 ///
@@ -172,27 +206,21 @@ pub(crate) fn count_by_words<R: Threads + Sync, G: Gate>(
         return Err(HarvestFault::BadSettings);
     };
     let kinds = settings.kinds();
-    let (read, made) = thread::join(
-        rt,
-        || read_jobs(alloc, bytes),
-        || SlotTable::new(alloc, OddRuns { capacity }),
-    );
-    let (table, mut pass) = made?;
-    let (jobs, report) = read?;
+    let (jobs, report) = read_jobs(alloc, bytes)?;
     let crowd = Crowd {
         alloc,
-        table: &table,
+        capacity,
         gate,
         kinds,
-        workers: usize::from(settings.workers()).max(LEAST_WORKERS),
+        workers: settings.workers().max(LEAST_WORKERS),
         bytes,
         jobs: &jobs,
         next: &AtomicU64::new(0),
     };
-    let Some(shares) = shares_by(rt, &crowd, &mut pass)? else {
+    let Some(begun) = begin(rt, &crowd)? else {
         return Ok(None);
     };
-    // The records are not needed any more, and the dictionary takes memory.
+    // The records are not needed any more, and what comes takes memory.
     drop(jobs);
-    dictionary_of(rt, alloc, kinds, &table, &mut pass, report, &shares)
+    dictionary_of(rt, alloc, kinds, begun, report)
 }

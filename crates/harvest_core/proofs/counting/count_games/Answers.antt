@@ -1,6 +1,5 @@
-use Rattle.std.proofs.Common.{◌≡◌, ◌<◌, ◌≤◌, ◌+◌, sym, subst, ap, arith, length}
+use Rattle.std.proofs.Common.{◌≡◌, ◌≤◌, ◌+◌, sym, subst, ap, arith, length}
 use Rattle.std.specs.Prelude.{slice_index_or}
-use Rattle.sgf_core.specs.Limit.{most_bytes}
 use Rattle.go_record.specs.Actions.{Actions}
 use Rattle.game_core.specs.Games.{IsGameOf, WrittenGame}
 use Rattle.job_core.specs.Rising.{past}
@@ -18,7 +17,6 @@ loop-init g c =
       counted = subst (IsCountedByWords crowd.bytes.now crowd.kinds) (sym c.begin-words.ensures.words) (counted_none crowd.bytes.now c.args.worker crowd.kinds);
       above = (let e = ap (λ h. past h.games) c.begin-words.ensures.words in omega (arith, e));
       earlier = λ k d below. absurd (omega (arith, below, none));
-      small = λ k d below. absurd (omega (arith, below, none));
     }
 
 pub loop-preserved : goal.loop-preserved
@@ -29,7 +27,7 @@ loop-preserved g c =
     let h = c.loop.invariant in
     let at = c.fetch_add-at.result in
     let job : WrittenGame = slice_index_or crowd.jobs.now at c.index-crowd-at.result in
-    let here : job.bytes ≡ crowd.bytes.now = c.requires.jobs at c.index-crowd-at.result c.if-at-crowd.false in
+    let here : job.bytes ≡ crowd.bytes.now = c.requires at c.index-crowd-at.result c.if-at-crowd.false in
     let is : IsGame crowd.bytes.now job.game job.actions = record {
       at = job.at;
       end = job.end;
@@ -40,10 +38,8 @@ loop-preserved g c =
     let number = c.game.ensures.number in
     let later : c.loop.past ≤ job.game = omega (arith, number, c.if-game-past.false) in
     let next : c.game-past.result + 1 ≡ job.game + 1 = ap (λ n. n + 1) c.game-past.ensures.number in
-    let few : job.game < most_bytes = c.record.ensures.few in
     record {
-      counted = counted_more crowd.bytes.now crowd.kinds job.game job.actions old new is added h.counted (omega (arith, h.above, later));
+      counted = counted_more crowd.bytes.now crowd.kinds job.game job.actions old new is added h.counted (omega (arith, h.above, later)) c.in_ok-add.ensures.small;
       above = past_added job.game job.actions old new added (omega (arith, next));
       earlier = all_added (c.game-past.result + 1) c.loop.past job.game job.actions old new added (omega (arith, next, later)) (omega (arith, next)) h.earlier;
-      small = all_added most_bytes most_bytes job.game job.actions old new added (omega arith) few h.small;
     }

@@ -1,5 +1,4 @@
 use Rattle.std.proofs.Common.{ℕ, ◌≤◌, ◌<◌, All}
-use Rattle.sgf_core.specs.Limit.{most_bytes}
 use Rattle.job_core.specs.Rising.{past}
 use Rattle.harvest_core.specs.Inner.Counting.{IsCountedByWords}
 use Rattle.harvest_core.proofs.counting.count_games.Given as goal
@@ -9,5 +8,4 @@ invariant-loop g l = record {
   counted : IsCountedByWords l.fn.crowd.bytes.now l.fn.crowd.kinds l.words;
   above : past l.words.games ≤ l.past;
   earlier : All (λ (game : ℕ). game < l.past) l.words.games;
-  small : All (λ (game : ℕ). game < most_bytes) l.words.games;
 }
