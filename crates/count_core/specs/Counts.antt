@@ -6,8 +6,8 @@ use Rattle.shape_dict.specs.Text.{text_of}
 use Rattle.sgf_core.specs.Limit.{most_bytes}
 use Rattle.sgf_core.specs.declared.faults.SgfFault.TheVariants as sgf
 use Rattle.shape_dict.specs.declared.faults.DictFault.TheVariants as dict_fault
-use Rattle.share_core.specs.declared.faults.HarvestFault.{HarvestFault}
-use Rattle.share_core.specs.declared.faults.HarvestFault.TheVariants as harvest_fault
+use Rattle.harvest_faults.specs.declared.faults.HarvestFault.{HarvestFault}
+use Rattle.harvest_faults.specs.declared.faults.HarvestFault.TheVariants as harvest_fault
 use Rattle.tally_core.specs.Counted.{IsCounted}
 use Rattle.tally_core.specs.declared.collections.Counted.{Counted}
 use Rattle.game_core.specs.declared.reports.Report.{Report}

@@ -2,7 +2,7 @@
 use Rattle.std.specs.Prelude.{ℕ}
 use Rattle.sgf_core.specs.declared.faults.SgfFault.TheVariants as sgf
 use Rattle.go_record.specs.declared.faults.RecordFault.TheVariants as record_fault
-use Rattle.share_core.specs.declared.faults.HarvestFault.TheVariants as harvest_fault
+use Rattle.harvest_faults.specs.declared.faults.HarvestFault.TheVariants as harvest_fault
 use Rattle.shape_dict.specs.declared.faults.DictFault.TheVariants as dict_fault
 use Rattle.engine_core.specs.declared.faults.RunFault.{RunFault}
 use Rattle.engine_core.specs.declared.faults.RunFault.TheVariants as fault

@@ -6,10 +6,10 @@ ghost use Rattle.engine_core.specs.declared.faults.RunFault.TheVariants.{Harvest
 
 use go_board::BoardFault;
 use go_record::RecordFault;
+use harvest_faults::HarvestFault;
 use sgf_core::SgfFault;
 use shape_core::GlyphFault;
 use shape_dict::DictFault;
-use share_core::HarvestFault;
 use std::alloc::{AllocError, AllocFailed};
 use std::fmt;
 use thiserror::Error;

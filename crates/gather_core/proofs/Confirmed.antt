@@ -1,7 +1,7 @@
 -- Whether a full table is one of patterns of rows, number by number.
 use Rattle.std.proofs.Common.{◌≡◌, ◌≢◌, ℕ, ◌+◌, ◌<◌, ◌⊎◌, inl, inr, List, length, get_or, AllPairs, Option, Some, None, refl, sym, subst, ◌∙◌, arith, Contains}
 use Rattle.gather_core.proofs.Common.{All, Contains-get_or, IsFree, IsFull, Happened, content_of, keys_of, IsLegal, Keeps, TellsAt, length-content, key_is_numbered, keys_differ, full_keys, number_below, one_key, Row, shape_at, HasShape, HasShapeAt, IsKnown, IsUnknown, first_shape, IsUnconfirmed, IsConfirmation}
-use Rattle.share_core.specs.declared.faults.HarvestFault.TheVariants as fault
+use Rattle.harvest_faults.specs.declared.faults.HarvestFault.TheVariants as fault
 use Rattle.gather_core.specs.Inner.Confirming.{AreFrom, IsLeastOf, IsOfRow}
 use Rattle.gather_core.proofs.Stood.{nothing_at}
 use borrow.Author.Count.{below_more}

@@ -2,8 +2,8 @@
 use Rattle.std.proofs.Common.{◌≡◌, ℕ, ◌+◌, ◌<◌, ◌≤◌, false, not, List, length, Option, Some, None, sym, subst, arith, Contains, ⊎_elim, refl, inl, inr}
 use Rattle.gather_core.proofs.Common.{find, is_stranger, cases_lt, nat_tests, IsNumber, Happened, content_of, IsLegal, length-content, Row, stranger_in, row_of, is_shape, shape_at, Stand, StandBelow, all_rows, TellsAt, IsBeyondFault, AreBelow, Known, one_number, one_key, number_below, Held, all_games, Covers, AreOneEach, IsGatherFault, IsStandFault, IsOdd, IsLargeSum, AreVisited, Differs}
 use Rattle.std.proofs.Math.ListN.{get_or-eq_default}
-use Rattle.share_core.specs.declared.faults.HarvestFault.{HarvestFault}
-use Rattle.share_core.specs.declared.faults.HarvestFault.TheVariants as fault
+use Rattle.harvest_faults.specs.declared.faults.HarvestFault.{HarvestFault}
+use Rattle.harvest_faults.specs.declared.faults.HarvestFault.TheVariants as fault
 use Rattle.gather_core.proofs.Totalled.{large_pattern, nothing_passes}
 
 -- ---- no stranger is found

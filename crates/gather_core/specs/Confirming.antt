@@ -5,8 +5,8 @@ use Rattle.probe_core.specs.Sequential.{IsNumber, IsFree}
 use Rattle.slot_table.specs.declared.entries.Happened.{Happened}
 use Rattle.slot_table.specs.History.{content_of}
 use Rattle.share_core.specs.declared.rows.Row.{Row}
-use Rattle.share_core.specs.declared.faults.HarvestFault.{HarvestFault}
-use Rattle.share_core.specs.declared.faults.HarvestFault.TheVariants as fault
+use Rattle.harvest_faults.specs.declared.faults.HarvestFault.{HarvestFault}
+use Rattle.harvest_faults.specs.declared.faults.HarvestFault.TheVariants as fault
 use Rattle.share_core.specs.Rows.{row_of}
 use Rattle.gather_core.specs.Checking.{shape_at}
 

@@ -1,8 +1,8 @@
 -- Why shares were not put together.
 use Rattle.std.specs.Prelude.{ℕ, List}
 use Rattle.slot_table.specs.Passes.{Known}
-use Rattle.share_core.specs.declared.faults.HarvestFault.{HarvestFault}
-use Rattle.share_core.specs.declared.faults.HarvestFault.TheVariants as fault
+use Rattle.harvest_faults.specs.declared.faults.HarvestFault.{HarvestFault}
+use Rattle.harvest_faults.specs.declared.faults.HarvestFault.TheVariants as fault
 use Rattle.share_core.specs.Shares.{Held}
 use Rattle.gather_core.specs.Covering.{all_games, Covers, IsTwice, IsMissing}
 use Rattle.gather_core.specs.Checking.{all_rows, Stand, IsStranger}

@@ -1,15 +1,16 @@
 //! The dictionary of all that shares have counted.
 ghost use Rattle.std.specs.Prelude.{◌≡◌, ◌≤◌, ◌^◌, All, IfOk, IfErr, OnOk};
-ghost use Rattle.share_core.specs.declared.faults.HarvestFault.TheVariants as fault;
+ghost use Rattle.harvest_faults.specs.declared.faults.HarvestFault.TheVariants as fault;
 ghost use Rattle.share_core.specs.Shares.{IsShare};
 ghost use Rattle.gather_core.specs.Covering.{all_games, Covers};
 ghost use Rattle.gather_core.specs.Checking.{all_rows};
 ghost use Rattle.gather_core.specs.Inner.Totals.{AreEntriesOf};
 ghost use Rattle.gather_core.specs.Gathering.{AreWithin, all_moves, IsGathered};
 
+use harvest_faults::HarvestFault;
 use shape_core::{Kinds, kinds_stay};
 use shape_dict::{Dictionary, Entry, put_in_order};
-use share_core::{HarvestFault, Share};
+use share_core::Share;
 use std::thread::Threads;
 use tally_core::has_diamonds;
 

@@ -2,13 +2,13 @@
 ghost use Rattle.std.specs.Prelude.{◌≡◌, ◌+◌, ◌<◌, List};
 ghost use Rattle.slot_table.specs.Passes.{Known, IsPassOf};
 ghost use Rattle.share_core.specs.declared.rows.Row.{Row};
-ghost use Rattle.share_core.specs.declared.faults.HarvestFault.TheVariants as fault;
+ghost use Rattle.harvest_faults.specs.declared.faults.HarvestFault.TheVariants as fault;
 ghost use Rattle.share_core.specs.Entering.{AsksOnly};
 ghost use Rattle.share_core.specs.Rows.{first_at};
 ghost use Rattle.gather_core.specs.Inner.Visiting.{AgreeBelow};
 
+use harvest_faults::HarvestFault;
 use probe_core::ProbeOrder;
-use share_core::HarvestFault;
 use slot_table::{Pass, SlotTable};
 
 /// A number whose least marked game is not the least that shares counted at it.

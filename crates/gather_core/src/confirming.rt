@@ -6,14 +6,15 @@ ghost use Rattle.gather_core.specs.Checking.{all_rows};
 ghost use Rattle.gather_core.specs.Confirming.{HasShape, first_shape};
 ghost use Rattle.gather_core.specs.Inner.Confirming.{IsLeastOf, IsOfRow};
 ghost use Rattle.gather_core.specs.Confirming.{IsConfirmation};
-ghost use Rattle.share_core.specs.declared.faults.HarvestFault.TheVariants as fault;
+ghost use Rattle.harvest_faults.specs.declared.faults.HarvestFault.TheVariants as fault;
 
 use crate::leasts::{Sought, least_of};
 use crate::numbers::sums_at;
 use crate::standing::{bits_of, word_of};
+use harvest_faults::HarvestFault;
 use probe_core::ProbeOrder;
 use shape_core::Word;
-use share_core::{HarvestFault, Share};
+use share_core::Share;
 use slot_table::{Pass, SlotTable};
 
 /// The least number of a row with these bits, among those of all shares.

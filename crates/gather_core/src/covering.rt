@@ -3,9 +3,10 @@ ghost use Rattle.std.specs.Prelude.{◌≡◌, ◌<◌, ℕ, List, ◌++◌, ◌
 ghost use Rattle.std.specs.Prelude.{IfErr};
 ghost use Rattle.gather_core.specs.Covering.{all_games, Covers};
 ghost use Rattle.gather_core.specs.Inner.Covering.{AreNoted, IsCoverFault};
-ghost use Rattle.share_core.specs.declared.faults.HarvestFault.TheVariants as fault;
+ghost use Rattle.harvest_faults.specs.declared.faults.HarvestFault.TheVariants as fault;
 
-use share_core::{HarvestFault, Share};
+use harvest_faults::HarvestFault;
+use share_core::Share;
 use std::alloc::Global;
 
 /// Which games were seen, and the least one that was seen twice.

@@ -9,7 +9,7 @@ ghost use Rattle.slot_table.specs.declared.entries.Happened.{Happened};
 ghost use Rattle.slot_table.specs.History.{IsLegal, Keeps};
 ghost use Rattle.tally_core.specs.Games.{IsDictionaryOf};
 ghost use Rattle.share_core.specs.declared.rows.Row.{Row};
-ghost use Rattle.share_core.specs.declared.faults.HarvestFault.TheVariants as fault;
+ghost use Rattle.harvest_faults.specs.declared.faults.HarvestFault.TheVariants as fault;
 ghost use Rattle.share_core.specs.Adding.{HasGrown, IsKept, IsAddFault};
 ghost use Rattle.gather_core.specs.Checking.{Stand};
 ghost use Rattle.gather_core.specs.Confirming.{HasShape, IsConfirmation};

@@ -8,9 +8,10 @@ ghost use Rattle.share_core.specs.Rows.{AreBelow};
 
 use crate::leasts::{Sought, least_of};
 use crate::totals::Totals;
+use harvest_faults::HarvestFault;
 use probe_core::Key;
 use shape_core::Word;
-use share_core::{HarvestFault, Share};
+use share_core::Share;
 
 /// The bits of a key.
 pub(crate) fn bits_of(key: Option<Key>) -> Option<u64>

@@ -6,8 +6,9 @@ ghost use Rattle.share_core.specs.Rows.{earlier};
 ghost use Rattle.gather_core.specs.Inner.Totals.{with_row, IsUnlike};
 
 use crate::numbers::{NumberSums, no_sums, unlike};
+use harvest_faults::HarvestFault;
 use shape_dict::{Entry, FirstGame};
-use share_core::{HarvestFault, KeptRow, Share};
+use share_core::{KeptRow, Share};
 use std::alloc::{AllocError, Global};
 
 /// The lesser of two games, where None is no game.
@@ -85,7 +86,7 @@ impl Totals {
     ghost use Rattle.std.specs.Prelude.{IfOk, IfErr, OnOk, IfNone, IsTrue};
     ghost use Rattle.std.specs.Bool.{OnFalse};
     ghost use Rattle.share_core.specs.declared.rows.Row.{Row};
-    ghost use Rattle.share_core.specs.declared.faults.HarvestFault.TheVariants as fault;
+    ghost use Rattle.harvest_faults.specs.declared.faults.HarvestFault.TheVariants as fault;
     ghost use Rattle.gather_core.specs.Checking.{all_rows};
     ghost use Rattle.gather_core.specs.Inner.Gathering.{AreOneEach};
     ghost use Rattle.gather_core.specs.Inner.Numbers.{AreSums};

@@ -13,8 +13,9 @@ use crate::agreeing::{Differs, compare};
 use crate::numbers::{NumberSums, sums_at};
 use crate::standing::{bits_of, word_of};
 use crate::totals::Totals;
+use harvest_faults::HarvestFault;
 use probe_core::ProbeOrder;
-use share_core::{HarvestFault, Share};
+use share_core::Share;
 use slot_table::{Pass, SlotTable};
 
 /// What the rows of a number are together: where there are no totals, they are looked for in the

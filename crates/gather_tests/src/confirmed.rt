@@ -1,8 +1,9 @@
 //! Why a table had no number for a pattern, as all shares tell it.
 use gather_core::confirm_full;
+use harvest_faults::HarvestFault;
 use probe_core::Key;
 use shape_core::{Kinds, Word};
-use share_core::{HarvestFault, Share};
+use share_core::Share;
 use share_samples::{
     ALONE, EMPTY, ONE_POINT, TAKEN, TWO_POINTS, add_written, first_share, table_of,
 };

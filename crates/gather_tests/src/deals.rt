@@ -6,10 +6,11 @@ ghost use Rattle.sgf_core.specs.Limit.{most_bytes};
 
 use gather_core::gather;
 use go_record::Record;
+use harvest_faults::HarvestFault;
 use probe_core::ProbeOrder;
 use shape_core::Kinds;
 use shape_dict::Dictionary;
-use share_core::{HarvestFault, Share};
+use share_core::Share;
 use share_samples::{record_of, table_of};
 use slot_table::{Pass, SlotTable};
 use std::alloc::Global;

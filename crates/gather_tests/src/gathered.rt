@@ -5,10 +5,10 @@ ghost use Rattle.sgf_core.specs.Limit.{most_bytes};
 
 use gather_core::{confirm_full, gather};
 use go_record::Record;
+use harvest_faults::HarvestFault;
 use probe_core::ProbeOrder;
 use shape_core::{Kinds, Word};
 use shape_dict::Dictionary;
-use share_core::HarvestFault;
 use share_samples::{
     ALONE, EMPTY, ONE_POINT, entry_of, first_share, record_of, share_of, table_of,
 };

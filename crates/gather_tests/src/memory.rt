@@ -8,10 +8,11 @@ ghost use Rattle.sgf_core.specs.Limit.{most_bytes};
 
 use gather_core::gather;
 use go_record::Record;
+use harvest_faults::HarvestFault;
 use probe_core::ProbeOrder;
 use shape_core::Kinds;
 use shape_dict::{Dictionary, Entry};
-use share_core::{HarvestFault, Row, Share};
+use share_core::{Row, Share};
 use share_samples::{entry_of, record_of, table_of};
 use slot_table::{Pass, SlotTable};
 use std::alloc::Global;

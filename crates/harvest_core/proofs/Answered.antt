@@ -14,8 +14,8 @@ use Rattle.slot_table.proofs.Histories.{begins_itself, begins_through}
 use Rattle.slot_table.specs.Stakes.{IsWhole}
 use Rattle.share_core.specs.Entering.{IsCall, AsksOnly}
 use Rattle.share_core.proofs.Entered.{calls_are}
-use Rattle.share_core.specs.declared.faults.HarvestFault.{HarvestFault}
-use Rattle.share_core.specs.declared.faults.HarvestFault.TheVariants as fault
+use Rattle.harvest_faults.specs.declared.faults.HarvestFault.{HarvestFault}
+use Rattle.harvest_faults.specs.declared.faults.HarvestFault.TheVariants as fault
 use Rattle.harvest_core.specs.declared.working.Worked.{Worked}
 use Rattle.harvest_core.specs.InTable.{IsInTable, IsFullOf}
 use Rattle.harvest_core.specs.Working.{IsCallIn}

@@ -18,8 +18,8 @@ use Rattle.slot_table.specs.History.{content_of, least_at, IsAtMost, IsLegal, Ke
 use Rattle.slot_table.specs.Passes.{Known, IsLater, calls_of}
 use Rattle.game_core.specs.Games.{HasReadAll}
 use Rattle.share_core.specs.declared.rows.Row.{Row}
-use Rattle.share_core.specs.declared.faults.HarvestFault.{HarvestFault}
-use Rattle.share_core.specs.declared.faults.HarvestFault.TheVariants as fault
+use Rattle.harvest_faults.specs.declared.faults.HarvestFault.{HarvestFault}
+use Rattle.harvest_faults.specs.declared.faults.HarvestFault.TheVariants as fault
 use Rattle.gather_core.specs.Agreeing.{agreeing_firsts, IsMarksFault}
 use Rattle.gather_core.specs.Checking.{all_rows, is_shape, is_stranger, shape_at, IsStranger}
 use Rattle.gather_core.specs.Confirming.{HasShape, HasShapeAt, IsUnknown, IsUnconfirmed, IsConfirmation}

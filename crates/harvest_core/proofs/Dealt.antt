@@ -10,7 +10,7 @@ use Rattle.job_core.specs.declared.items.Item.TheVariants.{Job}
 use Rattle.game_core.specs.Games.{WrittenGame}
 use Rattle.job_core.specs.Rule.{putting}
 use Rattle.gather_core.specs.Covering.{times_of}
-use Rattle.share_core.specs.declared.faults.HarvestFault.{HarvestFault}
+use Rattle.harvest_faults.specs.declared.faults.HarvestFault.{HarvestFault}
 use Rattle.harvest_core.specs.declared.working.Worked.{Worked}
 use Rattle.harvest_core.specs.Working.{IsCounted}
 use Rattle.harvest_core.specs.Inner.Reading.{IsOnceEach, AreDealt}

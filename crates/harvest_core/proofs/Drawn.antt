@@ -14,7 +14,7 @@ use Rattle.slot_table.specs.declared.entries.Happened.{Happened}
 use Rattle.slot_table.specs.History.{Keeps}
 use Rattle.slot_table.specs.Passes.{Known}
 use Rattle.share_core.specs.declared.rows.Row.{Row}
-use Rattle.share_core.specs.declared.faults.HarvestFault.{HarvestFault}
+use Rattle.harvest_faults.specs.declared.faults.HarvestFault.{HarvestFault}
 use Rattle.gather_core.specs.Confirming.{HasShape}
 use Rattle.share_core.specs.Entering.{CallsOnly}
 use Rattle.harvest_core.specs.declared.working.Worked.{Worked}

@@ -22,8 +22,8 @@ use Rattle.slot_table.proofs.Later.{later_through}
 use Rattle.slot_table.proofs.Histories.{length-content}
 use Rattle.slot_table.proofs.Contents.{one_number, one_key, number_below, number_shown, free_shown}
 use Rattle.share_core.specs.declared.rows.Row.{Row}
-use Rattle.share_core.specs.declared.faults.HarvestFault.{HarvestFault}
-use Rattle.share_core.specs.declared.faults.HarvestFault.TheVariants as fault
+use Rattle.harvest_faults.specs.declared.faults.HarvestFault.{HarvestFault}
+use Rattle.harvest_faults.specs.declared.faults.HarvestFault.TheVariants as fault
 use Rattle.share_core.specs.Rows.{row_at, blank, first_of, first_at, earlier}
 use Rattle.share_core.specs.Raising.{Numbered, numbered_of}
 use Rattle.share_core.specs.Entering.{IsCall}

@@ -21,7 +21,7 @@ use Rattle.tally_core.specs.Collection.{AreReplayed}
 use Rattle.tally_core.specs.Games.{there_sum, played_sum}
 use Rattle.game_core.specs.declared.reports.Report.{Report}
 use Rattle.tally_core.proofs.Bounded.{there-few, played-few}
-use Rattle.share_core.specs.declared.faults.HarvestFault.TheVariants as fault
+use Rattle.harvest_faults.specs.declared.faults.HarvestFault.TheVariants as fault
 use Rattle.share_core.specs.Rows.{there_of, played_of}
 use Rattle.gather_core.specs.Checking.{all_rows}
 use Rattle.gather_core.specs.Covering.{Covers, all_games}

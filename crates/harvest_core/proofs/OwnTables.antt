@@ -12,8 +12,8 @@ use Rattle.probe_core.specs.Sequential.{Table, IsNumber}
 use Rattle.probe_core.specs.History.{Answered, changed, content_from, empty_table}
 use Rattle.slot_table.specs.declared.entries.Happened.{Happened}
 use Rattle.slot_table.specs.History.{asked_of, content_of}
-use Rattle.share_core.specs.declared.faults.HarvestFault.{HarvestFault}
-use Rattle.share_core.specs.declared.faults.HarvestFault.TheVariants as fault
+use Rattle.harvest_faults.specs.declared.faults.HarvestFault.{HarvestFault}
+use Rattle.harvest_faults.specs.declared.faults.HarvestFault.TheVariants as fault
 use Rattle.tally_core.specs.declared.collections.Counted.{Counted}
 use Rattle.harvest_core.specs.Harvest.{IsHarvest, IsHarvestRefused}
 use Rattle.harvest_core.specs.Inner.Reading.{IsReadFault}

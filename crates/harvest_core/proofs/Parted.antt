@@ -7,7 +7,7 @@ use Rattle.std.proofs.lemmas.List.Elements.{All-map, All-weaker, All-from_recurs
 use Rattle.std.proofs.lemmas.Option.{same_Some, slice_get_within, slice_get_read, slice_get_cases}
 use Rattle.shape_core.specs.declared.words.Kinds.{Kinds}
 use Rattle.share_core.specs.Shares.{Held}
-use Rattle.share_core.specs.declared.faults.HarvestFault.{HarvestFault}
+use Rattle.harvest_faults.specs.declared.faults.HarvestFault.{HarvestFault}
 use Rattle.harvest_core.specs.declared.working.Worked.{Worked}
 use Rattle.harvest_core.specs.Working.{IsWorked, IsRefusal, IsRefused}
 use Rattle.harvest_core.specs.Inner.Working.{IsWorkOf}

@@ -21,7 +21,7 @@ use Rattle.harvest_core.specs.Inner.Reading.{IsReadingOf}
 use Rattle.harvest_core.specs.declared.threads.Crew.{Crew}
 use Rattle.harvest_core.specs.declared.workers.Worker.{Worker}
 use Rattle.harvest_core.specs.declared.reading.Reading.{Reading}
-use Rattle.share_core.specs.declared.faults.HarvestFault.TheVariants as fault
+use Rattle.harvest_faults.specs.declared.faults.HarvestFault.TheVariants as fault
 
 -- ---- what was given away comes back
 pub stakes_come_back : {O : Type 0} (all : List (Returned O)) (handles : List (PromisedHandle (Returned O) (BackTo O))) → length all ≡ length handles

@@ -14,8 +14,8 @@ use Rattle.slot_table.specs.Stakes.{IsAsMuch}
 use Rattle.game_core.specs.declared.reports.Report.{Report}
 use Rattle.share_core.specs.Shares.{Held}
 use Rattle.gather_core.specs.Covering.{times_of, all_games}
-use Rattle.share_core.specs.declared.faults.HarvestFault.{HarvestFault}
-use Rattle.share_core.specs.declared.faults.HarvestFault.TheVariants as fault
+use Rattle.harvest_faults.specs.declared.faults.HarvestFault.{HarvestFault}
+use Rattle.harvest_faults.specs.declared.faults.HarvestFault.TheVariants as fault
 use Rattle.harvest_core.specs.declared.workers.Worker.{Worker}
 use Rattle.harvest_core.specs.declared.workers.Returned.{Returned}
 use Rattle.harvest_core.specs.declared.working.Worked.{Worked}

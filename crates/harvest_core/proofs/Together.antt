@@ -10,8 +10,8 @@ use Rattle.slot_table.specs.declared.entries.Happened.{Happened}
 use Rattle.slot_table.specs.declared.entries.Happened.TheVariants as call
 use Rattle.slot_table.specs.Passes.{Numbers, Known}
 use Rattle.share_core.specs.declared.rows.Row.{Row}
-use Rattle.share_core.specs.declared.faults.HarvestFault.{HarvestFault}
-use Rattle.share_core.specs.declared.faults.HarvestFault.TheVariants as fault
+use Rattle.harvest_faults.specs.declared.faults.HarvestFault.{HarvestFault}
+use Rattle.harvest_faults.specs.declared.faults.HarvestFault.TheVariants as fault
 use Rattle.share_core.specs.Rows.{row_at, blank}
 use Rattle.share_core.specs.Making.{HasRow}
 use Rattle.gather_core.specs.Checking.{all_rows}

@@ -14,8 +14,8 @@ use Rattle.tally_core.specs.declared.collections.Counted.{Counted}
 use Rattle.game_core.specs.declared.reports.Report.{Report}
 use Rattle.tally_core.specs.declared.faults.TallyFault.TheVariants as tally
 use Rattle.game_core.specs.Games.{HasReadAll}
-use Rattle.share_core.specs.declared.faults.HarvestFault.{HarvestFault}
-use Rattle.share_core.specs.declared.faults.HarvestFault.TheVariants as fault
+use Rattle.harvest_faults.specs.declared.faults.HarvestFault.{HarvestFault}
+use Rattle.harvest_faults.specs.declared.faults.HarvestFault.TheVariants as fault
 use Rattle.harvest_core.specs.Working.{IsPatternIn, IsPatternOfGame, IsCallIn}
 
 -- each pattern of a dictionary has a number after a history of a table of n numbers

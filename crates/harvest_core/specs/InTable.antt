@@ -8,8 +8,8 @@ use Rattle.probe_core.specs.Sequential.{IsAbsent, IsFull}
 use Rattle.slot_table.specs.History.{content_of, least_at, IsAtMost}
 use Rattle.slot_table.specs.Passes.{Known, IsLater}
 use Rattle.share_core.specs.declared.rows.Row.{Row}
-use Rattle.share_core.specs.declared.faults.HarvestFault.{HarvestFault}
-use Rattle.share_core.specs.declared.faults.HarvestFault.TheVariants as fault
+use Rattle.harvest_faults.specs.declared.faults.HarvestFault.{HarvestFault}
+use Rattle.harvest_faults.specs.declared.faults.HarvestFault.TheVariants as fault
 use Rattle.share_core.specs.Making.{HasRow}
 use Rattle.gather_core.specs.Checking.{Stand}
 use Rattle.harvest_core.specs.declared.working.Worked.{Worked}

@@ -6,8 +6,8 @@ use Rattle.game_core.specs.Games.{IsGameOf}
 use Rattle.job_core.specs.Rising.{Rising, past}
 use Rattle.job_core.specs.declared.hands.Hand.{Hand}
 use Rattle.share_core.specs.declared.rows.Row.{Row}
-use Rattle.share_core.specs.declared.faults.HarvestFault.{HarvestFault}
-use Rattle.share_core.specs.declared.faults.HarvestFault.TheVariants as fault
+use Rattle.harvest_faults.specs.declared.faults.HarvestFault.{HarvestFault}
+use Rattle.harvest_faults.specs.declared.faults.HarvestFault.TheVariants as fault
 use Rattle.share_core.specs.Shares.{Held, Added, IsShareOf, IsPatternOf}
 use Rattle.share_core.specs.Adding.{IsTooLarge, IsKept, IsAddFault}
 use Rattle.gather_core.specs.Confirming.{HasShape}

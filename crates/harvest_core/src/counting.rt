@@ -1,14 +1,15 @@
 //! What several workers count of a collection, each by words, and the table that is made meanwhile.
 ghost use Rattle.std.specs.Prelude.{◌≡◌, ◌^◌, All, IfOk, IfErr, IfSome};
 ghost use Rattle.slot_table.specs.Passes.{IsPassOf};
-ghost use Rattle.share_core.specs.declared.faults.HarvestFault.TheVariants as fault;
+ghost use Rattle.harvest_faults.specs.declared.faults.HarvestFault.TheVariants as fault;
 ghost use Rattle.harvest_core.specs.Inner.Counting.{IsCountedByWords, IsDone};
 
 use crate::gates::Gate;
+use harvest_faults::HarvestFault;
 use job_core::Job;
 use probe_core::{Capacity, OddRuns};
 use shape_core::Kinds;
-use share_core::{HarvestFault, WordShare};
+use share_core::WordShare;
 use slot_table::{Pass, SlotTable};
 use std::alloc::{AllocError, Global};
 use std::sync::atomic::{AtomicU64, Ordering};

@@ -3,11 +3,11 @@ ghost use Rattle.std.specs.Prelude.{◌≡◌, ◌<◌, All, length, IfOk, IfErr
 ghost use Rattle.sgf_core.specs.Limit.{most_bytes};
 ghost use Rattle.sgf_core.specs.declared.faults.SgfFault.TheVariants as sgf;
 ghost use Rattle.game_core.specs.Games.{HasReadAll};
-ghost use Rattle.share_core.specs.declared.faults.HarvestFault.TheVariants as fault;
+ghost use Rattle.harvest_faults.specs.declared.faults.HarvestFault.TheVariants as fault;
 ghost use Rattle.harvest_core.specs.Inner.Reading.{IsReadFault};
 
+use harvest_faults::HarvestFault;
 use job_core::{Games, Job};
-use share_core::HarvestFault;
 use std::alloc::Global;
 use tally_core::Report;
 

@@ -5,14 +5,14 @@ ghost use Rattle.std.specs.Prelude.{IsErrAnd};
 ghost use Rattle.sgf_core.specs.Limit.{most_bytes};
 ghost use Rattle.sgf_core.specs.declared.faults.SgfFault.TheVariants as sgf;
 ghost use Rattle.slot_table.specs.declared.entries.Happened.{Happened};
-ghost use Rattle.share_core.specs.declared.faults.HarvestFault.TheVariants as fault;
+ghost use Rattle.harvest_faults.specs.declared.faults.HarvestFault.TheVariants as fault;
 ghost use Rattle.harvest_core.specs.Harvest.{IsHarvest, IsHarvestRefused};
 
 use crate::by_words::count_by_words;
 use crate::gates::Gate;
 use crate::harvesting::{harvest_on, stakes_come_together};
+use harvest_faults::HarvestFault;
 use probe_core::{Capacity, OddStep};
-use share_core::HarvestFault;
 use slot_table::SlotTable;
 use std::alloc::Global;
 use std::sync::Wait;

@@ -1,11 +1,12 @@
 //! What all threads came to, parted into shares and what was refused.
 ghost use Rattle.std.specs.Prelude.{◌≡◌, ◌⊎◌, ◌↔◌, [], Contains, IsTrue, MatchOption, IfOk};
-ghost use Rattle.share_core.specs.declared.faults.HarvestFault.TheVariants as fault;
+ghost use Rattle.harvest_faults.specs.declared.faults.HarvestFault.TheVariants as fault;
 ghost use Rattle.harvest_core.specs.Inner.Parted.{shares_of, refusals_of};
 ghost use Rattle.harvest_core.specs.Inner.Parted.{rank, game_of as game_named, GoesFirst, IsWorst};
 
 use crate::working::Worked;
-use share_core::{HarvestFault, Share};
+use harvest_faults::HarvestFault;
+use share_core::Share;
 use std::alloc::{AllocError, Global};
 
 /// All shares, and the faults of those games that were not added.

@@ -3,17 +3,18 @@ ghost use Rattle.std.specs.Prelude.{◌≡◌, ◌≤◌, [], ℕ, List, Some, N
 ghost use Rattle.shape_core.specs.declared.words.Kinds.{Kinds};
 ghost use Rattle.slot_table.specs.Passes.{IsPassOf};
 ghost use Rattle.job_core.specs.Rising.{past};
-ghost use Rattle.share_core.specs.declared.faults.HarvestFault.{HarvestFault};
+ghost use Rattle.harvest_faults.specs.declared.faults.HarvestFault.{HarvestFault};
 ghost use Rattle.gather_core.specs.Checking.{Stand};
 ghost use Rattle.harvest_core.specs.InTable.{GoesOnInTable};
 ghost use Rattle.harvest_core.specs.Working.{IsWorked, IsRefused, IsCounted, CallsOfGame};
 ghost use Rattle.harvest_core.specs.Working.{AreOfGame, IsRefusedGame};
 
 use crate::gates::Gate;
+use harvest_faults::HarvestFault;
 use job_core::Job;
 use probe_core::ProbeOrder;
 use shape_core::Kinds;
-use share_core::{HarvestFault, Share};
+use share_core::Share;
 use slot_table::{Pass, SlotTable};
 use std::alloc::Global;
 

@@ -2,10 +2,10 @@
 use engine_core::{RunFault, status_of};
 use go_board::BoardFault;
 use go_record::RecordFault;
+use harvest_faults::HarvestFault;
 use sgf_core::SgfFault;
 use shape_core::{GlyphFault, Word};
 use shape_dict::DictFault;
-use share_core::HarvestFault;
 use std::test::Fail;
 
 #[test]

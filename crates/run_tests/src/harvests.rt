@@ -5,12 +5,12 @@ ghost use Rattle.job_core.specs.Rule.{worker};
 
 use crate::jobs::{put_until_full, puts_an_end};
 use harvest_core::{FreeGate, Returned, Worker, harvest, harvest_on, work};
+use harvest_faults::HarvestFault;
 use job_core::{Desk, Games, new_queue};
 use probe_core::{Capacity, Linear, OddRuns, OddStep, ProbeOrder};
 use sgf_core::SgfFault;
 use shape_core::{Kinds, Word};
 use shape_dict::{Dictionary, Text};
-use share_core::HarvestFault;
 use slot_table::{Pass, SlotTable};
 use std::alloc::{AllocError, Global};
 use std::process::Abort;

@@ -1,14 +1,14 @@
 //! Why the program ends without its lines.
 ghost use Rattle.std.specs.Prelude.{◌≡◌};
 ghost use Rattle.share_bench.specs.declared.faults.BenchFault.TheVariants as fault;
-ghost use Rattle.share_core.specs.Faults.{same_fault};
+ghost use Rattle.harvest_faults.specs.Faults.{same_fault};
 ghost use Rattle.tally_core.specs.Faults.{reading_fault};
-ghost use Rattle.share_core.specs.declared.faults.HarvestFault.TheVariants as count;
+ghost use Rattle.harvest_faults.specs.declared.faults.HarvestFault.TheVariants as count;
 
 use engine_core::RunFault;
 use game_core::GamesFault;
 use go_board::BoardFault;
-use share_core::HarvestFault;
+use harvest_faults::HarvestFault;
 use std::alloc::AllocError;
 use std::{fmt, io};
 use tally_core::TallyFault;

@@ -11,10 +11,10 @@ mod parts;
 
 use engine_core::read_input;
 use faults::BenchFault;
+use harvest_faults::HarvestFault;
 use parts::{new_table, read_all, replay_all, share_all, walk_all};
 use probe_core::{Capacity, OddStep};
 use shape_core::Kinds;
-use share_core::HarvestFault;
 use std::env;
 use std::process::ExitCode;
 use std::time::{Duration, Instant};

@@ -3,7 +3,7 @@ use Rattle.std.proofs.Common.{◌≡◌, ℕ, ◌+◌, ◌<◌, ◌==◌, cond, 
 use Rattle.share_core.proofs.Common.{sum_by, cases_eq, nat_tests, map-append, All-head, All-tail, Contains-get_or, sum_by_push, sum_by-cons, Actions, Kinds, Answer, IsNumber, Happened, content_of, Keeps, Known, Meeting, kinds_of, there_in, played_in, IsWalk, there_among, Row, HarvestFault, row_at, blank, first_of, earlier, numbered_of, weight_of, CallsOnly, EntersOnly, Held, Added, replayed_of, game_of, first_in, IsShareOf, IsShare, IsAdded, HasGrown, IsKept, IsMarked, IsAddFault, IsEntryOf, IsRowed, IsRowedAfter, IsMarkOf, HasFresh, IsPrepared, AreMarked, MarksOnly, IsMarkAmong, IsOf, answer_at, game_met, meeting_at, AreRaised}
 use Rattle.probe_core.specs.declared.calls.Answer.TheVariants as answer
 use Rattle.tally_core.specs.Occasions.{AreOccasions}
-use Rattle.share_core.specs.declared.faults.HarvestFault.TheVariants as fault
+use Rattle.harvest_faults.specs.declared.faults.HarvestFault.TheVariants as fault
 use Rattle.share_core.specs.Inner.Ledgers.{Totals, CountsIn, IsCountFault}
 use Rattle.share_core.proofs.Raised.{numbered, earlier_none, earlier_assoc, has_row_stays}
 use Rattle.share_core.proofs.Made.{AreBlank, same_sum, met_pattern}

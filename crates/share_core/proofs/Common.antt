@@ -13,7 +13,7 @@ pub use Rattle.share_core.specs.Inner.Rows.{HasNoRow, IsIn, IsIndexed, IsLast, b
 pub use Rattle.share_core.specs.Raising.{Numbered, numbered_of, weight_among, weight_of}
 pub use Rattle.share_core.specs.Rows.{AreOfNumbers, blank, earlier, first_of, row_at, row_of}
 pub use Rattle.share_core.specs.Shares.{Added, Held, IsPatternOf, IsShare, IsShareOf, first_in, game_of, replayed_of}
-pub use Rattle.share_core.specs.declared.faults.HarvestFault.{HarvestFault}
+pub use Rattle.harvest_faults.specs.declared.faults.HarvestFault.{HarvestFault}
 pub use Rattle.share_core.specs.declared.rows.Row.{Row}
 pub use Rattle.slot_table.specs.Batches.{AreEnteredUntil, AreMade, AreTold, IsFullBefore, IsTold, answer_at, entered}
 pub use Rattle.slot_table.specs.History.{IsAtMost, Keeps, content_of, least_at}

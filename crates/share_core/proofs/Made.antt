@@ -3,7 +3,7 @@ use Rattle.std.proofs.Common.{◌≡◌, ℕ, ◌+◌, ◌<◌, ◌⊎◌, List,
 use Rattle.share_core.proofs.Common.{sum_by, length-map, get_or-take, take-append-drop, drop_more, All-get_or, All-from_get_or, sum_by-cons, sum_by-append, Actions, Kinds, Answer, IsNumber, Happened, content_of, Known, entered, AreMade, AreTold, AreEnteredUntil, IsTold, Meeting, kinds_of, there_in, IsWalk, shapes_of, Row, HarvestFault, row_at, blank, IsPatternOf, HasItsRow, IsPrepareFault, IsEntryOf, IsRowed, IsRowedAfter, EntersOnly, HasFresh, AreNumbers, IsFirstRefusal, meeting_at, IsBelow, AreBelow, IsBlankOf, IsRowFault, Gained, HaveRows, AreRowed, IsMakingFault, answer_at}
 use Rattle.std.proofs.Math.ListN.{get_or-append}
 use Rattle.probe_core.specs.declared.calls.Answer.TheVariants as answer
-use Rattle.share_core.specs.declared.faults.HarvestFault.TheVariants as fault
+use Rattle.harvest_faults.specs.declared.faults.HarvestFault.TheVariants as fault
 use Rattle.share_core.proofs.Places.{each_more}
 use Rattle.share_core.proofs.Entered.{batch_enters, shape_at, told_at, tells_refused}
 

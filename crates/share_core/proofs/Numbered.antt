@@ -13,7 +13,7 @@ use Rattle.shape_dict.specs.declared.entries.Entry.{Entry}
 use Rattle.shape_dict.specs.Contents.{entry_of}
 use Rattle.sgf_core.specs.Limit.{most_bytes}
 use Rattle.tally_core.specs.GameCounts.{AreApart, IsCountedEntry}
-use Rattle.share_core.specs.declared.faults.HarvestFault.TheVariants as fault
+use Rattle.harvest_faults.specs.declared.faults.HarvestFault.TheVariants as fault
 use Rattle.share_core.specs.Rows.{there_of, played_of}
 use Rattle.share_core.specs.WordShares.{unnumbered, IsNumbered, IsEntered, IsMarkedFirst, IsNumberFault}
 use Rattle.share_core.specs.Inner.Making.{IsAppendFault}

@@ -7,7 +7,7 @@ use Rattle.shape_dict.specs.Contents.{entry_of}
 use Rattle.tally_core.specs.declared.faults.TallyFault.{TallyFault}
 use Rattle.tally_core.specs.declared.faults.TallyFault.TheVariants as tally
 use Rattle.tally_core.specs.GameCounts.{AddsGame, IsAddingFault, AreApart, counted_again, uses_of}
-use Rattle.share_core.specs.Faults.{same_fault}
+use Rattle.harvest_faults.specs.Faults.{same_fault}
 use Rattle.share_core.specs.Rows.{there_of, played_of}
 use Rattle.share_core.specs.WordShares.{unnumbered, IsWordFault}
 use Rattle.share_core.proofs.Raised.{earlier_none}

@@ -12,8 +12,8 @@ use Rattle.tally_core.specs.Occasions.{Occasion, AreOccasions}
 use Rattle.tally_core.specs.Counts.{kinds_of, there_in, played_in}
 use Rattle.tally_core.specs.Walk.{IsWalk, shapes_of}
 use Rattle.share_core.specs.declared.rows.Row.{Row}
-use Rattle.share_core.specs.declared.faults.HarvestFault.{HarvestFault}
-use Rattle.share_core.specs.declared.faults.HarvestFault.TheVariants as fault
+use Rattle.harvest_faults.specs.declared.faults.HarvestFault.{HarvestFault}
+use Rattle.harvest_faults.specs.declared.faults.HarvestFault.TheVariants as fault
 use Rattle.share_core.specs.Rows.{row_at, blank, there_of, played_of, first_of, earlier}
 use Rattle.share_core.specs.Raising.{numbered_of, weight_of, weight_among}
 use Rattle.share_core.specs.Making.{HasRow}

@@ -7,5 +7,4 @@ pub mod Shares
 pub mod Adding
 pub mod ShareRows
 pub mod WordShares
-pub mod Faults
 pub mod Inner

@@ -7,8 +7,8 @@ use Rattle.probe_core.specs.Sequential.{IsNumber, IsAbsent, IsFull}
 use Rattle.slot_table.specs.declared.entries.Happened.{Happened}
 use Rattle.slot_table.specs.History.{content_of, least_at, IsAtMost}
 use Rattle.share_core.specs.declared.rows.Row.{Row}
-use Rattle.share_core.specs.declared.faults.HarvestFault.{HarvestFault}
-use Rattle.share_core.specs.declared.faults.HarvestFault.TheVariants as fault
+use Rattle.harvest_faults.specs.declared.faults.HarvestFault.{HarvestFault}
+use Rattle.harvest_faults.specs.declared.faults.HarvestFault.TheVariants as fault
 use Rattle.share_core.specs.Rows.{there_of, played_of, first_of}
 use Rattle.share_core.specs.Raising.{weight_of}
 use Rattle.share_core.specs.Shares.{Held}

@@ -7,9 +7,9 @@ ghost use Rattle.tally_core.specs.Walk.{shapes_of};
 ghost use Rattle.share_core.specs.Inner.Entering.{AreNumbers, IsFirstRefusal, AreMarked};
 ghost use Rattle.share_core.specs.Inner.Entering.{MarksOnly, IsMarkAt, IsMarkAmong};
 ghost use Rattle.share_core.specs.Inner.Making.{AreBelow};
-ghost use Rattle.share_core.specs.declared.faults.HarvestFault.TheVariants as fault;
+ghost use Rattle.harvest_faults.specs.declared.faults.HarvestFault.TheVariants as fault;
 
-use crate::faults::HarvestFault;
+use harvest_faults::HarvestFault;
 use probe_core::{Answer, Key, ProbeOrder};
 use shape_core::Shape;
 use slot_table::{Pass, SlotTable};

@@ -4,8 +4,8 @@ ghost use Rattle.sgf_core.specs.Limit.{most_bytes};
 ghost use Rattle.share_core.specs.Raising.{weight_of, weight_among};
 ghost use Rattle.share_core.specs.Inner.Raising.{AreRowed, AreRaised};
 
-use crate::faults::HarvestFault;
 use crate::rows::{Rows, with_counts};
+use harvest_faults::HarvestFault;
 use probe_core::Answer;
 use tally_core::Meeting;
 

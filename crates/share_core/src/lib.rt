@@ -2,7 +2,6 @@
 #![tactic(auto)]
 
 mod entering;
-mod faults;
 mod kept_rows;
 mod ledgers;
 mod numbering;
@@ -13,7 +12,6 @@ mod small;
 mod word_shares;
 mod workings;
 
-pub use faults::HarvestFault;
 pub use kept_rows::KeptRow;
 pub use rows::Row;
 pub use share_rows::ShareRows;

@@ -7,15 +7,15 @@ ghost use Rattle.share_core.specs.Entering.{CallsOnly};
 ghost use Rattle.share_core.specs.WordShares.{unnumbered};
 ghost use Rattle.share_core.specs.Inner.Numbering.{shapes_in, without_number, all_of, AreApartIn};
 ghost use Rattle.share_core.specs.Inner.Numbering.{IsSettled, IsBlockFault, IsKeyIn, IsFirstOf};
-ghost use Rattle.share_core.specs.declared.faults.HarvestFault.TheVariants as fault;
+ghost use Rattle.harvest_faults.specs.declared.faults.HarvestFault.TheVariants as fault;
 
 use crate::entering::{enter_keys, key_of, mark_first};
-use crate::faults::HarvestFault;
 use crate::kept_rows::KeptRow;
 use crate::ledgers::Ledger;
 use crate::rows::Rows;
 use crate::shares::Share;
 use crate::word_shares::WordShare;
+use harvest_faults::HarvestFault;
 use probe_core::{Answer, Key, ProbeOrder};
 use shape_dict::Entry;
 use slot_table::{Pass, SlotTable};

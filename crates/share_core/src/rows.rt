@@ -2,9 +2,9 @@
 ghost use Rattle.std.specs.Prelude.{◌≡◌, ◌+◌, ◌^◌, ◌≤◌, ℕ, length, IfSome, IfNone, OnOk};
 ghost use Rattle.share_core.specs.Inner.Rows.{place_in};
 
-use crate::faults::HarvestFault;
 use crate::kept_rows::KeptRow;
 use crate::small::SmallOption;
+use harvest_faults::HarvestFault;
 use probe_core::Answer;
 use shape_core::Shape;
 use std::alloc::{AllocError, Global};

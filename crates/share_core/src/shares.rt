@@ -3,13 +3,13 @@ ghost use Rattle.std.specs.Prelude.{◌≡◌, ◌^◌, ◌≤◌, length, IfErr
 ghost use Rattle.sgf_core.specs.Limit.{most_bytes};
 
 use crate::entering::mark_all;
-use crate::faults::HarvestFault;
 use crate::kept_rows::KeptRow;
 use crate::ledgers::Ledger;
 use crate::rows::{Row, Rows};
 use crate::share_rows::ShareRows;
 use crate::workings::Workings;
 use go_record::Record;
+use harvest_faults::HarvestFault;
 use probe_core::ProbeOrder;
 use shape_core::Kinds;
 use slot_table::{Pass, SlotTable};

@@ -1,8 +1,8 @@
 //! What one worker has counted by words, before its patterns have numbers.
 ghost use Rattle.std.specs.Prelude.{◌≡◌};
 
-use crate::faults::HarvestFault;
 use go_record::Record;
+use harvest_faults::HarvestFault;
 use shape_core::Kinds;
 use std::alloc::Global;
 use std::marker::Model;

@@ -3,9 +3,9 @@ ghost use Rattle.std.specs.Prelude.{◌≡◌, ◌^◌, ◌≤◌, length, OnOk,
 ghost use Rattle.share_core.specs.Inner.Making.{AreBelow, HaveRows, Gained, IsMakingFault};
 
 use crate::entering::{enter_all, refused};
-use crate::faults::HarvestFault;
 use crate::rows::Rows;
 use go_record::Record;
+use harvest_faults::HarvestFault;
 use probe_core::{Answer, Key, ProbeOrder};
 use shape_core::Kinds;
 use slot_table::{Pass, SlotTable};

@@ -5,7 +5,7 @@ use Rattle.game_core.specs.Games.{IsGameOf}
 use Rattle.shape_core.specs.Symmetry.{least_image}
 use Rattle.shape_core.specs.declared.words.Kinds.TheVariants as kinds
 use Rattle.slot_table.specs.declared.entries.Happened.{Happened}
-use Rattle.share_core.specs.declared.faults.HarvestFault.{HarvestFault}
+use Rattle.harvest_faults.specs.declared.faults.HarvestFault.{HarvestFault}
 use Rattle.share_core.specs.Shares.{Held}
 use Rattle.share_core.specs.Adding.{IsAdded, IsAddFault}
 

@@ -14,10 +14,11 @@ ghost use Rattle.share_samples.specs.Samples.{IsPattern, IsFirstGame, HasOneGame
 
 use game_core::Games;
 use go_record::Record;
+use harvest_faults::HarvestFault;
 use probe_core::{Capacity, OddStep, ProbeOrder};
 use shape_core::{Kinds, Shape, Word};
 use shape_dict::{Entry, FirstGame};
-use share_core::{HarvestFault, Share, WordShare};
+use share_core::{Share, WordShare};
 use slot_table::{Pass, SlotTable};
 use std::alloc::Global;
 

@@ -1,7 +1,8 @@
 //! Shares seen from outside: small tables, and games of other tables.
+use harvest_faults::HarvestFault;
 use sgf_core::SgfFault;
 use shape_core::{Kinds, Shape, Word};
-use share_core::{HarvestFault, Row, Share};
+use share_core::{Row, Share};
 use share_samples::{
     ALONE, EMPTY, ONE_POINT, TAKEN, TWO_POINTS, add_written, first_share, shape_of, table_of,
 };

@@ -1,5 +1,6 @@
 //! What a worker counts by words, and the numbers that its patterns get.
-use share_core::{HarvestFault, Row, Share};
+use harvest_faults::HarvestFault;
+use share_core::{Row, Share};
 use share_samples::{
     ALONE, EMPTY, ONE_POINT, TAKEN, TWO_POINTS, record_of, shape_of, table_of, words_of,
 };

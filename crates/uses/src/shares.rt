@@ -1,11 +1,12 @@
 //! The examples of the pages of `share_core` and `gather_core`.
 use gather_core::gather;
 use go_record::Record;
+use harvest_faults::HarvestFault;
 use job_core::Games;
 use probe_core::{Capacity, OddStep};
 use shape_core::Kinds;
 use shape_dict::Dictionary;
-use share_core::{HarvestFault, Share};
+use share_core::Share;
 use slot_table::SlotTable;
 use std::alloc::Global;
 use std::test::Fail;

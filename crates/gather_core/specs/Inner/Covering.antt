@@ -1,8 +1,8 @@
 -- What the definitions of `Covering` serve inside the crate.
 use Rattle.std.specs.Prelude.{◌≡◌, ℕ, ◌<◌, List, nat_lt, false, length, slice_index_or}
 use Rattle.gather_core.specs.declared.covering.Seen.{Seen}
-use Rattle.share_core.specs.declared.faults.HarvestFault.{HarvestFault}
-use Rattle.share_core.specs.declared.faults.HarvestFault.TheVariants as fault
+use Rattle.harvest_faults.specs.declared.faults.HarvestFault.{HarvestFault}
+use Rattle.harvest_faults.specs.declared.faults.HarvestFault.TheVariants as fault
 use Rattle.gather_core.specs.Covering.{times_of, IsLeastDouble, IsTwice, IsMissing}
 
 -- of each game below some number it is known whether it is in a list, and the least one that is in it twice

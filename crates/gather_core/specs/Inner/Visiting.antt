@@ -3,7 +3,7 @@ use Rattle.std.specs.Prelude.{ℕ, List, Option, Some, None}
 use Rattle.slot_table.specs.Passes.{Known}
 use Rattle.share_core.specs.declared.rows.Row.{Row}
 use Rattle.gather_core.specs.declared.agreeing.Differs.{Differs}
-use Rattle.share_core.specs.declared.faults.HarvestFault.TheVariants as fault
+use Rattle.harvest_faults.specs.declared.faults.HarvestFault.TheVariants as fault
 use Rattle.gather_core.specs.Agreeing.{AskedFirst, IsMarksFault}
 use Rattle.gather_core.specs.Checking.{StandBelow}
 

@@ -13,7 +13,7 @@ use Rattle.game_core.specs.Games.{HasReadAll}
 use Rattle.job_core.specs.Rule.{reader, worker, all_parts}
 use Rattle.job_core.specs.declared.hands.Hand.{Hand}
 use Rattle.gather_core.specs.Covering.{all_games, times_of}
-use Rattle.share_core.specs.declared.faults.HarvestFault.TheVariants as fault
+use Rattle.harvest_faults.specs.declared.faults.HarvestFault.TheVariants as fault
 use Rattle.harvest_core.specs.declared.threads.Crew.{Crew}
 use Rattle.harvest_core.specs.declared.threads.BackTo.{BackTo}
 use Rattle.harvest_core.specs.declared.reading.Reading.{Reading}

@@ -3,8 +3,8 @@ use Rattle.std.specs.Prelude.{◌≡◌, ℕ, ◌⊎◌, List, [], Contains}
 use Rattle.slot_table.specs.declared.entries.Happened.{Happened}
 use Rattle.slot_table.specs.Passes.{Known, calls_of}
 use Rattle.share_core.specs.declared.rows.Row.{Row}
-use Rattle.share_core.specs.declared.faults.HarvestFault.{HarvestFault}
-use Rattle.share_core.specs.declared.faults.HarvestFault.TheVariants as fault
+use Rattle.harvest_faults.specs.declared.faults.HarvestFault.{HarvestFault}
+use Rattle.harvest_faults.specs.declared.faults.HarvestFault.TheVariants as fault
 use Rattle.share_core.specs.Shares.{Held}
 use Rattle.gather_core.specs.Checking.{all_rows, Stand}
 use Rattle.gather_core.specs.Confirming.{IsConfirmation}

@@ -2,8 +2,8 @@
 use Rattle.std.specs.Prelude.{◌≡◌, ◌⊎◌, ℕ, ◌<◌, List, Contains, map}
 use Rattle.std.specs.List.{filter_map}
 use Rattle.share_core.specs.Shares.{Held}
-use Rattle.share_core.specs.declared.faults.HarvestFault.{HarvestFault}
-use Rattle.share_core.specs.declared.faults.HarvestFault.TheVariants as fault
+use Rattle.harvest_faults.specs.declared.faults.HarvestFault.{HarvestFault}
+use Rattle.harvest_faults.specs.declared.faults.HarvestFault.TheVariants as fault
 use Rattle.harvest_core.specs.declared.working.Worked.{Worked}
 
 -- the share of each worker, in the order of the workers

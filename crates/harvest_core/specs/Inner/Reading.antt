@@ -5,8 +5,8 @@ use Rattle.tally_core.specs.declared.faults.TallyFault.TheVariants as tally
 use Rattle.slot_table.specs.Passes.{IsPassOf}
 use Rattle.game_core.specs.Games.{HasReadAll}
 use Rattle.gather_core.specs.Covering.{times_of}
-use Rattle.share_core.specs.declared.faults.HarvestFault.{HarvestFault}
-use Rattle.share_core.specs.declared.faults.HarvestFault.TheVariants as fault
+use Rattle.harvest_faults.specs.declared.faults.HarvestFault.{HarvestFault}
+use Rattle.harvest_faults.specs.declared.faults.HarvestFault.TheVariants as fault
 use Rattle.harvest_core.specs.declared.reading.Reading.{Reading}
 use Rattle.harvest_core.specs.declared.workers.Worker.{Worker}
 use Rattle.harvest_core.specs.declared.working.Worked.{Worked}

@@ -4,8 +4,8 @@ use Rattle.probe_core.specs.declared.calls.Answer.{Answer}
 use Rattle.tally_core.specs.declared.meetings.Meeting.{Meeting}
 use Rattle.share_core.specs.declared.rows.Row.{Row}
 use Rattle.share_core.specs.declared.ledgers.Ledger.{Ledger}
-use Rattle.share_core.specs.declared.faults.HarvestFault.{HarvestFault}
-use Rattle.share_core.specs.declared.faults.HarvestFault.TheVariants as fault
+use Rattle.harvest_faults.specs.declared.faults.HarvestFault.{HarvestFault}
+use Rattle.harvest_faults.specs.declared.faults.HarvestFault.TheVariants as fault
 use Rattle.share_core.specs.Raising.{weight_of, weight_among}
 use Rattle.share_core.specs.Inner.Raising.{AreRaised}
 

@@ -5,8 +5,8 @@ use Rattle.probe_core.specs.declared.calls.Answer.TheVariants as answer
 use Rattle.slot_table.specs.Batches.{answer_at}
 use Rattle.share_core.specs.declared.rows.Row.{Row}
 use Rattle.tally_core.specs.declared.meetings.Meeting.{Meeting}
-use Rattle.share_core.specs.declared.faults.HarvestFault.{HarvestFault}
-use Rattle.share_core.specs.declared.faults.HarvestFault.TheVariants as fault
+use Rattle.harvest_faults.specs.declared.faults.HarvestFault.{HarvestFault}
+use Rattle.harvest_faults.specs.declared.faults.HarvestFault.TheVariants as fault
 use Rattle.share_core.specs.Rows.{row_at, blank}
 use Rattle.share_core.specs.Raising.{weight_of}
 use Rattle.share_core.specs.Inner.Raising.{meeting_at}

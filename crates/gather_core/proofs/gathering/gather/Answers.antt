@@ -1,6 +1,6 @@
 use Rattle.std.proofs.Common.{◌≡◌, ◌≤◌, ◌^◌, sym, subst, ◌∙◌, inr}
 use Rattle.gather_core.proofs.Common.{err_from_is_err_and, IfErr-weaker, IfOk-weaker, all_rows, all_moves, IsGatherFault}
-use Rattle.share_core.specs.declared.faults.HarvestFault.TheVariants as fault
+use Rattle.harvest_faults.specs.declared.faults.HarvestFault.TheVariants as fault
 use Rattle.gather_core.proofs.Stood.{one_each, all_stand, beyond_stands, stand_fault, odd_is_large}
 use Rattle.gather_core.proofs.gathering.gather.Goals as goal
 

@@ -2,7 +2,7 @@ use Rattle.std.proofs.Common.{List, Vec, Global, Option, None, Some, Result, Ok,
 use Rattle.std.specs.Prelude.{All}
 use Rattle.std.proofs.lemmas.Result.{IfOk-weaker}
 use Rattle.share_core.specs.Shares.{Held}
-use Rattle.share_core.specs.declared.faults.HarvestFault.{HarvestFault}
+use Rattle.harvest_faults.specs.declared.faults.HarvestFault.{HarvestFault}
 use Rattle.harvest_core.specs.declared.by_words.Hand.{Hand}
 use Rattle.harvest_core.specs.Working.{IsWorked}
 use Rattle.harvest_core.specs.Inner.Counting.{IsCountedByWords}

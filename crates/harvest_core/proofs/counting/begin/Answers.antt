@@ -1,7 +1,7 @@
 use Rattle.std.proofs.Common.{◌^◌, Result, IfOk, sym, subst}
 use Rattle.std.specs.Prelude.{All}
 use Rattle.std.proofs.lemmas.List.Elements.{All-push, All-head, All-tail}
-use Rattle.share_core.specs.declared.faults.HarvestFault.{HarvestFault}
+use Rattle.harvest_faults.specs.declared.faults.HarvestFault.{HarvestFault}
 use Rattle.harvest_core.specs.declared.counting.Done.{Done}
 use Rattle.harvest_core.specs.Inner.Counting.{IsCountedByWords, IsDone}
 use Rattle.harvest_core.proofs.counting.begin.Goals as goal

@@ -1,6 +1,6 @@
 use Rattle.std.proofs.Common.{◌≡◌, ◌^◌, All, Result, IfOk, IfSome}
 use Rattle.slot_table.specs.Passes.{IsPassOf}
-use Rattle.share_core.specs.declared.faults.HarvestFault.{HarvestFault}
+use Rattle.harvest_faults.specs.declared.faults.HarvestFault.{HarvestFault}
 use Rattle.harvest_core.specs.declared.counting.Done.{Done}
 use Rattle.harvest_core.specs.Inner.Counting.{IsCountedByWords, IsDone}
 use Rattle.harvest_core.proofs.counting.begin.Given as goal

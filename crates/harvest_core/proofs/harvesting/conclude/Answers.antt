@@ -3,8 +3,8 @@ use Rattle.std.proofs.lemmas.Bool.{false≢true}
 use Rattle.std.proofs.lemmas.List.Elements.{All-contains, All-weaker}
 use Rattle.std.proofs.lemmas.Result.{err_from_is_err_and}
 use Rattle.game_core.specs.Games.{HasReadAll}
-use Rattle.share_core.specs.declared.faults.HarvestFault.{HarvestFault}
-use Rattle.share_core.specs.declared.faults.HarvestFault.TheVariants as fault
+use Rattle.harvest_faults.specs.declared.faults.HarvestFault.{HarvestFault}
+use Rattle.harvest_faults.specs.declared.faults.HarvestFault.TheVariants as fault
 use Rattle.gather_core.specs.Checking.{all_rows}
 use Rattle.gather_core.specs.Covering.{all_games}
 use Rattle.gather_core.specs.GatherFaults.{IsGatherFault}

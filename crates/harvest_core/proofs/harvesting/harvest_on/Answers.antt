@@ -1,7 +1,7 @@
 use Rattle.std.proofs.Common.{◌≡◌, ◌++◌, ◌⊎◌, ℕ, List, [], Err, IfSome, IfErr, ap, sym, subst, ◌∙◌, ⊎_elim}
 use Rattle.slot_table.specs.Passes.{Known, calls_of}
 use Rattle.slot_table.specs.Stakes.{IsAsMuch, halved, half_of}
-use Rattle.share_core.specs.declared.faults.HarvestFault.TheVariants as fault
+use Rattle.harvest_faults.specs.declared.faults.HarvestFault.TheVariants as fault
 use Rattle.harvest_core.specs.Harvest.{HasHarvested, IsHarvestRefused}
 use Rattle.harvest_core.proofs.Answered.{answered_alone}
 use Rattle.harvest_core.proofs.harvesting.harvest_on.Goals as goal

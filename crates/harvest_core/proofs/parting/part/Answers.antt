@@ -1,6 +1,6 @@
 use Rattle.std.proofs.Common.{List, ◌++◌, ap, sym, ◌∙◌}
 use Rattle.share_core.specs.Shares.{Held}
-use Rattle.share_core.specs.declared.faults.HarvestFault.{HarvestFault}
+use Rattle.harvest_faults.specs.declared.faults.HarvestFault.{HarvestFault}
 use Rattle.harvest_core.specs.Inner.Parted.{shares_of, refusals_of}
 use Rattle.harvest_core.specs.declared.working.Worked.{Worked}
 use Rattle.harvest_core.proofs.Parted.{shares_on, refusals_on}

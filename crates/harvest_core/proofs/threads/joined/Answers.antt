@@ -3,7 +3,7 @@ use Rattle.std.specs.Option.{is_some}
 use Rattle.std.proofs.lemmas.Bool.{false≢true}
 use Rattle.slot_table.specs.Passes.{Numbers, IsPassOf}
 use Rattle.job_core.specs.declared.hands.Hand.{Hand}
-use Rattle.share_core.specs.declared.faults.HarvestFault.TheVariants as fault
+use Rattle.harvest_faults.specs.declared.faults.HarvestFault.TheVariants as fault
 use Rattle.harvest_core.specs.declared.working.Worked.{Worked}
 use Rattle.harvest_core.specs.Inner.Crew.{HasTaken}
 use Rattle.harvest_core.proofs.Taken.{taken_none, ends_drawn, crop_is}

@@ -1,6 +1,6 @@
 //! What can go wrong in counting with shares.
 ghost use Rattle.std.specs.Prelude.{◌≡◌};
-ghost use Rattle.share_core.specs.declared.faults.HarvestFault.TheVariants.{Memory};
+ghost use Rattle.harvest_faults.specs.declared.faults.HarvestFault.TheVariants.{Memory};
 
 use game_core::GamesFault;
 use sgf_core::SgfFault;
@@ -58,8 +58,8 @@ pub enum HarvestFault {
 
 impl HarvestFault {
     ghost use Rattle.std.specs.Prelude.{◌≡◌, Some};
-    ghost use Rattle.share_core.specs.declared.faults.HarvestFault.TheVariants as fault;
-    ghost use Rattle.share_core.specs.Faults.{same_fault};
+    ghost use Rattle.harvest_faults.specs.declared.faults.HarvestFault.TheVariants as fault;
+    ghost use Rattle.harvest_faults.specs.Faults.{same_fault};
 
     /// A share's row of a number has this word, and the number has another one in the table, or
     /// none.
@@ -113,7 +113,7 @@ impl From<SlotFault> for HarvestFault {
 }
 
 impl From<TallyFault> for HarvestFault {
-    ghost use Rattle.share_core.specs.Faults.{same_fault};
+    ghost use Rattle.harvest_faults.specs.Faults.{same_fault};
 
     ghost from_gives = { λ found fault. fault ≡ same_fault found };
 
@@ -124,7 +124,7 @@ impl From<TallyFault> for HarvestFault {
 
 impl From<GamesFault> for HarvestFault {
     ghost use Rattle.tally_core.specs.Faults.{reading_fault};
-    ghost use Rattle.share_core.specs.Faults.{same_fault};
+    ghost use Rattle.harvest_faults.specs.Faults.{same_fault};
 
     ghost from_gives = { λ found fault. fault ≡ same_fault (reading_fault found) };
 

@@ -1,0 +1,6 @@
+//! What can go wrong in a count by several workers.
+#![tactic(auto)]
+
+mod faults;
+
+pub use faults::HarvestFault;
