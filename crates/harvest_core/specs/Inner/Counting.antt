@@ -18,7 +18,7 @@ pub record IsCountedByWords (bytes : List ℕ) (kinds : Kinds) (words : Held) : 
   pub rises : Rising 0 words.games (past words.games)
   pub small : All (λ game. game < most_bytes) words.games
 
--- a worker has counted games of the input, or a table of so many slots was made
+-- a worker has counted games of the input, or a table of this number of slots was made
 abbrev pub IsDone : List ℕ → Kinds → ℕ → Done → Type 0
 IsDone bytes kinds slots (done.Words words) = IsCountedByWords bytes kinds words
 IsDone bytes kinds slots (done.Table table pass) = IsPassOf table pass × (table.slots ≡ slots)
