@@ -1,5 +1,4 @@
 pub mod Rows
-pub mod Totals
 pub mod Raising
 pub mod Making
 pub mod Entering

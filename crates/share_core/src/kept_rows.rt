@@ -1,7 +1,5 @@
 //! How a share keeps a row: in half a line of memory.
-ghost use Rattle.std.specs.Prelude.{◌≡◌, ◌+◌, ◌^◌, ◌<◌, IfSome, IfNone};
 ghost use Rattle.sgf_core.specs.Limit.{most_bytes};
-ghost use Rattle.share_core.specs.Rows.{earlier};
 
 use crate::rows::Row;
 use crate::small::SmallOption;
@@ -42,22 +40,10 @@ impl Model for KeptRow {
     } };
 }
 
-/// The lesser of two games, where None is no game.
-fn earlier(one: SmallOption, other: SmallOption) -> SmallOption
-    ensures { result ≡ earlier one other }
-{
-    match (one.get(), other.get()) {
-        (None, _) => other,
-        (Some(_), None) => one,
-        (Some(first), Some(second)) => { if first <= second { one } else { other } }
-    }
-}
-
 impl KeptRow {
-    ghost use Rattle.std.specs.Prelude.{◌≡◌, ◌+◌, ◌^◌, ◌<◌, Some, IfSome, IfNone};
+    ghost use Rattle.std.specs.Prelude.{◌≡◌, ◌+◌, ◌^◌, ◌<◌, IfSome};
     ghost use Rattle.share_core.specs.Rows.{blank};
     ghost use Rattle.share_core.specs.Inner.Raising.{raised};
-    ghost use Rattle.share_core.specs.Totals.{with_row, IsTooMuch};
     ghost use Rattle.share_core.specs.WordShares.{unnumbered};
 
     /// A row that counts nothing.
@@ -142,34 +128,6 @@ impl KeptRow {
             played: self.played,
             first: self.first(),
         }
-    }
-
-    /// This row as one of this number.
-    pub fn at(self, number: usize) -> KeptRow
-        requires { number < 2 ^ 32 }
-        ensures { result ≡ record self { number = number } }
-    {
-        KeptRow {
-            number: number as u32,
-            ..self
-        }
-    }
-
-    /// This row with what another row of its number counts besides; None where a sum is 2^64 or
-    /// more.
-    pub fn with(self, row: KeptRow) -> Option<KeptRow>
-        ensures some { IfSome result (λ both. both ≡ with_row (Some self) row) }
-        ensures none { IfNone result (IsTooMuch (Some self) row) }
-    {
-        let there = self.there.checked_add(row.there)?;
-        let played = self.played.checked_add(row.played)?;
-        Some(KeptRow {
-            shape: self.shape,
-            there,
-            played,
-            number: self.number,
-            first: earlier(self.first, row.first),
-        })
     }
 
     /// Adds a game's meeting.

@@ -54,7 +54,7 @@ impl Model for Share {
 impl Share {
     ghost use Rattle.std.specs.Prelude.{◌≡◌, ◌^◌, ◌<◌, [], length, OnOk, OnErr, IfErr};
     ghost use Rattle.slot_table.specs.Passes.{IsPassOf};
-    ghost use Rattle.share_core.specs.Rows.{row_of, AreOfNumbers, AreBelow};
+    ghost use Rattle.share_core.specs.Rows.{row_of, AreOfNumbers};
     ghost use Rattle.share_core.specs.Shares.{IsShare};
     ghost use Rattle.share_core.specs.Adding.{IsAdded, HasGrown, IsMarked, IsKept, IsAddFault};
     ghost use Rattle.share_core.specs.Adding.{IsEntryOf, IsRowed, IsRowedAfter, IsMarkOf};
@@ -153,13 +153,6 @@ impl Share {
         ensures numbers { AreOfNumbers self.now.rows }
     {
         self.ledger.rows.as_slice()
-    }
-
-    /// A number above those of all rows. It reads no row.
-    pub fn end(&self) -> usize
-        ensures { AreBelow result self.now.rows }
-    {
-        self.ledger.rows.end()
     }
 
     /// The rows, numbers rising. It takes no memory.
