@@ -53,18 +53,25 @@ pub(crate) struct Begun {
     pub words: Vec<WordShare>,
 }
 
+/// How many games a worker takes at most: a quarter more than each would if all took as many. All
+/// together take all games so, and none has much more to number at the end than others.
+fn most_games(games: usize, workers: u8) -> usize {
+    let even = games.div_ceil(usize::from(workers.max(1)));
+    even.saturating_add(even.div_ceil(4))
+}
+
 /// As many patterns as games of this many bytes mostly have: 2.3 a byte for some thirty games, and
 /// 0.1 less for each time that they are twice as many, since more of their patterns were met
-/// before. That leaves an eighth for a worker that takes more games than others.
+/// before. That leaves an eighth: a map without room for more is made anew, twice as large.
 fn likely_patterns(bytes: usize) -> usize {
     let tenths = 38 - bytes.max(1).ilog2().min(37) as usize;
     (bytes / 10).saturating_mul(tenths).min(1 << 22)
 }
 
-/// Counts by words one game after another that nobody has taken, until none is left. Nothing is
-/// known of what others take, so a game that does not come after the worker's own ends it too: then
-/// a game is missing, and whoever gathers the shares finds that. It takes memory for the patterns
-/// of its games, and for a game's board and walk.
+/// Counts by words one game after another that nobody has taken, until none is left or the worker
+/// has as many as it takes at most. Nothing is known of what others take, so a game that does not
+/// come after the worker's own ends it too: then a game is missing, and whoever gathers the shares
+/// finds that. It takes memory for the patterns of its games, and for a game's board and walk.
 ///
 /// # Errors
 ///
@@ -73,10 +80,12 @@ fn count_games<G: Gate>(crowd: &Crowd<'_, '_, G>, worker: usize) -> Result<WordS
     requires { All (λ job. job.bytes ≡ crowd.now.bytes.now) crowd.now.jobs.now }
     ensures { IfOk result (IsCountedByWords crowd.now.bytes.now crowd.now.kinds) }
 {
-    let room = likely_patterns(crowd.bytes.len() / usize::from(crowd.workers.max(1)));
+    let most = most_games(crowd.jobs.len(), crowd.workers);
+    let bytes = crowd.bytes.len() / crowd.jobs.len().max(1);
+    let room = likely_patterns(bytes.saturating_mul(most));
     let mut words = WordShare::begin(crowd.alloc, worker, crowd.kinds, room);
     let mut past = 0;
-    for _ in 0..crowd.jobs.len() {
+    for _ in 0..most {
         let at = crowd.next.fetch_add(1, Ordering::SeqCst);
         if at >= crowd.jobs.len() as u64 {
             break;
