@@ -9,7 +9,7 @@ use Rattle.command_lines.specs.Values.{HasNoNumber, IsNumberOf}
 use Rattle.shape_dict.specs.declared.entries.Text.{Text}
 use Rattle.shape_dict.specs.declared.entries.Text.TheVariants as text
 
--- how std reads a number of so many bits
+-- how std reads a number of at most this many bits
 abbrev GivesNumber : ℕ → List ℕ → Result ℕ ParseIntError → Type 0
 GivesNumber bits t result = ParsesUnsigned bits 10 t result × ExplainsUnsignedError 10 t result × HasUnsignedDigitsIfOk t result
 
@@ -22,7 +22,7 @@ number_read bits name rows (Some t) (Some n) is none value =
     let read = (value t refl).0 in
     record { text = t; given = is; digits = read.0.0; value = read.1 }
 
--- where none was read, the option has no number of so many bits
+-- where none was read, the option has no number of at most this many bits
 pub number_missing : (bits : ℕ) (name : List ℕ) (rows : List Row) (text : Option (List ℕ)) (result : Option ℕ) → one_of name rows ≡ text →
     ((t : List ℕ) → text ≡ Some t → ReadsOne (GivesNumber bits) t result) → IfNone result (HasNoNumber (2 ^ bits) name rows)
 number_missing bits name rows text (Some n) is value = tt

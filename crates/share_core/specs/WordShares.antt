@@ -17,8 +17,8 @@ use Rattle.share_core.specs.Shares.{Held}
 abbrev pub unnumbered : Entry → Row
 unnumbered entry = record { number = 0; shape = entry.shape; there = entry.there; played = entry.played; first = entry.first }
 
--- why a game was not added: memory was wanting; or a pattern was counted so often, or there are so many moves, that a count
--- might pass 2 ^ 64 - 1 with the game
+-- why a game was not added: memory was wanting; or with the game the count of a pattern, or that of the moves, might pass
+-- 2 ^ 64 - 1
 abbrev pub IsWordFault : Actions → Held → HarvestFault → Type 0
 IsWordFault actions before fault.Memory = Unit {0}
 IsWordFault actions before fault.Overflow =
