@@ -9,6 +9,7 @@ mod rows;
 mod share_rows;
 mod shares;
 mod small;
+mod starts;
 mod word_shares;
 mod workings;
 

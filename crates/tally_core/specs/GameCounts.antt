@@ -6,7 +6,7 @@ use Rattle.shape_core.specs.declared.words.Kinds.{Kinds}
 use Rattle.shape_dict.specs.declared.entries.Entry.{Entry}
 use Rattle.shape_dict.specs.Contents.{entry_of}
 use Rattle.tally_core.specs.Occasions.{Occasion, AreOccasions}
-use Rattle.tally_core.specs.Counts.{Replayed, kinds_of, there_in, played_in}
+use Rattle.tally_core.specs.Counts.{kinds_of, there_in, played_in}
 use Rattle.tally_core.specs.Entries.{IsShape}
 use Rattle.tally_core.specs.declared.faults.TallyFault.{TallyFault}
 use Rattle.tally_core.specs.declared.faults.TallyFault.TheVariants as fault

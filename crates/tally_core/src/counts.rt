@@ -21,7 +21,7 @@ const BLOCK: usize = 128;
 /// they are fewer, and how many these are: at the first place, or where that is another pattern's,
 /// at the one after it. No look waits for the one before it. A row may begin in one line of memory
 /// and end in the next, so both its ends are looked at.
-fn likely_places(rows: &[Entry], meetings: &[Meeting]) -> ([usize; BLOCK], usize)
+fn likely_places(turn: u64, rows: &[Entry], meetings: &[Meeting]) -> ([usize; BLOCK], usize)
     requires { 0 < length rows.now }
     ensures block { result.1 ≤ BLOCK }
     ensures within { result.1 ≤ length meetings.now }
@@ -30,7 +30,7 @@ fn likely_places(rows: &[Entry], meetings: &[Meeting]) -> ([usize; BLOCK], usize
     let looked = meetings.len().min(BLOCK);
     for i in 0..looked {
         let shape = meetings[i].shape;
-        let place = home(shape, rows.len());
+        let place = home(turn, shape, rows.len());
         let row = rows[place];
         let other = (row.shape != shape) & !is_free(&row);
         places[i] = place + other as usize;
@@ -42,13 +42,13 @@ fn likely_places(rows: &[Entry], meetings: &[Meeting]) -> ([usize; BLOCK], usize
 /// places of their patterns tell. The lines of memory of all these places come together, and
 /// `find` finds them in a cache.
 #[inline(never)]
-fn count_new(rows: &[Entry], meetings: &[Meeting]) -> usize
+fn count_new(turn: u64, rows: &[Entry], meetings: &[Meeting]) -> usize
     ensures { result ≤ BLOCK }
 {
     if rows.is_empty() {
         return BLOCK;
     }
-    let (places, looked) = likely_places(rows, meetings);
+    let (places, looked) = likely_places(turn, rows, meetings);
     let mut count = 0;
     for i in 0..looked {
         let row = rows[places[i].min(rows.len() - 1)];
@@ -77,6 +77,8 @@ fn counted(row: &Entry, entry: &Entry) -> Option<Entry>
 #[derive(Drop)]
 pub struct Counts {
     alloc: Global,
+    /// By how much the order of the places is turned, of 2^64.
+    turn: u64,
     /// Those that count something, and free ones at all other places.
     rows: Vec<Entry>,
     /// How many places are taken.
@@ -95,11 +97,12 @@ impl Model for Counts {
 
     ghost view = { λ c. pairs_of (taken_of c.rows.items) };
 
-    ghost invariant = { λ c. AreRows c.rows.items × (c.taken ≡ length (taken_of c.rows.items)) };
+    ghost invariant = { λ c. AreRows c.turn c.rows.items
+        × (c.taken ≡ length (taken_of c.rows.items)) };
 }
 
 impl Counts {
-    ghost use Rattle.std.specs.Prelude.{◌≡◌, ◌+◌, ◌<◌, ◌≤◌, ◌^◌, [], nat_eq, length, map};
+    ghost use Rattle.std.specs.Prelude.{◌≡◌, ◌+◌, ◌<◌, ◌≤◌, ◌^◌, ℕ, [], nat_eq, length, map};
     ghost use Rattle.std.specs.Prelude.{All, OnOk, IfOk, IfErr};
     ghost use Rattle.std.specs.List.{IsDistinct};
     ghost use Rattle.std.specs.Map.{keys_of};
@@ -114,6 +117,7 @@ impl Counts {
     {
         Counts {
             alloc,
+            turn: 0,
             rows: Vec::new(alloc),
             taken: 0,
             expected: 0,
@@ -121,11 +125,12 @@ impl Counts {
     }
 
     /// Nothing was counted yet, and there are this many places. It takes memory for them.
-    fn with_places(alloc: Global, places: usize) -> Result<Counts, AllocError>
+    fn with_places(alloc: Global, turn: u64, places: usize) -> Result<Counts, AllocError>
         ensures { IfOk result (λ counts. counts ≡ []) }
     {
         Ok(Counts {
             alloc,
+            turn,
             rows: free_rows(alloc, places)?,
             taken: 0,
             expected: 0,
@@ -133,10 +138,11 @@ impl Counts {
     }
 
     /// The same as `new`, with places for about this many rows, where there is memory for them.
-    pub fn with_room(alloc: Global, rows: usize) -> Counts
+    /// Their order is turned by this much of 2^64.
+    pub fn with_room(alloc: Global, turn: u64, rows: usize) -> Counts
         ensures { result ≡ [] }
     {
-        match Counts::with_places(alloc, rows.saturating_mul(4) / 3) {
+        match Counts::with_places(alloc, turn, rows.saturating_mul(4) / 3) {
             Ok(counts) => counts,
             Err(AllocError) => Counts::new(alloc),
         }
@@ -172,13 +178,14 @@ impl Counts {
         ensures { self.new ≡ self.old }
     {
         if at % BLOCK == 0 {
-            self.expected = count_new(self.rows.as_slice(), &meetings[at..]);
+            self.expected = count_new(self.turn, self.rows.as_slice(), &meetings[at..]);
         }
     }
 
     /// Counts a pattern as being there and being played as often again as the entry says, where it
     /// has a row or a place is free. Where it has no count yet, the entry's game is its first.
     /// `TallyFault::Memory` comes where no place is free. It takes no memory.
+    #[inline(always)]
     fn enter(&mut self, entry: &Entry) -> Result<(), TallyFault>
         ensures ok { OnOk result
             (AreCounts (counted_with entry.now (count_in self.old)) (count_in self.new)) }
@@ -188,7 +195,7 @@ impl Counts {
         if is_free(entry) {
             return Ok(());
         }
-        let Some(place) = find(self.rows.as_slice(), entry.shape) else {
+        let Some(place) = find(self.turn, self.rows.as_slice(), entry.shape) else {
             return Err(TallyFault::Memory);
         };
         let row = self.rows[place];
@@ -206,7 +213,7 @@ impl Counts {
     /// too few. It takes no memory.
     fn enter_all(&mut self, rows: &[Entry]) -> Result<(), AllocError>
         requires none { self.old ≡ [] }
-        requires rows { AreRows rows.now }
+        requires rows { (turn : ℕ) × AreRows turn rows.now }
         ensures { OnOk result
             (AreCounts (counts_of rows.now) (count_in self.new)) }
     {
@@ -224,7 +231,7 @@ impl Counts {
         ensures { AreCounts (count_in self.old) (count_in self.new) }
     {
         let places = self.rows.len().saturating_mul(2).max(FIRST_PLACES);
-        let mut larger = Counts::with_places(self.alloc, places)?;
+        let mut larger = Counts::with_places(self.alloc, self.turn, places)?;
         larger.enter_all(self.rows.as_slice())?;
         *self = larger;
         Ok(())

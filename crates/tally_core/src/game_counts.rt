@@ -35,13 +35,14 @@ impl GameCounts {
     ghost use Rattle.tally_core.specs.GameCounts.{AddsGame, IsAddingFault, AreApart, IsCountedEntry};
 
     /// No game was counted yet. There is room for about this many patterns, where there is memory
-    /// for it; else it is taken as patterns come.
-    pub fn begin(alloc: Global, kinds: Kinds, patterns: usize) -> GameCounts
+    /// for it; else it is taken as patterns come. The order of the patterns is turned by this much
+    /// of 2^64, so that two that count may have theirs begin at unlike ones.
+    pub fn begin(alloc: Global, kinds: Kinds, turn: u64, patterns: usize) -> GameCounts
         ensures { result ≡ record { kinds = kinds; entries = [] } }
     {
         GameCounts {
             walk: Walk::begin(alloc, kinds),
-            counts: Counts::with_room(alloc, patterns),
+            counts: Counts::with_room(alloc, turn, patterns),
         }
     }
 
@@ -83,7 +84,8 @@ impl GameCounts {
         moves
     }
 
-    /// The entries, in the order of a multiple of their words. It takes no memory.
+    /// The entries, in the order of a multiple of their words, turned as was said at the beginning.
+    /// It takes no memory.
     pub fn into_entries(self) -> Vec<Entry>
         ensures entries { result.items ≡ self.entries }
         ensures apart { AreApart result.items }

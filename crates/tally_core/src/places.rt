@@ -1,5 +1,5 @@
 //! The places of rows, each found by its pattern: open addressing, each place followed by the next.
-ghost use Rattle.std.specs.Prelude.{◌≡◌, ◌+◌, ◌<◌, [], not, length, IfSome, IfOk};
+ghost use Rattle.std.specs.Prelude.{◌≡◌, ◌+◌, ◌<◌, ℕ, [], not, length, IfSome, IfOk};
 ghost use Rattle.tally_core.specs.Entries.{IsShape};
 ghost use Rattle.tally_core.specs.Inner.Rows.{mixed_of, home_of, next_place, is_taken, taken_of};
 ghost use Rattle.tally_core.specs.Inner.Rows.{AreRows, IsFound};
@@ -12,22 +12,23 @@ use std::alloc::{AllocError, Global};
 /// The multiplier of words: 2^64 over the golden ratio, made odd. No claim rests on it.
 const MULTIPLIER: u64 = 0x9E37_79B9_7F4A_7C15;
 
-/// What the places of a pattern are taken from.
+/// What the places of a pattern are taken from, where the order of all patterns is turned by this.
 #[inline(always)]
-fn mixed(shape: Shape) -> u64
-    ensures { result ≡ mixed_of shape }
+fn mixed(turn: u64, shape: Shape) -> u64
+    ensures { result ≡ mixed_of turn shape }
 {
-    shape.word().bits().wrapping_mul(MULTIPLIER)
+    let multiple = shape.word().bits().wrapping_mul(MULTIPLIER);
+    multiple.wrapping_add(turn)
 }
 
 /// The first place of a pattern among this number of places.
 #[inline(always)]
-pub(crate) fn home(shape: Shape, places: usize) -> usize
+pub(crate) fn home(turn: u64, shape: Shape, places: usize) -> usize
     requires { 0 < places }
-    ensures value { result ≡ home_of places shape }
+    ensures value { result ≡ home_of turn places shape }
     ensures within { result < places }
 {
-    ((u128::from(mixed(shape)) * places as u128) >> 64) as usize
+    ((u128::from(mixed(turn, shape)) * places as u128) >> 64) as usize
 }
 
 /// The place after another one; the first comes after the last.
@@ -51,15 +52,15 @@ pub(crate) fn is_free(row: &Entry) -> bool
 /// Where a pattern's way leads to, from its first place on: to its row, or to the first free place.
 /// None where no place is free.
 #[inline(always)]
-pub(crate) fn find(rows: &[Entry], shape: Shape) -> Option<usize>
-    requires { AreRows rows.now }
-    ensures { IfSome result (IsFound rows.now shape) }
+pub(crate) fn find(turn: u64, rows: &[Entry], shape: Shape) -> Option<usize>
+    requires { AreRows turn rows.now }
+    ensures { IfSome result (IsFound turn rows.now shape) }
 {
     let places = rows.len();
     if places == 0 {
         return None;
     }
-    let mut place = home(shape, places);
+    let mut place = home(turn, shape, places);
     for _ in 0..places {
         let row = rows[place];
         if row.shape == shape || is_free(&row) {
@@ -91,7 +92,7 @@ fn free_row() -> Entry
 
 /// This many places, all free. It takes memory for them.
 pub(crate) fn free_rows(alloc: Global, places: usize) -> Result<Vec<Entry>, AllocError>
-    ensures rows { IfOk result (λ rows. AreRows rows.items) }
+    ensures rows { IfOk result (λ rows. (turn : ℕ) → AreRows turn rows.items) }
     ensures free { IfOk result (λ rows. taken_of rows.items ≡ []) }
     ensures length { IfOk result (λ rows. length rows.items ≡ places) }
 {

@@ -14,4 +14,4 @@ loop-row-preserved c shape =
     c.in-Ok.ensures.ok shape
     ∙ ap (used_again row.first (one_pattern row.shape row.there shape) (one_pattern row.shape row.played shape)) (c.loop-row.invariant shape)
     ∙ ap (λ (r : Entry). counted_with r (counts_of (take i rows)) shape) (read_at rows i row c.row-item.is c.loop-row-test.true)
-    ∙ sym (take_counts rows i c.requires.rows c.loop-row-test.true shape) ∙ ap (λ n. counts_of (take n rows) shape) (sym (add-one i))
+    ∙ sym (take_counts rows i c.requires.rows.1 c.loop-row-test.true shape) ∙ ap (λ n. counts_of (take n rows) shape) (sym (add-one i))
