@@ -5,6 +5,7 @@ mod Stood
 pub mod Gathered
 pub mod Numbered
 pub mod Ordered
+pub mod Rearranged
 mod Totalled
 mod Summed
 mod Visits

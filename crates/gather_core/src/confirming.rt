@@ -21,10 +21,7 @@ use slot_table::{Pass, SlotTable};
 fn least_with(shares: &[Share], bits: u64) -> Option<usize>
     ensures { IsLeastOf bits (all_rows shares.now) result }
 {
-    match least_of(shares, Sought::Pattern(bits)) {
-        Some(row) => Some(row.number),
-        None => None,
-    }
+    least_of(shares, Sought::Pattern(bits)).map(|row| row.number)
 }
 
 /// Whether a share's row of a number has these bits.
@@ -56,15 +53,10 @@ fn is_known(shares: &[Share], number: usize, found: Option<u64>) -> bool
     ensures known { OnTrue result (IsOfRow (all_rows shares.now) found) }
     ensures unknown { OnFalse result (IsOfRow (all_rows shares.now) found → ⊥) }
 {
-    match found {
-        None => false,
-        Some(bits) => {
-            if any_there(shares, number, bits) {
-                return true;
-            }
-            least_with(shares, bits).is_some()
-        }
-    }
+    let Some(bits) = found else {
+        return false;
+    };
+    any_there(shares, number, bits) || least_with(shares, bits).is_some()
 }
 
 /// Whether a number's key is the pattern of some row, and the least number of the refused pattern
@@ -74,10 +66,7 @@ fn agrees(shares: &[Share], number: usize, found: Option<u64>, least: Option<usi
     ensures no { OnFalse result
         ((IsOfRow (all_rows shares.now) found → ⊥) ⊎ (least ≡ Some number)) }
 {
-    if least == Some(number) {
-        return false;
-    }
-    is_known(shares, number, found)
+    least != Some(number) && is_known(shares, number, found)
 }
 
 /// The fault of a number, with the pattern of its first row.

@@ -14,6 +14,7 @@ mod visiting;
 mod adding_up;
 mod gathering;
 pub mod laws;
+mod pieces;
 mod totals;
 
 pub use confirming::confirm_full;

@@ -7,7 +7,7 @@ ghost use Rattle.gather_core.specs.Inner.Checking.{unlike_of};
 ghost use Rattle.gather_core.specs.Inner.Numbers.{none_summed, AreSums};
 
 use shape_core::{Shape, Word};
-use share_core::{KeptRow, Share};
+use share_core::{Row, Share};
 
 /// What the rows of a number are together: the least of their games, and the pattern of the first
 /// of them that is of another pattern than was asked for.
@@ -30,7 +30,7 @@ pub(crate) fn unlike(shape: Shape, found: Option<u64>) -> Option<Word>
 }
 
 /// The lesser of two games, where None is no game.
-fn earlier(one: Option<u64>, other: Option<u64>) -> Option<u64>
+pub(crate) fn earlier(one: Option<u64>, other: Option<u64>) -> Option<u64>
     ensures { result ≡ earlier one other }
 {
     match (one, other) {
@@ -51,14 +51,14 @@ pub(crate) fn no_sums() -> NumberSums
 }
 
 /// The rows of a number and one more.
-fn add(sums: NumberSums, row: KeptRow, found: Option<u64>) -> NumberSums
+fn add(sums: NumberSums, row: Row, found: Option<u64>) -> NumberSums
     ensures { (rows more : List Row) → (number : ℕ) → AreOfNumbers more
         → row_of more number ≡ Some row → AreSums rows number found sums
         → AreSums (rows ++ more) number found result }
 {
     NumberSums {
-        first: earlier(sums.first, row.first()),
-        stranger: sums.stranger.or(unlike(row.shape(), found)),
+        first: earlier(sums.first, row.first),
+        stranger: sums.stranger.or(unlike(row.shape, found)),
     }
 }
 
@@ -68,7 +68,7 @@ pub(crate) fn sums_at(shares: &[Share], number: usize, found: Option<u64>) -> Nu
 {
     let mut sums = no_sums();
     for share in shares {
-        if let Some(row) = share.kept_at(number) {
+        if let Some(row) = share.row_at(number) {
             sums = add(sums, row, found);
         }
     }

@@ -18,10 +18,7 @@ pub(crate) fn bits_of(key: Option<Key>) -> Option<u64>
     ensures bits { result ≡ key }
     ensures small { IfSome result (λ bits. bits < 2 ^ 51) }
 {
-    match key {
-        Some(key) => Some(key.bits()),
-        None => None,
-    }
+    key.map(|key| key.bits())
 }
 
 /// The word of these bits.
@@ -29,10 +26,7 @@ pub(crate) fn word_of(bits: Option<u64>) -> Option<Word>
     requires { IfSome bits (λ bits. bits < 2 ^ 51) }
     ensures { result ≡ bits }
 {
-    match bits {
-        Some(bits) => Word::new(bits),
-        None => None,
-    }
+    bits.and_then(|bits| Word::new(bits))
 }
 
 /// Rows of a number that is none of the table's are of no pattern there. Rows are looked at only

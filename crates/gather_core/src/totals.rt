@@ -1,33 +1,15 @@
 //! The rows of all shares, added up by their numbers in one pass.
 ghost use Rattle.std.specs.Prelude.{◌≡◌, ◌^◌, ◌<◌, ◌≤◌, ℕ, None, Some, IfSome, IfNone, length};
-ghost use Rattle.std.specs.Prelude.{slice_index};
+ghost use Rattle.std.specs.Prelude.{All, false, slice_index};
 ghost use Rattle.tally_core.specs.Entries.{IsShape};
-ghost use Rattle.share_core.specs.Rows.{earlier};
 ghost use Rattle.gather_core.specs.Inner.Totals.{with_row, IsUnlike};
 
-use crate::numbers::{NumberSums, no_sums, unlike};
+use crate::numbers::{NumberSums, earlier, no_sums, unlike};
+use crate::pieces::pieces_of;
 use harvest_faults::HarvestFault;
 use shape_dict::{Entry, FirstGame};
 use share_core::{KeptRow, Share};
 use std::alloc::{AllocError, Global};
-
-/// The lesser of two games, where None is no game.
-fn earlier(one: FirstGame, other: Option<u64>) -> FirstGame
-    requires { IfSome other (λ game. game < 2 ^ 32) }
-    ensures { result ≡ earlier one other }
-{
-    match (one.get(), other) {
-        (_, None) => one,
-        (None, Some(_)) => FirstGame::new(other),
-        (Some(first), Some(game)) => {
-            if first <= game {
-                one
-            } else {
-                FirstGame::new(other)
-            }
-        }
-    }
-}
 
 /// A row as an entry. Its word is the least of its images, by the type of shapes.
 fn entry(row: KeptRow) -> Entry
@@ -58,17 +40,16 @@ fn with(total: Entry, row: KeptRow) -> Option<Entry>
         shape: total.shape,
         there: total.there.checked_add(row.there())?,
         played: total.played.checked_add(row.played())?,
-        first: earlier(total.first, row.first()),
+        first: FirstGame::new(earlier(total.first.get(), row.first())),
     })
 }
 
 /// How many rows shares have together.
 fn rows_in(shares: &[Share]) -> usize {
-    let mut rows: usize = 0;
-    for share in shares {
-        rows = rows.saturating_add(share.made_rows().len());
-    }
-    rows
+    shares.iter().fold(
+        0,
+        |rows: usize, share| rows.saturating_add(share.made_rows().len()),
+    )
 }
 
 /// What the rows of each number are together.
@@ -78,7 +59,10 @@ pub(crate) struct Totals {
     index: Vec<u32>,
     /// In the order in which their numbers were met.
     entries: Vec<Entry>,
+    /// Whether a pattern of an entry may never have been there.
+    absent: bool,
     ghost in_range: { (number : ℕ) → slice_index index.items number ≤ length entries.items },
+    ghost there: { absent ≡ false → All (λ entry. 0 < entry.there) entries.items },
 }
 
 impl Totals {
@@ -100,6 +84,7 @@ impl Totals {
         Ok(Totals {
             index: vec![in alloc; 0; slots]?,
             entries: Vec::with_capacity(alloc, room)?,
+            absent: false,
         })
     }
 
@@ -110,6 +95,7 @@ impl Totals {
         ensures { OnOk result ((slots : ℕ) (rows : List Row) → AreSummed slots rows self.old
             → AreSummed slots (rows ++ row ∷ []) self.new) }
     {
+        self.absent |= row.there() == 0;
         self.entries.push(entry(row))?;
         let Ok(above) = u32::try_from(self.entries.len()) else {
             return Err(AllocError);
@@ -166,8 +152,9 @@ impl Totals {
         ensures fault { IfErr result (λ found. found ≡ fault.Memory) }
     {
         let mut totals = Totals::new(alloc, slots, slots.min(rows_in(shares)))?;
-        for share in shares {
-            if !totals.add_all(share.made_rows())? {
+        let pieces = pieces_of(alloc, shares)?;
+        for piece in pieces.as_slice() {
+            if !totals.add_all(piece)? {
                 return Ok(None);
             }
         }
@@ -197,7 +184,9 @@ impl Totals {
             → AreEntriesOf rows result.items }
     {
         let mut entries = self.entries;
-        entries.retain(|entry| entry.there > 0);
+        if self.absent {
+            entries.retain(|entry| entry.there > 0);
+        }
         entries
     }
 }

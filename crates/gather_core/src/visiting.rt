@@ -1,39 +1,21 @@
 //! Numbers of a table, each visited once, in rising order: whether the rows that shares have of it
 //! are of its pattern, and their least game is the one that is marked.
-ghost use Rattle.std.specs.Prelude.{◌+◌, ◌<◌, ℕ, IfErr, IfOk, OnOk};
+ghost use Rattle.std.specs.Prelude.{◌+◌, ◌<◌, IfErr, IfOk, OnOk};
 ghost use Rattle.slot_table.specs.Passes.{Known, IsPassOf};
 ghost use Rattle.share_core.specs.Entering.{AsksOnly};
 ghost use Rattle.gather_core.specs.Checking.{all_rows, StandBelow};
 ghost use Rattle.gather_core.specs.Inner.Checking.{IsStandFault};
-ghost use Rattle.gather_core.specs.Inner.Numbers.{AreSums};
 ghost use Rattle.gather_core.specs.Inner.Summed.{AreTotals};
 ghost use Rattle.gather_core.specs.Inner.Visiting.{AreVisited};
 
 use crate::agreeing::{Differs, compare};
-use crate::numbers::{NumberSums, sums_at};
+use crate::numbers::sums_at;
 use crate::standing::{bits_of, word_of};
 use crate::totals::Totals;
 use harvest_faults::HarvestFault;
 use probe_core::ProbeOrder;
 use share_core::Share;
 use slot_table::{Pass, SlotTable};
-
-/// What the rows of a number are together: where there are no totals, they are looked for in the
-/// shares.
-fn sums_of(
-    shares: &[Share],
-    totals: &Option<Totals>,
-    number: usize,
-    found: Option<u64>,
-) -> NumberSums
-    requires { (slots : ℕ) × AreTotals slots (all_rows shares.now) totals.now × (number < slots) }
-    ensures { AreSums (all_rows shares.now) number found result }
-{
-    match totals {
-        Some(totals) => totals.sums_at(number, found),
-        None => sums_at(shares, number, found),
-    }
-}
 
 /// Looks at a number, and compares the patterns and the least games of its rows with the table's.
 fn visit<O: ProbeOrder>(
@@ -58,7 +40,11 @@ fn visit<O: ProbeOrder>(
         → IsStandFault table.now.slots pass.new.seen (all_rows shares.now) found) }
 {
     let found = bits_of(table.word_at(pass, number));
-    let sums = sums_of(shares, totals, number, found);
+    let sums = match totals {
+        Some(totals) => totals.sums_at(number, found),
+        // Rows that have no totals are looked for in the shares.
+        None => sums_at(shares, number, found),
+    };
     if let Some(held) = sums.stranger {
         return Err(HarvestFault::stranger(number, held, word_of(found)));
     }

@@ -7,6 +7,7 @@ use crate::kept_rows::KeptRow;
 use crate::ledgers::Ledger;
 use crate::rows::{Row, Rows};
 use crate::share_rows::ShareRows;
+use crate::starts::start_of;
 use crate::workings::Workings;
 use go_record::Record;
 use harvest_faults::HarvestFault;
@@ -52,7 +53,7 @@ impl Model for Share {
 }
 
 impl Share {
-    ghost use Rattle.std.specs.Prelude.{◌≡◌, ◌^◌, ◌<◌, [], length, OnOk, OnErr, IfErr};
+    ghost use Rattle.std.specs.Prelude.{◌≡◌, ◌^◌, ◌<◌, ◌++◌, [], length, OnOk, OnErr, IfErr};
     ghost use Rattle.slot_table.specs.Passes.{IsPassOf};
     ghost use Rattle.share_core.specs.Rows.{row_of, AreOfNumbers};
     ghost use Rattle.share_core.specs.Shares.{IsShare};
@@ -129,20 +130,9 @@ impl Share {
         ensures row { result ≡ row_of self.now.rows number }
         ensures numbers { AreOfNumbers self.now.rows }
     {
-        match self.kept_at(number) {
-            Some(row) => Some(row.row()),
-            None => None,
-        }
-    }
-
-    /// The same as it is kept. It takes no memory.
-    pub fn kept_at(&self, number: usize) -> Option<KeptRow>
-        ensures row { result ≡ row_of self.now.rows number }
-        ensures numbers { AreOfNumbers self.now.rows }
-    {
         let made = self.made_rows();
         match self.ledger.rows.place(number) {
-            Some(place) => Some(made[place]),
+            Some(place) => Some(made[place].row()),
             None => None,
         }
     }
@@ -153,6 +143,17 @@ impl Share {
         ensures numbers { AreOfNumbers self.now.rows }
     {
         self.ledger.rows.as_slice()
+    }
+
+    /// The rows in two parts: those after some place, and then those before it. Where a share was
+    /// counted by words, numbers nearly rise through the first part and on through the second. It
+    /// takes no memory.
+    pub fn made_parts(&self) -> (&[KeptRow], &[KeptRow])
+        ensures { result.1.now ++ result.0.now ≡ self.now.rows }
+    {
+        let rows = self.made_rows();
+        let (before, after) = rows.split_at(start_of(self.worker, rows.len()));
+        (after, before)
     }
 
     /// The rows, numbers rising. It takes no memory.

@@ -11,9 +11,9 @@ loop-share-preserved c =
     let share = c.share-item.result in
     let before = all_rows (take i shares) in
     rw (flat_map_next (λ (s : Held). s.rows) shares i share c.loop-share-test.true c.share-item.is)
-    (elim c.match-kept_at.branch [
+    (elim c.match-row_at.branch [
       | in-Some w ↦
-          rw w.sums-is (w.add-sums.ensures before share.rows c.args.number c.kept_at.ensures.numbers (sym w.in-Some.ensures.row) c.loop-share.invariant)
+          rw w.sums-is (w.add-sums.ensures before share.rows c.args.number c.row_at.ensures.numbers (sym w.in-Some.ensures.row) c.loop-share.invariant)
       | in_default w ↦
           rw w.sums-is (sums_kept before share.rows c.args.number c.args.found c.loop-share.sums (sym w.in_default.ensures.row) c.loop-share.invariant)
     ])

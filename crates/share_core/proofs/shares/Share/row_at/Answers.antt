@@ -1,7 +1,7 @@
 use Rattle.std.proofs.Common.{List, Some, get_or, ap, sym, ◌∙◌}
 use Rattle.share_core.proofs.Common.{get_or_default, Row, Held, blank}
 use Rattle.share_core.proofs.Found.{found_none, found_row}
-use Rattle.share_core.proofs.shares.Share.kept_at.Goals as goal
+use Rattle.share_core.proofs.shares.Share.row_at.Goals as goal
 
 pub returns-in-Some-clause-row : goal.returns-in-Some-clause-row
 returns-in-Some-clause-row c =
@@ -11,7 +11,7 @@ returns-in-Some-clause-row c =
     let read = c.index-made-place.is
     ∙ ap (λ (rs : List Row). get_or rs place c.index-made-place.result) c.made_rows-made.ensures.rows
     ∙ get_or_default rows place c.index-made-place.result (blank 0 0) some.0 in
-    ap (λ r. Some r) read ∙ sym (found_row rows c.args.number place c.made_rows-made.ensures.numbers some.0 some.1)
+    ap (λ r. Some r) (c.row.ensures ∙ read) ∙ sym (found_row rows c.args.number place c.made_rows-made.ensures.numbers some.0 some.1)
 
 pub returns-in-None-clause-row : goal.returns-in-None-clause-row
 returns-in-None-clause-row c =
