@@ -23,7 +23,7 @@ pub(crate) fn key_of(shape: Shape) -> Key
 }
 
 /// Lists the keys of a game's patterns, in place of those of the game before.
-fn list_keys(keys: &mut Vec<Key>, meetings: &[Meeting]) -> Result<(), HarvestFault>
+pub(crate) fn list_keys(keys: &mut Vec<Key>, meetings: &[Meeting]) -> Result<(), HarvestFault>
     ensures keys { OnOk result (keys.new.items ≡ shapes_of meetings.now) }
     ensures fault { IfErr result (λ found. found ≡ fault.Memory) }
 {
@@ -62,34 +62,6 @@ pub(crate) fn enter_keys<O: ProbeOrder>(
     Ok(())
 }
 
-/// Enters the patterns of a game, of which most are left after the first for which no number was
-/// free. The keys and the answers of the game before give way to those of this one.
-///
-/// # Errors
-///
-/// `Memory` where memory was refused; then nothing was entered.
-pub(crate) fn enter_all<O: ProbeOrder>(
-    table: &SlotTable<O>,
-    pass: &mut Pass<O>,
-    keys: &mut Vec<Key>,
-    answers: &mut Vec<Answer>,
-    meetings: &[Meeting],
-) -> Result<(), HarvestFault>
-    requires { IsPassOf table.now pass.old }
-    ensures pass { IsPassOf table.now pass.new }
-    ensures made { OnOk result (AreMade table.now.slots
-        (entered (shapes_of meetings.now) answers.new.items) pass.old pass.new) }
-    ensures told { OnOk result
-        (AreTold table.now.slots pass.new.seen (shapes_of meetings.now) answers.new.items) }
-    ensures until { OnOk result (AreEnteredUntil answers.new.items (length meetings.now)) }
-    ensures length { OnOk result (length answers.new.items ≡ length meetings.now) }
-    ensures same { OnErr result (pass.new ≡ pass.old) }
-    ensures fault { IfErr result (λ found. found ≡ fault.Memory) }
-{
-    list_keys(keys, meetings)?;
-    enter_keys(table, pass, keys.as_slice(), answers)
-}
-
 /// The place of the first answer that is no number, if there is one.
 pub(crate) fn refused(answers: &[Answer]) -> Option<usize>
     ensures some { IfSome result (IsFirstRefusal answers.now) }
@@ -121,10 +93,7 @@ pub(crate) fn mark_first<O: ProbeOrder>(
     let Some(game) = game else {
         return;
     };
-    let is_early = match table.first(pass, number) {
-        None => false,
-        Some(first) => first <= game,
-    };
+    let is_early = table.first(pass, number).is_some_and(|first| first <= game);
     if !is_early {
         table.mark(pass, number, game);
     }

@@ -111,10 +111,7 @@ impl KeptRow {
         ensures first { result ≡ self.first }
         ensures small { IfSome result (λ game. game < 2 ^ 32) }
     {
-        match self.first.get() {
-            None => None,
-            Some(game) => Some(game as u64),
-        }
+        self.first.get().map(|game| game as u64)
     }
 
     /// The row.

@@ -37,11 +37,7 @@ pub(crate) fn with_counts(weight: u64, there: u64, played: u64) -> Option<u64>
 fn noted(places: &[SmallOption], at: usize) -> Option<usize>
     ensures { result ≡ place_in places.now at }
 {
-    if at < places.len() {
-        places[at].get()
-    } else {
-        None
-    }
+    places.get(at).and_then(|place| place.get())
 }
 
 /// Gives an index at least this many buckets, the new ones without a row.

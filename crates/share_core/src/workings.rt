@@ -2,7 +2,7 @@
 ghost use Rattle.std.specs.Prelude.{◌≡◌, ◌^◌, ◌≤◌, length, OnOk, IfErr};
 ghost use Rattle.share_core.specs.Inner.Making.{AreBelow, HaveRows, Gained, IsMakingFault};
 
-use crate::entering::{enter_all, refused};
+use crate::entering::{enter_keys, list_keys, refused};
 use crate::rows::Rows;
 use go_record::Record;
 use harvest_faults::HarvestFault;
@@ -93,7 +93,8 @@ impl Workings {
     {
         let moves = self.walk.walk(game_record)?;
         let meetings = self.walk.meetings();
-        enter_all(table, pass, &mut self.keys, &mut self.answers, meetings)?;
+        list_keys(&mut self.keys, meetings)?;
+        enter_keys(table, pass, self.keys.as_slice(), &mut self.answers)?;
         let answers = self.answers.as_slice();
         make_all(rows, table.capacity().slots(), meetings, answers)?;
         match refused(answers) {

@@ -1,18 +1,24 @@
-use Rattle.std.proofs.Common.{◌<◌, length, ap, sym, ◌∙◌, ℕ, arith}
-use Rattle.share_core.proofs.Common.{err_from_is_err_and, get_or_default, Answer, meeting_at, answer_at, EntersOnly, IsEntryOf, IsRowed, IsRowedAfter}
+use Rattle.std.proofs.Common.{◌≡◌, ◌<◌, length, ap, sym, ◌∙◌, ℕ, arith}
+use Rattle.share_core.proofs.Common.{err_from_is_err_and, get_or_default, length-map, Answer, Meeting, meeting_at, answer_at, EntersOnly, IsEntryOf, IsRowed, IsRowedAfter}
+use Rattle.tally_core.specs.Walk.{shapes_of}
 use Rattle.share_core.proofs.Entered.{calls_self}
 use Rattle.share_core.proofs.Made.{AreAnswered, fresh_of, making_fault, below_of, full_of, entries_of, unrowed, all_rowed}
 use Rattle.share_core.proofs.workings.Workings.prepare.Goals as goal
 use Rattle.share_core.proofs.workings.Workings.prepare.Goals.{After-slots}
 
+-- the keys are those of the meetings
+keys-are : (g : _) (c : After-slots g) → c.as_slice.result.now ≡ shapes_of c.meetings-meetings.result.now
+keys-are g c = c.as_slice.ensures.value ∙ c.in_ok-list_keys.ensures.keys
+
 -- the meetings that the walk listed were answered
 answered-of : (g : _) (c : After-slots g) →
-    AreAnswered c.args.table.now.slots c.enter_all.new.pass.seen c.args.self.now.walk.kinds c.args.game_record.now
+    AreAnswered c.args.table.now.slots c.enter_keys.new.pass.seen c.args.self.now.walk.kinds c.args.game_record.now
     c.meetings-meetings.result.now c.as_slice-answers.result.now c.in_ok-moves.moves
 answered-of g c = record {
   walked = rw c.meetings-meetings.ensures c.in_ok-moves.ensures.walked;
-  long = ap length c.as_slice-answers.ensures.value ∙ c.in_ok-enter_all.ensures.length;
-  told = rw c.as_slice-answers.ensures.value c.in_ok-enter_all.ensures.told;
+  long = ap length c.as_slice-answers.ensures.value ∙ c.in_ok-enter_keys.ensures.length ∙ ap length (keys-are g c)
+      ∙ length-map c.meetings-meetings.result.now (λ (m : Meeting). m.shape);
+  told = rw (c.as_slice-answers.ensures.value, ← keys-are g c) c.in_ok-enter_keys.ensures.told;
 }
 
 -- the calls entered these meetings with these answers
@@ -20,19 +26,24 @@ entered-of : (g : _) (c : After-slots g) (rowed : ℕ → Answer → Type 0) →
     ((i : ℕ) → i < length c.as_slice-answers.result.now →
     rowed (meeting_at c.meetings-meetings.result.now i).shape (answer_at c.as_slice-answers.result.now i)) →
     EntersOnly c.args.table.now.slots (IsEntryOf c.args.self.now.walk.kinds c.args.game_record.now rowed) c.args.pass.now
-    c.enter_all.new.pass
+    c.enter_keys.new.pass
 entered-of g c rowed =
-    entries_of (answered-of g c) rowed (rw c.as_slice-answers.ensures.value c.in_ok-enter_all.ensures.made)
+    entries_of (answered-of g c) rowed (rw (c.as_slice-answers.ensures.value, ← keys-are g c) c.in_ok-enter_keys.ensures.made)
 
 pub returns-in_err-moves-clause-enters : goal.returns-in_err-moves-clause-enters
 returns-in_err-moves-clause-enters g c =
     let p = err_from_is_err_and c.from_residual.result c.from_residual.ensures.1 in
     rw p.1 (calls_self c.args.table.now.slots _ (λ _ _. ⊥) c.args.pass.now)
 
-pub returns-in_err-enter_all-clause-enters : goal.returns-in_err-enter_all-clause-enters
-returns-in_err-enter_all-clause-enters g c =
-    let p = err_from_is_err_and c.from_residual-in_err-enter_all.result c.from_residual-in_err-enter_all.ensures.1 in
-    rw (p.1, c.in_err-enter_all.ensures.same) (calls_self c.args.table.now.slots _ (λ _ _. ⊥) c.args.pass.now)
+pub returns-in_err-list_keys-clause-enters : goal.returns-in_err-list_keys-clause-enters
+returns-in_err-list_keys-clause-enters g c =
+    let p = err_from_is_err_and c.from_residual-in_err-list_keys.result c.from_residual-in_err-list_keys.ensures.1 in
+    rw p.1 (calls_self c.args.table.now.slots _ (λ _ _. ⊥) c.args.pass.now)
+
+pub returns-in_err-enter_keys-clause-enters : goal.returns-in_err-enter_keys-clause-enters
+returns-in_err-enter_keys-clause-enters g c =
+    let p = err_from_is_err_and c.from_residual-in_err-enter_keys.result c.from_residual-in_err-enter_keys.ensures.1 in
+    rw (p.1, c.in_err-enter_keys.ensures.same) (calls_self c.args.table.now.slots _ (λ _ _. ⊥) c.args.pass.now)
 
 pub make_all-requires-clause-numbers : goal.make_all-requires-clause-numbers
 make_all-requires-clause-numbers g c =
@@ -68,7 +79,7 @@ returns-in-Some-clause-fault g c =
     let place = c.in-Some.place in
     let refused = c.in-Some.ensures.some in
     let answered = answered-of g (goal.at.returns-in-Some-clause-fault g c).After-slots in
-    let until = rw (sym c.as_slice-answers.ensures.value) at c.in_ok-enter_all.ensures.until in
+    let until = rw (sym c.as_slice-answers.ensures.value, ap length (keys-are g (goal.at.returns-in-Some-clause-fault g c).After-slots) ∙ length-map meetings (λ (m : Meeting). m.shape)) at c.in_ok-enter_keys.ensures.until in
     let met = get_or_default meetings place c.index-meetings-place.result
     (record { shape = 0; there = 0; played = 0 }) (omega (arith, refused.within, answered.long)) in
     rw (c.word.ensures.value, met) (full_of answered c.args.game place until c.in_ok-make_all.ensures.made refused)
