@@ -1,5 +1,5 @@
 -- Shares of games of an input that were counted by words, and the shares that they become.
-use Rattle.std.proofs.Common.{◌≡◌, ℕ, ◌<◌, ◌≤◌, ◌+◌, ◌==◌, cond, List, [], ◌∷◌, ◌++◌, ap, sym, subst, ◌∙◌, arith, refl, ⊎_elim, All, Contains}
+use Rattle.std.proofs.Common.{◌≡◌, ℕ, ◌<◌, ◌≤◌, ◌+◌, ◌==◌, cond, List, [], ◌∷◌, ◌++◌, ap, sym, subst, ◌∙◌, arith, ⊎_elim, All, Contains}
 use Rattle.std.specs.Prelude.{sum_by, map}
 use Rattle.std.specs.List.{AllByRecursion}
 use Rattle.std.proofs.lemmas.List.{get_or_default, get_or-map, length-map}
@@ -23,25 +23,6 @@ use Rattle.share_core.specs.WordShares.{IsNumbered}
 use Rattle.share_core.proofs.Added.{share_of_more}
 use Rattle.harvest_core.specs.Working.{IsGame, IsPatternIn, IsWorked}
 use Rattle.harvest_core.specs.Inner.Counting.{IsCountedByWords}
-
--- nothing was counted
-pub counted_none : (bytes : List ℕ) (worker : ℕ) (kinds : Kinds) → IsCountedByWords bytes kinds (record { worker = worker; kinds = kinds; games = []; moves = 0; rows = [] })
-counted_none bytes worker kinds = record {
-  kinds_are = refl;
-  added = [];
-  is_of = record {
-    replays = tt;
-    games = refl;
-    moves = refl;
-    there = λ shape. refl;
-    played = λ shape. refl;
-    first = λ shape. refl;
-    among = λ shape. omega arith;
-  };
-  games = λ k d below. absurd (omega (arith, below));
-  rises = omega arith;
-  small = λ k d below. absurd (omega (arith, below));
-}
 
 -- a game was added, whose number is above those of the others
 pub counted_more : (bytes : List ℕ) (kinds : Kinds) (game : ℕ) (actions : Actions) (old new : Held) → IsGame bytes game actions →

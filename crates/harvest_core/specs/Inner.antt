@@ -3,5 +3,7 @@ pub mod Counting
 pub mod Crew
 pub mod Harvest
 pub mod Parted
+pub mod Parts
 pub mod Reading
+pub mod Rounds
 pub mod Working

@@ -10,23 +10,23 @@ ghost use Rattle.game_core.specs.Games.{HasReadAll};
 ghost use Rattle.harvest_faults.specs.declared.faults.HarvestFault.TheVariants as fault;
 ghost use Rattle.harvest_core.specs.Working.{IsWorked};
 ghost use Rattle.harvest_core.specs.Harvest.{IsHarvest};
-ghost use Rattle.harvest_core.specs.Inner.Counting.{IsCountedByWords};
+ghost use Rattle.harvest_core.specs.Inner.Counting.{IsCountedByWords, IsCounter};
 ghost use Rattle.harvest_core.specs.Inner.Reading.{IsReadFault};
 
-use crate::counting::{Begun, Crowd, begin};
+use crate::counting::{Counter, Crowd};
 use crate::gates::Gate;
 use crate::harvesting::count_of;
-use crate::jobs_read::read_jobs;
+use crate::rounds::{Ended, count_all};
 use harvest_faults::HarvestFault;
+use job_core::Games;
 use probe_core::{Capacity, OddRuns};
 use shape_core::Kinds;
 use share_core::{Share, WordShare};
 use slot_table::{Pass, SlotTable};
 use std::alloc::{AllocError, Global};
-use std::sync::atomic::AtomicU64;
 use std::thread;
 use std::thread::Threads;
-use tally_core::{Counted, Report, Settings};
+use tally_core::{Counted, Settings};
 
 /// How many workers there are at least. One worker alone is two threads, one of which walks for the
 /// other; two that share a table would take longer than that.
@@ -44,19 +44,19 @@ fn hands_of(
     alloc: Global,
     table: &SlotTable<OddRuns>,
     pass: &mut Pass<OddRuns>,
-    words: Vec<WordShare>,
+    counters: Vec<Counter>,
 ) -> Result<Vec<Hand>, AllocError>
     requires { IsPassOf table.now pass.old }
     ensures pass { IsPassOf table.now pass.new }
     ensures passes { IfOk result (λ hands. All (λ hand. IsPassOf table.now hand.pass) hands.items) }
-    ensures words { IfOk result (λ hands. map (λ hand. hand.words) hands.items ≡ words.items) }
+    ensures words { IfOk result (λ hands. map (λ hand. hand.words) hands.items
+        ≡ map (λ counter. counter.words) counters.items) }
 {
     let mut hands = Vec::new(alloc);
-    for one in words {
-        hands.push(Hand {
-            words: one,
-            pass: table.split(pass),
-        })?;
+    for counter in counters {
+        let Counter { words, .. } = counter;
+        let pass = table.split(pass);
+        hands.push(Hand { words, pass })?;
     }
     Ok(hands)
 }
@@ -130,18 +130,18 @@ fn shares_of<R: Threads + Sync>(
     alloc: Global,
     table: &SlotTable<OddRuns>,
     pass: &mut Pass<OddRuns>,
-    words: Vec<WordShare>,
+    counters: Vec<Counter>,
 ) -> Result<Option<Vec<Share>>, HarvestFault>
     requires pass { IsPassOf table.now pass.old }
-    requires words { (bytes : List ℕ) × (kinds : Kinds)
-        × All (IsCountedByWords bytes kinds) words.items }
+    requires counters { (bytes : List ℕ) × (kinds : Kinds)
+        × All (IsCounter bytes kinds) counters.items }
     ensures pass { IsPassOf table.now pass.new }
     ensures worked { (bytes : List ℕ) (kinds : Kinds)
-        → All (IsCountedByWords bytes kinds) words.items
+        → All (IsCounter bytes kinds) counters.items
         → IfOk result (λ found. IfSome found (λ shares. All (IsWorked bytes kinds) shares.items)) }
     ensures fault { IfErr result (λ found. found ≡ fault.Memory) }
 {
-    let hands = hands_of(alloc, table, pass, words)?;
+    let hands = hands_of(alloc, table, pass, counters)?;
     let numbered = numbered_by(rt, table, hands)?;
     all_shares(alloc, numbered)
 }
@@ -152,21 +152,24 @@ fn dictionary_of<R: Threads + Sync>(
     rt: &R,
     alloc: Global,
     kinds: Kinds,
-    begun: Begun,
-    report: Report,
+    ended: Ended,
 ) -> Result<Option<Counted>, HarvestFault>
-    requires pass { IsPassOf begun.table begun.pass }
-    requires words { (bytes : List ℕ) × HasReadAll bytes report
-        × All (IsCountedByWords bytes kinds) begun.words.items }
-    ensures harvest { (bytes : List ℕ) → HasReadAll bytes report
-        → All (IsCountedByWords bytes kinds) begun.words.items
+    requires pass { IsPassOf ended.table ended.pass }
+    requires counters { (bytes : List ℕ) × HasReadAll bytes ended.report
+        × All (IsCounter bytes kinds) ended.counters.items }
+    ensures harvest { (bytes : List ℕ) → HasReadAll bytes ended.report
+        → All (IsCounter bytes kinds) ended.counters.items
         → IfOk result (λ found. IfSome found (λ counted. (seen : List Happened)
-        × IsHarvest begun.table.slots seen kinds bytes counted)) }
+        × IsHarvest ended.table.slots seen kinds bytes counted)) }
     ensures fault { IfErr result (λ found. found ≡ fault.Memory) }
 {
-    let Begun { table, pass, words } = begun;
-    let mut pass = pass;
-    let Some(shares) = shares_of(rt, alloc, &table, &mut pass, words)? else {
+    let Ended {
+        table,
+        mut pass,
+        counters,
+        report,
+    } = ended;
+    let Some(shares) = shares_of(rt, alloc, &table, &mut pass, counters)? else {
         return Ok(None);
     };
     match count_of(rt, alloc, kinds, &table, &mut pass, report, &shares) {
@@ -180,9 +183,11 @@ fn dictionary_of<R: Threads + Sync>(
 /// each takes one game after another that nobody has taken, counts it by words, and gives its
 /// patterns numbers when no game is left. None where a number was wanting.
 ///
-/// The table is made while games are counted. Where a thread cannot be started, another one does
-/// its work. It takes memory for the table, for the records of all games, for each worker for the
-/// patterns of its games and the board, and for the dictionary.
+/// Games are read in parts: the first while the workers make room for patterns, each further one
+/// while the one before is counted. The table is made while the first part is counted. Where a
+/// thread cannot be started, another one does its work. It takes memory for the table, for the
+/// records of two parts, for each worker for the patterns of its games and the board, and for the
+/// dictionary.
 ///
 /// # Errors
 ///
@@ -206,8 +211,8 @@ pub(crate) fn count_by_words<R: Threads + Sync, G: Gate>(
     let Some(capacity) = Capacity::new(exponent) else {
         return Err(HarvestFault::BadSettings);
     };
+    let games = Games::new(bytes)?;
     let kinds = settings.kinds();
-    let (jobs, report) = read_jobs(alloc, bytes)?;
     let crowd = Crowd {
         alloc,
         capacity,
@@ -215,13 +220,9 @@ pub(crate) fn count_by_words<R: Threads + Sync, G: Gate>(
         kinds,
         workers: settings.workers().max(LEAST_WORKERS),
         bytes,
-        jobs: &jobs,
-        next: &AtomicU64::new(0),
     };
-    let Some(begun) = begin(rt, &crowd)? else {
+    let Some(ended) = count_all(rt, &crowd, games)? else {
         return Ok(None);
     };
-    // The records are not needed any more, and what comes takes memory.
-    drop(jobs);
-    dictionary_of(rt, alloc, kinds, begun, report)
+    dictionary_of(rt, alloc, kinds, ended)
 }

@@ -117,15 +117,16 @@ fn count_likely<R: Threads + Sync, G: Gate>(
 /// One worker alone needs no table that threads share: this thread counts then, in a map, while
 /// another one walks games for it; threads sort what it has counted, and the gate is not asked.
 /// Several workers, three at least and numbered from 0, each take one game after another that
-/// nobody has taken, and count it in a map of their own; the gate is told of each game. When none
-/// is left they give their patterns numbers in one table, which for a small input has fewer slots,
-/// and so takes less time and memory. A worker whose thread cannot be started works in another
-/// one's.
+/// nobody has taken, and count it in a map of their own; the gate is told of each game. The games
+/// are read in parts, each while the one before is counted. When none is left the workers give
+/// their patterns numbers in one table, which for a small input has fewer slots, and so takes less
+/// time and memory. A worker whose thread cannot be started works in another one's.
 ///
 /// Where the one map has more than 2^k patterns, or a number was wanting in the table of several,
 /// all is counted once more by `harvest_on`, game by game over a table of 2^k slots, and the gate
-/// is told of each game again. It takes memory for the table, for the records of all games, for
-/// each worker for the patterns of its games, for the dictionary, and then what `harvest_on` takes.
+/// is told of each game again. It takes memory for the table, for the records of two parts of the
+/// games, for each worker for the patterns of its games, for the dictionary, and then what
+/// `harvest_on` takes.
 ///
 /// # Errors
 ///

@@ -1,13 +1,11 @@
--- What workers have counted of an input by words, and the table that was made meanwhile.
-use Rattle.std.specs.Prelude.{◌≡◌, ℕ, ◌<◌, List, All}
+-- What workers have counted of an input by words.
+use Rattle.std.specs.Prelude.{◌≡◌, ℕ, ◌<◌, ◌≤◌, List, All}
 use Rattle.sgf_core.specs.Limit.{most_bytes}
 use Rattle.shape_core.specs.declared.words.Kinds.{Kinds}
-use Rattle.slot_table.specs.Passes.{IsPassOf}
 use Rattle.job_core.specs.Rising.{Rising, past}
 use Rattle.share_core.specs.Shares.{Held, Added, IsShareOf}
 use Rattle.harvest_core.specs.Working.{IsGame}
-use Rattle.harvest_core.specs.declared.counting.Done.{Done}
-use Rattle.harvest_core.specs.declared.counting.Done.TheVariants as done
+use Rattle.harvest_core.specs.declared.counting.Counter.{Counter}
 
 -- what was counted by words is of games of the input, each once, since their numbers rise
 pub record IsCountedByWords (bytes : List ℕ) (kinds : Kinds) (words : Held) : Type 0 where
@@ -18,7 +16,8 @@ pub record IsCountedByWords (bytes : List ℕ) (kinds : Kinds) (words : Held) : 
   pub rises : Rising 0 words.games (past words.games)
   pub small : All (λ game. game < most_bytes) words.games
 
--- a worker has counted games of the input, or a table of this number of slots was made
-abbrev pub IsDone : List ℕ → Kinds → ℕ → Done → Type 0
-IsDone bytes kinds slots (done.Words words) = IsCountedByWords bytes kinds words
-IsDone bytes kinds slots (done.Table table pass) = IsPassOf table pass × (table.slots ≡ slots)
+-- a worker has counted games of the input, and each is below this number
+pub record IsCounter (bytes : List ℕ) (kinds : Kinds) (counter : Counter) : Type 0 where
+  pub counted : IsCountedByWords bytes kinds counter.words
+  pub above : past counter.words.games ≤ counter.past
+  pub earlier : All (λ game. game < counter.past) counter.words.games

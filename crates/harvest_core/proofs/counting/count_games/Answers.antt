@@ -1,23 +1,10 @@
-use Rattle.std.proofs.Common.{◌≡◌, ◌≤◌, ◌+◌, sym, subst, ap, arith, length}
-use Rattle.std.specs.Prelude.{slice_index_or}
+use Rattle.std.proofs.Common.{◌≡◌, ◌≤◌, ◌+◌, sym, subst, ap, arith}
 use Rattle.go_record.specs.Actions.{Actions}
 use Rattle.game_core.specs.Games.{IsGameOf, WrittenGame}
-use Rattle.job_core.specs.Rising.{past}
 use Rattle.share_core.specs.Adding.{IsAdded}
 use Rattle.harvest_core.specs.Working.{IsGame}
-use Rattle.harvest_core.specs.Inner.Counting.{IsCountedByWords}
-use Rattle.harvest_core.proofs.ByWords.{counted_none, counted_more, past_added, all_added}
+use Rattle.harvest_core.proofs.ByWords.{counted_more, past_added, all_added}
 use Rattle.harvest_core.proofs.counting.count_games.Goals as goal
-
-pub loop-init : goal.loop-init
-loop-init g c =
-    let crowd = c.args.crowd.now in
-    let none = ap (λ h. length h.games) c.begin-words.ensures.words in
-    record {
-      counted = subst (IsCountedByWords crowd.bytes.now crowd.kinds) (sym c.begin-words.ensures.words) (counted_none crowd.bytes.now c.args.worker crowd.kinds);
-      above = (let e = ap (λ h. past h.games) c.begin-words.ensures.words in omega (arith, e));
-      earlier = λ k d below. absurd (omega (arith, below, none));
-    }
 
 pub loop-preserved : goal.loop-preserved
 loop-preserved g c =
@@ -26,8 +13,8 @@ loop-preserved g c =
     let new = c.add.new.self in
     let h = c.loop.invariant in
     let at = c.fetch_add-at.result in
-    let job : WrittenGame = slice_index_or crowd.jobs.now at c.index-crowd-at.result in
-    let here : job.bytes ≡ crowd.bytes.now = c.requires at c.index-crowd-at.result c.if-at-crowd.false in
+    let job : WrittenGame = c.index-jobs-at.result in
+    let here : job.bytes ≡ crowd.bytes.now = subst (λ (j : WrittenGame). j.bytes ≡ crowd.bytes.now) (sym c.index-jobs-at.is) (c.requires.jobs at job c.if-at-jobs.false) in
     let is : IsGame crowd.bytes.now job.game job.actions = record {
       at = job.at;
       end = job.end;

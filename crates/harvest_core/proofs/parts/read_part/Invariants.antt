@@ -1,11 +1,11 @@
 use Rattle.std.proofs.Common.{◌≡◌, ◌^◌, ◌-◌, All}
 use Rattle.game_core.specs.Games.{WrittenGame}
-use Rattle.harvest_core.proofs.jobs_read.read_jobs.Given as goal
+use Rattle.harvest_core.proofs.parts.read_part.Given as goal
 
 abbrev pub invariant-loop-jobs : goal.invariant-loop-jobs
 invariant-loop-jobs l = record {
-  bytes : l.games.bytes ≡ l.bytes;
-  jobs : All (λ (job : WrittenGame). job.bytes ≡ l.bytes) l.jobs.items;
+  bytes : l.games.bytes ≡ l.fn.games.bytes;
+  jobs : All (λ (job : WrittenGame). job.bytes ≡ l.fn.games.bytes) l.jobs.items;
 }
 
 -- each turn reads a game, and an input has at most 2 ^ 28 of them
