@@ -1,7 +1,7 @@
 //! What one worker has counted by words, before its patterns have numbers.
 ghost use Rattle.std.specs.Prelude.{◌≡◌};
 
-use crate::starts::turn_of;
+use crate::starts::shift_of;
 use go_record::Record;
 use harvest_faults::HarvestFault;
 use shape_core::Kinds;
@@ -59,7 +59,7 @@ impl WordShare {
         WordShare {
             alloc,
             worker,
-            counts: GameCounts::begin(alloc, kinds, turn_of(worker), patterns),
+            counts: GameCounts::begin(alloc, kinds, shift_of(worker), patterns),
             games: Vec::new(alloc),
             moves: 0,
         }

@@ -62,7 +62,7 @@ pub counted_taken : (row entry : Entry) → 0 < entry.there + entry.played → i
 counted_taken row entry some = Prim.grind (arith, nat_tests)
 
 -- so a pattern was counted again
-pub put_counts : {turn : ℕ} (rows : List Entry) (place : ℕ) (entry row more : Entry) → IsFound turn rows entry.shape place → 0 < entry.there + entry.played → row ≡ row_at rows place →
+pub put_counts : {shift : ℕ} (rows : List Entry) (place : ℕ) (entry row more : Entry) → IsFound shift rows entry.shape place → 0 < entry.there + entry.played → row ≡ row_at rows place →
     more ≡ counted_row row entry → AreCounts (counted_with entry (counts_of rows)) (counts_of (slice_set rows place more))
 put_counts rows place entry row more found some read is =
     rw (is, read)
@@ -72,7 +72,7 @@ put_counts rows place entry row more found some read is =
     (λ key. put_count rows place key new found.within (counted_taken (row_at rows place) entry some) found.same found.only))
 
 -- the sum of its counts passes what fits
-pub put_fault : {turn : ℕ} (rows : List Entry) (place : ℕ) (entry : Entry) → IsFound turn rows entry.shape place →
+pub put_fault : {shift : ℕ} (rows : List Entry) (place : ℕ) (entry : Entry) → IsFound shift rows entry.shape place →
     2 ^ 64 ≤ (row_at rows place).there + (row_at rows place).played + entry.there + entry.played → IsCountingFault 0 (counted_with entry (counts_of rows)) fault.Overflow
 put_fault rows place entry found large =
     let shape = entry.shape in
@@ -109,7 +109,7 @@ none_before (first ∷ rows) (suc i) within only =
     Prim.grind (arith, nat_tests, counts-cons first (take i rows) (row_at rows i).shape, only 0)
 
 -- with one row more its pattern was counted as often as the row says
-pub take_counts : {turn : ℕ} (rows : List Entry) (i : ℕ) → AreRows turn rows → i < length rows →
+pub take_counts : {shift : ℕ} (rows : List Entry) (i : ℕ) → AreRows shift rows → i < length rows →
     AreCounts (counted_with (row_at rows i) (counts_of (take i rows))) (counts_of (take (suc i) rows))
 take_counts rows i are within =
     let row = row_at rows i in
@@ -147,7 +147,7 @@ distinct (first ∷ rows) once =
       | false ↦ λ free. later
     ] refl
 
-pub once_among : {turn : ℕ} (rows : List Entry) → AreRows turn rows → IsDistinct nat_eq (keys_of (pairs_of (taken_of rows)))
+pub once_among : {shift : ℕ} (rows : List Entry) → AreRows shift rows → IsDistinct nat_eq (keys_of (pairs_of (taken_of rows)))
 once_among rows are = distinct rows are.once
 
 -- each row that is taken counts something

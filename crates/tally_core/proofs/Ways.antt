@@ -19,8 +19,8 @@ not_false true h = refl
 not_false false h = absurd cc
 
 -- one step more on a way
-pub way-next : (turn places shape step : ℕ) → way_of turn places shape (step + 1) ≡ next_place places (way_of turn places shape step)
-way-next turn places shape step = ap (way_of turn places shape) (add-one step)
+pub way-next : (shift places shape step : ℕ) → way_of shift places shape (step + 1) ≡ next_place places (way_of shift places shape step)
+way-next shift places shape step = ap (way_of shift places shape) (add-one step)
 
 pub other_at : (rows : List Entry) (shape place : ℕ) (row : Entry) (equal free : Bool) → row ≡ row_at rows place → equal ≡ (row.shape == shape) → equal ≡ false →
     free ≡ not (is_taken row) → free ≡ false → IsOther rows shape place
@@ -29,15 +29,15 @@ other_at rows shape place row equal free is test differs tested taken = record {
   other = λ same. let here = ap (λ (r : Entry). r.shape) is ∙ same in Prim.grind (arith, nat_tests);
 }
 
-pub passed_more : (turn : ℕ) (rows : List Entry) (shape steps : ℕ) → ((step : ℕ) → step < steps → IsOther rows shape (way_of turn (length rows) shape step)) → IsOther rows shape (way_of turn (length rows) shape steps) →
-    (step : ℕ) → step < steps + 1 → IsOther rows shape (way_of turn (length rows) shape step)
-passed_more turn rows shape steps passed here step low = ⊎_elim
-    (λ (same : step ≡ steps). subst (λ s. IsOther rows shape (way_of turn (length rows) shape s)) (sym same) here)
+pub passed_more : (shift : ℕ) (rows : List Entry) (shape steps : ℕ) → ((step : ℕ) → step < steps → IsOther rows shape (way_of shift (length rows) shape step)) → IsOther rows shape (way_of shift (length rows) shape steps) →
+    (step : ℕ) → step < steps + 1 → IsOther rows shape (way_of shift (length rows) shape step)
+passed_more shift rows shape steps passed here step low = ⊎_elim
+    (λ (same : step ≡ steps). subst (λ s. IsOther rows shape (way_of shift (length rows) shape s)) (sym same) here)
     (λ (apart : step ≡ steps → ⊥). passed step (omega (arith, low, apart)))
     (cases_eq step steps)
 
 -- ---- a row is put where its pattern's way leads to
-module _ {turn : ℕ} (rows : List Entry) (place : ℕ) (row : Entry) (are : AreRows turn rows) (found : IsFound turn rows row.shape place) (some : is_taken row ≡ true) where
+module _ {shift : ℕ} (rows : List Entry) (place : ℕ) (row : Entry) (are : AreRows shift rows) (found : IsFound shift rows row.shape place) (some : is_taken row ≡ true) where
   after : List Entry
   after = slice_set rows place row
 
@@ -56,25 +56,25 @@ module _ {turn : ℕ} (rows : List Entry) (place : ℕ) (row : Entry) (are : Are
   taken_still : (at : ℕ) → is_taken (row_at rows at) ≡ true → is_taken (row_at after at) ≡ true
   taken_still at taken = Prim.grind (arith, here at, elsewhere at)
 
-  reached_still : (shape at : ℕ) → IsReached turn rows shape at → IsReached turn after shape at
+  reached_still : (shape at : ℕ) → IsReached shift rows shape at → IsReached shift after shape at
   reached_still shape at way = record {
     step = way.step;
-    place_is = way.place_is ∙ ap (λ n. way_of turn n shape way.step) (sym long);
-    taken = λ before low. ap (λ n. is_taken (row_at after (way_of turn n shape before))) long ∙ taken_still (way_of turn (length rows) shape before) (way.taken before low);
+    place_is = way.place_is ∙ ap (λ n. way_of shift n shape way.step) (sym long);
+    taken = λ before low. ap (λ n. is_taken (row_at after (way_of shift n shape before))) long ∙ taken_still (way_of shift (length rows) shape before) (way.taken before low);
   }
 
-  reached_after : (at : ℕ) → is_taken (row_at after at) ≡ true → IsReached turn after (row_at after at).shape at
+  reached_after : (at : ℕ) → is_taken (row_at after at) ≡ true → IsReached shift after (row_at after at).shape at
   reached_after at taken = ⊎_elim
-      (λ (same : at ≡ place). subst (λ (r : Entry). IsReached turn after r.shape at) (sym (here at same)) (subst (IsReached turn after row.shape) (sym same) (reached_still row.shape place found.reached)))
+      (λ (same : at ≡ place). subst (λ (r : Entry). IsReached shift after r.shape at) (sym (here at same)) (subst (IsReached shift after row.shape) (sym same) (reached_still row.shape place found.reached)))
       (λ (apart : at ≡ place → ⊥).
-      subst (λ (r : Entry). IsReached turn after r.shape at) (sym (elsewhere at apart))
+      subst (λ (r : Entry). IsReached shift after r.shape at) (sym (elsewhere at apart))
       (reached_still (row_at rows at).shape at (are.reached at (sym (ap is_taken (elsewhere at apart)) ∙ taken))))
       (cases_eq at place)
 
   once_after : (one other : ℕ) → is_taken (row_at after one) ≡ true → is_taken (row_at after other) ≡ true → (row_at after other).shape ≡ (row_at after one).shape → other ≡ one
   once_after one other taken more is = Prim.grind (arith, here one, here other, elsewhere one, elsewhere other, found.only one, found.only other, are.once one other)
 
-  pub rows_put : IsShape row → AreRows turn (slice_set rows place row)
+  pub rows_put : IsShape row → AreRows shift (slice_set rows place row)
   unfolding after
   rows_put shape = record { reached = reached_after; once = once_after; shapes = All-set IsShape rows place row shape are.shapes }
 
@@ -88,8 +88,8 @@ pub none_taken : (rows : List Entry) → AllByRecursion (λ row. is_taken row �
 none_taken [] free = refl
 none_taken (first ∷ rows) free = ap (λ b. cond b (first ∷ taken_of rows) (taken_of rows)) free.0 ∙ none_taken rows free.1
 
-pub rows_free : (turn : ℕ) (rows : List Entry) → AllByRecursion (λ row. is_taken row ≡ false) rows → All IsShape rows → AreRows turn rows
-rows_free turn rows free shapes = record {
+pub rows_free : (shift : ℕ) (rows : List Entry) → AllByRecursion (λ row. is_taken row ≡ false) rows → All IsShape rows → AreRows shift rows
+rows_free shift rows free shapes = record {
   reached = λ place taken. absurd (let none = free_at rows place free in cc);
   once = λ one other taken more is. absurd (let none = free_at rows one free in cc);
   shapes = shapes;

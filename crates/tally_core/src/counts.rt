@@ -21,7 +21,7 @@ const BLOCK: usize = 128;
 /// they are fewer, and how many these are: at the first place, or where that is another pattern's,
 /// at the one after it. No look waits for the one before it. A row may begin in one line of memory
 /// and end in the next, so both its ends are looked at.
-fn likely_places(turn: u64, rows: &[Entry], meetings: &[Meeting]) -> ([usize; BLOCK], usize)
+fn likely_places(shift: u64, rows: &[Entry], meetings: &[Meeting]) -> ([usize; BLOCK], usize)
     requires { 0 < length rows.now }
     ensures block { result.1 ≤ BLOCK }
     ensures within { result.1 ≤ length meetings.now }
@@ -30,7 +30,7 @@ fn likely_places(turn: u64, rows: &[Entry], meetings: &[Meeting]) -> ([usize; BL
     let looked = meetings.len().min(BLOCK);
     for i in 0..looked {
         let shape = meetings[i].shape;
-        let place = home(turn, shape, rows.len());
+        let place = home(shift, shape, rows.len());
         let row = rows[place];
         let other = (row.shape != shape) & !is_free(&row);
         places[i] = place + other as usize;
@@ -42,13 +42,13 @@ fn likely_places(turn: u64, rows: &[Entry], meetings: &[Meeting]) -> ([usize; BL
 /// places of their patterns tell. The lines of memory of all these places come together, and
 /// `find` finds them in a cache.
 #[inline(never)]
-fn count_new(turn: u64, rows: &[Entry], meetings: &[Meeting]) -> usize
+fn count_new(shift: u64, rows: &[Entry], meetings: &[Meeting]) -> usize
     ensures { result ≤ BLOCK }
 {
     if rows.is_empty() {
         return BLOCK;
     }
-    let (places, looked) = likely_places(turn, rows, meetings);
+    let (places, looked) = likely_places(shift, rows, meetings);
     let mut count = 0;
     for i in 0..looked {
         let row = rows[places[i].min(rows.len() - 1)];
@@ -77,8 +77,8 @@ fn counted(row: &Entry, entry: &Entry) -> Option<Entry>
 #[derive(Drop)]
 pub struct Counts {
     alloc: Global,
-    /// By how much the order of the places is turned, of 2^64.
-    turn: u64,
+    /// By how much the order of the places is shifted, of 2^64.
+    shift: u64,
     /// Those that count something, and free ones at all other places.
     rows: Vec<Entry>,
     /// How many places are taken.
@@ -97,7 +97,7 @@ impl Model for Counts {
 
     ghost view = { λ c. pairs_of (taken_of c.rows.items) };
 
-    ghost invariant = { λ c. AreRows c.turn c.rows.items
+    ghost invariant = { λ c. AreRows c.shift c.rows.items
         × (c.taken ≡ length (taken_of c.rows.items)) };
 }
 
@@ -117,7 +117,7 @@ impl Counts {
     {
         Counts {
             alloc,
-            turn: 0,
+            shift: 0,
             rows: Vec::new(alloc),
             taken: 0,
             expected: 0,
@@ -125,12 +125,12 @@ impl Counts {
     }
 
     /// Nothing was counted yet, and there are this many places. It takes memory for them.
-    fn with_places(alloc: Global, turn: u64, places: usize) -> Result<Counts, AllocError>
+    fn with_places(alloc: Global, shift: u64, places: usize) -> Result<Counts, AllocError>
         ensures { IfOk result (λ counts. counts ≡ []) }
     {
         Ok(Counts {
             alloc,
-            turn,
+            shift,
             rows: free_rows(alloc, places)?,
             taken: 0,
             expected: 0,
@@ -138,11 +138,11 @@ impl Counts {
     }
 
     /// The same as `new`, with places for about this many rows, where there is memory for them.
-    /// Their order is turned by this much of 2^64.
-    pub fn with_room(alloc: Global, turn: u64, rows: usize) -> Counts
+    /// Their order is shifted by this much of 2^64.
+    pub fn with_room(alloc: Global, shift: u64, rows: usize) -> Counts
         ensures { result ≡ [] }
     {
-        match Counts::with_places(alloc, turn, rows.saturating_mul(4) / 3) {
+        match Counts::with_places(alloc, shift, rows.saturating_mul(4) / 3) {
             Ok(counts) => counts,
             Err(AllocError) => Counts::new(alloc),
         }
@@ -178,7 +178,7 @@ impl Counts {
         ensures { self.new ≡ self.old }
     {
         if at % BLOCK == 0 {
-            self.expected = count_new(self.turn, self.rows.as_slice(), &meetings[at..]);
+            self.expected = count_new(self.shift, self.rows.as_slice(), &meetings[at..]);
         }
     }
 
@@ -195,7 +195,7 @@ impl Counts {
         if is_free(entry) {
             return Ok(());
         }
-        let Some(place) = find(self.turn, self.rows.as_slice(), entry.shape) else {
+        let Some(place) = find(self.shift, self.rows.as_slice(), entry.shape) else {
             return Err(TallyFault::Memory);
         };
         let row = self.rows[place];
@@ -213,7 +213,7 @@ impl Counts {
     /// too few. It takes no memory.
     fn enter_all(&mut self, rows: &[Entry]) -> Result<(), AllocError>
         requires none { self.old ≡ [] }
-        requires rows { (turn : ℕ) × AreRows turn rows.now }
+        requires rows { (shift : ℕ) × AreRows shift rows.now }
         ensures { OnOk result
             (AreCounts (counts_of rows.now) (count_in self.new)) }
     {
@@ -231,7 +231,7 @@ impl Counts {
         ensures { AreCounts (count_in self.old) (count_in self.new) }
     {
         let places = self.rows.len().saturating_mul(2).max(FIRST_PLACES);
-        let mut larger = Counts::with_places(self.alloc, self.turn, places)?;
+        let mut larger = Counts::with_places(self.alloc, self.shift, places)?;
         larger.enter_all(self.rows.as_slice())?;
         *self = larger;
         Ok(())

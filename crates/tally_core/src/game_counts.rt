@@ -35,14 +35,14 @@ impl GameCounts {
     ghost use Rattle.tally_core.specs.GameCounts.{AddsGame, IsAddingFault, AreApart, IsCountedEntry};
 
     /// No game was counted yet. There is room for about this many patterns, where there is memory
-    /// for it; else it is taken as patterns come. The order of the patterns is turned by this much
+    /// for it; else it is taken as patterns come. The order of the patterns is shifted by this much
     /// of 2^64, so that two that count may have theirs begin at unlike ones.
-    pub fn begin(alloc: Global, kinds: Kinds, turn: u64, patterns: usize) -> GameCounts
+    pub fn begin(alloc: Global, kinds: Kinds, shift: u64, patterns: usize) -> GameCounts
         ensures { result ≡ record { kinds = kinds; entries = [] } }
     {
         GameCounts {
             walk: Walk::begin(alloc, kinds),
-            counts: Counts::with_room(alloc, turn, patterns),
+            counts: Counts::with_room(alloc, shift, patterns),
         }
     }
 
@@ -84,8 +84,8 @@ impl GameCounts {
         moves
     }
 
-    /// The entries, in the order of a multiple of their words, turned as was said at the beginning.
-    /// It takes no memory.
+    /// The entries, in the order of a multiple of their words, shifted as was said at the
+    /// beginning. It takes no memory.
     pub fn into_entries(self) -> Vec<Entry>
         ensures entries { result.items ≡ self.entries }
         ensures apart { AreApart result.items }

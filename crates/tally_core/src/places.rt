@@ -12,23 +12,23 @@ use std::alloc::{AllocError, Global};
 /// The multiplier of words: 2^64 over the golden ratio, made odd. No claim rests on it.
 const MULTIPLIER: u64 = 0x9E37_79B9_7F4A_7C15;
 
-/// What the places of a pattern are taken from, where the order of all patterns is turned by this.
+/// What the places of a pattern are taken from, where the order of all patterns is shifted by this.
 #[inline(always)]
-fn mixed(turn: u64, shape: Shape) -> u64
-    ensures { result ≡ mixed_of turn shape }
+fn mixed(shift: u64, shape: Shape) -> u64
+    ensures { result ≡ mixed_of shift shape }
 {
     let multiple = shape.word().bits().wrapping_mul(MULTIPLIER);
-    multiple.wrapping_add(turn)
+    multiple.wrapping_add(shift)
 }
 
 /// The first place of a pattern among this number of places.
 #[inline(always)]
-pub(crate) fn home(turn: u64, shape: Shape, places: usize) -> usize
+pub(crate) fn home(shift: u64, shape: Shape, places: usize) -> usize
     requires { 0 < places }
-    ensures value { result ≡ home_of turn places shape }
+    ensures value { result ≡ home_of shift places shape }
     ensures within { result < places }
 {
-    ((u128::from(mixed(turn, shape)) * places as u128) >> 64) as usize
+    ((u128::from(mixed(shift, shape)) * places as u128) >> 64) as usize
 }
 
 /// The place after another one; the first comes after the last.
@@ -52,15 +52,15 @@ pub(crate) fn is_free(row: &Entry) -> bool
 /// Where a pattern's way leads to, from its first place on: to its row, or to the first free place.
 /// None where no place is free.
 #[inline(always)]
-pub(crate) fn find(turn: u64, rows: &[Entry], shape: Shape) -> Option<usize>
-    requires { AreRows turn rows.now }
-    ensures { IfSome result (IsFound turn rows.now shape) }
+pub(crate) fn find(shift: u64, rows: &[Entry], shape: Shape) -> Option<usize>
+    requires { AreRows shift rows.now }
+    ensures { IfSome result (IsFound shift rows.now shape) }
 {
     let places = rows.len();
     if places == 0 {
         return None;
     }
-    let mut place = home(turn, shape, places);
+    let mut place = home(shift, shape, places);
     for _ in 0..places {
         let row = rows[place];
         if row.shape == shape || is_free(&row) {
@@ -92,7 +92,7 @@ fn free_row() -> Entry
 
 /// This many places, all free. It takes memory for them.
 pub(crate) fn free_rows(alloc: Global, places: usize) -> Result<Vec<Entry>, AllocError>
-    ensures rows { IfOk result (λ rows. (turn : ℕ) → AreRows turn rows.items) }
+    ensures rows { IfOk result (λ rows. (shift : ℕ) → AreRows shift rows.items) }
     ensures free { IfOk result (λ rows. taken_of rows.items ≡ []) }
     ensures length { IfOk result (λ rows. length rows.items ≡ places) }
 {

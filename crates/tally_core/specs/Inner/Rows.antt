@@ -4,13 +4,13 @@ use Rattle.std.specs.Prelude.{◌≡◌, ℕ, zero, suc, ◌+◌, ◌*◌, ◌/�
 use Rattle.shape_dict.specs.declared.entries.Entry.{Entry}
 use Rattle.tally_core.specs.Entries.{IsShape}
 
--- what the places of a pattern are taken from, where all patterns' places are turned by this
+-- what the places of a pattern are taken from, where all patterns' places are shifted by this
 abbrev pub mixed_of : ℕ → ℕ → ℕ
-mixed_of turn shape = ((shape * 0x9E37_79B9_7F4A_7C15) % 2 ^ 64 + turn) % 2 ^ 64
+mixed_of shift shape = ((shape * 0x9E37_79B9_7F4A_7C15) % 2 ^ 64 + shift) % 2 ^ 64
 
 -- its first place among this number of places
 abbrev pub home_of : ℕ → ℕ → ℕ → ℕ
-home_of turn places shape = (mixed_of turn shape * places) / 2 ^ 64
+home_of shift places shape = (mixed_of shift shape * places) / 2 ^ 64
 
 -- the place after another one; the first comes after the last
 abbrev pub next_place : ℕ → ℕ → ℕ
@@ -18,8 +18,8 @@ next_place places place = if place + 1 == places then 0 else place + 1
 
 -- a pattern's places in their order, from the first on
 abbrev pub way_of : ℕ → ℕ → ℕ → ℕ → ℕ
-way_of turn places shape zero = home_of turn places shape
-way_of turn places shape (suc step) = next_place places (way_of turn places shape step)
+way_of shift places shape zero = home_of shift places shape
+way_of shift places shape (suc step) = next_place places (way_of shift places shape step)
 
 -- whether a row counts something, and so its place is taken
 abbrev pub is_taken : Entry → Bool
@@ -43,10 +43,10 @@ abbrev pub row_at : List Entry → ℕ → Entry
 row_at rows place = slice_index_or rows place (record { shape = 0; there = 0; played = 0; first = None })
 
 -- a place is on a pattern's way, and all before it are taken
-pub record IsReached (turn : ℕ) (rows : List Entry) (shape place : ℕ) : Type 0 where
+pub record IsReached (shift : ℕ) (rows : List Entry) (shape place : ℕ) : Type 0 where
   pub step : ℕ
-  pub place_is : place ≡ way_of turn (length rows) shape step
-  pub taken : (before : ℕ) → before < step → is_taken (row_at rows (way_of turn (length rows) shape before)) ≡ true
+  pub place_is : place ≡ way_of shift (length rows) shape step
+  pub taken : (before : ℕ) → before < step → is_taken (row_at rows (way_of shift (length rows) shape before)) ≡ true
 
 -- a place is taken by another pattern
 pub record IsOther (rows : List Entry) (shape place : ℕ) : Type 0 where
@@ -54,14 +54,14 @@ pub record IsOther (rows : List Entry) (shape place : ℕ) : Type 0 where
   pub other : (row_at rows place).shape ≡ shape → ⊥
 
 -- each pattern has one row at most, which its way leads to, and is the least of its images
-pub record AreRows (turn : ℕ) (rows : List Entry) : Type 0 where
-  pub reached : (place : ℕ) → is_taken (row_at rows place) ≡ true → IsReached turn rows (row_at rows place).shape place
+pub record AreRows (shift : ℕ) (rows : List Entry) : Type 0 where
+  pub reached : (place : ℕ) → is_taken (row_at rows place) ≡ true → IsReached shift rows (row_at rows place).shape place
   pub once : (one other : ℕ) → is_taken (row_at rows one) ≡ true → is_taken (row_at rows other) ≡ true → (row_at rows other).shape ≡ (row_at rows one).shape → other ≡ one
   pub shapes : All IsShape rows
 
 -- what a pattern's way leads to: the place of its row, or the first free place, and then it has no row
-pub record IsFound (turn : ℕ) (rows : List Entry) (shape place : ℕ) : Type 0 where
+pub record IsFound (shift : ℕ) (rows : List Entry) (shape place : ℕ) : Type 0 where
   pub within : place < length rows
-  pub reached : IsReached turn rows shape place
+  pub reached : IsReached shift rows shape place
   pub same : is_taken (row_at rows place) ≡ true → (row_at rows place).shape ≡ shape
   pub only : (other : ℕ) → is_taken (row_at rows other) ≡ true → (row_at rows other).shape ≡ shape → other ≡ place

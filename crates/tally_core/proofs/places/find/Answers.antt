@@ -9,7 +9,7 @@ loop-preserved c =
     let row = c.index-rows-place.result in
     record {
       places = refl;
-      place = c.next-place.ensures.value ∙ ap (next_place (length rows)) c.loop.invariant.place ∙ sym (way-next c.args.turn (length rows) c.args.shape c.loop.counter);
+      place = c.next-place.ensures.value ∙ ap (next_place (length rows)) c.loop.invariant.place ∙ sym (way-next c.args.shift (length rows) c.args.shape c.loop.counter);
       within = c.next-place.ensures.within;
-      passed = passed_more c.args.turn rows c.args.shape c.loop.counter c.loop.invariant.passed (subst (IsOther rows c.args.shape) c.loop.invariant.place (other_at rows c.args.shape c.loop.place row c.eq.result c.is_free.result (read_at rows c.loop.place row c.index-rows-place.is c.loop.invariant.within) c.eq.ensures c.if-eq.false c.is_free.ensures c.if-is_free.false));
+      passed = passed_more c.args.shift rows c.args.shape c.loop.counter c.loop.invariant.passed (subst (IsOther rows c.args.shape) c.loop.invariant.place (other_at rows c.args.shape c.loop.place row c.eq.result c.is_free.result (read_at rows c.loop.place row c.index-rows-place.is c.loop.invariant.within) c.eq.ensures c.if-eq.false c.is_free.ensures c.if-is_free.false));
     }

@@ -5,7 +5,7 @@ use Rattle.tally_core.proofs.places.find.Given as goal
 abbrev pub invariant-loop : goal.invariant-loop
 invariant-loop l = record {
   places : l.places ≡ length l.fn.rows;
-  place : l.place ≡ way_of l.fn.turn (length l.fn.rows) l.fn.shape l.counter;
+  place : l.place ≡ way_of l.fn.shift (length l.fn.rows) l.fn.shape l.counter;
   within : l.place < length l.fn.rows;
-  passed : (step : ℕ) → step < l.counter → IsOther l.fn.rows l.fn.shape (way_of l.fn.turn (length l.fn.rows) l.fn.shape step);
+  passed : (step : ℕ) → step < l.counter → IsOther l.fn.rows l.fn.shape (way_of l.fn.shift (length l.fn.rows) l.fn.shape step);
 }

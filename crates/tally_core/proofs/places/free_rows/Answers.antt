@@ -14,7 +14,7 @@ free_copies c = recursion_from_All (λ (row : Entry). is_taken row ≡ false) c.
     (let free = c.free_row.ensures.free in Prim.grind (arith, nat_tests)))
 
 pub returns-clause-rows : goal.returns-clause-rows
-returns-clause-rows c turn = rows_free turn c.resize.new.self.items (free_copies c)
+returns-clause-rows c shift = rows_free shift c.resize.new.self.items (free_copies c)
     (all_copies IsShape c.resize.new.self.items _ _ _ c.free_row.result c.new-rows.ensures.items (c.in_ok-resize.ensures.items) c.free_row.ensures.shape)
 
 pub returns-clause-free : goal.returns-clause-free
