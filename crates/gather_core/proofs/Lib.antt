@@ -5,9 +5,10 @@ mod Stood
 pub mod Gathered
 pub mod Numbered
 pub mod Ordered
-pub mod Rearranged
+mod ByNumber
 mod Totalled
 mod Summed
+mod Ranged
 mod Visits
 pub mod Confirmed
 mod SoughtRows

@@ -5,7 +5,7 @@ pub mod Covering
 pub mod Gathering
 pub mod Leasts
 pub mod Numbers
-pub mod Pieces
+pub mod Ranges
 pub mod Summed
 pub mod Totals
 pub mod Visiting

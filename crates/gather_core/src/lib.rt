@@ -13,9 +13,11 @@ mod visiting;
 // the dictionary of their rows
 mod adding_up;
 mod gathering;
+mod gathering_numbered;
 pub mod laws;
-mod pieces;
+mod ranges;
 mod totals;
 
 pub use confirming::confirm_full;
 pub use gathering::gather;
+pub use gathering_numbered::{Room, gather_numbered};

@@ -2,10 +2,10 @@
 ghost use Rattle.std.specs.Prelude.{◌≡◌, ◌^◌, ◌<◌, ◌≤◌, ℕ, None, Some, IfSome, IfNone, length};
 ghost use Rattle.std.specs.Prelude.{All, false, slice_index};
 ghost use Rattle.tally_core.specs.Entries.{IsShape};
+ghost use Rattle.share_core.specs.WordShares.{unnumbered};
 ghost use Rattle.gather_core.specs.Inner.Totals.{with_row, IsUnlike};
 
 use crate::numbers::{NumberSums, earlier, no_sums, unlike};
-use crate::pieces::pieces_of;
 use harvest_faults::HarvestFault;
 use shape_dict::{Entry, FirstGame};
 use share_core::{KeptRow, Share};
@@ -26,21 +26,21 @@ fn entry(row: KeptRow) -> Entry
     }
 }
 
-/// An entry with what a row of its pattern counts besides; None where the row is of another pattern
-/// or a sum passes 2^64 - 1.
-fn with(total: Entry, row: KeptRow) -> Option<Entry>
-    ensures some { IfSome result
-        (λ both. (both ≡ with_row (Some total) row) × (total.shape ≡ row.shape)) }
-    ensures none { IfNone result (IsUnlike total row) }
+/// An entry with what another one of its pattern counts besides; None where that is of another
+/// pattern or a sum passes 2^64 - 1.
+pub(crate) fn with(total: Entry, more: Entry) -> Option<Entry>
+    ensures some { IfSome result (λ both. (both ≡ with_row (Some total) (unnumbered more))
+        × (total.shape ≡ more.shape)) }
+    ensures none { IfNone result (IsUnlike total (unnumbered more)) }
 {
-    if total.shape != row.shape() {
+    if total.shape != more.shape {
         return None;
     }
     Some(Entry {
         shape: total.shape,
-        there: total.there.checked_add(row.there())?,
-        played: total.played.checked_add(row.played())?,
-        first: FirstGame::new(earlier(total.first.get(), row.first())),
+        there: total.there.checked_add(more.there)?,
+        played: total.played.checked_add(more.played)?,
+        first: FirstGame::new(earlier(total.first.get(), more.first.get())),
     })
 }
 
@@ -122,7 +122,7 @@ impl Totals {
             self.begin(row)?;
             return Ok(true);
         }
-        let Some(both) = with(self.entries[above - 1], row) else {
+        let Some(both) = with(self.entries[above - 1], entry(row)) else {
             return Ok(false);
         };
         self.entries[above - 1] = both;
@@ -152,9 +152,8 @@ impl Totals {
         ensures fault { IfErr result (λ found. found ≡ fault.Memory) }
     {
         let mut totals = Totals::new(alloc, slots, slots.min(rows_in(shares)))?;
-        let pieces = pieces_of(alloc, shares)?;
-        for piece in pieces.as_slice() {
-            if !totals.add_all(piece)? {
+        for share in shares {
+            if !totals.add_all(share.made_rows())? {
                 return Ok(None);
             }
         }

@@ -3,14 +3,15 @@ ghost use Rattle.std.specs.Prelude.{◌<◌, ◌≤◌};
 ghost use Rattle.slot_table.specs.Passes.{IsPassOf};
 ghost use Rattle.sgf_core.specs.Limit.{most_bytes};
 
-use gather_core::{confirm_full, gather};
+use gather_core::{Room, confirm_full, gather, gather_numbered};
 use go_record::Record;
 use harvest_faults::HarvestFault;
 use probe_core::ProbeOrder;
 use shape_core::{Kinds, Word};
 use shape_dict::Dictionary;
 use share_samples::{
-    ALONE, EMPTY, ONE_POINT, entry_of, first_share, record_of, share_of, table_of,
+    ALONE, EMPTY, ONE_POINT, TAKEN, TWO_POINTS, entry_of, first_share, record_of, share_of,
+    table_of, words_of,
 };
 use slot_table::{Pass, SlotTable};
 use std::alloc::Global;
@@ -102,5 +103,43 @@ fn a_mark_of_another_differs(rt: HostRuntime) -> Result<(), Fail> {
         of_table: Some(0),
     };
     assert!(rt; gathered == Some(differs));
+    Ok(())
+}
+
+/// Gathers what one worker has counted by words of two games, the games 0 and 1, as that of this
+/// many games.
+fn gather_words<R: Threads + Sync>(
+    rt: &R,
+    alloc: Global,
+    first: &Record,
+    second: &Record,
+    games: u64,
+) -> Result<Option<Dictionary>, HarvestFault>
+    requires { 2 ≤ games }
+{
+    let Some((table, mut pass)) = table_of(alloc, 2) else {
+        return Err(HarvestFault::Memory);
+    };
+    let words = words_of(alloc, first, second)?;
+    let share = words.number(&table, &mut pass)?;
+    let room = Room::new(alloc, table.capacity().slots())?;
+    let mut shares = Vec::new(alloc);
+    shares.push(share)?;
+    gather_numbered(rt, alloc, Kinds::Squares, games, room, shares)
+}
+
+#[test]
+fn numbered_shares_have_each_game(rt: HostRuntime) -> Result<(), Fail> {
+    let alloc = rt.alloc();
+    let wanted = [
+        entry_of(EMPTY, 2, 1, 0).ok_or("no entry")?,
+        entry_of(TAKEN, 1, 1, 0).ok_or("no entry")?,
+        entry_of(ALONE, 1, 1, 1).ok_or("no entry")?,
+    ];
+    let first = record_of(alloc, TWO_POINTS).ok_or("no record")?;
+    let second = record_of(alloc, ONE_POINT).ok_or("no record")?;
+    let dictionary = gather_words(&rt, alloc, &first, &second, 2)?.ok_or("nothing")?;
+    assert!(rt; is_of(&dictionary, 2, 3) && dictionary.entries() == wanted.as_slice());
+    assert!(rt; gather_words(&rt, alloc, &first, &second, 3)?.is_none());
     Ok(())
 }

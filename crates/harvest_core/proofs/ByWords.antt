@@ -2,15 +2,18 @@
 use Rattle.std.proofs.Common.{◌≡◌, ℕ, ◌<◌, ◌≤◌, ◌+◌, ◌==◌, cond, List, [], ◌∷◌, ◌++◌, ap, sym, subst, ◌∙◌, arith, ⊎_elim, All, Contains}
 use Rattle.std.specs.Prelude.{sum_by, map}
 use Rattle.std.specs.List.{AllByRecursion}
-use Rattle.std.proofs.lemmas.List.{get_or_default, get_or-map, length-map}
+use Rattle.std.proofs.lemmas.Grind.{flat_map-append}
+use Rattle.std.proofs.lemmas.List.{append-nil, get_or_default, get_or-map, length-map}
 use Rattle.std.proofs.lemmas.List.Sums.{sum_by-cons, get_or-le-sum_by}
 use Rattle.std.proofs.lemmas.Bool.Decides.{nat_tests}
 use Rattle.std.proofs.Math.Nat.{eq-zero-or-pos}
-use Rattle.std.proofs.lemmas.List.Elements.{All-push, All-weaker, recursion_from_All}
+use Rattle.std.proofs.lemmas.List.Elements.{All-push, All-weaker, Contains-append_cases, recursion_from_All}
 use Rattle.sgf_core.specs.Limit.{most_bytes}
 use Rattle.go_record.specs.Actions.{Actions}
 use Rattle.shape_core.specs.declared.words.Kinds.{Kinds}
 use Rattle.slot_table.specs.declared.entries.Happened.{Happened}
+use Rattle.slot_table.specs.Passes.{Known, Met}
+use Rattle.gather_core.specs.Checking.{all_rows, Stand}
 use Rattle.tally_core.specs.Occasions.{AreOccasions}
 use Rattle.tally_core.specs.Counts.{kinds_of, there_in}
 use Rattle.job_core.specs.Rising.{Rising, past}
@@ -105,6 +108,16 @@ numbered_worked n seen bytes kinds words share h is =
           (pattern_among bytes share.kinds row.shape h.added of.replays (recursion_from_All (λ (one : Added). IsGame bytes one.game one.actions) h.added h.games)
           (omega (arith, some, all.there row.shape)));
     }
+
+-- shares stand after what two passes have seen that become one
+pub stand_taken : {O : Type 0} (n : ℕ) (one other both : Known O) → Met n one other both → (shares : List Held) (share : Held) → Stand n one.seen (all_rows shares) →
+    Stand n other.seen share.rows → Stand n both.seen (all_rows (shares ++ share ∷ []))
+stand_taken n one other both met shares share stand more row among =
+    let rows = flat_map-append (λ (s : Held). s.rows) shares (share ∷ []) ∙ ap (λ (rs : List Row). all_rows shares ++ rs) (append-nil share.rows) in
+    ⊎_elim
+    (λ (old : Contains (all_rows shares) row). met.keeps_one.numbers row.shape row.number (stand row old))
+    (λ (new : Contains share.rows row). met.keeps_other.numbers row.shape row.number (more row new))
+    (Contains-append_cases (all_rows shares) share.rows row (subst (λ (rs : List Row). Contains rs row) rows among))
 
 -- what holds of all that a function gives
 pub unmapped : {X Y : Type 0} (P : X → Type 0) (f : Y → X) (ys : List Y) → All P (map f ys) → All (λ y. P (f y)) ys

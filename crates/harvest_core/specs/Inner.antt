@@ -2,6 +2,7 @@
 pub mod Counting
 pub mod Crew
 pub mod Harvest
+pub mod Numbering
 pub mod Parted
 pub mod Parts
 pub mod Reading

@@ -1,6 +1,6 @@
 //! A collection counted by several workers, each by words.
 ghost use Rattle.std.specs.Prelude.{◌≡◌, ◌⊎◌, ◌^◌, ◌<◌, ◌≤◌, ℕ, List, All, length, IfOk, IfErr};
-ghost use Rattle.std.specs.Prelude.{IfSome, IsErrAnd, Ok, map};
+ghost use Rattle.std.specs.Prelude.{IfSome, IsErrAnd};
 ghost use Rattle.sgf_core.specs.Limit.{most_bytes};
 ghost use Rattle.sgf_core.specs.declared.faults.SgfFault.TheVariants as sgf;
 ghost use Rattle.shape_core.specs.declared.words.Kinds.{Kinds};
@@ -8,20 +8,20 @@ ghost use Rattle.slot_table.specs.declared.entries.Happened.{Happened};
 ghost use Rattle.slot_table.specs.Passes.{IsPassOf};
 ghost use Rattle.game_core.specs.Games.{HasReadAll};
 ghost use Rattle.harvest_faults.specs.declared.faults.HarvestFault.TheVariants as fault;
-ghost use Rattle.harvest_core.specs.Working.{IsWorked};
 ghost use Rattle.harvest_core.specs.Harvest.{IsHarvest};
-ghost use Rattle.harvest_core.specs.Inner.Counting.{IsCountedByWords, IsCounter};
+ghost use Rattle.harvest_core.specs.Inner.Counting.{IsCounter};
+ghost use Rattle.harvest_core.specs.Inner.Numbering.{IsHand, IsNumberedHand, AreNumbered};
 ghost use Rattle.harvest_core.specs.Inner.Reading.{IsReadFault};
 
 use crate::counting::{Counter, Crowd};
 use crate::gates::Gate;
-use crate::harvesting::count_of;
 use crate::rounds::{Ended, count_all};
+use gather_core::gather_numbered;
 use harvest_faults::HarvestFault;
 use job_core::Games;
 use probe_core::{Capacity, OddRuns};
 use shape_core::Kinds;
-use share_core::{Share, WordShare};
+use share_core::{NumberedShare, WordShare};
 use slot_table::{Pass, SlotTable};
 use std::alloc::{AllocError, Global};
 use std::thread;
@@ -39,6 +39,13 @@ struct Hand {
     pass: Pass<OddRuns>,
 }
 
+/// The same with numbers, and the pass that gave them.
+#[derive(Drop)]
+struct NumberedHand {
+    share: NumberedShare,
+    pass: Pass<OddRuns>,
+}
+
 /// What was counted by words, each with a pass of its own.
 fn hands_of(
     alloc: Global,
@@ -48,9 +55,8 @@ fn hands_of(
 ) -> Result<Vec<Hand>, AllocError>
     requires { IsPassOf table.now pass.old }
     ensures pass { IsPassOf table.now pass.new }
-    ensures passes { IfOk result (λ hands. All (λ hand. IsPassOf table.now hand.pass) hands.items) }
-    ensures words { IfOk result (λ hands. map (λ hand. hand.words) hands.items
-        ≡ map (λ counter. counter.words) counters.items) }
+    ensures hands { (bytes : List ℕ) (kinds : Kinds) → All (IsCounter bytes kinds) counters.items
+        → IfOk result (λ hands. All (IsHand table.now bytes kinds) hands.items) }
 {
     let mut hands = Vec::new(alloc);
     for counter in counters {
@@ -61,61 +67,68 @@ fn hands_of(
     Ok(hands)
 }
 
-/// The share of one worker that has counted games of an input by words: its patterns get numbers in
-/// the table. It takes memory for the rows.
+/// The patterns of a worker get numbers in the table. It takes memory for the numbers.
 ///
 /// # Errors
 ///
-/// `Memory` where memory was refused; `Full` where no number is free for a pattern; `Overflow`
-/// where all counts together are too large.
-fn number_words(table: &SlotTable<OddRuns>, hand: Hand) -> Result<Share, HarvestFault>
-    requires pass { IsPassOf table.now hand.pass }
-    requires words { (bytes : List ℕ) × (kinds : Kinds) × IsCountedByWords bytes kinds hand.words }
-    ensures { (bytes : List ℕ) (kinds : Kinds) → IsCountedByWords bytes kinds hand.words
-        → IfOk result (IsWorked bytes kinds) }
+/// `Memory` where memory was refused; `Full` where no number is free for a pattern.
+fn number_hand(table: &SlotTable<OddRuns>, hand: Hand) -> Result<NumberedHand, HarvestFault>
+    requires { (bytes : List ℕ) × (kinds : Kinds) × IsHand table.now bytes kinds hand }
+    ensures { (bytes : List ℕ) (kinds : Kinds) → IsHand table.now bytes kinds hand
+        → IfOk result (IsNumberedHand table.now bytes kinds) }
 {
-    let Hand { words, pass } = hand;
-    let mut pass = pass;
-    words.number(table, &mut pass)
+    let Hand { words, mut pass } = hand;
+    let share = words.number(table, &mut pass)?;
+    Ok(NumberedHand { share, pass })
 }
 
-/// What each becomes that was counted by words, in their order, each in a thread of its own where
-/// one can be started.
-fn numbered_by<R: Threads + Sync>(
+/// What the hands come to, in their order, each in a thread of its own where one can be started.
+fn number_hands<R: Threads + Sync>(
     rt: &R,
     table: &SlotTable<OddRuns>,
     hands: Vec<Hand>,
-) -> Result<Vec<Result<Share, HarvestFault>>, AllocError>
-    requires passes { All (λ hand. IsPassOf table.now hand.pass) hands.items }
-    requires words { (bytes : List ℕ) × (kinds : Kinds)
-        × All (λ hand. IsCountedByWords bytes kinds hand.words) hands.items }
-    ensures { (bytes : List ℕ) (kinds : Kinds)
-        → All (λ hand. IsCountedByWords bytes kinds hand.words) hands.items
-        → IfOk result (λ all. All (λ one. IfOk one (IsWorked bytes kinds)) all.items) }
+) -> Result<Vec<Result<NumberedHand, HarvestFault>>, AllocError>
+    requires { (bytes : List ℕ) × (kinds : Kinds) × All (IsHand table.now bytes kinds) hands.items }
+    ensures { (bytes : List ℕ) (kinds : Kinds) → All (IsHand table.now bytes kinds) hands.items
+        → IfOk result (λ all. All (λ one. IfOk one (IsNumberedHand table.now bytes kinds))
+        all.items) }
 {
-    let number = |hand: Hand| -> Result<Share, HarvestFault>
-        requires pass { IsPassOf table.now hand.pass }
-        requires words { (bytes : List ℕ) × (kinds : Kinds)
-            × IsCountedByWords bytes kinds hand.words }
-        ensures { (bytes : List ℕ) (kinds : Kinds) → IsCountedByWords bytes kinds hand.words
-            → IfOk result (IsWorked bytes kinds) }
-    { number_words(table, hand) };
-    thread::map_vec(rt, hands, &number)
+    let work = |hand: Hand| -> Result<NumberedHand, HarvestFault>
+        requires { (bytes : List ℕ) × (kinds : Kinds) × IsHand table.now bytes kinds hand }
+        ensures { (bytes : List ℕ) (kinds : Kinds) → IsHand table.entry.now bytes kinds hand
+            → IfOk result (IsNumberedHand table.entry.now bytes kinds) }
+    { number_hand(table, hand) };
+    thread::map_vec(rt, hands, &work)
 }
 
-/// The shares of all workers, or None where one has none.
-fn all_shares(
+/// The shares of all workers, or None where one is wanting. The pass gets the calls of all.
+fn taken_up(
     alloc: Global,
-    numbered: Vec<Result<Share, HarvestFault>>,
-) -> Result<Option<Vec<Share>>, HarvestFault>
-    ensures shares { IfOk result (λ found. IfSome found
-        (λ shares. map (λ share. Ok share) shares.items ≡ numbered.items)) }
+    table: &SlotTable<OddRuns>,
+    pass: &mut Pass<OddRuns>,
+    numbered: Vec<Result<NumberedHand, HarvestFault>>,
+) -> Result<Option<Vec<NumberedShare>>, HarvestFault>
+    requires pass { IsPassOf table.now pass.old }
+    requires numbered { (bytes : List ℕ) × (kinds : Kinds)
+        × All (λ one. IfOk one (IsNumberedHand table.now bytes kinds)) numbered.items }
+    ensures pass { IsPassOf table.now pass.new }
+    ensures shares { (bytes : List ℕ) (kinds : Kinds)
+        → All (λ one. IfOk one (IsNumberedHand table.now bytes kinds)) numbered.items
+        → IfOk result (λ found. IfSome found (λ shares.
+        AreNumbered table.now bytes kinds pass.new shares.items)) }
     ensures fault { IfErr result (λ found. found ≡ fault.Memory) }
 {
     let mut shares = Vec::new(alloc);
     for one in numbered {
         match one {
-            Ok(share) => shares.push(share)?,
+            Ok(hand) => {
+                let NumberedHand {
+                    share,
+                    pass: theirs,
+                } = hand;
+                table.absorb(pass, theirs);
+                shares.push(share)?;
+            }
             Err(HarvestFault::Memory) => return Err(HarvestFault::Memory),
             Err(_) => return Ok(None),
         }
@@ -123,27 +136,28 @@ fn all_shares(
     Ok(Some(shares))
 }
 
-/// The shares of what was counted by words, in their order. None where a number was wanting. The
-/// pass must be of the table.
+/// The shares of what was counted by words, with numbers. None where a number was wanting. The pass
+/// must be of the table, and gets the calls of all.
 fn shares_of<R: Threads + Sync>(
     rt: &R,
     alloc: Global,
     table: &SlotTable<OddRuns>,
     pass: &mut Pass<OddRuns>,
     counters: Vec<Counter>,
-) -> Result<Option<Vec<Share>>, HarvestFault>
+) -> Result<Option<Vec<NumberedShare>>, HarvestFault>
     requires pass { IsPassOf table.now pass.old }
     requires counters { (bytes : List ℕ) × (kinds : Kinds)
         × All (IsCounter bytes kinds) counters.items }
     ensures pass { IsPassOf table.now pass.new }
-    ensures worked { (bytes : List ℕ) (kinds : Kinds)
+    ensures shares { (bytes : List ℕ) (kinds : Kinds)
         → All (IsCounter bytes kinds) counters.items
-        → IfOk result (λ found. IfSome found (λ shares. All (IsWorked bytes kinds) shares.items)) }
+        → IfOk result (λ found. IfSome found (λ shares.
+        AreNumbered table.now bytes kinds pass.new shares.items)) }
     ensures fault { IfErr result (λ found. found ≡ fault.Memory) }
 {
     let hands = hands_of(alloc, table, pass, counters)?;
-    let numbered = numbered_by(rt, table, hands)?;
-    all_shares(alloc, numbered)
+    let numbered = number_hands(rt, table, hands)?;
+    taken_up(alloc, table, pass, numbered)
 }
 
 /// The dictionary of what was counted by words, of an input that was read. None where a number was
@@ -155,6 +169,7 @@ fn dictionary_of<R: Threads + Sync>(
     ended: Ended,
 ) -> Result<Option<Counted>, HarvestFault>
     requires pass { IsPassOf ended.table ended.pass }
+    requires room { ended.room ≡ ended.table.slots }
     requires counters { (bytes : List ℕ) × HasReadAll bytes ended.report
         × All (IsCounter bytes kinds) ended.counters.items }
     ensures harvest { (bytes : List ℕ) → HasReadAll bytes ended.report
@@ -166,17 +181,18 @@ fn dictionary_of<R: Threads + Sync>(
     let Ended {
         table,
         mut pass,
+        room,
         counters,
         report,
     } = ended;
     let Some(shares) = shares_of(rt, alloc, &table, &mut pass, counters)? else {
         return Ok(None);
     };
-    match count_of(rt, alloc, kinds, &table, &mut pass, report, &shares) {
-        Ok(counted) => Ok(Some(counted)),
-        Err(HarvestFault::Memory) => Err(HarvestFault::Memory),
-        Err(_) => Ok(None),
-    }
+    let found = gather_numbered(rt, alloc, kinds, report.games, room, shares)?;
+    let Some(dictionary) = found else {
+        return Ok(None);
+    };
+    Ok(Some(Counted { dictionary, report }))
 }
 
 /// Counts a collection by several workers, three at least, over one new table of 2^exponent slots:

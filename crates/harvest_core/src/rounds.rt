@@ -11,6 +11,7 @@ ghost use Rattle.harvest_core.specs.Inner.Rounds.{IsRound, IsMade, IsEnded};
 use crate::counting::{Counter, Crowd, begin_counter, count_games};
 use crate::gates::Gate;
 use crate::parts::{Part, Rest, read_part};
+use gather_core::Room;
 use harvest_faults::HarvestFault;
 use job_core::{Games, Job};
 use probe_core::OddRuns;
@@ -26,7 +27,7 @@ use tally_core::Report;
 enum Task<'a> {
     /// The worker of this number begins.
     Begin(usize),
-    /// The table is made that is to number all patterns.
+    /// The table is made that is to number all patterns, and room for the totals of its numbers.
     Table,
     /// A worker goes on with the games of the part.
     Count(Counter),
@@ -34,19 +35,26 @@ enum Task<'a> {
     Read(Games<'a>),
 }
 
-/// What one thread comes to: what a worker has counted, the table with its first pass, or the next
-/// part.
+/// A table, its first pass, and room for the totals of its numbers.
+#[derive(Drop)]
+struct Numbering {
+    table: SlotTable<OddRuns>,
+    pass: Pass<OddRuns>,
+    room: Room,
+}
+
+/// What one thread comes to: what a worker has counted, the table, or the next part.
 #[derive(Drop)]
 enum Done<'a> {
     Counted(Counter),
-    Table(SlotTable<OddRuns>, Pass<OddRuns>),
+    Table(Numbering),
     Part(Part<'a>),
 }
 
 /// What all threads of a round come to.
 #[derive(Drop)]
 struct Round<'a> {
-    table: Option<(SlotTable<OddRuns>, Pass<OddRuns>)>,
+    numbers: Option<Numbering>,
     /// What each worker has counted, in the order of their numbers.
     counters: Vec<Counter>,
     part: Option<Part<'a>>,
@@ -57,6 +65,7 @@ struct Round<'a> {
 pub(crate) struct Ended {
     pub table: SlotTable<OddRuns>,
     pub pass: Pass<OddRuns>,
+    pub room: Room,
     /// What each worker has counted, in the order of their numbers.
     pub counters: Vec<Counter>,
     /// What the trees of the input are.
@@ -88,7 +97,9 @@ fn done_by<'a, G: Gate>(
                 capacity: crowd.capacity,
             };
             let (table, pass) = SlotTable::new(crowd.alloc, order)?;
-            Ok(Done::Table(table, pass))
+            // The memory that the table was copied from serves again.
+            let room = Room::new(crowd.alloc, table.capacity().slots())?;
+            Ok(Done::Table(Numbering { table, pass, room }))
         }
     }
 }
@@ -134,20 +145,20 @@ fn do_round<'a, R: Threads + Sync, G: Gate>(
         (IsRound crowd.now.bytes.now crowd.now.kinds (2 ^ crowd.now.capacity))) }
     ensures fault { IfErr result (IsReadFault crowd.now.bytes.now) }
 {
-    let mut table = None;
+    let mut numbers = None;
     let mut counters = Vec::new(crowd.alloc);
     let mut part = None;
     for one in done_by_all(rt, crowd, jobs, tasks)? {
         match one {
             Ok(Done::Counted(counter)) => counters.push(counter)?,
-            Ok(Done::Table(made, pass)) => table = Some((made, pass)),
+            Ok(Done::Table(made)) => numbers = Some(made),
             Ok(Done::Part(read)) => part = Some(read),
             Err(HarvestFault::Overflow) => return Ok(None),
             Err(fault) => return Err(fault),
         }
     }
     Ok(Some(Round {
-        table,
+        numbers,
         counters,
         part,
     }))
@@ -197,21 +208,18 @@ fn next_tasks<'a, G: Gate>(
 }
 
 /// What all rounds come to, where there is a table.
-fn end_with(
-    made: Option<(SlotTable<OddRuns>, Pass<OddRuns>)>,
-    counters: Vec<Counter>,
-    report: Report,
-) -> Option<Ended>
+fn end_with(made: Option<Numbering>, counters: Vec<Counter>, report: Report) -> Option<Ended>
     ensures { (bytes : List ℕ) (kinds : Kinds) (slots : ℕ) → IfSome made (IsMade slots)
         → All (IsCounter bytes kinds) counters.items → HasReadAll bytes report
         → IfSome result (IsEnded bytes kinds slots) }
 {
-    let Some((table, pass)) = made else {
+    let Some(Numbering { table, pass, room }) = made else {
         return None;
     };
     Some(Ended {
         table,
         pass,
+        room,
         counters,
         report,
     })
@@ -248,11 +256,11 @@ fn count_parts<'a, R: Threads + Sync, G: Gate>(
             return Ok(None);
         };
         let Round {
-            table,
+            numbers,
             counters: counted,
             part: read,
         } = round;
-        made = made.or(table);
+        made = made.or(numbers);
         if let Some(report) = report {
             return Ok(end_with(made, counted, report));
         }

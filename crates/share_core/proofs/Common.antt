@@ -21,7 +21,7 @@ pub use Rattle.slot_table.specs.Passes.{IsLater, IsPassOf, Known, calls_of}
 pub use Rattle.slot_table.specs.declared.entries.Happened.{Happened}
 pub use Rattle.std.proofs.lemmas.Bool.{cases_eq, cases_lt}
 pub use Rattle.std.proofs.lemmas.Bool.Decides.{nat_tests}
-pub use Rattle.std.proofs.lemmas.List.{drop_more, get_or-map, get_or-set_other, get_or-set_same, get_or-take, get_or_default, get_or_past, get_or_push, length-map, length-set, map-append, map-set, set-get_or, take-append-drop, take_more}
+pub use Rattle.std.proofs.lemmas.List.{append-nil, drop_more, get_or-map, get_or-set_other, get_or-set_same, get_or-take, get_or_default, get_or_past, get_or_push, length-map, length-set, map-append, map-set, set-get_or, take-append-drop, take_all, take_more}
 pub use Rattle.std.proofs.lemmas.List.Elements.{All-contains, All-from_get_or, All-from_recursion, All-get_or, All-head, All-tail, All-weaker, Contains-append_cases, Contains-append_left, Contains-append_right, Contains-get_or, recursion_from_All}
 pub use Rattle.std.proofs.lemmas.List.Sums.{sum_by-append, sum_by-cons, sum_by-set, sum_by_more, sum_by_push}
 pub use Rattle.std.proofs.lemmas.Result.{err_from_is_err_and}

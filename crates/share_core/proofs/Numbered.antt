@@ -1,23 +1,19 @@
--- Entries of a map that get numbers: what was answered for them, the rows that are made of them, and the share that a
--- worker's entries become.
-use Rattle.std.proofs.Common.{◌≡◌, ℕ, ◌+◌, ◌-◌, ◌<◌, ◌==◌, nat_eq, true, false, cond, List, [], ◌∷◌, ◌++◌, length, map, get_or, Option, Some, None, IfSome, refl, ap, sym, subst, ◌∙◌, arith, length-append, append_assoc, All, Contains}
+-- Entries of a map that get numbers: what was answered for them, and the share that a worker's entries are then.
+use Rattle.std.proofs.Common.{◌≡◌, ℕ, ◌+◌, ◌-◌, ◌<◌, ◌==◌, true, false, cond, zero, suc, List, [], ◌∷◌, ◌++◌, length, map, get_or, Option, Some, None, IfSome, refl, ap, sym, subst, ◌∙◌, arith, length-append, All, Contains}
 use Rattle.std.specs.Prelude.{slice_index}
 use Rattle.std.proofs.Math.ListN.{get_or-append}
-use Rattle.std.proofs.Math.Seq.{get_or-append_seam}
 use Rattle.std.proofs.lemmas.List.{get_or-append_right}
 use Rattle.std.proofs.lemmas.List.Elements.{All-map}
-use Rattle.std.proofs.lemmas.Map.Keys.{apart_from_distinct, IsDistinct-from_apart}
 use Rattle.std.proofs.lemmas.Option.{IfSome_then}
-use Rattle.share_core.proofs.Common.{nat_tests, sum_by, sum_by-cons, sum_by-append, length-map, get_or-map, map-append, All-contains, All-from_recursion, All-get_or, All-weaker, AllByRecursion, Contains-get_or, Contains-append_left, Contains-append_right, AreMade, AreTold, IsTold, Answer, Happened, Kinds, Known, Keeps, CallsOnly, EntersOnly, MarksOnly, IsMarkAt, content_of, IsNumber, answer_at, entered, Row, row_at, blank, HasNoRow, weight_of, first_of, earlier, Held, IsShare, HarvestFault}
+use Rattle.share_core.proofs.Common.{nat_tests, sum_by, sum_by-cons, length-map, get_or-map, map-append, All-contains, All-from_recursion, All-get_or, All-weaker, AllByRecursion, Contains-get_or, Contains-append_left, Contains-append_right, AreMade, AreTold, IsTold, Answer, Happened, Kinds, Known, Keeps, CallsOnly, EntersOnly, MarksOnly, IsMarkAt, content_of, IsNumber, least_at, IsAtMost, answer_at, entered, Row, row_at, blank, first_of, earlier, Held, IsShare, HarvestFault}
 use Rattle.shape_dict.specs.declared.entries.Entry.{Entry}
 use Rattle.shape_dict.specs.Contents.{entry_of}
 use Rattle.sgf_core.specs.Limit.{most_bytes}
 use Rattle.tally_core.specs.GameCounts.{AreApart, IsCountedEntry}
 use Rattle.harvest_faults.specs.declared.faults.HarvestFault.TheVariants as fault
 use Rattle.share_core.specs.Rows.{there_of, played_of}
-use Rattle.share_core.specs.WordShares.{unnumbered, IsNumbered, IsEntered, IsMarkedFirst, IsNumberFault}
-use Rattle.share_core.specs.Inner.Making.{IsAppendFault}
-use Rattle.share_core.specs.Inner.Numbering.{shapes_in, without_number, all_of, AreApartIn, IsSettled, IsBlockFault, IsKeyIn, IsFirstOf}
+use Rattle.share_core.specs.WordShares.{unnumbered, numbered_rows, IsNumbered, IsEntered, IsMarkedFirst, IsNumberFault}
+use Rattle.share_core.specs.Inner.Numbering.{shapes_in, IsSettled, AreSettled, IsBlockFault, IsKeyIn, IsFirstOf}
 use Rattle.share_core.proofs.WordRows.{game_at, apart_more, none_more, first_is, first_below, words_of}
 use Rattle.share_core.proofs.Entered.{batch_enters, calls_through, calls_weaker}
 use Rattle.share_core.proofs.Indexed.{row_there}
@@ -40,10 +36,6 @@ pub is_among : (entries : List Entry) (i : ℕ) → i < length entries → Conta
 is_among entries i inside =
     subst (λ (r : Row). Contains (map unnumbered entries) r) (row_is entries i inside)
     (Contains-get_or (map unnumbered entries) i (blank 0 0) (omega (arith, inside, length-map entries unnumbered)))
-
-shapes_same : (entries : List Entry) → map (λ (r : Row). r.shape) (map unnumbered entries) ≡ shapes_in entries
-shapes_same [] = refl
-shapes_same (entry ∷ entries) = ap (λ (shapes : List ℕ). entry.shape ∷ shapes) (shapes_same entries)
 
 -- ---- what was answered for a block
 module _ (entries : List Entry) (keys : List ℕ) (answers : List Answer) (is : keys ≡ shapes_in entries) where
@@ -98,72 +90,30 @@ module _ {O : Type 0} {n : ℕ} {entries : List Entry} {first old new : Known O}
       (calls_weaker n (λ _ _. ⊥) (IsKeyIn entries) (IsFirstOf n old.seen entries) firsts old new (λ key found none. absurd none)
       (firsts_later marks.later.keeps) marks)
 
--- ---- rows that are settled
-pub settled_later : {n : ℕ} {seen history : List Happened} (rows : List Row) → Keeps n seen history → All (IsSettled n seen) rows →
-    All (IsSettled n history) rows
-settled_later {n = n} {seen = seen} {history = history} rows keeps settled =
-    All-weaker (IsSettled n seen) (IsSettled n history)
-    (λ row h. record {
-      stands = keeps.numbers row.shape row.number h.stands;
-      marked = IfSome_then row.first h.marked (λ game marked. keeps.marks row.number game marked);
-    }) rows settled
+-- ---- entries that have numbers
+-- they have them later too
+pub settled_later : {n : ℕ} {seen history : List Happened} (numbers : List ℕ) (entries : List Entry) → Keeps n seen history →
+    AreSettled n seen numbers entries → AreSettled n history numbers entries
+settled_later [] [] keeps h = tt
+settled_later [] (entry ∷ entries) keeps h = absurd h
+settled_later (number ∷ numbers) [] keeps h = absurd h
+settled_later (number ∷ numbers) (entry ∷ entries) keeps h = (
+  record {
+    stands = keeps.numbers entry.shape number h.0.stands;
+    marked = IfSome_then entry.first h.0.marked (λ game marked. keeps.marks number game marked);
+  },
+  settled_later numbers entries keeps h.1,
+)
 
--- ---- sums do not look at numbers
-pub sum_without : (count : Row → ℕ) → ((row : Row) → count (without_number row) ≡ count row) → (rows : List Row) →
-    sum_by count (map without_number rows) ≡ sum_by count rows
-sum_without count same [] = refl
-sum_without count same (row ∷ rows) =
-    let rest = sum_without count same rows in
-    omega (arith, sum_by-cons count row rows, sum_by-cons count (without_number row) (map without_number rows), same row, rest)
-
--- ---- the next entry
--- no row is of a number of its pattern
-pub no_row : (n : ℕ) (seen : List Happened) (rows : List Row) (entry : Entry) (rest : List Entry) (number : ℕ) →
-    AreApartIn (all_of rows (entry ∷ rest)) → All (IsSettled n seen) rows → IsNumber (content_of n seen) entry.shape number →
-    HasNoRow rows number
-no_row n seen rows entry rest number apart settled is place low same =
-    let shape : Row → ℕ = λ (r : Row). r.shape in
-    let front = map without_number rows in
-    let back = map unnumbered rest in
-    let all = front ++ unnumbered entry ∷ back in
-    let long : length front ≡ length rows = length-map rows without_number in
-    let count : length front < length all = omega (arith, length-append front (unnumbered entry ∷ back)) in
-    let differ = apart_from_distinct nat_eq (map shape all) place (length front) 0 apart (omega (arith, low, long))
-    (omega (arith, length-map all shape, count)) in
-    let one : get_or (map shape all) place 0 ≡ (row_at rows place).shape =
-    get_or-map shape all place (blank 0 0) 0 (omega (arith, low, long, count))
-    ∙ ap shape (get_or-append front (unnumbered entry ∷ back) (blank 0 0) place (omega (arith, low, long))
-    ∙ get_or-map without_number rows place (blank 0 0) (blank 0 0) low) in
-    let other : get_or (map shape all) (length front) 0 ≡ entry.shape =
-    get_or-map shape all (length front) (blank 0 0) 0 count ∙ ap shape (get_or-append_seam front (unnumbered entry) back (blank 0 0)) in
-    let stands = (All-get_or (IsSettled n seen) rows place (blank 0 0) low settled).stands.stands in
-    let there : Some (row_at rows place).shape ≡ Some entry.shape = sym (rw same at stands) ∙ is.stands in
-    let equal : (row_at rows place).shape ≡ entry.shape = cc in
-    Prim.grind (arith, nat_tests, differ, one, other, equal)
-
--- its row comes after the others
-pub all_more : (rows : List Row) (entry : Entry) (rest : List Entry) (number : ℕ) →
-    all_of (rows ++ record (unnumbered entry) { number = number } ∷ []) rest ≡ all_of rows (entry ∷ rest)
-all_more rows entry rest number =
-    ap (λ (rs : List Row). rs ++ map unnumbered rest) (map-append without_number rows (record (unnumbered entry) { number = number } ∷ []))
-    ∙ append_assoc (map without_number rows) (unnumbered entry ∷ []) (map unnumbered rest)
-
-pub append_fault : (n : ℕ) (seen : List Happened) (rows old : List Row) (entries : List Entry) (entry : Entry) (rest : List Entry)
-    (number : ℕ) (found : HarvestFault) → all_of rows (entry ∷ rest) ≡ all_of old entries →
-    IsAppendFault (record (unnumbered entry) { number = number }) rows found → IsBlockFault n seen old entries found
-append_fault n seen rows old entries entry rest number fault.Memory same h = tt
-append_fault n seen rows old entries entry rest number fault.Overflow same h =
-    let weight : Row → ℕ = λ (r : Row). r.there + r.played in
-    let back = unnumbered entry ∷ map unnumbered rest in
-    omega (
-      arith,
-      h,
-      ap weight_of same,
-      sum_by-append weight (map without_number rows) back,
-      sum_by-cons weight (unnumbered entry) (map unnumbered rest),
-      sum_without weight (λ _. refl) rows,
-    )
-append_fault n seen rows old entries entry rest number _ same h = absurd h
+-- so does one entry more
+pub settled_push : (n : ℕ) (seen : List Happened) (numbers : List ℕ) (entries : List Entry) (number : ℕ) (entry : Entry) →
+    AreSettled n seen numbers entries → IsSettled n seen number entry →
+    AreSettled n seen (numbers ++ number ∷ []) (entries ++ entry ∷ [])
+settled_push n seen [] [] number entry h last = (last, tt)
+settled_push n seen [] (e ∷ entries) number entry h last = absurd h
+settled_push n seen (m ∷ numbers) [] number entry h last = absurd h
+settled_push n seen (m ∷ numbers) (e ∷ entries) number entry h last =
+    (h.0, settled_push n seen numbers entries number entry h.1 last)
 
 -- ---- one block after another
 pub all_left : {A : Type 0} (P : A → Type 0) (xs ys : List A) → All P (xs ++ ys) → All P xs
@@ -175,45 +125,17 @@ all_right P xs ys h k d low =
     subst (λ i. P (get_or ys i d)) place (subst P (get_or-append_right xs ys (length xs) (length xs + k) d refl (omega arith))
     (h (length xs + k) d (omega (arith, length-append xs ys, low))))
 
-apart_left : (xs ys : List Row) → AreApartIn (xs ++ ys) → AreApartIn xs
-apart_left xs ys apart =
-    let shape : Row → ℕ = λ (r : Row). r.shape in
-    let parts = map-append shape xs ys in
-    let front = map shape xs in
-    let back = map shape ys in
-    IsDistinct-from_apart nat_eq front (λ i j d low inside.
-    rw (← get_or-append front back d i (omega (arith, low, inside)), ← get_or-append front back d j inside)
-    (apart_from_distinct nat_eq (front ++ back) i j d (rw parts at apart) low (omega (arith, inside, length-append front back))))
-
--- entries of which no two are of one pattern become rows of which no two are
-apart_in : (entries : List Entry) → AreApart entries → AreApartIn (map unnumbered entries)
-apart_in entries apart = rw (shapes_same entries) apart
-
-module _ (rows : List Row) (entries block rest left : List Entry) (all : all_of rows left ≡ map unnumbered entries)
-    (parts : left ≡ block ++ rest) where
-  -- the rows, the next block and what is left
-  in_parts : all_of rows block ++ map unnumbered rest ≡ map unnumbered entries
-  in_parts =
-      append_assoc (map without_number rows) (map unnumbered block) (map unnumbered rest)
-      ∙ ap (λ (rs : List Row). map without_number rows ++ rs) (sym (map-append unnumbered block rest) ∙ ap (map unnumbered) (sym parts))
-      ∙ all
-
-  pub block_apart : AreApart entries → AreApartIn (all_of rows block)
-  block_apart apart = apart_left (all_of rows block) (map unnumbered rest) (rw in_parts (apart_in entries apart))
-
-  pub block_made : (new : List Row) → map without_number new ≡ all_of rows block → all_of new rest ≡ map unnumbered entries
-  block_made new made = ap (λ (rs : List Row). rs ++ map unnumbered rest) made ∙ in_parts
-
+module _ (entries done block rest : List Entry) (parts : done ++ (block ++ rest) ≡ entries) where
   among_all : (row : Row) → Contains (map unnumbered block) row → Contains (map unnumbered entries) row
-  among_all row among = subst (λ (rs : List Row). Contains rs row) in_parts
-      (Contains-append_left (all_of rows block) (map unnumbered rest) row
-      (Contains-append_right (map without_number rows) (map unnumbered block) row among))
+  among_all row among =
+      let later = Contains-append_left (map unnumbered block) (map unnumbered rest) row among in
+      let all = map-append unnumbered done (block ++ rest) ∙ ap (λ (rs : List Row). map unnumbered done ++ rs) (map-append unnumbered block rest) in
+      subst (λ (rs : List Row). Contains rs row) (sym all ∙ ap (map unnumbered) parts)
+      (Contains-append_right (map unnumbered done) (map unnumbered block ++ map unnumbered rest) row later)
 
-  pub fault_of_all : (n : ℕ) (seen : List Happened) (found : HarvestFault) → IsBlockFault n seen rows block found →
-      IsBlockFault n seen [] entries found
+  pub fault_of_all : (n : ℕ) (seen : List Happened) (found : HarvestFault) → IsBlockFault n seen block found →
+      IsBlockFault n seen entries found
   fault_of_all n seen fault.Memory h = tt
-  fault_of_all n seen fault.Overflow h =
-      omega (arith, h, ap weight_of in_parts, sum_by-append (λ (r : Row). r.there + r.played) (all_of rows block) (map unnumbered rest))
   fault_of_all n seen (fault.Full game word) h = ((h.0.0, among_all h.0.0 h.0.1, h.0.2, h.0.3), h.1, h.2)
   fault_of_all n seen _ h = absurd h
 
@@ -277,18 +199,57 @@ module _ (n : ℕ) (seen : List Happened) (worker : ℕ) (kinds : Kinds) (games 
       (λ key found k. record { row = k.0; among = k.1; key_is = k.2 })
       (λ number game k. record { row = k.row; among = k.among; first = k.first; number_is = k.number_is }) h
 
-  pub numbering_fault : (found : HarvestFault) → IsBlockFault n seen [] entries found → IsNumberFault n seen words found
+  pub numbering_fault : (found : HarvestFault) → IsBlockFault n seen entries found → IsNumberFault n seen words found
   numbering_fault fault.Memory h = tt
-  numbering_fault fault.Overflow h = h
   numbering_fault (fault.Full game word) h = h
   numbering_fault found h = absurd h
+
+-- ---- the rows of entries that have numbers
+-- a row as it was before its pattern had a number
+abbrev without_number : Row → Row
+without_number row = record row { number = 0 }
+
+-- sums do not look at numbers
+sum_without : (count : Row → ℕ) → ((row : Row) → count (without_number row) ≡ count row) → (rows : List Row) →
+    sum_by count (map without_number rows) ≡ sum_by count rows
+sum_without count same [] = refl
+sum_without count same (row ∷ rows) =
+    let rest = sum_without count same rows in
+    omega (arith, sum_by-cons count row rows, sum_by-cons count (without_number row) (map without_number rows), same row, rest)
 
 first_without : (rows : List Row) (shape : ℕ) → first_of (map without_number rows) shape ≡ first_of rows shape
 first_without [] shape = refl
 first_without (row ∷ rows) shape = ap (earlier (cond (row.shape == shape) row.first None)) (first_without rows shape)
 
--- ---- the rows of entries, with numbers
-module _ (entries : List Entry) (rows : List Row) (same : map without_number rows ≡ map unnumbered entries) where
+-- but for their numbers they are the rows of the entries
+rows_without : (n : ℕ) (seen : List Happened) (numbers : List ℕ) (entries : List Entry) → AreSettled n seen numbers entries →
+    map without_number (numbered_rows numbers entries) ≡ map unnumbered entries
+rows_without n seen [] [] h = refl
+rows_without n seen [] (entry ∷ entries) h = absurd h
+rows_without n seen (number ∷ numbers) [] h = absurd h
+rows_without n seen (number ∷ numbers) (entry ∷ entries) h =
+    ap (λ (rows : List Row). unnumbered entry ∷ rows) (rows_without n seen numbers entries h.1)
+
+-- a row is of the number that its pattern has after a history, at which its first game is marked, or an earlier one
+record IsSettledRow (n : ℕ) (seen : List Happened) (row : Row) : Type 0 where
+  stands : IsNumber (content_of n seen) row.shape row.number
+  marked : IfSome row.first (IsAtMost (least_at row.number seen))
+
+rows_settled : (n : ℕ) (seen : List Happened) (numbers : List ℕ) (entries : List Entry) → AreSettled n seen numbers entries →
+    AllByRecursion (IsSettledRow n seen) (numbered_rows numbers entries)
+rows_settled n seen [] [] h = tt
+rows_settled n seen [] (entry ∷ entries) h = absurd h
+rows_settled n seen (number ∷ numbers) [] h = absurd h
+rows_settled n seen (number ∷ numbers) (entry ∷ entries) h =
+    (record { stands = h.0.stands; marked = h.0.marked }, rows_settled n seen numbers entries h.1)
+
+module _ (n : ℕ) (seen : List Happened) (numbers : List ℕ) (entries : List Entry) (settled : AreSettled n seen numbers entries) where
+  abbrev rows : List Row
+  rows = numbered_rows numbers entries
+
+  same : map without_number rows ≡ map unnumbered entries
+  same = rows_without n seen numbers entries settled
+
   there_is : (shape : ℕ) → there_of rows shape ≡ there_of (map unnumbered entries) shape
   there_is shape =
       sym (sum_without (λ (r : Row). cond (r.shape == shape) r.there 0) (λ _. refl) rows)
@@ -331,20 +292,36 @@ module _ (entries : List Entry) (rows : List Row) (same : map without_number row
       let low : among.0 < length (map without_number rows) = omega (arith, length-map rows without_number, among.1) in
       rw here at (rw is at (All-get_or Counts (map without_number rows) among.0 (blank 0 0) low (rw (sym same) at each)))
 
--- the share is what the worker had counted
-pub words_numbered : (n : ℕ) (seen : List Happened) (worker : ℕ) (kinds : Kinds) (games : List ℕ) (moves : ℕ)
-    (entries : List Entry) (rows : List Row) → All IsCountedEntry entries → map without_number rows ≡ map unnumbered entries →
-    All (IsSettled n seen) rows → IsNumbered n seen (words_of worker kinds games moves entries)
-    (record { worker = worker; kinds = kinds; games = games; moves = moves; rows = rows })
-words_numbered n seen worker kinds games moves entries rows counted same settled = record {
-  worker = refl;
-  kinds = refl;
-  games = refl;
-  moves = refl;
-  there = there_is entries rows same;
-  played = played_is entries rows same;
-  first = first_stays entries rows same;
-  counted = counts_each entries rows same counted;
-  stands = λ row among. (All-contains (IsSettled n seen) rows row settled among).stands;
-  marked = λ row game among first. rw first at (All-contains (IsSettled n seen) rows row settled among).marked;
-}
+  each_settled : All (IsSettledRow n seen) rows
+  each_settled = All-from_recursion (IsSettledRow n seen) rows (rows_settled n seen numbers entries settled)
+
+  -- the share is what the worker had counted
+  pub words_numbered : (worker : ℕ) (kinds : Kinds) (games : List ℕ) (moves : ℕ) → All IsCountedEntry entries →
+      IsNumbered n seen (words_of worker kinds games moves entries)
+      (record { worker = worker; kinds = kinds; games = games; moves = moves; rows = rows })
+  words_numbered worker kinds games moves counted = record {
+    worker = refl;
+    kinds = refl;
+    games = refl;
+    moves = refl;
+    there = there_is;
+    played = played_is;
+    first = first_stays;
+    counted = counts_each counted;
+    stands = λ row among. (All-contains (IsSettledRow n seen) rows row each_settled among).stands;
+    marked = λ row game among first. rw first at (All-contains (IsSettledRow n seen) rows row each_settled among).marked;
+  }
+
+-- ---- the row at a place
+pub rows_long : (numbers : List ℕ) (entries : List Entry) → length numbers ≡ length entries → length (numbered_rows numbers entries) ≡ length numbers
+rows_long [] entries long = refl
+rows_long (number ∷ numbers) [] long = absurd cc
+rows_long (number ∷ numbers) (entry ∷ entries) long = ap suc (rows_long numbers entries (omega (arith, long)))
+
+pub numbered_at : (numbers : List ℕ) (entries : List Entry) (place : ℕ) → length numbers ≡ length entries → place < length numbers →
+    row_at (numbered_rows numbers entries) place ≡ record (unnumbered (entry_at entries place)) { number = slice_index numbers place }
+numbered_at [] entries place long inside = absurd (omega (arith, inside))
+numbered_at (number ∷ numbers) [] place long inside = absurd cc
+numbered_at (number ∷ numbers) (entry ∷ entries) zero long inside = refl
+numbered_at (number ∷ numbers) (entry ∷ entries) (suc place) long inside =
+    numbered_at numbers entries place (omega (arith, long)) (omega (arith, inside))

@@ -1,5 +1,5 @@
 -- What a worker has counted by words, and the share that it becomes when its patterns get numbers.
-use Rattle.std.specs.Prelude.{◌≡◌, ℕ, ◌+◌, ◌*◌, ◌^◌, ◌<◌, ◌≤◌, ◌⊎◌, List, length, Some, Contains, IfSome}
+use Rattle.std.specs.Prelude.{◌≡◌, ℕ, ◌+◌, ◌*◌, ◌^◌, ◌<◌, ◌≤◌, ◌⊎◌, List, [], ◌∷◌, length, Some, Contains, IfSome}
 use Rattle.go_record.specs.Actions.{Actions}
 use Rattle.shape_dict.specs.declared.entries.Entry.{Entry}
 use Rattle.probe_core.specs.declared.calls.Answer.{Answer}
@@ -10,12 +10,17 @@ use Rattle.share_core.specs.declared.rows.Row.{Row}
 use Rattle.harvest_faults.specs.declared.faults.HarvestFault.{HarvestFault}
 use Rattle.harvest_faults.specs.declared.faults.HarvestFault.TheVariants as fault
 use Rattle.share_core.specs.Rows.{there_of, played_of, first_of}
-use Rattle.share_core.specs.Raising.{weight_of}
 use Rattle.share_core.specs.Shares.{Held}
 
 -- what was counted of a pattern, as a row: its pattern has no number yet, and 0 stands there
 abbrev pub unnumbered : Entry → Row
 unnumbered entry = record { number = 0; shape = entry.shape; there = entry.there; played = entry.played; first = entry.first }
+
+-- entries as rows, each of the number at its place
+abbrev pub numbered_rows : List ℕ → List Entry → List Row
+numbered_rows [] entries = []
+numbered_rows (number ∷ numbers) [] = []
+numbered_rows (number ∷ numbers) (entry ∷ entries) = record (unnumbered entry) { number = number } ∷ numbered_rows numbers entries
 
 -- why a game was not added: memory was wanting; or with the game the count of a pattern, or that of the moves, might pass
 -- 2 ^ 64 - 1
@@ -53,11 +58,10 @@ pub record IsMarkedFirst (n : ℕ) (seen : List Happened) (words : Held) (number
   pub first : row.first ≡ Some game
   pub number_is : IsNumber (content_of n seen) row.shape number
 
--- why no share was made: memory was wanting; all counts together are too large; or no number is free for the pattern of a row,
--- whose first game this is, if it has one
+-- why patterns got no numbers: memory was wanting; or no number is free for the pattern of a row, whose first game this is, if
+-- it has one
 abbrev pub IsNumberFault : ℕ → List Happened → Held → HarvestFault → Type 0
 IsNumberFault n seen words fault.Memory = Unit {0}
-IsNumberFault n seen words fault.Overflow = 2 ^ 64 ≤ weight_of words.rows
 IsNumberFault n seen words (fault.Full game word) = ((row : Row) × Contains words.rows row × (row.shape ≡ word) × IfSome row.first (λ first. game ≡ first))
     × IsAbsent (content_of n seen) word × IsFull (content_of n seen)
 IsNumberFault n seen words found = ⊥

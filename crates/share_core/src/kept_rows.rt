@@ -4,7 +4,6 @@ ghost use Rattle.sgf_core.specs.Limit.{most_bytes};
 use crate::rows::Row;
 use crate::small::SmallOption;
 use shape_core::Shape;
-use shape_dict::Entry;
 use std::marker::Model;
 use tally_core::Meeting;
 
@@ -44,7 +43,6 @@ impl KeptRow {
     ghost use Rattle.std.specs.Prelude.{◌≡◌, ◌+◌, ◌^◌, ◌<◌, IfSome};
     ghost use Rattle.share_core.specs.Rows.{blank};
     ghost use Rattle.share_core.specs.Inner.Raising.{raised};
-    ghost use Rattle.share_core.specs.WordShares.{unnumbered};
 
     /// A row that counts nothing.
     pub fn blank(number: usize, shape: Shape) -> KeptRow
@@ -57,24 +55,6 @@ impl KeptRow {
             played: 0,
             number: number as u32,
             first: SmallOption::none(),
-        }
-    }
-
-    /// What was counted of a pattern, at its number.
-    pub(crate) fn of_entry(number: usize, entry: Entry) -> KeptRow
-        requires number { number < 2 ^ 32 }
-        requires first { IfSome entry.first (λ game. game < most_bytes) }
-        ensures { result ≡ record (unnumbered entry) { number = number } }
-    {
-        KeptRow {
-            shape: entry.shape,
-            there: entry.there,
-            played: entry.played,
-            number: number as u32,
-            first: match entry.first.get() {
-                None => SmallOption::none(),
-                Some(game) => SmallOption::of(game as usize),
-            },
         }
     }
 

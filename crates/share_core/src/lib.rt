@@ -4,6 +4,7 @@
 mod entering;
 mod kept_rows;
 mod ledgers;
+mod numbered_shares;
 mod numbering;
 mod rows;
 mod share_rows;
@@ -14,6 +15,7 @@ mod word_shares;
 mod workings;
 
 pub use kept_rows::KeptRow;
+pub use numbered_shares::NumberedShare;
 pub use rows::Row;
 pub use share_rows::ShareRows;
 pub use shares::Share;

@@ -1,19 +1,15 @@
-//! The patterns that a worker has counted by words get their numbers: it becomes a share.
-ghost use Rattle.std.specs.Prelude.{◌≡◌, ℕ, ◌<◌, ◌++◌, [], map, All, IfOk, IfErr, IfSome, OnOk};
+//! The patterns that a worker has counted by words get their numbers.
+ghost use Rattle.std.specs.Prelude.{◌≡◌, ℕ, ◌<◌, ◌++◌, List, All, IfOk, IfErr, IfSome, OnOk};
 ghost use Rattle.sgf_core.specs.Limit.{most_bytes};
+ghost use Rattle.shape_dict.specs.declared.entries.Entry.{Entry};
 ghost use Rattle.slot_table.specs.Passes.{IsPassOf};
-ghost use Rattle.tally_core.specs.GameCounts.{AreApart};
 ghost use Rattle.share_core.specs.Entering.{CallsOnly};
-ghost use Rattle.share_core.specs.WordShares.{unnumbered};
-ghost use Rattle.share_core.specs.Inner.Numbering.{shapes_in, without_number, all_of, AreApartIn};
-ghost use Rattle.share_core.specs.Inner.Numbering.{IsSettled, IsBlockFault, IsKeyIn, IsFirstOf};
+ghost use Rattle.share_core.specs.Inner.Numbering.{shapes_in, AreSettled, IsBlockFault, IsKeyIn};
+ghost use Rattle.share_core.specs.Inner.Numbering.{IsFirstOf};
 ghost use Rattle.harvest_faults.specs.declared.faults.HarvestFault.TheVariants as fault;
 
 use crate::entering::{enter_keys, key_of, mark_first};
-use crate::kept_rows::KeptRow;
-use crate::ledgers::Ledger;
-use crate::rows::Rows;
-use crate::shares::Share;
+use crate::numbered_shares::NumberedShare;
 use crate::word_shares::WordShare;
 use harvest_faults::HarvestFault;
 use probe_core::{Answer, Key, ProbeOrder};
@@ -48,16 +44,15 @@ fn full(entry: &Entry) -> HarvestFault
     }
 }
 
-/// Enters the patterns of these entries, of which no row has one. Then it marks the first game of
-/// each at its number, and puts its row of that number after the others. The keys and answers of
-/// the last entries give way to those of these.
+/// Enters the patterns of these entries and marks the first game of each at its number. The numbers
+/// come after those of other entries. The keys and answers of the last entries give way to those of
+/// these.
 ///
 /// # Errors
 ///
-/// `Full` where no number is free for a pattern; `Overflow` where all counts together would pass
-/// 2^64 - 1; `Memory` where memory was refused.
+/// `Full` where no number is free for a pattern; `Memory` where memory was refused.
 fn number_block<O: ProbeOrder>(
-    rows: &mut Rows,
+    numbers: &mut Vec<u32>,
     table: &SlotTable<O>,
     pass: &mut Pass<O>,
     keys: &mut Vec<Key>,
@@ -65,60 +60,56 @@ fn number_block<O: ProbeOrder>(
     entries: &[Entry],
 ) -> Result<(), HarvestFault>
     requires pass { IsPassOf table.now pass.old }
-    requires apart { AreApartIn (all_of rows.old entries.now) }
-    requires settled { All (IsSettled table.now.slots pass.old.seen) rows.old }
     requires small { All (λ entry. IfSome entry.first (λ game. game < most_bytes)) entries.now }
     ensures pass { IsPassOf table.now pass.new }
-    ensures rows { OnOk result (map without_number rows.new ≡ all_of rows.old entries.now) }
-    ensures settled { OnOk result (All (IsSettled table.now.slots pass.new.seen) rows.new) }
+    ensures settled { OnOk result ((before : List Entry)
+        → AreSettled table.now.slots pass.old.seen numbers.old.items before
+        → AreSettled table.now.slots pass.new.seen numbers.new.items (before ++ entries.now)) }
     ensures calls { CallsOnly table.now.slots (IsKeyIn entries.now)
         (IsFirstOf table.now.slots pass.new.seen entries.now) pass.old pass.new }
-    ensures fault { IfErr result
-        (IsBlockFault table.now.slots pass.new.seen rows.old entries.now) }
+    ensures fault { IfErr result (IsBlockFault table.now.slots pass.new.seen entries.now) }
 {
     list_keys(keys, entries)?;
     enter_keys(table, pass, keys.as_slice(), answers)?;
-    let slots = table.capacity().slots();
+    // A table has 2^22 numbers at most.
+    let _ = table.capacity().slots();
     for (i, entry) in entries.iter().enumerate() {
         let Answer::Number(number) = answers[i] else {
             return Err(full(entry));
         };
         mark_first(table, pass, number, entry.first.get());
-        rows.append(slots, KeptRow::of_entry(number, *entry))?;
+        numbers.push(number as u32)?;
     }
     Ok(())
 }
 
-/// The rows of all entries, each of the number that its pattern gets, at which its first game is
-/// marked.
+/// The numbers that the patterns of all entries get, at which the first games are marked.
 ///
 /// # Errors
 ///
-/// `Full` where no number is free for a pattern; `Overflow` where all counts together would pass
-/// 2^64 - 1; `Memory` where memory was refused.
-fn make_all<O: ProbeOrder>(
+/// `Full` where no number is free for a pattern; `Memory` where memory was refused.
+fn number_all<O: ProbeOrder>(
     alloc: Global,
     table: &SlotTable<O>,
     pass: &mut Pass<O>,
     entries: &[Entry],
-) -> Result<Rows, HarvestFault>
+) -> Result<Vec<u32>, HarvestFault>
     requires pass { IsPassOf table.now pass.old }
-    requires apart { AreApart entries.now }
     requires small { All (λ entry. IfSome entry.first (λ game. game < most_bytes)) entries.now }
     ensures pass { IsPassOf table.now pass.new }
-    ensures rows { IfOk result (λ rows. map without_number rows ≡ map unnumbered entries.now) }
-    ensures settled { IfOk result (All (IsSettled table.now.slots pass.new.seen)) }
+    ensures settled { IfOk result
+        (λ numbers. AreSettled table.now.slots pass.new.seen numbers.items entries.now) }
     ensures calls { CallsOnly table.now.slots (IsKeyIn entries.now)
         (IsFirstOf table.now.slots pass.new.seen entries.now) pass.old pass.new }
-    ensures fault { IfErr result (IsBlockFault table.now.slots pass.new.seen [] entries.now) }
+    ensures fault { IfErr result (IsBlockFault table.now.slots pass.new.seen entries.now) }
 {
-    let mut rows = Rows::with_room(alloc, entries.len())?;
+    let mut numbers = Vec::with_capacity(alloc, entries.len())?;
     let mut keys = Vec::new(alloc);
     let mut answers = Vec::new(alloc);
     for block in entries.chunks(BLOCK) {
-        number_block(&mut rows, table, pass, &mut keys, &mut answers, block)?;
+        number_block(&mut numbers, table, pass, &mut keys, &mut answers, block)?;
     }
-    Ok(rows)
+    Ok(numbers)
 }
 
 impl WordShare {
@@ -130,22 +121,21 @@ impl WordShare {
     ghost use Rattle.share_core.specs.WordShares.{IsNumbered, IsEntered, IsMarkedFirst};
     ghost use Rattle.share_core.specs.WordShares.{IsNumberFault};
 
-    /// The share that this becomes: each pattern is entered into the table, and its row is of its
-    /// number there, at which its first game is marked.
+    /// The numbers of this share's patterns: each is entered into the table, and its first game is
+    /// marked at its number there.
     ///
     /// No other pattern is entered, and no other game marked. The pass must be of the table, and
-    /// each game below 2^28. It takes memory for the rows, 36 bytes each.
+    /// each game below 2^28. It takes memory for the numbers, four bytes each.
     ///
     /// # Errors
     ///
-    /// `Full` where no number is free for a pattern, with its first game; `Overflow` where all
-    /// counts together would pass 2^64 - 1; `Memory` where memory was refused. After each, numbers
-    /// in the table and marks may have come of patterns of this share.
+    /// `Full` where no number is free for a pattern, with its first game; `Memory` where memory was
+    /// refused. After each, numbers in the table and marks may have come of patterns of this share.
     pub fn number<O: ProbeOrder>(
         self,
         table: &SlotTable<O>,
         pass: &mut Pass<O>,
-    ) -> Result<Share, HarvestFault>
+    ) -> Result<NumberedShare, HarvestFault>
         requires pass { IsPassOf table.now pass.old }
         requires share { IsShare self }
         requires small { All (λ game. game < most_bytes) self.games }
@@ -157,11 +147,14 @@ impl WordShare {
     {
         let kinds = self.counts.kinds();
         let entries = self.counts.into_entries();
-        let ledger = Ledger {
-            rows: make_all(self.alloc, table, pass, entries.as_slice())?,
+        let numbers = number_all(self.alloc, table, pass, entries.as_slice())?;
+        Ok(NumberedShare {
+            worker: self.worker,
+            kinds,
             games: self.games,
             moves: self.moves,
-        };
-        Ok(Share::of_ledger(self.alloc, self.worker, kinds, ledger))
+            entries,
+            numbers,
+        })
     }
 }

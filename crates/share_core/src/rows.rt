@@ -107,18 +107,6 @@ impl Rows {
         }
     }
 
-    /// The same, with room for this many rows.
-    pub fn with_room(alloc: Global, count: usize) -> Result<Rows, AllocError>
-        ensures { IfOk result (λ rows. rows ≡ []) }
-    {
-        Ok(Rows {
-            index: Vec::new(alloc),
-            older: Vec::with_capacity(alloc, count)?,
-            rows: Vec::with_capacity(alloc, count)?,
-            weight: 0,
-        })
-    }
-
     /// The rows, in their order.
     pub fn as_slice(&self) -> &[KeptRow]
         ensures rows { result.now ≡ self.now }

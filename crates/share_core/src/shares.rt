@@ -7,7 +7,6 @@ use crate::kept_rows::KeptRow;
 use crate::ledgers::Ledger;
 use crate::rows::{Row, Rows};
 use crate::share_rows::ShareRows;
-use crate::starts::start_of;
 use crate::workings::Workings;
 use go_record::Record;
 use harvest_faults::HarvestFault;
@@ -71,35 +70,14 @@ impl Share {
           rows = [];
         } }
     {
-        let ledger = Ledger {
-            games: Vec::new(alloc),
-            moves: 0,
-            rows: Rows::begin(alloc),
-        };
-        Share::of_ledger(alloc, worker, kinds, ledger)
-    }
-
-    /// The share of this worker that has counted this.
-    pub(crate) fn of_ledger(alloc: Global, worker: usize, kinds: Kinds, ledger: Ledger) -> Share
-        requires { IsShare (record {
-          worker = worker;
-          kinds = kinds;
-          games = ledger.games.items;
-          moves = ledger.moves;
-          rows = ledger.rows;
-        }) }
-        ensures { result ≡ record {
-          worker = worker;
-          kinds = kinds;
-          games = ledger.games.items;
-          moves = ledger.moves;
-          rows = ledger.rows;
-        } }
-    {
         Share {
             worker,
             workings: Workings::begin(alloc, kinds),
-            ledger,
+            ledger: Ledger {
+                games: Vec::new(alloc),
+                moves: 0,
+                rows: Rows::begin(alloc),
+            },
         }
     }
 
@@ -143,17 +121,6 @@ impl Share {
         ensures numbers { AreOfNumbers self.now.rows }
     {
         self.ledger.rows.as_slice()
-    }
-
-    /// The rows in two parts: those after some place, and then those before it. Where a share was
-    /// counted by words, numbers nearly rise through the first part and on through the second. It
-    /// takes no memory.
-    pub fn made_parts(&self) -> (&[KeptRow], &[KeptRow])
-        ensures { result.1.now ++ result.0.now ≡ self.now.rows }
-    {
-        let rows = self.made_rows();
-        let (before, after) = rows.split_at(start_of(self.worker, rows.len()));
-        (after, before)
     }
 
     /// The rows, numbers rising. It takes no memory.

@@ -1,5 +1,4 @@
 //! Where each worker begins, when patterns get numbers.
-ghost use Rattle.std.specs.Prelude.{◌≤◌};
 
 /// By how much the order of a worker's patterns is shifted, of 2^64. The workers of a count are as
 /// far from one another as they can be: half of all patterns where they are two, a quarter where
@@ -7,11 +6,4 @@ ghost use Rattle.std.specs.Prelude.{◌≤◌};
 /// places that are mostly free at first, and others that are mostly taken later.
 pub(crate) fn shift_of(worker: usize) -> u64 {
     (worker as u64).reverse_bits()
-}
-
-/// How many of a worker's rows come before those of the least numbers, as far as its shift tells.
-pub(crate) fn start_of(worker: usize, rows: usize) -> usize
-    ensures { result ≤ rows }
-{
-    ((u128::from(shift_of(worker)) * rows as u128) >> 64) as usize
 }

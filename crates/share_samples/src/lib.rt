@@ -148,6 +148,8 @@ pub fn add_written<O: ProbeOrder>(
 pub fn words_of(alloc: Global, first: &Record, second: &Record) -> Result<WordShare, HarvestFault>
     ensures share { IfOk result IsShare }
     ensures small { IfOk result (λ words. All (λ game. game < most_bytes) words.games) }
+    ensures kinds { IfOk result (λ words. words.kinds ≡ kinds.Squares) }
+    ensures games { IfOk result (λ words. words.games ≡ 0 ∷ 1 ∷ []) }
 {
     let mut words = WordShare::begin(alloc, 2, Kinds::Squares, 8);
     words.add(0, first)?;

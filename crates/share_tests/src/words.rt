@@ -1,22 +1,40 @@
 //! What a worker counts by words, and the numbers that its patterns get.
+ghost use Rattle.slot_table.specs.Passes.{IsPassOf};
+
 use harvest_faults::HarvestFault;
-use share_core::{Row, Share};
+use probe_core::{Answer, Key, ProbeOrder};
+use share_core::NumberedShare;
 use share_samples::{
     ALONE, EMPTY, ONE_POINT, TAKEN, TWO_POINTS, record_of, shape_of, table_of, words_of,
 };
+use slot_table::{Pass, SlotTable};
 use std::test::Fail;
 
 /// How often the pattern whose word has these bits was there and was played by a share, and its
-/// first game, if the share has one row of it.
-fn counted(share: &Share, bits: u64) -> Option<(u64, u64, Option<u64>)> {
+/// first game, if the share has it once, at the number that the table has for it.
+fn counted<O: ProbeOrder>(
+    table: &SlotTable<O>,
+    pass: &mut Pass<O>,
+    share: &NumberedShare,
+    bits: u64,
+) -> Option<(u64, u64, Option<u64>)>
+    requires { IsPassOf table.now pass.old }
+    ensures { IsPassOf table.now pass.new }
+{
     let shape = shape_of(bits)?;
-    let is_of = |row: &Row| row.shape == shape;
-    let mut rows = share.rows().filter(is_of);
-    let row = rows.next()?;
-    match rows.next() {
-        None => Some((row.there, row.played, row.first)),
-        Some(_) => None,
+    let number = table.look_up(pass, Key::new(bits)?);
+    let mut found = None;
+    for place in 0..share.patterns() {
+        let entry = share.entry_at(place);
+        if entry.shape != shape {
+            continue;
+        }
+        if found.is_some() || Answer::Number(share.number_at(place)) != number {
+            return None;
+        }
+        found = Some((entry.there, entry.played, entry.first.get()));
     }
+    found
 }
 
 #[test]
@@ -29,9 +47,9 @@ fn patterns_that_were_counted_get_numbers(rt: HostRuntime) -> Result<(), Fail> {
     let share = words.number(&table, &mut pass)?;
     assert!(rt; share.worker() == 2 && share.moves() == 3);
     assert!(rt; share.games() == [0, 1].as_slice());
-    assert!(rt; counted(&share, EMPTY) == Some((2, 1, Some(0))));
-    assert!(rt; counted(&share, TAKEN) == Some((1, 1, Some(0))));
-    assert!(rt; counted(&share, ALONE) == Some((1, 1, Some(1))));
+    assert!(rt; counted(&table, &mut pass, &share, EMPTY) == Some((2, 1, Some(0))));
+    assert!(rt; counted(&table, &mut pass, &share, TAKEN) == Some((1, 1, Some(0))));
+    assert!(rt; counted(&table, &mut pass, &share, ALONE) == Some((1, 1, Some(1))));
     Ok(())
 }
 

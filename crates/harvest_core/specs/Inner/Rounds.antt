@@ -1,13 +1,14 @@
 -- What threads are to do in a round of a count by words, and what they come to.
 use Rattle.std.specs.Prelude.{◌≡◌, ℕ, List, All, Result, IfOk, IfErr, IfSome}
 use Rattle.shape_core.specs.declared.words.Kinds.{Kinds}
-use Rattle.slot_table.specs.Passes.{IsPassOf, Known, Numbers}
+use Rattle.slot_table.specs.Passes.{IsPassOf}
 use Rattle.game_core.specs.Games.{HasReadAll}
 use Rattle.harvest_faults.specs.declared.faults.HarvestFault.{HarvestFault}
 use Rattle.harvest_faults.specs.declared.faults.HarvestFault.TheVariants as fault
 use Rattle.harvest_core.specs.declared.rounds.Done.{Done}
 use Rattle.harvest_core.specs.declared.rounds.Done.TheVariants as done
 use Rattle.harvest_core.specs.declared.rounds.Ended.{Ended}
+use Rattle.harvest_core.specs.declared.rounds.Numbering.{Numbering}
 use Rattle.harvest_core.specs.declared.rounds.Round.{Round}
 use Rattle.harvest_core.specs.declared.rounds.Task.{Task}
 use Rattle.harvest_core.specs.declared.rounds.Task.TheVariants as task
@@ -22,10 +23,16 @@ IsTask bytes kinds task.Table = Unit {0}
 IsTask bytes kinds (task.Count counter) = IsCounter bytes kinds counter
 IsTask bytes kinds (task.Read games) = games.bytes ≡ bytes
 
+-- a table of this number of slots, with a pass of it and room for as many totals
+pub record IsMade (slots : ℕ) (made : Numbering) : Type 0 where
+  pub pass : IsPassOf made.table made.pass
+  pub slots_are : made.table.slots ≡ slots
+  pub room : made.room ≡ slots
+
 -- a worker has counted games of the input, or a table of this number of slots was made, or a part of the input's games was read
 abbrev pub IsDone : List ℕ → Kinds → ℕ → Done → Type 0
 IsDone bytes kinds slots (done.Counted counter) = IsCounter bytes kinds counter
-IsDone bytes kinds slots (done.Table table pass) = IsPassOf table pass × (table.slots ≡ slots)
+IsDone bytes kinds slots (done.Table numbers) = IsMade slots numbers
 IsDone bytes kinds slots (done.Part part) = IsPart bytes part
 
 -- why a task was not done: a count might be too large, or the input could not be read, or memory was wanting
@@ -37,13 +44,9 @@ IsTaskFault bytes found = IsReadFault bytes found
 abbrev pub IsOutcome : List ℕ → Kinds → ℕ → Result Done HarvestFault → Type 0
 IsOutcome bytes kinds slots outcome = IfOk outcome (IsDone bytes kinds slots) × IfErr outcome (IsTaskFault bytes)
 
--- a table of this number of slots, with a pass of it
-abbrev pub IsMade : {O : Type 0} → ℕ → Numbers O × Known O → Type 0
-IsMade slots made = IsPassOf made.0 made.1 × (made.0.slots ≡ slots)
-
 -- what all tasks of a round came to
 pub record IsRound (bytes : List ℕ) (kinds : Kinds) (slots : ℕ) (round : Round) : Type 0 where
-  pub table : IfSome round.table (IsMade slots)
+  pub numbers : IfSome round.numbers (IsMade slots)
   pub counters : All (IsCounter bytes kinds) round.counters.items
   pub part : IfSome round.part (IsPart bytes)
 
@@ -51,5 +54,6 @@ pub record IsRound (bytes : List ℕ) (kinds : Kinds) (slots : ℕ) (round : Rou
 pub record IsEnded (bytes : List ℕ) (kinds : Kinds) (slots : ℕ) (ended : Ended) : Type 0 where
   pub table : IsPassOf ended.table ended.pass
   pub slots_are : ended.table.slots ≡ slots
+  pub room : ended.room ≡ slots
   pub counters : All (IsCounter bytes kinds) ended.counters.items
   pub report : HasReadAll bytes ended.report

@@ -25,7 +25,7 @@ loop-one-preserved-in-Continue-branch-2 g c =
     let done = rw c.in-Ok-Counted.is at next.0.0 in
     let here = rw c.in-Ok-Counted.field-0-is at done in
     record {
-      table = h.table;
+      numbers = h.numbers;
       counters = subst (All C) (sym c.in_ok-push-in-Ok-Counted.ensures.items) (All-push C c.loop-one.counters.items c.in-Ok-Counted.counter h.counters here);
       part = h.part;
       rest = next.1;
@@ -37,7 +37,7 @@ loop-one-preserved-in-Ok-Table g c =
     let h = c.loop-one.invariant in
     let next = next-of crowd.bytes.now crowd.kinds (2 ^ crowd.capacity) c.in-Some.ensures.steps.0 h.rest in
     let done = rw c.in-Ok-Table.is at next.0.0 in
-    record { table = rw c.in-Ok-Table.field-0-is at done; counters = h.counters; part = h.part; rest = next.1 }
+    record { numbers = rw c.in-Ok-Table.field-0-is at done; counters = h.counters; part = h.part; rest = next.1 }
 
 pub loop-one-preserved : goal.loop-one-preserved
 loop-one-preserved g c =
@@ -45,4 +45,4 @@ loop-one-preserved g c =
     let h = c.loop-one.invariant in
     let next = next-of crowd.bytes.now crowd.kinds (2 ^ crowd.capacity) c.in-Some.ensures.steps.0 h.rest in
     let done = rw c.in-Ok-Part.is at next.0.0 in
-    record { table = h.table; counters = h.counters; part = rw c.in-Ok-Part.field-0-is at done; rest = next.1 }
+    record { numbers = h.numbers; counters = h.counters; part = rw c.in-Ok-Part.field-0-is at done; rest = next.1 }

@@ -1,21 +1,20 @@
-use Rattle.std.proofs.Common.{◌≡◌, ℕ, ◌<◌, ◌∷◌, ◌++◌, [], length, drop, ◌+◌, None, ap, sym, ◌∙◌, refl, arith, below_more}
-use Rattle.share_core.proofs.Common.{err_from_is_err_and, get_or_default, drop_more, length-map, answer_at, content_of, Row, IsNumber, MarksOnly, EntersOnly}
-use Rattle.std.proofs.lemmas.List.Elements.{All-push}
+use Rattle.std.proofs.Common.{◌≡◌, ℕ, ◌<◌, List, ◌∷◌, ◌++◌, [], length, take, None, ap, sym, subst, ◌∙◌, refl, arith, below_more, append_assoc}
+use Rattle.share_core.proofs.Common.{get_or_default, take_more, take_all, append-nil, length-map, answer_at, content_of, IsNumber, MarksOnly, EntersOnly}
 use Rattle.probe_core.specs.declared.calls.Answer.TheVariants as answer
 use Rattle.shape_dict.specs.declared.entries.Entry.{Entry}
 use Rattle.slot_table.proofs.Lasting.{told_stays}
 use Rattle.share_core.specs.WordShares.{unnumbered}
-use Rattle.share_core.specs.Inner.Numbering.{shapes_in, all_of, IsSettled, IsKeyIn, IsFirstOf}
+use Rattle.share_core.specs.Inner.Numbering.{shapes_in, IsSettled, AreSettled, IsKeyIn, IsFirstOf}
 use Rattle.share_core.proofs.Entered.{calls_self, tells_refused}
-use Rattle.share_core.proofs.Numbered.{entry_at, is_among, keys_entered, told_of, marks_more, block_calls, settled_later, no_row, all_more, append_fault}
+use Rattle.share_core.proofs.Numbered.{entry_at, is_among, keys_entered, told_of, marks_more, block_calls, settled_later, settled_push}
 use Rattle.share_core.proofs.numbering.number_block.Goals as goal
-use Rattle.share_core.proofs.numbering.number_block.Goals.{After-slots-slots, After-index, After-mark_first}
+use Rattle.share_core.proofs.numbering.number_block.Goals.{After-slots, After-index, After-mark_first}
 
 -- the keys are those of the entries, and they were entered
-keys-are : (g : _) (c : After-slots-slots g) → c.as_slice.result.now ≡ shapes_in c.args.entries.now
+keys-are : (g : _) (c : After-slots g) → c.as_slice.result.now ≡ shapes_in c.args.entries.now
 keys-are g c = c.as_slice.ensures.value ∙ c.in_ok-list_keys.ensures.keys
 
-entered-of : (g : _) (c : After-slots-slots g) → EntersOnly c.args.table.now.slots (IsKeyIn c.args.entries.now) c.args.pass.now c.enter_keys.new.pass
+entered-of : (g : _) (c : After-slots g) → EntersOnly c.args.table.now.slots (IsKeyIn c.args.entries.now) c.args.pass.now c.enter_keys.new.pass
 entered-of g c = keys_entered c.args.entries.now c.as_slice.result.now c.enter_keys.new.answers.items (keys-are g c) c.in_ok-enter_keys.ensures.made
 
 -- the entry and its answer, as they were read
@@ -46,13 +45,6 @@ marks-of g c entry is =
     marks_more c.loop-i.i c.in-Number.number c.get.result c.loop-i-test.true (c.get.ensures ∙ ap (λ (e : Entry). e.first) entry) is
     c.loop-i.invariant.marks c.mark_first.ensures.marks
 
--- the rows so far, this entry and those that are left
-next-is : (g : _) (c : After-index g) → all_of c.loop-i.rows (entry_at c.args.entries.now c.loop-i.i ∷ drop (c.loop-i.i + 1) c.args.entries.now)
-    ≡ all_of c.args.rows.now c.args.entries.now
-next-is g c =
-    ap (all_of c.loop-i.rows) (sym (drop_more c.args.entries.now c.loop-i.i (record { shape = 0; there = 0; played = 0; first = None })
-    c.loop-i-test.true)) ∙ c.loop-i.invariant.all
-
 pub returns-in_err-enter_keys-clause-calls : goal.returns-in_err-enter_keys-clause-calls
 returns-in_err-enter_keys-clause-calls g c =
     rw c.in_err-enter_keys.ensures.same (calls_self c.args.table.now.slots _ _ c.args.pass.now)
@@ -61,8 +53,7 @@ pub loop-i-init : goal.loop-i-init
 loop-i-init g c = record {
   pass = c.enter_keys.ensures.pass;
   marks = calls_self c.args.table.now.slots (λ _ _. ⊥) _ c.enter_keys.new.pass;
-  all = refl;
-  settled = settled_later c.args.rows.now c.in_ok-enter_keys.ensures.made.later.keeps c.requires.settled;
+  settled = λ done h. rw (append-nil done) (settled_later c.args.numbers.now.items done c.in_ok-enter_keys.ensures.made.later.keeps h);
   before = λ i low. absurd (omega (arith, low));
 }
 
@@ -75,7 +66,7 @@ returns-in_default g c =
     let inv = c.loop-i.invariant in
     let entry = entry-is g (goal.at.returns-in_default g c).After-index in
     let read = answer-is g (goal.at.returns-in_default g c).After-index in
-    let keys = keys-are g (goal.at.returns-in_default g c).After-slots-slots in
+    let keys = keys-are g (goal.at.returns-in_default g c).After-slots in
     let told = c.full.ensures in
     let until = c.in_ok-enter_keys.ensures.until i
     (omega (arith, c.loop-i-test.true, ap length keys, length-map entries (λ (e : Entry). e.shape))) in
@@ -86,9 +77,8 @@ returns-in_default g c =
     inv.marks.later.begins tells in
     record {
       pass = inv.pass;
-      rows = tt;
       settled = tt;
-      calls = block_calls (entered-of g (goal.at.returns-in_default g c).After-slots-slots) inv.marks;
+      calls = block_calls (entered-of g (goal.at.returns-in_default g c).After-slots) inv.marks;
       fault = rw (told.1, entry)
           ((unnumbered (entry_at entries i), is_among entries i c.loop-i-test.true, refl, rw entry at told.2), later.0, later.1);
     }
@@ -97,41 +87,12 @@ pub mark_first-requires-clause-number : goal.mark_first-requires-clause-number
 mark_first-requires-clause-number g c =
     (told-at g (goal.at.mark_first-requires-clause-number g c).After-index c.in-Number.number c.in-Number.is).0
 
-pub of_entry-requires-clause-number : goal.of_entry-requires-clause-number
-of_entry-requires-clause-number g c =
-    let told = told-at g (goal.at.of_entry-requires-clause-number g c).After-index c.in-Number.number c.in-Number.is in
-    omega (arith, told.0, c.slots-slots.ensures.few, c.slots-slots.ensures.value ∙ c.capacity.ensures.slots)
-
-pub append-requires-clause-number : goal.append-requires-clause-number
-append-requires-clause-number g c =
-    let told = told-at g (goal.at.append-requires-clause-number g c).After-index c.in-Number.number c.in-Number.is in
-    omega (arith, told.0, ap (λ (r : Row). r.number) c.of_entry.ensures, c.slots-slots.ensures.value ∙ c.capacity.ensures.slots)
-
-pub append-requires-clause-none : goal.append-requires-clause-none
-append-requires-clause-none g c =
-    let before = (goal.at.append-requires-clause-none g c).After-index in
-    let i = c.loop-i.i in
+pub returns-in_err-push-clause-calls : goal.returns-in_err-push-clause-calls
+returns-in_err-push-clause-calls g c =
+    let before = (goal.at.returns-in_err-push-clause-calls g c).After-index in
     let told = told-at g before c.in-Number.number c.in-Number.is in
-    let entry = entry_at c.args.entries.now i in
-    rw c.of_entry.ensures (no_row c.args.table.now.slots c.loop-i.pass.seen c.loop-i.rows entry (drop (i + 1) c.args.entries.now)
-    c.in-Number.number (rw (next-is g before) c.requires.apart) c.loop-i.invariant.settled
-    (c.loop-i.invariant.marks.later.keeps.numbers entry.shape c.in-Number.number told.1))
-
-pub returns-in_err-append-clause-calls : goal.returns-in_err-append-clause-calls
-returns-in_err-append-clause-calls g c =
-    let before = (goal.at.returns-in_err-append-clause-calls g c).After-index in
-    let told = told-at g before c.in-Number.number c.in-Number.is in
-    block_calls (entered-of g (goal.at.returns-in_err-append-clause-calls g c).After-slots-slots)
-    (marks-of g (goal.at.returns-in_err-append-clause-calls g c).After-mark_first (entry-is g before) told.1)
-
-pub returns-in_err-append-clause-fault : goal.returns-in_err-append-clause-fault
-returns-in_err-append-clause-fault g c =
-    let before = (goal.at.returns-in_err-append-clause-fault g c).After-index in
-    let i = c.loop-i.i in
-    let p = err_from_is_err_and c.from_residual-in_err-append.result c.from_residual-in_err-append.ensures.1 in
-    rw (p.1, p.2) (append_fault c.args.table.now.slots c.mark_first.new.pass.seen c.loop-i.rows c.args.rows.now c.args.entries.now
-    (entry_at c.args.entries.now i) (drop (i + 1) c.args.entries.now) c.in-Number.number c.in_err-append.field-0.0 (next-is g before)
-    (rw (c.of_entry.ensures, entry-is g before) at c.in_err-append.ensures.fault))
+    block_calls (entered-of g (goal.at.returns-in_err-push-clause-calls g c).After-slots)
+    (marks-of g (goal.at.returns-in_err-push-clause-calls g c).After-mark_first (entry-is g before) told.1)
 
 pub loop-i-preserved : goal.loop-i-preserved
 loop-i-preserved g c =
@@ -143,22 +104,26 @@ loop-i-preserved g c =
     let told = told-at g before number c.in-Number.is in
     let is = entry-is g before in
     let entry = entry_at c.args.entries.now i in
-    let row : Row = record (unnumbered entry) { number = number } in
     let marks = marks-of g (goal.at.loop-i-preserved g c).After-mark_first is told.1 in
-    let appended = c.in_ok-append.ensures.ok ∙ ap (λ (r : Row). c.loop-i.rows ++ r ∷ []) (c.of_entry.ensures
-    ∙ ap (λ (e : Entry). record (unnumbered e) { number = number }) is) in
     record {
       pass = c.mark_first.ensures.pass;
       marks = marks;
-      all = rw appended (all_more c.loop-i.rows entry (drop (i + 1) c.args.entries.now) number ∙ next-is g before);
-      settled = rw appended (All-push (IsSettled n c.mark_first.new.pass.seen) c.loop-i.rows row
-          (settled_later c.loop-i.rows c.mark_first.ensures.marks.later.keeps inv.settled) (record {
+      settled = λ done h.
+          let so_far = settled_later c.loop-i.numbers.items (done ++ take i c.args.entries.now) c.mark_first.ensures.marks.later.keeps (inv.settled done h) in
+          let last : IsSettled n c.mark_first.new.pass.seen number entry = record {
             stands = marks.later.keeps.numbers entry.shape number told.1;
             marked = rw (c.get.ensures ∙ ap (λ (e : Entry). e.first) is) at c.mark_first.ensures.marked;
-          }));
+          } in
+          rw (c.in_ok-push.ensures.items, take_more c.args.entries.now i (record { shape = 0; there = 0; played = 0; first = None }) c.loop-i-test.true, ← append_assoc done (take i c.args.entries.now) (entry ∷ []))
+          (settled_push n c.mark_first.new.pass.seen c.loop-i.numbers.items (done ++ take i c.args.entries.now) number entry so_far last);
       before = below_more _ _ inv.before (number, sym (answer-is g before) ∙ c.in-Number.is);
     }
 
+pub returns-clause-settled : goal.returns-clause-settled
+returns-clause-settled g c done h =
+    subst (λ (es : List Entry). AreSettled c.args.table.now.slots c.loop-i.pass.seen c.loop-i.numbers.items (done ++ es))
+    (take_all c.loop-i.i c.args.entries.now (omega (arith, c.loop-i-test.false))) (c.loop-i.invariant.settled done h)
+
 pub returns-clause-calls : goal.returns-clause-calls
 returns-clause-calls g c =
-    block_calls (entered-of g (goal.at.returns-clause-calls g c).After-slots-slots) c.loop-i.invariant.marks
+    block_calls (entered-of g (goal.at.returns-clause-calls g c).After-slots) c.loop-i.invariant.marks

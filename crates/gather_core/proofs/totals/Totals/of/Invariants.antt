@@ -1,8 +1,7 @@
 use Rattle.std.proofs.Common.{take}
-use Rattle.gather_core.proofs.Common.{AreSummed}
-use Rattle.gather_core.specs.Inner.Pieces.{rows_of}
+use Rattle.gather_core.proofs.Common.{all_rows, AreSummed}
 use Rattle.gather_core.proofs.totals.Totals.of.Given as goal
 
--- the rows of the pieces so far were added
-abbrev pub invariant-loop-piece : goal.invariant-loop-piece
-invariant-loop-piece l = AreSummed l.slots (rows_of (take l.piece-index l.piece-items)) l.totals
+-- the rows of the shares so far were added
+abbrev pub invariant-loop-share : goal.invariant-loop-share
+invariant-loop-share l = AreSummed l.slots (all_rows (take l.share-index l.shares)) l.totals

@@ -1,4 +1,6 @@
-use Rattle.std.proofs.Common.{◌≡◌, ◌∙◌}
+use Rattle.std.proofs.Common.{◌≡◌, sym, ◌∙◌}
+use Rattle.std.proofs.lemmas.Slice.Zip.{AllZip-long}
+use Rattle.share_core.specs.Inner.Numbering.{IsSettled, AreSettled}
 use Rattle.share_core.proofs.Common.{err_from_is_err_and}
 use Rattle.share_core.proofs.Numbered.{small_firsts, numbering_calls, numbering_fault, share_numbered, words_numbered}
 use Rattle.share_core.proofs.word_shares.WordShare.number.Goals as goal
@@ -8,54 +10,56 @@ use Rattle.share_core.proofs.word_shares.WordShare.number.Goals.{After-as_slice}
 entries-are : (g : _) (c : After-as_slice g) → c.as_slice.result.now ≡ c.self.inside.counts.entries
 entries-are g c = c.as_slice.ensures.value ∙ c.into_entries-entries.ensures.entries
 
-pub make_all-requires-clause-small : goal.make_all-requires-clause-small
-make_all-requires-clause-small g c =
+pub number_all-requires-clause-small : goal.number_all-requires-clause-small
+number_all-requires-clause-small g c =
     let old = c.self.inside in
     rw (entries-are g c)
     (small_firsts old.worker old.counts.kinds old.games.items old.moves old.counts.entries
     (rw (c.into_entries-entries.ensures.entries) at c.into_entries-entries.ensures.apart)
     (rw (← c.self.view_is) at c.requires.share) (rw (← c.self.view_is) at c.requires.small))
 
-pub returns-in_err-make_all-clause-calls : goal.returns-in_err-make_all-clause-calls
-returns-in_err-make_all-clause-calls g c =
+pub returns-in_err-numbers-clause-calls : goal.returns-in_err-numbers-clause-calls
+returns-in_err-numbers-clause-calls g c =
     let old = c.self.inside in
-    let before = (goal.at.returns-in_err-make_all-clause-calls g c).After-as_slice in
+    let before = (goal.at.returns-in_err-numbers-clause-calls g c).After-as_slice in
     rw (← c.self.view_is)
-    (numbering_calls c.args.table.now.slots c.make_all.new.pass.seen old.worker old.counts.kinds old.games.items old.moves
-    old.counts.entries c.args.pass.now c.make_all.new.pass (rw (entries-are g before) at c.make_all.ensures.calls))
+    (numbering_calls c.args.table.now.slots c.number_all.new.pass.seen old.worker old.counts.kinds old.games.items old.moves
+    old.counts.entries c.args.pass.now c.number_all.new.pass (rw (entries-are g before) at c.number_all.ensures.calls))
 
-pub returns-in_err-make_all-clause-fault : goal.returns-in_err-make_all-clause-fault
-returns-in_err-make_all-clause-fault g c =
+pub returns-in_err-numbers-clause-fault : goal.returns-in_err-numbers-clause-fault
+returns-in_err-numbers-clause-fault g c =
     let p = err_from_is_err_and c.from_residual.result c.from_residual.ensures.1 in
     let old = c.self.inside in
-    let before = (goal.at.returns-in_err-make_all-clause-fault g c).After-as_slice in
+    let before = (goal.at.returns-in_err-numbers-clause-fault g c).After-as_slice in
     rw (p.1, p.2, ← c.self.view_is)
-    (numbering_fault c.args.table.now.slots c.make_all.new.pass.seen old.worker old.counts.kinds old.games.items old.moves
-    old.counts.entries c.in_err-make_all.field-0.0 (rw (entries-are g before) at c.in_err-make_all.ensures.fault))
+    (numbering_fault c.args.table.now.slots c.number_all.new.pass.seen old.worker old.counts.kinds old.games.items old.moves
+    old.counts.entries c.in_err-numbers.field-0.0 (rw (entries-are g before) at c.in_err-numbers.ensures.fault))
 
-pub of_ledger-requires : goal.of_ledger-requires
-of_ledger-requires g c =
+pub invariant_of-result : goal.invariant_of-result
+invariant_of-result g c =
     let old = c.self.inside in
-    let before = (goal.at.of_ledger-requires g c).After-as_slice in
-    rw c.kinds-kinds.ensures
-    (share_numbered old.counts.entries c.in_ok-make_all.field-0
-    (rw (entries-are g before) at c.in_ok-make_all.ensures.rows) old.worker old.counts.kinds old.games.items old.moves
-    (rw (← c.self.view_is) at c.requires.share))
+    let before = (goal.at.invariant_of-result g c).After-as_slice in
+    let n = c.args.table.now.slots in
+    let numbers = c.in_ok-numbers.numbers.items in
+    let settled : AreSettled n c.number_all.new.pass.seen numbers old.counts.entries = rw (entries-are g before) at c.in_ok-numbers.ensures.settled in
+    rw (c.kinds-kinds.ensures, c.into_entries-entries.ensures.entries) (
+      sym (AllZip-long (IsSettled n c.number_all.new.pass.seen) numbers old.counts.entries settled),
+      share_numbered n c.number_all.new.pass.seen numbers old.counts.entries settled old.worker old.counts.kinds old.games.items old.moves
+          (rw (← c.self.view_is) at c.requires.share),
+    )
 
 pub returns-clause-numbered : goal.returns-clause-numbered
 returns-clause-numbered g c =
     let old = c.self.inside in
     let before = (goal.at.returns-clause-numbered g c).After-as_slice in
-    rw (c.of_ledger.ensures, c.kinds-kinds.ensures, ← c.self.view_is)
-    (words_numbered c.args.table.now.slots c.make_all.new.pass.seen old.worker old.counts.kinds old.games.items old.moves
-    old.counts.entries c.in_ok-make_all.field-0
-    (rw (c.into_entries-entries.ensures.entries) at c.into_entries-entries.ensures.counted)
-    (rw (entries-are g before) at c.in_ok-make_all.ensures.rows) c.in_ok-make_all.ensures.settled)
+    rw (c.kinds-kinds.ensures, c.into_entries-entries.ensures.entries, ← c.self.view_is)
+    (words_numbered c.args.table.now.slots c.number_all.new.pass.seen c.in_ok-numbers.numbers.items old.counts.entries (rw (entries-are g before) at c.in_ok-numbers.ensures.settled) old.worker old.counts.kinds old.games.items old.moves
+    (rw (c.into_entries-entries.ensures.entries) at c.into_entries-entries.ensures.counted))
 
 pub returns-clause-calls : goal.returns-clause-calls
 returns-clause-calls g c =
     let old = c.self.inside in
     let before = (goal.at.returns-clause-calls g c).After-as_slice in
     rw (← c.self.view_is)
-    (numbering_calls c.args.table.now.slots c.make_all.new.pass.seen old.worker old.counts.kinds old.games.items old.moves
-    old.counts.entries c.args.pass.now c.make_all.new.pass (rw (entries-are g before) at c.make_all.ensures.calls))
+    (numbering_calls c.args.table.now.slots c.number_all.new.pass.seen old.worker old.counts.kinds old.games.items old.moves
+    old.counts.entries c.args.pass.now c.number_all.new.pass (rw (entries-are g before) at c.number_all.ensures.calls))
