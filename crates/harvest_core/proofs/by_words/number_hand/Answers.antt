@@ -1,4 +1,3 @@
-use Rattle.std.proofs.Common.{◌≡◌}
 use Rattle.harvest_core.proofs.ByWords.{numbered_worked}
 use Rattle.harvest_core.proofs.by_words.number_hand.Goals as goal
 

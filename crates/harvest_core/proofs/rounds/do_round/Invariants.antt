@@ -1,4 +1,4 @@
-use Rattle.std.proofs.Common.{◌≡◌, ◌^◌, All, IfSome}
+use Rattle.std.proofs.Common.{◌^◌, All, IfSome}
 use Rattle.harvest_core.specs.Inner.Counting.{IsCounter}
 use Rattle.harvest_core.specs.Inner.Parts.{IsPart}
 use Rattle.harvest_core.specs.Inner.Rounds.{IsMade, IsOutcome}
