@@ -140,8 +140,8 @@ fn add_both<R: Threads + Sync>(
 }
 
 /// Adds what all shares have counted to the totals of a table's numbers, from 0 on, in as many
-/// threads as this, rounded up to a power of two, but in no more than eight. The answer is whether
-/// all goes.
+/// threads as this, rounded down to a power of two, but in no more than eight. The answer is
+/// whether all goes.
 pub(crate) fn add_numbered<R: Threads + Sync>(
     rt: &R,
     threads: usize,
