@@ -3,7 +3,7 @@
 use Rattle.std.proofs.Common.{◌≡◌, ℕ, List, ◌++◌, Option, Some, None, ap, sym, subst, ◌∙◌, arith, ⊎_elim, Contains}
 use Rattle.gather_core.proofs.Common.{one_key, map-append, Contains-get_or, Contains-append_cases, Kinds, IsNumber, Happened, content_of, Keeps, Row, row_at, blank, Held, Stand, same_length}
 use Rattle.go_record.specs.Actions.{Actions}
-use Rattle.share_core.proofs.Indexed.{row_there}
+use Rattle.share_core.proofs.Found.{row_there}
 use Rattle.harvest_faults.specs.declared.faults.HarvestFault.TheVariants as fault
 use Rattle.share_core.specs.Raising.{Numbered}
 use Rattle.share_core.specs.Adding.{AreFresh, HasGrown, IsKept, IsAddFault}

@@ -5,7 +5,7 @@ ghost use Rattle.share_core.specs.declared.rows.Row.{Row};
 ghost use Rattle.gather_core.specs.Checking.{all_rows};
 ghost use Rattle.gather_core.specs.Inner.Leasts.{IsSought, IsLeastSought};
 
-use share_core::{KeptRow, Row, Share};
+use share_core::{Row, Share};
 
 /// Which rows are looked for.
 #[derive(Clone, Copy)]
@@ -49,13 +49,13 @@ fn lesser(least: Option<Row>, row: Row, sought: Sought) -> Option<Row>
 }
 
 /// The same over the rows of a share.
-fn least_in(least: Option<Row>, more: &[KeptRow], sought: Sought) -> Option<Row>
+fn least_in(least: Option<Row>, more: &[Row], sought: Sought) -> Option<Row>
     ensures { (rows : List Row) → IsLeastSought sought rows least
         → IsLeastSought sought (rows ++ more.now) result }
 {
     let mut found = least;
     for row in more {
-        found = lesser(found, row.row(), sought);
+        found = lesser(found, *row, sought);
     }
     found
 }

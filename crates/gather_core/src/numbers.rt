@@ -4,7 +4,7 @@ ghost use Rattle.share_core.specs.declared.rows.Row.{Row};
 ghost use Rattle.share_core.specs.Rows.{earlier, row_of, AreOfNumbers};
 ghost use Rattle.gather_core.specs.Checking.{all_rows};
 ghost use Rattle.gather_core.specs.Inner.Checking.{unlike_of};
-ghost use Rattle.gather_core.specs.Inner.Numbers.{none_summed, AreSums};
+ghost use Rattle.gather_core.specs.Inner.Numbers.{AreSums};
 
 use shape_core::{Shape, Word};
 use share_core::{Row, Share};
@@ -18,7 +18,7 @@ pub(crate) struct NumberSums {
 }
 
 /// A pattern, if it is another one than this.
-pub(crate) fn unlike(shape: Shape, found: Option<u64>) -> Option<Word>
+fn unlike(shape: Shape, found: Option<u64>) -> Option<Word>
     ensures { result ≡ unlike_of shape found }
 {
     let word = shape.word();
@@ -40,16 +40,6 @@ pub(crate) fn earlier(one: Option<u64>, other: Option<u64>) -> Option<u64>
     }
 }
 
-/// What no rows are together.
-pub(crate) fn no_sums() -> NumberSums
-    ensures { result ≡ none_summed }
-{
-    NumberSums {
-        first: None,
-        stranger: None,
-    }
-}
-
 /// The rows of a number and one more.
 fn add(sums: NumberSums, row: Row, found: Option<u64>) -> NumberSums
     ensures { (rows more : List Row) → (number : ℕ) → AreOfNumbers more
@@ -57,7 +47,7 @@ fn add(sums: NumberSums, row: Row, found: Option<u64>) -> NumberSums
         → AreSums (rows ++ more) number found result }
 {
     NumberSums {
-        first: earlier(sums.first, row.first),
+        first: earlier(sums.first, row.first.get()),
         stranger: sums.stranger.or(unlike(row.shape, found)),
     }
 }
@@ -66,7 +56,10 @@ fn add(sums: NumberSums, row: Row, found: Option<u64>) -> NumberSums
 pub(crate) fn sums_at(shares: &[Share], number: usize, found: Option<u64>) -> NumberSums
     ensures { AreSums (all_rows shares.now) number found result }
 {
-    let mut sums = no_sums();
+    let mut sums = NumberSums {
+        first: None,
+        stranger: None,
+    };
     for share in shares {
         if let Some(row) = share.row_at(number) {
             sums = add(sums, row, found);

@@ -44,7 +44,7 @@ fn rows_of(share: &Share) -> [Option<Row>; SLOTS] {
 /// Whether a row counts nothing, or there is none.
 fn is_blank(row: Option<Row>) -> bool {
     match row {
-        Some(row) => row.there == 0 && row.played == 0 && row.first.is_none(),
+        Some(row) => row.there == 0 && row.played == 0 && row.first.get().is_none(),
         None => true,
     }
 }

@@ -1,7 +1,6 @@
 mod Common
 mod Places
 pub mod Found
-pub mod Indexed
 pub mod Raised
 pub mod Entered
 mod Made

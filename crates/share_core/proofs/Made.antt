@@ -1,5 +1,5 @@
 -- Rows that are made for the patterns of a game, for one number after another.
-use Rattle.std.proofs.Common.{◌≡◌, ℕ, ◌+◌, ◌<◌, ◌⊎◌, List, [], ◌∷◌, ◌++◌, length, suc, Some, refl, ap, sym, ◌∙◌, arith, append_assoc, length-append, ⊎_elim, take, drop, length-take}
+use Rattle.std.proofs.Common.{◌≡◌, ℕ, ◌+◌, ◌^◌, ◌<◌, ◌≤◌, ◌⊎◌, List, [], ◌∷◌, ◌++◌, length, suc, Some, refl, ap, sym, ◌∙◌, arith, append_assoc, length-append, ⊎_elim, take, drop, length-take}
 use Rattle.share_core.proofs.Common.{sum_by, length-map, get_or-take, take-append-drop, drop_more, All-get_or, All-from_get_or, sum_by-cons, sum_by-append, Actions, Kinds, Answer, IsNumber, Happened, content_of, Known, entered, AreMade, AreTold, AreEnteredUntil, IsTold, Meeting, kinds_of, there_in, IsWalk, shapes_of, Row, HarvestFault, row_at, blank, IsPatternOf, HasItsRow, IsPrepareFault, IsEntryOf, IsRowed, IsRowedAfter, EntersOnly, HasFresh, AreNumbers, IsFirstRefusal, meeting_at, IsBelow, AreBelow, IsBlankOf, IsRowFault, Gained, HaveRows, AreRowed, IsMakingFault, answer_at}
 use Rattle.std.proofs.Math.ListN.{get_or-append}
 use Rattle.probe_core.specs.declared.calls.Answer.TheVariants as answer
@@ -80,11 +80,11 @@ pub record AreAnswered (n : ℕ) (seen : List Happened) (kinds : Kinds) (actions
   pub long : length answers ≡ length meetings
   pub told : AreTold n seen (shapes_of meetings) answers
 
--- a number that was answered is below those of the table
-answer_below : (n : ℕ) (seen : List Happened) (shape : ℕ) (found : Answer) → IsTold n seen shape found →
-    IsBelow n found
-answer_below n seen shape (answer.Number number) told = told.0
-answer_below n seen shape _ told = tt
+-- a number that was answered is one of a table
+answer_below : (n : ℕ) (seen : List Happened) (shape : ℕ) (found : Answer) → n ≤ 2 ^ 22 → IsTold n seen shape found →
+    IsBelow (2 ^ 22) found
+answer_below n seen shape (answer.Number number) few told = omega (arith, told.0, few)
+answer_below n seen shape _ few told = tt
 
 -- where some number got no row
 pub unrowed : (found : Answer) (shape : ℕ) (rows : List Row) (one : HarvestFault) → IsRowFault found shape rows one →
@@ -102,10 +102,10 @@ module _ {n : ℕ} {seen : List Happened} {kinds : Kinds} {actions : Actions} {m
       IsNumber (content_of n seen) (meeting_at meetings i).shape number
   number_at i number low is = (told_at n seen meetings answers i (answer.Number number) h.told (omega (arith, low, h.long)) is).1
 
-  pub below_of : AreBelow n answers
-  below_of i low =
+  pub below_of : n ≤ 2 ^ 22 → AreBelow (2 ^ 22) answers
+  below_of few i low =
       let found = answer_at answers i in
-      answer_below n seen (meeting_at meetings i).shape found
+      answer_below n seen (meeting_at meetings i).shape found few
       (told_at n seen meetings answers i found h.told (omega (arith, low, h.long)) refl)
 
   pub fresh_of : {old new : List Row} → Gained meetings answers old new → HasFresh n seen kinds actions old new

@@ -1,22 +1,21 @@
 -- Entries of a map that get numbers: what was answered for them, and the share that a worker's entries are then.
-use Rattle.std.proofs.Common.{◌≡◌, ℕ, ◌+◌, ◌-◌, ◌<◌, ◌==◌, true, false, cond, zero, suc, List, [], ◌∷◌, ◌++◌, length, map, get_or, Option, Some, None, IfSome, refl, ap, sym, subst, ◌∙◌, arith, length-append, All, Contains}
+use Rattle.std.proofs.Common.{◌≡◌, ℕ, ◌+◌, ◌<◌, ◌==◌, cond, zero, suc, List, [], ◌∷◌, ◌++◌, length, map, get_or, Option, None, IfSome, refl, ap, sym, subst, ◌∙◌, arith, All, Contains}
 use Rattle.std.specs.Prelude.{slice_index}
-use Rattle.std.proofs.Math.ListN.{get_or-append}
-use Rattle.std.proofs.lemmas.List.{get_or-append_right}
 use Rattle.std.proofs.lemmas.List.Elements.{All-map}
+use Rattle.std.proofs.lemmas.List.Sums.{sum-map}
+use Rattle.std.proofs.lemmas.Simd.{map-map}
+use Rattle.std.specs.List.{sum}
 use Rattle.std.proofs.lemmas.Option.{IfSome_then}
-use Rattle.share_core.proofs.Common.{nat_tests, sum_by, sum_by-cons, length-map, get_or-map, map-append, All-contains, All-from_recursion, All-get_or, All-weaker, AllByRecursion, Contains-get_or, Contains-append_left, Contains-append_right, AreMade, AreTold, IsTold, Answer, Happened, Kinds, Known, Keeps, CallsOnly, EntersOnly, MarksOnly, IsMarkAt, content_of, IsNumber, least_at, IsAtMost, answer_at, entered, Row, row_at, blank, first_of, earlier, Held, IsShare, HarvestFault}
+use Rattle.share_core.proofs.Common.{sum_by, length-map, get_or-map, map-append, All-contains, All-from_recursion, All-get_or, All-weaker, AllByRecursion, Contains-get_or, Contains-append_left, Contains-append_right, AreMade, AreTold, IsTold, Answer, Happened, Kinds, Known, Keeps, CallsOnly, EntersOnly, MarksOnly, IsMarkAt, content_of, IsNumber, least_at, IsAtMost, answer_at, entered, Row, row_at, blank, first_of, earlier, Held, IsShare, HarvestFault}
 use Rattle.shape_dict.specs.declared.entries.Entry.{Entry}
-use Rattle.shape_dict.specs.Contents.{entry_of}
-use Rattle.sgf_core.specs.Limit.{most_bytes}
-use Rattle.tally_core.specs.GameCounts.{AreApart, IsCountedEntry}
+use Rattle.tally_core.specs.GameCounts.{IsCountedEntry}
 use Rattle.harvest_faults.specs.declared.faults.HarvestFault.TheVariants as fault
 use Rattle.share_core.specs.Rows.{there_of, played_of}
 use Rattle.share_core.specs.WordShares.{unnumbered, numbered_rows, IsNumbered, IsEntered, IsMarkedFirst, IsNumberFault}
 use Rattle.share_core.specs.Inner.Numbering.{shapes_in, IsSettled, AreSettled, IsBlockFault, IsKeyIn, IsFirstOf}
-use Rattle.share_core.proofs.WordRows.{game_at, apart_more, none_more, first_is, first_below, words_of}
+use Rattle.share_core.proofs.WordRows.{first_is, words_of}
 use Rattle.share_core.proofs.Entered.{batch_enters, calls_through, calls_weaker}
-use Rattle.share_core.proofs.Indexed.{row_there}
+use Rattle.share_core.proofs.Found.{row_there}
 
 -- ---- the entry at a place
 abbrev none : Entry
@@ -116,15 +115,6 @@ settled_push n seen (m ∷ numbers) (e ∷ entries) number entry h last =
     (h.0, settled_push n seen numbers entries number entry h.1 last)
 
 -- ---- one block after another
-pub all_left : {A : Type 0} (P : A → Type 0) (xs ys : List A) → All P (xs ++ ys) → All P xs
-all_left P xs ys h k d low = subst P (get_or-append xs ys d k low) (h k d (omega (arith, length-append xs ys, low)))
-
-pub all_right : {A : Type 0} (P : A → Type 0) (xs ys : List A) → All P (xs ++ ys) → All P ys
-all_right P xs ys h k d low =
-    let place : length xs + k - length xs ≡ k = omega arith in
-    subst (λ i. P (get_or ys i d)) place (subst P (get_or-append_right xs ys (length xs) (length xs + k) d refl (omega arith))
-    (h (length xs + k) d (omega (arith, length-append xs ys, low))))
-
 module _ (entries done block rest : List Entry) (parts : done ++ (block ++ rest) ≡ entries) where
   among_all : (row : Row) → Contains (map unnumbered block) row → Contains (map unnumbered entries) row
   among_all row among =
@@ -157,35 +147,6 @@ module _ (entries done block rest : List Entry) (parts : done ++ (block ++ rest)
         number_is = is.number_is;
       }) calls)
 
--- ---- the first games of entries of which no two are of one pattern
-firsts_each : (P : ℕ → Type 0) (entries : List Entry) → AreApart entries →
-    ((shape : ℕ) → IfSome (game_at (entry_of shape entries)) P) → AllByRecursion (λ (e : Entry). IfSome e.first P) entries
-firsts_each P [] apart h = tt
-firsts_each P (entry ∷ entries) apart h =
-    let self : (entry.shape == entry.shape) ≡ true = Prim.grind (arith, nat_tests) in
-    let head = subst (λ b. IfSome (game_at (cond b (Some entry) (entry_of entry.shape entries))) P) self (h entry.shape) in (
-      head,
-      firsts_each P entries (apart_more entry entries apart)
-          (λ shape.
-          elim (entry.shape == shape) as (λ b. (entry.shape == shape) ≡ b →
-          IfSome (game_at (cond b (Some entry) (entry_of shape entries))) P → IfSome (game_at (entry_of shape entries)) P) [
-            | true ↦ λ same _.
-                subst (λ e. IfSome (game_at e) P) (sym (none_more entry entries shape apart same)) tt
-            | false ↦ λ other k. k
-          ] refl (h shape)),
-    )
-
--- the games of a share are small, and so is the first game of each pattern
-pub small_firsts : (worker : ℕ) (kinds : Kinds) (games : List ℕ) (moves : ℕ) (entries : List Entry) → AreApart entries →
-    IsShare (words_of worker kinds games moves entries) → All (λ n. n < most_bytes) games →
-    All (λ (e : Entry). IfSome e.first (λ n. n < most_bytes)) entries
-small_firsts worker kinds games moves entries apart share small =
-    let low = rw share.is_of.games at small in
-    All-from_recursion (λ (e : Entry). IfSome e.first (λ n. n < most_bytes)) entries
-    (firsts_each (λ n. n < most_bytes) entries apart
-    (λ shape. rw (sym (first_is entries shape apart) ∙ share.is_of.first shape)
-    (first_below kinds share.added shape most_bytes low)))
-
 -- ---- the share that a worker's entries become
 module _ (n : ℕ) (seen : List Happened) (worker : ℕ) (kinds : Kinds) (games : List ℕ) (moves : ℕ) (entries : List Entry) where
   abbrev words : Held
@@ -210,54 +171,46 @@ abbrev without_number : Row → Row
 without_number row = record row { number = 0 }
 
 -- sums do not look at numbers
-sum_without : (count : Row → ℕ) → ((row : Row) → count (without_number row) ≡ count row) → (rows : List Row) →
-    sum_by count (map without_number rows) ≡ sum_by count rows
-sum_without count same [] = refl
-sum_without count same (row ∷ rows) =
-    let rest = sum_without count same rows in
-    omega (arith, sum_by-cons count row rows, sum_by-cons count (without_number row) (map without_number rows), same row, rest)
+sum_without : (count : Row → ℕ) (rows : List Row) →
+    sum_by count (map without_number rows) ≡ sum_by (λ (row : Row). count (without_number row)) rows
+sum_without count rows = sym (sum-map count (map without_number rows)) ∙ ap sum (map-map count without_number rows)
+    ∙ sum-map (λ (row : Row). count (without_number row)) rows
 
 first_without : (rows : List Row) (shape : ℕ) → first_of (map without_number rows) shape ≡ first_of rows shape
 first_without [] shape = refl
 first_without (row ∷ rows) shape = ap (earlier (cond (row.shape == shape) row.first None)) (first_without rows shape)
-
--- but for their numbers they are the rows of the entries
-rows_without : (n : ℕ) (seen : List Happened) (numbers : List ℕ) (entries : List Entry) → AreSettled n seen numbers entries →
-    map without_number (numbered_rows numbers entries) ≡ map unnumbered entries
-rows_without n seen [] [] h = refl
-rows_without n seen [] (entry ∷ entries) h = absurd h
-rows_without n seen (number ∷ numbers) [] h = absurd h
-rows_without n seen (number ∷ numbers) (entry ∷ entries) h =
-    ap (λ (rows : List Row). unnumbered entry ∷ rows) (rows_without n seen numbers entries h.1)
 
 -- a row is of the number that its pattern has after a history, at which its first game is marked, or an earlier one
 record IsSettledRow (n : ℕ) (seen : List Happened) (row : Row) : Type 0 where
   stands : IsNumber (content_of n seen) row.shape row.number
   marked : IfSome row.first (IsAtMost (least_at row.number seen))
 
-rows_settled : (n : ℕ) (seen : List Happened) (numbers : List ℕ) (entries : List Entry) → AreSettled n seen numbers entries →
-    AllByRecursion (IsSettledRow n seen) (numbered_rows numbers entries)
-rows_settled n seen [] [] h = tt
-rows_settled n seen [] (entry ∷ entries) h = absurd h
-rows_settled n seen (number ∷ numbers) [] h = absurd h
-rows_settled n seen (number ∷ numbers) (entry ∷ entries) h =
-    (record { stands = h.0.stands; marked = h.0.marked }, rows_settled n seen numbers entries h.1)
+-- but for their numbers they are the rows of the entries, and settled
+rows_are : (n : ℕ) (seen : List Happened) (numbers : List ℕ) (entries : List Entry) → AreSettled n seen numbers entries →
+    (map without_number (numbered_rows numbers entries) ≡ map unnumbered entries)
+    × AllByRecursion (IsSettledRow n seen) (numbered_rows numbers entries)
+rows_are n seen [] [] h = (refl, tt)
+rows_are n seen [] (entry ∷ entries) h = absurd h
+rows_are n seen (number ∷ numbers) [] h = absurd h
+rows_are n seen (number ∷ numbers) (entry ∷ entries) h =
+    let rest = rows_are n seen numbers entries h.1 in
+    (ap (λ (rows : List Row). unnumbered entry ∷ rows) rest.0, (record { stands = h.0.stands; marked = h.0.marked }, rest.1))
 
 module _ (n : ℕ) (seen : List Happened) (numbers : List ℕ) (entries : List Entry) (settled : AreSettled n seen numbers entries) where
   abbrev rows : List Row
   rows = numbered_rows numbers entries
 
   same : map without_number rows ≡ map unnumbered entries
-  same = rows_without n seen numbers entries settled
+  same = (rows_are n seen numbers entries settled).0
 
   there_is : (shape : ℕ) → there_of rows shape ≡ there_of (map unnumbered entries) shape
   there_is shape =
-      sym (sum_without (λ (r : Row). cond (r.shape == shape) r.there 0) (λ _. refl) rows)
+      sym (sum_without (λ (r : Row). cond (r.shape == shape) r.there 0) rows)
       ∙ ap (λ (rs : List Row). there_of rs shape) same
 
   played_is : (shape : ℕ) → played_of rows shape ≡ played_of (map unnumbered entries) shape
   played_is shape =
-      sym (sum_without (λ (r : Row). cond (r.shape == shape) r.played 0) (λ _. refl) rows)
+      sym (sum_without (λ (r : Row). cond (r.shape == shape) r.played 0) rows)
       ∙ ap (λ (rs : List Row). played_of rs shape) same
 
   first_stays : (shape : ℕ) → first_of rows shape ≡ first_of (map unnumbered entries) shape
@@ -293,7 +246,7 @@ module _ (n : ℕ) (seen : List Happened) (numbers : List ℕ) (entries : List E
       rw here at (rw is at (All-get_or Counts (map without_number rows) among.0 (blank 0 0) low (rw (sym same) at each)))
 
   each_settled : All (IsSettledRow n seen) rows
-  each_settled = All-from_recursion (IsSettledRow n seen) rows (rows_settled n seen numbers entries settled)
+  each_settled = All-from_recursion (IsSettledRow n seen) rows (rows_are n seen numbers entries settled).1
 
   -- the share is what the worker had counted
   pub words_numbered : (worker : ℕ) (kinds : Kinds) (games : List ℕ) (moves : ℕ) → All IsCountedEntry entries →

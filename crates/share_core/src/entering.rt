@@ -12,6 +12,7 @@ ghost use Rattle.harvest_faults.specs.declared.faults.HarvestFault.TheVariants a
 use harvest_faults::HarvestFault;
 use probe_core::{Answer, Key, ProbeOrder};
 use shape_core::Shape;
+use shape_dict::FirstGame;
 use slot_table::{Pass, SlotTable};
 use tally_core::Meeting;
 
@@ -81,16 +82,15 @@ pub(crate) fn mark_first<O: ProbeOrder>(
     table: &SlotTable<O>,
     pass: &mut Pass<O>,
     number: usize,
-    game: Option<u64>,
+    game: FirstGame,
 )
     requires pass { IsPassOf table.now pass.old }
     requires number { number < table.now.slots }
-    requires game { IfSome game (λ game. game < 2 ^ 64 - 1) }
     ensures pass { IsPassOf table.now pass.new }
     ensures marks { MarksOnly table.now.slots (IsMarkAt number game) pass.old pass.new }
     ensures marked { IfSome game (IsAtMost (least_at number pass.new.seen)) }
 {
-    let Some(game) = game else {
+    let Some(game) = game.get() else {
         return;
     };
     let is_early = table.first(pass, number).is_some_and(|first| first <= game);
@@ -117,6 +117,6 @@ pub(crate) fn mark_all<O: ProbeOrder>(
         let Answer::Number(number) = *found else {
             continue;
         };
-        mark_first(table, pass, number, Some(game));
+        mark_first(table, pass, number, FirstGame::new(Some(game)));
     }
 }

@@ -2,19 +2,16 @@
 #![tactic(auto)]
 
 mod entering;
-mod kept_rows;
 mod ledgers;
 mod numbered_shares;
 mod numbering;
 mod rows;
 mod share_rows;
 mod shares;
-mod small;
 mod starts;
 mod word_shares;
 mod workings;
 
-pub use kept_rows::KeptRow;
 pub use numbered_shares::NumberedShare;
 pub use rows::Row;
 pub use share_rows::ShareRows;

@@ -51,13 +51,6 @@ impl NumberedShare {
     ghost use Rattle.share_core.specs.Shares.{IsShare};
     ghost use Rattle.share_core.specs.WordShares.{unnumbered};
 
-    /// The worker that has counted.
-    pub fn worker(&self) -> usize
-        ensures { result ≡ self.now.worker }
-    {
-        self.worker
-    }
-
     /// The games, in the order in which they were added.
     pub fn games(&self) -> &[u64]
         ensures games { result.now ≡ self.now.games }

@@ -1,6 +1,5 @@
 //! The patterns that a worker has counted by words get their numbers.
-ghost use Rattle.std.specs.Prelude.{◌≡◌, ℕ, ◌<◌, ◌++◌, List, All, IfOk, IfErr, IfSome, OnOk};
-ghost use Rattle.sgf_core.specs.Limit.{most_bytes};
+ghost use Rattle.std.specs.Prelude.{◌≡◌, ℕ, ◌++◌, List, IfOk, IfErr, IfSome, OnOk};
 ghost use Rattle.shape_dict.specs.declared.entries.Entry.{Entry};
 ghost use Rattle.slot_table.specs.Passes.{IsPassOf};
 ghost use Rattle.share_core.specs.Entering.{CallsOnly};
@@ -60,7 +59,6 @@ fn number_block<O: ProbeOrder>(
     entries: &[Entry],
 ) -> Result<(), HarvestFault>
     requires pass { IsPassOf table.now pass.old }
-    requires small { All (λ entry. IfSome entry.first (λ game. game < most_bytes)) entries.now }
     ensures pass { IsPassOf table.now pass.new }
     ensures settled { OnOk result ((before : List Entry)
         → AreSettled table.now.slots pass.old.seen numbers.old.items before
@@ -77,7 +75,7 @@ fn number_block<O: ProbeOrder>(
         let Answer::Number(number) = answers[i] else {
             return Err(full(entry));
         };
-        mark_first(table, pass, number, entry.first.get());
+        mark_first(table, pass, number, entry.first);
         numbers.push(number as u32)?;
     }
     Ok(())
@@ -95,7 +93,6 @@ fn number_all<O: ProbeOrder>(
     entries: &[Entry],
 ) -> Result<Vec<u32>, HarvestFault>
     requires pass { IsPassOf table.now pass.old }
-    requires small { All (λ entry. IfSome entry.first (λ game. game < most_bytes)) entries.now }
     ensures pass { IsPassOf table.now pass.new }
     ensures settled { IfOk result
         (λ numbers. AreSettled table.now.slots pass.new.seen numbers.items entries.now) }
@@ -113,8 +110,7 @@ fn number_all<O: ProbeOrder>(
 }
 
 impl WordShare {
-    ghost use Rattle.std.specs.Prelude.{◌≡◌, ◌<◌, All, IfOk, IfErr};
-    ghost use Rattle.sgf_core.specs.Limit.{most_bytes};
+    ghost use Rattle.std.specs.Prelude.{IfOk, IfErr};
     ghost use Rattle.slot_table.specs.Passes.{IsPassOf};
     ghost use Rattle.share_core.specs.Entering.{CallsOnly};
     ghost use Rattle.share_core.specs.Shares.{IsShare};
@@ -124,8 +120,8 @@ impl WordShare {
     /// The numbers of this share's patterns: each is entered into the table, and its first game is
     /// marked at its number there.
     ///
-    /// No other pattern is entered, and no other game marked. The pass must be of the table, and
-    /// each game below 2^28. It takes memory for the numbers, four bytes each.
+    /// No other pattern is entered, and no other game marked. The pass must be of the table. It
+    /// takes memory for the numbers, four bytes each.
     ///
     /// # Errors
     ///
@@ -138,7 +134,6 @@ impl WordShare {
     ) -> Result<NumberedShare, HarvestFault>
         requires pass { IsPassOf table.now pass.old }
         requires share { IsShare self }
-        requires small { All (λ game. game < most_bytes) self.games }
         ensures pass { IsPassOf table.now pass.new }
         ensures numbered { IfOk result (IsNumbered table.now.slots pass.new.seen self) }
         ensures calls { CallsOnly table.now.slots (IsEntered self)

@@ -6,9 +6,8 @@ use crate::rows::{Row, Rows};
 use std::iter::FusedIterator;
 use std::marker::Model;
 
-/// The rows of a share, each once, numbers rising. It walks the share's index as it goes, and takes
-/// no memory: all rows together take a step for each slot of the table, and a walk of the chain of
-/// the slot's bucket.
+/// The rows of a share, each once, numbers rising. It takes no memory, and searches the share's map
+/// of numbers once for each row.
 ///
 /// Contracts see the rows, and the number from which on they are still to come.
 #[derive(Drop)]

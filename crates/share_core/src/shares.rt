@@ -3,7 +3,6 @@ ghost use Rattle.std.specs.Prelude.{◌≡◌, ◌^◌, ◌≤◌, length, IfErr
 ghost use Rattle.sgf_core.specs.Limit.{most_bytes};
 
 use crate::entering::mark_all;
-use crate::kept_rows::KeptRow;
 use crate::ledgers::Ledger;
 use crate::rows::{Row, Rows};
 use crate::share_rows::ShareRows;
@@ -109,14 +108,12 @@ impl Share {
         ensures numbers { AreOfNumbers self.now.rows }
     {
         let made = self.made_rows();
-        match self.ledger.rows.place(number) {
-            Some(place) => Some(made[place].row()),
-            None => None,
-        }
+        let place = self.ledger.rows.place(number)?;
+        Some(made[place])
     }
 
     /// The rows, in their order. It takes no memory.
-    pub fn made_rows(&self) -> &[KeptRow]
+    pub fn made_rows(&self) -> &[Row]
         ensures rows { result.now ≡ self.now.rows }
         ensures numbers { AreOfNumbers self.now.rows }
     {

@@ -1,5 +1,5 @@
 //! What a share needs to count a game, kept from game to game.
-ghost use Rattle.std.specs.Prelude.{◌≡◌, ◌^◌, ◌≤◌, length, OnOk, IfErr};
+ghost use Rattle.std.specs.Prelude.{◌≡◌, ◌^◌, length, OnOk, IfErr};
 ghost use Rattle.share_core.specs.Inner.Making.{AreBelow, HaveRows, Gained, IsMakingFault};
 
 use crate::entering::{enter_keys, list_keys, refused};
@@ -13,21 +13,15 @@ use std::alloc::Global;
 use tally_core::{Meeting, Walk};
 
 /// Makes rows for a game's meetings that got numbers, where these have none. They count nothing.
-fn make_all(
-    rows: &mut Rows,
-    slots: usize,
-    meetings: &[Meeting],
-    answers: &[Answer],
-) -> Result<(), HarvestFault>
+fn make_all(rows: &mut Rows, meetings: &[Meeting], answers: &[Answer]) -> Result<(), HarvestFault>
     requires length { length answers.now ≡ length meetings.now }
-    requires numbers { AreBelow slots answers.now }
-    requires slots { slots ≤ 2 ^ 22 }
+    requires numbers { AreBelow (2 ^ 22) answers.now }
     ensures gained { Gained meetings.now answers.now rows.old rows.new }
     ensures made { OnOk result (HaveRows meetings.now answers.now (length answers.now) rows.new) }
     ensures fault { IfErr result (IsMakingFault meetings.now answers.now rows.new) }
 {
     for (i, found) in answers.iter().enumerate() {
-        if let Err(fault) = rows.make(slots, *found, meetings[i].shape) {
+        if let Err(fault) = rows.make(*found, meetings[i].shape) {
             return Err(fault);
         }
     }
@@ -96,7 +90,9 @@ impl Workings {
         list_keys(&mut self.keys, meetings)?;
         enter_keys(table, pass, self.keys.as_slice(), &mut self.answers)?;
         let answers = self.answers.as_slice();
-        make_all(rows, table.capacity().slots(), meetings, answers)?;
+        // A table has 2^22 numbers at most.
+        let _ = table.capacity().slots();
+        make_all(rows, meetings, answers)?;
         match refused(answers) {
             Some(place) => Err(HarvestFault::Full {
                 game,

@@ -3,6 +3,7 @@ ghost use Rattle.slot_table.specs.Passes.{IsPassOf};
 
 use probe_core::ProbeOrder;
 use shape_core::Kinds;
+use shape_dict::FirstGame;
 use share_core::{Row, Share};
 use share_samples::{
     ALONE, EMPTY, ONE_POINT, TAKEN, TWO_POINTS, add_written, first_share, shape_of, table_of,
@@ -22,13 +23,13 @@ fn has_row(rows: &[Row], wanted: Row) -> bool {
 }
 
 /// A row of the pattern whose word has these bits, if there is one.
-fn row_of(bits: u64, there: u64, played: u64, first: u64) -> Option<Row> {
+fn row_of(bits: u64, there: u64, played: u64, first: u32) -> Option<Row> {
     Some(Row {
         number: 0,
         shape: shape_of(bits)?,
         there,
         played,
-        first: Some(first),
+        first: FirstGame::new(Some(u64::from(first))),
     })
 }
 

@@ -2,6 +2,7 @@
 use harvest_faults::HarvestFault;
 use sgf_core::SgfFault;
 use shape_core::{Kinds, Shape, Word};
+use shape_dict::FirstGame;
 use share_core::{Row, Share};
 use share_samples::{
     ALONE, EMPTY, ONE_POINT, TAKEN, TWO_POINTS, add_written, first_share, shape_of, table_of,
@@ -68,7 +69,7 @@ fn has_blank_alone(share: &Share, shape: Shape) -> bool {
         shape,
         there: 0,
         played: 0,
-        first: None,
+        first: FirstGame::new(None),
     };
     let is_empty = share.games().is_empty() && share.moves() == 0;
     is_empty && share.row_at(0) == Some(blank) && share.row_at(1) == None

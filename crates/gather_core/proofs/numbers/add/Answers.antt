@@ -1,5 +1,5 @@
 use Rattle.std.proofs.Common.{ap, ◌∙◌}
-use Rattle.gather_core.proofs.Common.{option_or}
+use Rattle.gather_core.proofs.Common.{earlier, option_or}
 use Rattle.gather_core.proofs.Strangers.{sums_with}
 use Rattle.gather_core.proofs.numbers.add.Goals as goal
 
@@ -7,4 +7,4 @@ pub returns : goal.returns
 returns c rows more number numbers is h =
     let sums = c.args.sums in
     sums_with rows more number c.args.found sums (record { first = c.earlier.result; stranger = c.or.result }) c.args.row numbers is h
-    c.earlier.ensures (c.or.ensures ∙ ap (option_or sums.stranger) c.unlike.ensures)
+    (c.earlier.ensures ∙ ap (earlier sums.first) c.get.ensures) (c.or.ensures ∙ ap (option_or sums.stranger) c.unlike.ensures)

@@ -11,7 +11,7 @@ loop-found-preserved g c =
     let answers = c.args.answers.now in
     let game = c.args.game in
     let number = c.in-Number.number in
-    let marks = c.mark_first.ensures.marks in
+    let marks = rw c.new.ensures at c.mark_first.ensures.marks in
     let is = get_or_default answers i answer.Absent (answer.Number 0) c.loop-found-test.true ∙ c.in-Number.is in
     record {
       pass = c.mark_first.ensures.pass;
@@ -22,5 +22,5 @@ loop-found-preserved g c =
           (λ at marked h. ((let same : marked ≡ game = cc in same), (i, c.loop-found-test.true, is ∙ rw h.0 refl))) marks);
       marked = λ k at low met. below_more (λ j. answer_at answers j ≡ answer.Number at → IsAtMost (least_at at c.mark_first.new.pass.seen) game) i
           (λ j before same. marks.later.keeps.marks at game (c.loop-found.invariant.marked j at before same))
-          (λ same. (let here : at ≡ number = cc in rw here c.mark_first.ensures.marked)) k low met;
+          (λ same. (let here : at ≡ number = cc in rw here (rw c.new.ensures at c.mark_first.ensures.marked))) k low met;
     }

@@ -1,4 +1,4 @@
-use Rattle.std.proofs.Common.{◌∷◌, [], refl}
+use Rattle.std.proofs.Common.{◌∷◌, [], refl, sym, ◌∙◌}
 use Rattle.slot_table.specs.declared.entries.Happened.TheVariants as call
 use Rattle.share_core.proofs.Common.{IsMarkAt}
 use Rattle.share_core.proofs.Entered.{calls_through}
@@ -8,4 +8,4 @@ pub returns-then-not-is_early-clause-marks : goal.returns-then-not-is_early-clau
 returns-then-not-is_early-clause-marks g c =
     calls_through c.args.table.now.slots (λ _ _. ⊥) (IsMarkAt c.args.number c.args.game) c.args.pass.now c.first.new.pass c.mark.new.pass
     (record { made = call.First c.args.number c.first.result ∷ []; later = c.first.ensures.later; only = (tt, tt) })
-    (record { made = call.Marked c.args.number c.in-Some.game ∷ []; later = c.mark.ensures.later; only = ((refl, c.in-Some.is), tt) })
+    (record { made = call.Marked c.args.number c.in-Some.game ∷ []; later = c.mark.ensures.later; only = ((refl, sym c.get.ensures ∙ c.in-Some.is), tt) })

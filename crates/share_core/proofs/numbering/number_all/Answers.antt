@@ -1,14 +1,9 @@
-use Rattle.std.proofs.Common.{IfSome, ◌<◌, ◌++◌, [], ap, ◌∙◌, append_assoc}
+use Rattle.std.proofs.Common.{◌++◌, [], ap, ◌∙◌, append_assoc}
 use Rattle.share_core.proofs.Common.{err_from_is_err_and}
 use Rattle.std.specs.Slice.Iter.{chunks_rest}
-use Rattle.sgf_core.specs.Limit.{most_bytes}
-use Rattle.shape_dict.specs.declared.entries.Entry.{Entry}
 use Rattle.share_core.proofs.Entered.{calls_self}
-use Rattle.share_core.proofs.Numbered.{all_left, all_right, fault_of_all, calls_of_all}
+use Rattle.share_core.proofs.Numbered.{fault_of_all, calls_of_all}
 use Rattle.share_core.proofs.numbering.number_all.Goals as goal
-
-abbrev IsSmall : Entry → Type 0
-IsSmall entry = IfSome entry.first (λ game. game < most_bytes)
 
 pub loop-block-init : goal.loop-block-init
 loop-block-init g c =
@@ -19,12 +14,7 @@ loop-block-init g c =
       done = [];
       all = rest;
       settled = rw c.in_ok-numbers.ensures.items tt;
-      small = rw rest c.requires.small;
     }
-
-pub number_block-requires-clause-small : goal.number_block-requires-clause-small
-number_block-requires-clause-small g c =
-    all_left IsSmall c.in-Some.block.now (chunks_rest c.next.new.self) (rw c.in-Some.ensures.steps.1.0 at c.loop-block.invariant.small)
 
 pub returns-in_err-number_block-clause-calls : goal.returns-in_err-number_block-clause-calls
 returns-in_err-number_block-clause-calls g c =
@@ -52,5 +42,4 @@ loop-block-preserved g c =
       done = inv.done ++ block;
       all = append_assoc inv.done block rest ∙ parts;
       settled = c.in_ok-number_block.ensures.settled inv.done inv.settled;
-      small = all_right IsSmall block rest (rw c.in-Some.ensures.steps.1.0 at inv.small);
     }

@@ -1,7 +1,6 @@
-use Rattle.std.proofs.Common.{◌≡◌, ◌<◌, List, ◌++◌, All, IfSome}
+use Rattle.std.proofs.Common.{◌≡◌, List, ◌++◌}
 use Rattle.std.specs.Slice.Iter.{chunks_rest}
 use Rattle.share_core.proofs.Common.{IsPassOf, CallsOnly}
-use Rattle.sgf_core.specs.Limit.{most_bytes}
 use Rattle.shape_dict.specs.declared.entries.Entry.{Entry}
 use Rattle.share_core.specs.Inner.Numbering.{IsKeyIn, IsFirstOf, AreSettled}
 use Rattle.share_core.proofs.numbering.number_all.Given as goal
@@ -14,5 +13,4 @@ invariant-loop-block g l = record {
   done : List Entry;
   all : done ++ chunks_rest l.block-iterator ≡ l.entries;
   settled : AreSettled l.table.slots l.pass.seen l.numbers.items done;
-  small : All (λ (e : Entry). IfSome e.first (λ game. game < most_bytes)) (chunks_rest l.block-iterator);
 }

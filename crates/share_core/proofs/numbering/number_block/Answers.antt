@@ -42,7 +42,7 @@ marks-of : (g : _) (c : After-mark_first g) → c.index-entries-i.result ≡ ent
     MarksOnly c.args.table.now.slots (IsFirstOf c.args.table.now.slots c.enter_keys.new.pass.seen c.args.entries.now)
     c.enter_keys.new.pass c.mark_first.new.pass
 marks-of g c entry is =
-    marks_more c.loop-i.i c.in-Number.number c.get.result c.loop-i-test.true (c.get.ensures ∙ ap (λ (e : Entry). e.first) entry) is
+    marks_more c.loop-i.i c.in-Number.number c.index-entries-i.result.first c.loop-i-test.true (ap (λ (e : Entry). e.first) entry) is
     c.loop-i.invariant.marks c.mark_first.ensures.marks
 
 pub returns-in_err-enter_keys-clause-calls : goal.returns-in_err-enter_keys-clause-calls
@@ -112,7 +112,7 @@ loop-i-preserved g c =
           let so_far = settled_later c.loop-i.numbers.items (done ++ take i c.args.entries.now) c.mark_first.ensures.marks.later.keeps (inv.settled done h) in
           let last : IsSettled n c.mark_first.new.pass.seen number entry = record {
             stands = marks.later.keeps.numbers entry.shape number told.1;
-            marked = rw (c.get.ensures ∙ ap (λ (e : Entry). e.first) is) at c.mark_first.ensures.marked;
+            marked = rw (ap (λ (e : Entry). e.first) is) at c.mark_first.ensures.marked;
           } in
           rw (c.in_ok-push.ensures.items, take_more c.args.entries.now i (record { shape = 0; there = 0; played = 0; first = None }) c.loop-i-test.true, ← append_assoc done (take i c.args.entries.now) (entry ∷ []))
           (settled_push n c.mark_first.new.pass.seen c.loop-i.numbers.items (done ++ take i c.args.entries.now) number entry so_far last);

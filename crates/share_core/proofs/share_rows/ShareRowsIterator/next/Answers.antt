@@ -1,8 +1,7 @@
 use Rattle.std.proofs.Common.{◌+◌, ◌<◌, ◌≤◌, ℕ, zero, suc, List, [], ◌∷◌, length, nat_le, cond, ◌≡◌, refl, arith}
 use Rattle.share_core.proofs.Common.{count_by, nat_tests, Row, row_at}
 use Rattle.tally_core.proofs.DoubleCounting.{count-cons}
-use Rattle.share_core.proofs.Found.{row_among}
-use Rattle.share_core.proofs.Indexed.{row_there}
+use Rattle.share_core.proofs.Found.{row_among, row_there}
 use Rattle.share_core.proofs.share_rows.ShareRowsIterator.next.Goals as goal
 
 -- rows of numbers from one on
@@ -31,17 +30,17 @@ fewer (row ∷ rows) from (suc place) inside high =
     Prim.grind (arith, nat_tests, count_step row rows (at + 1), count_step row rows from, rest)
 
 pub returns-in_err-row-clause-steps : goal.returns-in_err-row-clause-steps
-returns-in_err-row-clause-steps c = rw (c.from_residual.ensures, ← c.self.view_is) (c.in_err-row.ensures.first, refl)
+returns-in_err-row-clause-steps c = rw (c.from_residual.ensures, ← c.self.view_is) (c.in_err-row.ensures.least, refl)
 
 pub returns-clause-steps : goal.returns-clause-steps
-returns-clause-steps c = rw (← c.self.view_is) (c.in_ok-row.ensures.first, refl)
+returns-clause-steps c = rw (← c.self.view_is) (c.in_ok-row.ensures.least, refl)
 
 pub returns-clause-goes : goal.returns-clause-goes
 returns-clause-goes c =
     let row = c.in_ok-row.row in
     let rows = c.self.inside.rows.now in
     let from = c.self.inside.from in
-    let least = c.in_ok-row.ensures.first in
+    let least = c.in_ok-row.ensures.least in
     let among = row_among rows row.number row least.1 in
     let there = row_there rows row among in
     let less = rw there at (fewer rows from among.0 among.1 (rw there least.0)) in

@@ -2,21 +2,13 @@ use Rattle.std.proofs.Common.{◌≡◌, sym, ◌∙◌}
 use Rattle.std.proofs.lemmas.Slice.Zip.{AllZip-long}
 use Rattle.share_core.specs.Inner.Numbering.{IsSettled, AreSettled}
 use Rattle.share_core.proofs.Common.{err_from_is_err_and}
-use Rattle.share_core.proofs.Numbered.{small_firsts, numbering_calls, numbering_fault, share_numbered, words_numbered}
+use Rattle.share_core.proofs.Numbered.{numbering_calls, numbering_fault, share_numbered, words_numbered}
 use Rattle.share_core.proofs.word_shares.WordShare.number.Goals as goal
 use Rattle.share_core.proofs.word_shares.WordShare.number.Goals.{After-as_slice}
 
 -- the entries are those that the worker had counted
 entries-are : (g : _) (c : After-as_slice g) → c.as_slice.result.now ≡ c.self.inside.counts.entries
 entries-are g c = c.as_slice.ensures.value ∙ c.into_entries-entries.ensures.entries
-
-pub number_all-requires-clause-small : goal.number_all-requires-clause-small
-number_all-requires-clause-small g c =
-    let old = c.self.inside in
-    rw (entries-are g c)
-    (small_firsts old.worker old.counts.kinds old.games.items old.moves old.counts.entries
-    (rw (c.into_entries-entries.ensures.entries) at c.into_entries-entries.ensures.apart)
-    (rw (← c.self.view_is) at c.requires.share) (rw (← c.self.view_is) at c.requires.small))
 
 pub returns-in_err-numbers-clause-calls : goal.returns-in_err-numbers-clause-calls
 returns-in_err-numbers-clause-calls g c =

@@ -47,8 +47,8 @@ returns-in_err-enter_keys-clause-enters g c =
 
 pub make_all-requires-clause-numbers : goal.make_all-requires-clause-numbers
 make_all-requires-clause-numbers g c =
-    rw (c.slots.ensures.value ∙ c.capacity.ensures.slots)
-    (below_of (answered-of g (goal.at.make_all-requires-clause-numbers g c).After-slots))
+    below_of (answered-of g (goal.at.make_all-requires-clause-numbers g c).After-slots)
+    (omega (arith, c.slots.ensures, c.capacity.ensures))
 
 pub returns-in_err-make_all-clause-fresh : goal.returns-in_err-make_all-clause-fresh
 returns-in_err-make_all-clause-fresh g c =
