@@ -8,9 +8,8 @@ pub use Rattle.gather_core.specs.Inner.Checking.{IsBeyondFault, IsStandFault, un
 pub use Rattle.gather_core.specs.Inner.Covering.{AreNoted}
 pub use Rattle.gather_core.specs.Inner.Gathering.{AreOneEach}
 pub use Rattle.gather_core.specs.Inner.Leasts.{IsLeastSought, IsSought}
-pub use Rattle.gather_core.specs.Inner.Numbers.{AreSums, none_summed}
-pub use Rattle.gather_core.specs.Inner.Summed.{AreSummed, AreTotals}
-pub use Rattle.gather_core.specs.Inner.Totals.{AreAlike, AreEntriesOf, IsLargeAt, IsOdd, IsSummed, IsTotal, IsTotalAt, IsUnlike, entry_below, played_at, there_at, with_row}
+pub use Rattle.gather_core.specs.Inner.Numbers.{AreSums}
+pub use Rattle.gather_core.specs.Inner.Totals.{AreAlike, AreEntriesOf, AreListed, IsLargeAt, IsListFault, IsListed, IsSumFault, IsTotal, IsTotalAt, IsUnlike, played_at, there_at, with_row}
 pub use Rattle.gather_core.specs.Inner.Visiting.{AgreeBelow, AreVisited}
 pub use Rattle.gather_core.specs.declared.agreeing.Differs.{Differs}
 pub use Rattle.probe_core.specs.Sequential.{IsFree, IsFull, IsNumber}

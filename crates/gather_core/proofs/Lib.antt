@@ -7,7 +7,6 @@ pub mod Numbered
 pub mod Ordered
 mod ByNumber
 mod Totalled
-mod Summed
 mod Ranged
 mod Visits
 pub mod Confirmed

@@ -1,9 +1,10 @@
 -- Rows that are compared with what a table has, number by number, and what is told of them.
 use Rattle.std.proofs.Common.{◌≡◌, ℕ, ◌+◌, ◌<◌, ◌≤◌, false, not, List, length, Option, Some, None, sym, subst, arith, Contains, ⊎_elim, refl, inl, inr}
-use Rattle.gather_core.proofs.Common.{find, is_stranger, cases_lt, nat_tests, IsNumber, Happened, content_of, IsLegal, length-content, Row, stranger_in, row_of, is_shape, shape_at, Stand, StandBelow, all_rows, TellsAt, IsBeyondFault, AreBelow, Known, one_number, one_key, number_below, Held, all_games, Covers, AreOneEach, IsGatherFault, IsStandFault, IsOdd, IsLargeSum, AreVisited, Differs}
+use Rattle.gather_core.proofs.Common.{find, is_stranger, cases_lt, nat_tests, IsNumber, Happened, content_of, IsLegal, length-content, Row, stranger_in, row_of, is_shape, shape_at, Stand, StandBelow, all_rows, TellsAt, IsBeyondFault, AreBelow, Known, one_number, one_key, Held, all_games, Covers, AreOneEach, IsGatherFault, IsStandFault, IsListFault, AreVisited, Differs}
 use Rattle.std.proofs.Math.ListN.{get_or-eq_default}
 use Rattle.harvest_faults.specs.declared.faults.HarvestFault.{HarvestFault}
 use Rattle.harvest_faults.specs.declared.faults.HarvestFault.TheVariants as fault
+use Rattle.gather_core.specs.Agreeing.{AskedAll}
 use Rattle.gather_core.proofs.Totalled.{large_pattern, nothing_passes}
 
 -- ---- no stranger is found
@@ -67,10 +68,12 @@ pub stand_fault : {O : Type 0} (n games : ℕ) (shares : List Held) (first new :
 stand_fault n games shares first new (fault.Stranger number of_share of_table) covers h = (covers, h)
 stand_fault n games shares first new _ covers h = absurd h
 
--- and a sum that is too large, where all are of the table's patterns
-pub odd_is_large : (n : ℕ) (seen : List Happened) (shares : List Held) → IsLegal n seen → Stand n seen (all_rows shares) → IsOdd n (all_rows shares) → IsLargeSum shares
-odd_is_large n seen shares legal stand odd =
+-- and a sum that is too large, where all are of the table's patterns and the games that were marked agree
+pub list_fault : {O : Type 0} (n games : ℕ) (shares : List Held) (first new : Known O) (found : HarvestFault) → IsLegal n new.seen → Covers games (all_games shares) →
+    Stand n new.seen (all_rows shares) → AskedAll n (all_rows shares) first new → IsListFault (all_rows shares) found → IsGatherFault n games shares first new found
+list_fault n games shares first new fault.Memory legal covers stand asked h = tt
+list_fault n games shares first new fault.Overflow legal covers stand asked h =
     let rows = all_rows shares in
-    let each = one_each n seen rows legal stand in
-    let large = odd (λ row among. number_below n seen row.shape row.number (stand row among)) (λ one other first second. (each one other first second).0) in
-    ⊎_elim (λ there. inl there) (λ played. inr (inl played)) (large_pattern rows large.0 (row_of rows large.0) refl each large.1)
+    let large = large_pattern rows h.0 (row_of rows h.0) refl (one_each n new.seen rows legal stand) h.1 in
+    (covers, stand, asked, ⊎_elim (λ there. inl there) (λ played. inr (inl played)) large)
+list_fault n games shares first new _ legal covers stand asked h = absurd h

@@ -1,10 +1,9 @@
 -- Rows of which one is of another pattern than was asked for, and the rows of one number, share by share.
 use Rattle.std.proofs.Common.{◌≡◌, ℕ, ◌+◌, ◌<◌, List, [], ◌∷◌, ◌++◌, length, get_or, take, Option, Some, None, cond, Contains, refl, ap, ◌∙◌, arith, append-nil, sym}
-use Rattle.gather_core.proofs.Common.{option_or, take_more, find-append, Row, row_of, AreOfNumbers, first_at, earlier, is_stranger, stranger_in, unlike_of, is_some, nat_tests, row_at, Contains-append_left, Contains-append_right, Contains-push, AreSums, earlier_none, flat_map}
+use Rattle.gather_core.proofs.Common.{option_or, take_more, find-append, Row, row_of, AreOfNumbers, first_at, earlier, is_stranger, stranger_in, unlike_of, is_some, nat_tests, Contains-append_left, Contains-append_right, Contains-push, AreSums, earlier_none, flat_map}
 use Rattle.std.proofs.lemmas.Grind.{flat_map-append}
 use Rattle.gather_core.specs.declared.numbers.NumberSums.{NumberSums}
-use Rattle.gather_core.proofs.Totalled.{found_in, first_none, first_one, first_more}
-use Rattle.share_core.proofs.Indexed.{row_there}
+use Rattle.gather_core.proofs.Totalled.{alike_one, first_none, first_one, first_more}
 
 -- what lists give, and the next one
 pub flat_map_next : {X Y : Type 0} (f : X → List Y) (xs : List X) (i : ℕ) (x : X) → i < length xs → x ≡ get_or xs i x →
@@ -25,15 +24,6 @@ stranger_alike [] number shape found alike = refl
 stranger_alike (row ∷ rows) number shape found alike =
     let here = alike row (Contains-append_left (row ∷ []) rows row (Contains-push [] row)) in
     Prim.grind (arith, nat_tests, here, stranger_alike rows number shape found (λ r among. alike r (Contains-append_right (row ∷ []) rows r among)))
-
--- in rows of different numbers the rows of a number are one
-alike_one : (rows : List Row) (number : ℕ) (row : Row) → AreOfNumbers rows → row_of rows number ≡ Some row → (r : Row) → Contains rows r → r.number ≡ number → r.shape ≡ row.shape
-alike_one rows number row h is r among same =
-    let found = found_in rows number row is in
-    let here = row_there rows r among in
-    let there = row_there rows row found.0 in
-    let place = h among.0 found.0.0 among.1 found.0.1 (ap (λ (x : Row). x.number) here ∙ same ∙ sym (ap (λ (x : Row). x.number) there ∙ found.1)) in
-    ap (λ (x : Row). x.shape) (sym here ∙ ap (row_at rows) place ∙ there)
 
 pub stranger_append : (rows more : List Row) (number : ℕ) (found : Option ℕ) → stranger_in (rows ++ more) number found ≡ option_or (stranger_in rows number found) (stranger_in more number found)
 stranger_append rows more number found = Prim.grind (arith, find-append (is_stranger number found) rows more)

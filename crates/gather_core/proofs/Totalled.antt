@@ -1,6 +1,9 @@
 -- The rows of one number, added up, and what they are of a pattern.
-use Rattle.std.proofs.Common.{◌≡◌, ℕ, ◌+◌, ◌==◌, Bool, true, false, cond, zero, suc, List, [], ◌∷◌, ◌++◌, Option, Some, None, refl, ap, ap₂, sym, subst, ◌∙◌, arith, Contains, ◌≤◌, ◌^◌, ⊎_elim, ◌⊎◌, inl, inr}
-use Rattle.gather_core.proofs.Common.{sum_by, find, nat_tests, sum_by-cons, sum_by-append, sum_by_push, Entry, Row, row_of, first_at, earlier, AreOfNumbers, there_of, played_of, first_of, IsTotal, IsTotalAt, IsLargeAt, IsUnlike, AreAlike, there_at, played_at, with_row, earlier_none, earlier_assoc, tail_numbers, others_differ, found_none, row_among, find-append, option_or, AllByRecursion, All-weaker, All-contains_itself, Contains-append_left, Contains-push, Contains-push_cases, recursion_from_All, AreOneEach}
+use Rattle.std.proofs.Common.{◌≡◌, ℕ, ◌+◌, ◌==◌, Bool, true, false, cond, zero, suc, List, [], ◌∷◌, ◌++◌, Option, Some, None, refl, ap, ap₂, sym, ◌∙◌, arith, Contains, ◌≤◌, ◌^◌, ⊎_elim, ◌⊎◌, inl, inr}
+use Rattle.gather_core.proofs.Common.{sum_by, find, nat_tests, sum_by-cons, sum_by-append, Entry, Row, row_of, first_at, earlier, AreOfNumbers, there_of, played_of, first_of, IsTotal, IsTotalAt, IsLargeAt, IsUnlike, AreAlike, there_at, played_at, with_row, earlier_none, earlier_assoc, tail_numbers, others_differ, found_none, row_among, find-append, option_or, AllByRecursion, All-weaker, All-contains_itself, Contains-append_cases, Contains-append_left, Contains-append_right, recursion_from_All, AreOneEach, IsListFault, IsSumFault, row_at}
+use Rattle.harvest_faults.specs.declared.faults.HarvestFault.{HarvestFault}
+use Rattle.harvest_faults.specs.declared.faults.HarvestFault.TheVariants as fault
+use Rattle.share_core.proofs.Found.{row_there}
 
 -- what a row counts
 abbrev pub at_number : (Row → ℕ) → List Row → ℕ → ℕ
@@ -44,6 +47,26 @@ first_one [] number row h is = absurd cc
 first_one (r ∷ rows) number row h is =
     Prim.grind (arith, no_others r rows number h, first_none rows number, earlier_none r.first, first_one rows number row (tail_numbers r rows h))
 
+sum_one : (count : Row → ℕ) (rows : List Row) (number : ℕ) (row : Row) → AreOfNumbers rows → row_of rows number ≡ Some row → at_number count rows number ≡ count row
+sum_one count [] number row h is = absurd cc
+sum_one count (r ∷ rows) number row h is =
+    Prim.grind (
+      arith,
+      no_others r rows number h,
+      sum_by-cons (λ (r : Row). cond (r.number == number) (count r) 0) r rows,
+      sum_none count rows number,
+      sum_one count rows number row (tail_numbers r rows h),
+    )
+
+-- in rows of different numbers the rows of a number are one
+pub alike_one : (rows : List Row) (number : ℕ) (row : Row) → AreOfNumbers rows → row_of rows number ≡ Some row → (r : Row) → Contains rows r → r.number ≡ number → r.shape ≡ row.shape
+alike_one rows number row h is r among same =
+    let found = found_in rows number row is in
+    let here = row_there rows r among in
+    let there = row_there rows row found.0 in
+    let place = h among.0 found.0.0 among.1 found.0.1 (ap (λ (x : Row). x.number) here ∙ same ∙ sym (ap (λ (x : Row). x.number) there ∙ found.1)) in
+    ap (λ (x : Row). x.shape) (sym here ∙ ap (row_at rows) place ∙ there)
+
 -- ---- more rows
 pub found_with : (rows more : List Row) (number : ℕ) → row_of (rows ++ more) number ≡ option_or (row_of rows number) (row_of more number)
 found_with rows more number = find-append (λ (r : Row). r.number == number) rows more
@@ -64,71 +87,85 @@ large_more rows more number large =
     let played = sum_more (λ (r : Row). r.played) rows more number in
     Prim.grind (arith)
 
--- ---- one row more
--- what one row more adds at a number
-sum_push : (count : Row → ℕ) (rows : List Row) (row : Row) (number : ℕ) → at_number count (rows ++ row ∷ []) number ≡ at_number count rows number + cond (row.number == number) (count row) 0
-sum_push count rows row number = sum_by_push (λ (r : Row). cond (r.number == number) (count r) 0) rows row
+module _ (rows more : List Row) (number : ℕ) where
+  -- none of them is of the number
+  pub total_other : (total : Option Entry) → row_of more number ≡ None → IsTotalAt rows number total → IsTotalAt (rows ++ more) number total
+  total_other None none h = Prim.grind (arith, found_with rows more number)
+  total_other (Some total) none h = record {
+    one = h.one;
+    among = Contains-append_left rows more h.one h.among;
+    numbered = h.numbered;
+    alike = λ r among same. ⊎_elim (λ (old : Contains rows r). h.alike r old same) (λ (new : Contains more r). absurd (none_in more number r none new same))
+        (Contains-append_cases rows more r among);
+    there = Prim.grind (arith, h.there, sum_more (λ (r : Row). r.there) rows more number, sum_none (λ (r : Row). r.there) more number none);
+    played = Prim.grind (arith, h.played, sum_more (λ (r : Row). r.played) rows more number, sum_none (λ (r : Row). r.played) more number none);
+    first = Prim.grind (arith, h.first, first_more rows more number, first_none more number none, earlier_none (first_at rows number));
+  }
 
-first_push : (rows : List Row) (row : Row) (number : ℕ) → first_at (rows ++ row ∷ []) number ≡ earlier (first_at rows number) (cond (row.number == number) row.first None)
-first_push rows row number = first_more rows (row ∷ []) number ∙ ap (earlier (first_at rows number)) (earlier_none (cond (row.number == number) row.first None))
+  -- one of them is
+  module _ (row : Row) (apart : AreOfNumbers more) (is : row_of more number ≡ Some row) where
+    -- the first one of the number
+    pub total_first : row_of rows number ≡ None → IsTotal (rows ++ more) number (with_row None row)
+    total_first none = record {
+      one = row;
+      among = Contains-append_right rows more row (found_in more number row is).0;
+      numbered = (found_in more number row is).1;
+      alike = λ r among same. ⊎_elim (λ (old : Contains rows r). absurd (none_in rows number r none old same))
+          (λ (new : Contains more r). alike_one more number row apart is r new same) (Contains-append_cases rows more r among);
+      there = Prim.grind (arith, sum_more (λ (r : Row). r.there) rows more number, sum_none (λ (r : Row). r.there) rows number none, sum_one (λ (r : Row). r.there) more number row apart is);
+      played = Prim.grind (arith, sum_more (λ (r : Row). r.played) rows more number, sum_none (λ (r : Row). r.played) rows number none, sum_one (λ (r : Row). r.played) more number row apart is);
+      first = Prim.grind (arith, first_more rows more number, first_none rows number none, first_one more number row apart is);
+    }
 
--- where the rows of a number are of a pattern, they are so with one more that is not of the number, or is of the pattern
-alike_push : (rows : List Row) (row : Row) (number shape : ℕ) → (row.number ≡ number → row.shape ≡ shape) →
-    ((r : Row) → Contains rows r → r.number ≡ number → r.shape ≡ shape) → (r : Row) → Contains (rows ++ row ∷ []) r → r.number ≡ number → r.shape ≡ shape
-alike_push rows row number shape last alike r among =
-    ⊎_elim (λ (old : Contains rows r). alike r old)
-    (λ (new : row ≡ r). subst (λ (x : Row). x.number ≡ number → x.shape ≡ shape) new last) (Contains-push_cases rows row r among)
+    -- one more of it
+    pub total_with : (total : Entry) → total.shape ≡ row.shape → IsTotal rows number total → IsTotal (rows ++ more) number (with_row (Some total) row)
+    total_with total like h = record {
+      one = h.one;
+      among = Contains-append_left rows more h.one h.among;
+      numbered = h.numbered;
+      alike = λ r among same. ⊎_elim (λ (old : Contains rows r). h.alike r old same)
+          (λ (new : Contains more r). alike_one more number row apart is r new same ∙ sym like) (Contains-append_cases rows more r among);
+      there = Prim.grind (arith, h.there, sum_more (λ (r : Row). r.there) rows more number, sum_one (λ (r : Row). r.there) more number row apart is);
+      played = Prim.grind (arith, h.played, sum_more (λ (r : Row). r.played) rows more number, sum_one (λ (r : Row). r.played) more number row apart is);
+      first = Prim.grind (arith, h.first, first_more rows more number, first_one more number row apart is);
+    }
 
--- one of another number
-pub total_other : (rows : List Row) (row : Row) (number : ℕ) (total : Option Entry) → (row.number == number) ≡ false → IsTotalAt rows number total → IsTotalAt (rows ++ row ∷ []) number total
-total_other rows row number None other h = Prim.grind (arith, found_with rows (row ∷ []) number)
-total_other rows row number (Some total) other h = record {
-  one = h.one;
-  among = Contains-append_left rows (row ∷ []) h.one h.among;
-  numbered = h.numbered;
-  alike = alike_push rows row number total.shape (λ same. Prim.grind (arith, nat_tests)) h.alike;
-  there = Prim.grind (arith, h.there, sum_push (λ (r : Row). r.there) rows row number);
-  played = Prim.grind (arith, h.played, sum_push (λ (r : Row). r.played) rows row number);
-  first = Prim.grind (arith, h.first, first_push rows row number, earlier_none (first_at rows number));
-}
+    -- one that does not go with it
+    pub large_with : (total : Entry) → IsUnlike total row → IsTotal rows number total → AreAlike (rows ++ more) → IsLargeAt (rows ++ more) number
+    large_with total unlike h alike =
+        let found = found_in more number row is in
+        let one = alike h.one row (Contains-append_left rows more h.one h.among) (Contains-append_right rows more row found.0) (h.numbered ∙ sym found.1) in
+        Prim.grind (
+          arith,
+          h.alike h.one h.among h.numbered,
+          h.there,
+          h.played,
+          sum_more (λ (r : Row). r.there) rows more number,
+          sum_more (λ (r : Row). r.played) rows more number,
+          sum_one (λ (r : Row). r.there) more number row apart is,
+          sum_one (λ (r : Row). r.played) more number row apart is,
+        )
 
--- the first one of a number
-pub total_first : (rows : List Row) (row : Row) → row_of rows row.number ≡ None → IsTotal (rows ++ row ∷ []) row.number (with_row None row)
-total_first rows row none = record {
-  one = row;
-  among = Contains-push rows row;
-  numbered = refl;
-  alike = alike_push rows row row.number row.shape (λ same. refl) (λ r old same. absurd (none_in rows row.number r none old same));
-  there = Prim.grind (arith, nat_tests, sum_push (λ (r : Row). r.there) rows row row.number, sum_none (λ (r : Row). r.there) rows row.number none);
-  played = Prim.grind (arith, nat_tests, sum_push (λ (r : Row). r.played) rows row row.number, sum_none (λ (r : Row). r.played) rows row.number none);
-  first = Prim.grind (arith, nat_tests, first_push rows row row.number, first_none rows row.number none);
-}
+-- ---- a row alone
+pub one_row : (row : Row) → AreOfNumbers (row ∷ [])
+one_row row one other low high same = omega arith
 
--- one more of it
-pub total_with : (rows : List Row) (row : Row) (total : Entry) → total.shape ≡ row.shape → IsTotal rows row.number total → IsTotal (rows ++ row ∷ []) row.number (with_row (Some total) row)
-total_with rows row total like h = record {
-  one = h.one;
-  among = Contains-append_left rows (row ∷ []) h.one h.among;
-  numbered = h.numbered;
-  alike = alike_push rows row row.number total.shape (λ same. sym like) h.alike;
-  there = Prim.grind (arith, nat_tests, h.there, sum_push (λ (r : Row). r.there) rows row row.number);
-  played = Prim.grind (arith, nat_tests, h.played, sum_push (λ (r : Row). r.played) rows row row.number);
-  first = Prim.grind (arith, nat_tests, h.first, first_push rows row row.number);
-}
+pub row_found : (row : Row) → row_of (row ∷ []) row.number ≡ Some row
+row_found row = Prim.grind (arith, nat_tests)
 
--- one that does not go with it
-pub large_with : (rows : List Row) (row : Row) (total : Entry) → IsUnlike total row → IsTotal rows row.number total → AreAlike (rows ++ row ∷ []) → IsLargeAt (rows ++ row ∷ []) row.number
-large_with rows row total unlike h alike =
-    let one = alike h.one row (Contains-append_left rows (row ∷ []) h.one h.among) (Contains-push rows row) h.numbered in
-    Prim.grind (
-      arith,
-      nat_tests,
-      h.alike h.one h.among h.numbered,
-      h.there,
-      h.played,
-      sum_push (λ (r : Row). r.there) rows row row.number,
-      sum_push (λ (r : Row). r.played) rows row row.number,
-    )
+pub row_passed : (row : Row) (number : ℕ) → (row.number ≡ number → ⊥) → row_of (row ∷ []) number ≡ None
+row_passed row number other = Prim.grind (arith, nat_tests)
+
+-- ---- sums that are too large
+-- they are so with more rows
+pub sum_fault_more : (rows more : List Row) (number : ℕ) (found : HarvestFault) → IsSumFault rows number found → IsSumFault (rows ++ more) number found
+sum_fault_more rows more number fault.Overflow h = λ alike.
+    large_more rows more number (h (λ one other first second. alike one other (Contains-append_left rows more one first) (Contains-append_left rows more other second)))
+sum_fault_more rows more number _ h = absurd h
+
+pub list_fault : (rows : List Row) (number : ℕ) (found : HarvestFault) → AreOneEach rows → IsSumFault rows number found → IsListFault rows found
+list_fault rows number fault.Overflow each h = (number, h (λ one other first second. (each one other first second).0))
+list_fault rows number _ each h = absurd h
 
 -- ---- the rows of a number are those of a pattern
 abbrev IsPatternOf : ℕ → ℕ → List Row → Type 0

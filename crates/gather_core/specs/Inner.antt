@@ -6,6 +6,5 @@ pub mod Gathering
 pub mod Leasts
 pub mod Numbers
 pub mod Ranges
-pub mod Summed
 pub mod Totals
 pub mod Visiting

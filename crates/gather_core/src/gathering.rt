@@ -12,7 +12,7 @@ use crate::adding_up::add_up;
 use crate::agreeing::marks_fault;
 use crate::covering::check_games;
 use crate::standing::check_beyond;
-use crate::totals::Totals;
+use crate::totals::entries_of;
 use crate::visiting::visit_all;
 use harvest_faults::HarvestFault;
 use probe_core::ProbeOrder;
@@ -64,14 +64,11 @@ pub fn gather<R: Threads + Sync, O: ProbeOrder>(
 {
     check_games(alloc, games, shares)?;
     let slots = table.capacity().slots();
-    let totals = Totals::of(alloc, slots, shares)?;
-    let differs = visit_all(table, pass, shares, &totals)?;
-    check_beyond(shares, &totals, slots)?;
+    let differs = visit_all(table, pass, shares)?;
+    check_beyond(shares, slots)?;
     if let Some(differs) = differs {
         return Err(marks_fault(differs));
     }
-    let Some(totals) = totals else {
-        return Err(HarvestFault::Overflow);
-    };
-    add_up(rt, kinds, games, totals.into_entries(), shares)
+    let entries = entries_of(alloc, slots, shares)?;
+    add_up(rt, kinds, games, entries, shares)
 }

@@ -3,11 +3,9 @@
 ghost use Rattle.std.specs.Prelude.{◌≡◌, ◌^◌, ◌<◌, IfSome, OnOk, IfErr};
 ghost use Rattle.gather_core.specs.Checking.{all_rows};
 ghost use Rattle.gather_core.specs.Inner.Checking.{IsBeyondFault};
-ghost use Rattle.gather_core.specs.Inner.Summed.{AreTotals};
 ghost use Rattle.share_core.specs.Rows.{AreBelow};
 
 use crate::leasts::{Sought, least_of};
-use crate::totals::Totals;
 use harvest_faults::HarvestFault;
 use probe_core::Key;
 use shape_core::Word;
@@ -29,20 +27,11 @@ pub(crate) fn word_of(bits: Option<u64>) -> Option<Word>
     bits.and_then(|bits| Word::new(bits))
 }
 
-/// Rows of a number that is none of the table's are of no pattern there. Rows are looked at only
-/// where they have no totals: those that have are all of the table's numbers.
-pub(crate) fn check_beyond(
-    shares: &[Share],
-    totals: &Option<Totals>,
-    slots: usize,
-) -> Result<(), HarvestFault>
-    requires { AreTotals slots (all_rows shares.now) totals.now }
+/// Rows of a number that is none of the table's are of no pattern there.
+pub(crate) fn check_beyond(shares: &[Share], slots: usize) -> Result<(), HarvestFault>
     ensures ok { OnOk result (AreBelow slots (all_rows shares.now)) }
     ensures fault { IfErr result (IsBeyondFault slots (all_rows shares.now)) }
 {
-    if totals.is_some() {
-        return Ok(());
-    }
     match least_of(shares, Sought::From(slots)) {
         None => Ok(()),
         Some(row) => Err(HarvestFault::Stranger {

@@ -1,28 +1,33 @@
-//! The rows of all shares, added up by their numbers in one pass.
-ghost use Rattle.std.specs.Prelude.{◌≡◌, ◌^◌, ◌<◌, ◌≤◌, ℕ, None, Some, IfSome, IfNone, length};
-ghost use Rattle.std.specs.Prelude.{All, false, slice_index};
+//! What the rows of a number are together, those of all shares, and a list of that for all numbers.
+ghost use Rattle.std.specs.Prelude.{◌≡◌, ◌^◌, ◌<◌, ◌≤◌, ◌++◌, ℕ, List, None, Some, IfSome, IfNone};
+ghost use Rattle.std.specs.Prelude.{IfOk, IfErr};
 ghost use Rattle.tally_core.specs.Entries.{IsShape};
+ghost use Rattle.harvest_faults.specs.declared.faults.HarvestFault.TheVariants as fault;
+ghost use Rattle.share_core.specs.declared.rows.Row.{Row};
+ghost use Rattle.share_core.specs.Rows.{row_of, AreBelow, AreOfNumbers};
 ghost use Rattle.share_core.specs.WordShares.{unnumbered};
-ghost use Rattle.gather_core.specs.Inner.Totals.{with_row, IsUnlike};
+ghost use Rattle.gather_core.specs.Checking.{all_rows};
+ghost use Rattle.gather_core.specs.Inner.Gathering.{AreOneEach};
+ghost use Rattle.gather_core.specs.Inner.Totals.{with_row, IsUnlike, IsTotalAt, IsSumFault};
+ghost use Rattle.gather_core.specs.Inner.Totals.{IsListFault, AreEntriesOf};
 
-use crate::numbers::{NumberSums, earlier, no_sums, unlike};
+use crate::numbers::earlier;
 use harvest_faults::HarvestFault;
 use shape_dict::{Entry, FirstGame};
-use share_core::{KeptRow, Share};
-use std::alloc::{AllocError, Global};
+use share_core::{Row, Share};
+use std::alloc::Global;
 
 /// A row as an entry. Its word is the least of its images, by the type of shapes.
-fn entry(row: KeptRow) -> Entry
+fn entry(row: Row) -> Entry
     ensures value { result ≡ with_row None row }
     ensures shape { IsShape result }
 {
-    let shape = row.shape();
-    let _ = shape.word();
+    let _ = row.shape.word();
     Entry {
-        shape,
-        there: row.there(),
-        played: row.played(),
-        first: FirstGame::new(row.first()),
+        shape: row.shape,
+        there: row.there,
+        played: row.played,
+        first: row.first,
     }
 }
 
@@ -44,148 +49,72 @@ pub(crate) fn with(total: Entry, more: Entry) -> Option<Entry>
     })
 }
 
-/// How many rows shares have together.
-fn rows_in(shares: &[Share]) -> usize {
-    shares.iter().fold(
-        0,
-        |rows: usize, share| rows.saturating_add(share.made_rows().len()),
-    )
+/// A number's total, if it has one, with the row that one more share has of the number.
+///
+/// # Errors
+///
+/// `Overflow` where the row is of another pattern, or a sum passes 2^64 - 1.
+fn add(total: Option<Entry>, row: Row) -> Result<Entry, HarvestFault>
+    ensures ok { IfOk result (λ both. (rows more : List Row) → (number : ℕ) → AreOfNumbers more
+        → row_of more number ≡ Some row → IsTotalAt rows number total
+        → IsTotalAt (rows ++ more) number (Some both)) }
+    ensures shape { IfOk result (λ both. IfSome total IsShape → IsShape both) }
+    ensures fault { IfErr result (λ found. (rows more : List Row) → (number : ℕ)
+        → AreOfNumbers more → row_of more number ≡ Some row → IsTotalAt rows number total
+        → IsSumFault (rows ++ more) number found) }
+{
+    let Some(total) = total else {
+        return Ok(entry(row));
+    };
+    match with(total, entry(row)) {
+        Some(both) => Ok(both),
+        None => Err(HarvestFault::Overflow),
+    }
 }
 
-/// What the rows of each number are together.
-#[derive(Drop)]
-pub(crate) struct Totals {
-    /// For each number of a table one more than the place of its entry, or 0 where it has none.
-    index: Vec<u32>,
-    /// In the order in which their numbers were met.
-    entries: Vec<Entry>,
-    /// Whether a pattern of an entry may never have been there.
-    absent: bool,
-    ghost in_range: { (number : ℕ) → slice_index index.items number ≤ length entries.items },
-    ghost there: { absent ≡ false → All (λ entry. 0 < entry.there) entries.items },
+/// What the rows of a number are together; None where it has no row. It takes no memory.
+///
+/// # Errors
+///
+/// `Overflow` where they are of several patterns, or a sum passes 2^64 - 1.
+fn total_at(shares: &[Share], number: usize) -> Result<Option<Entry>, HarvestFault>
+    ensures total { IfOk result (IsTotalAt (all_rows shares.now) number) }
+    ensures shape { IfOk result (λ total. IfSome total IsShape) }
+    ensures fault { IfErr result (IsSumFault (all_rows shares.now) number) }
+{
+    let mut total = None;
+    for share in shares {
+        if let Some(row) = share.row_at(number) {
+            total = Some(add(total, row)?);
+        }
+    }
+    Ok(total)
 }
 
-impl Totals {
-    ghost use Rattle.std.specs.Prelude.{◌≡◌, ◌<◌, ◌++◌, ◌∷◌, [], ℕ, List, length, slice_index};
-    ghost use Rattle.std.specs.Prelude.{IfOk, IfErr, OnOk, IfNone, IsTrue};
-    ghost use Rattle.std.specs.Bool.{OnFalse};
-    ghost use Rattle.share_core.specs.declared.rows.Row.{Row};
-    ghost use Rattle.harvest_faults.specs.declared.faults.HarvestFault.TheVariants as fault;
-    ghost use Rattle.gather_core.specs.Checking.{all_rows};
-    ghost use Rattle.gather_core.specs.Inner.Gathering.{AreOneEach};
-    ghost use Rattle.gather_core.specs.Inner.Numbers.{AreSums};
-    ghost use Rattle.gather_core.specs.Inner.Totals.{IsOdd, AreEntriesOf};
-    ghost use Rattle.gather_core.specs.Inner.Summed.{AreSummed, AreTotals};
-
-    /// Those of no rows, with room for this many entries.
-    fn new(alloc: Global, slots: usize, room: usize) -> Result<Totals, AllocError>
-        ensures { IfOk result (AreSummed slots []) }
-    {
-        Ok(Totals {
-            index: vec![in alloc; 0; slots]?,
-            entries: Vec::with_capacity(alloc, room)?,
-            absent: false,
-        })
-    }
-
-    /// Adds the first row of a number.
-    fn begin(&mut self, row: KeptRow) -> Result<(), AllocError>
-        requires inside { row.number < length self.old.index.items }
-        requires new { slice_index self.old.index.items row.number ≡ 0 }
-        ensures { OnOk result ((slots : ℕ) (rows : List Row) → AreSummed slots rows self.old
-            → AreSummed slots (rows ++ row ∷ []) self.new) }
-    {
-        self.absent |= row.there() == 0;
-        self.entries.push(entry(row))?;
-        let Ok(above) = u32::try_from(self.entries.len()) else {
-            return Err(AllocError);
+/// What the rows of all numbers below `slots` are together, an entry for each number whose pattern
+/// was there. Rows of one number must be of one pattern, and of no other number's.
+///
+/// # Errors
+///
+/// `Overflow` where a sum passes 2^64 - 1; `Memory` where memory was refused.
+pub(crate) fn entries_of(
+    alloc: Global,
+    slots: usize,
+    shares: &[Share],
+) -> Result<Vec<Entry>, HarvestFault>
+    requires below { AreBelow slots (all_rows shares.now) }
+    requires each { AreOneEach (all_rows shares.now) }
+    ensures entries { IfOk result (λ entries. AreEntriesOf (all_rows shares.now) entries.items) }
+    ensures fault { IfErr result (IsListFault (all_rows shares.now)) }
+{
+    let mut entries = Vec::new(alloc);
+    for number in 0..slots {
+        let Some(total) = total_at(shares, number)? else {
+            continue;
         };
-        self.index[row.number()] = above;
-        Ok(())
-    }
-
-    /// Adds a row. The answer is whether it goes: a row of a number beyond the table does not, nor
-    /// one of another pattern than its number's rows so far, nor one with which a sum passes
-    /// 2^64 - 1.
-    fn add(&mut self, row: KeptRow) -> Result<bool, AllocError>
-        ensures added { IfOk result (λ goes. IsTrue goes → (slots : ℕ) (rows : List Row)
-            → AreSummed slots rows self.old → AreSummed slots (rows ++ row ∷ []) self.new) }
-        ensures odd { IfOk result (λ goes. OnFalse goes ((slots : ℕ) (rows : List Row)
-            → AreSummed slots rows self.old → IsOdd slots (rows ++ row ∷ []))) }
-    {
-        let number = row.number();
-        if number >= self.index.len() {
-            return Ok(false);
-        }
-        let above = self.index[number] as usize;
-        if above == 0 {
-            self.begin(row)?;
-            return Ok(true);
-        }
-        let Some(both) = with(self.entries[above - 1], entry(row)) else {
-            return Ok(false);
-        };
-        self.entries[above - 1] = both;
-        Ok(true)
-    }
-
-    /// Adds rows up to the first that does not go. The answer is whether all did.
-    fn add_all(&mut self, more: &[KeptRow]) -> Result<bool, AllocError>
-        ensures added { IfOk result (λ all. IsTrue all → (slots : ℕ) (rows : List Row)
-            → AreSummed slots rows self.old → AreSummed slots (rows ++ more.now) self.new) }
-        ensures odd { IfOk result (λ all. OnFalse all ((slots : ℕ) (rows : List Row)
-            → AreSummed slots rows self.old → IsOdd slots (rows ++ more.now))) }
-    {
-        for row in more {
-            if !self.add(*row)? {
-                return Ok(false);
-            }
-        }
-        Ok(true)
-    }
-
-    /// Those of all rows of shares; None where some row does not go. It takes memory for an entry
-    /// of each row, but of no more rows than there are numbers.
-    pub fn of(alloc: Global, slots: usize, shares: &[Share]) -> Result<Option<Totals>, HarvestFault>
-        ensures some { IfOk result (AreTotals slots (all_rows shares.now)) }
-        ensures none { IfOk result (λ made. IfNone made (IsOdd slots (all_rows shares.now))) }
-        ensures fault { IfErr result (λ found. found ≡ fault.Memory) }
-    {
-        let mut totals = Totals::new(alloc, slots, slots.min(rows_in(shares)))?;
-        for share in shares {
-            if !totals.add_all(share.made_rows())? {
-                return Ok(None);
-            }
-        }
-        Ok(Some(totals))
-    }
-
-    /// What the rows of a number are together, where this pattern is asked for.
-    pub fn sums_at(&self, number: usize, found: Option<u64>) -> NumberSums
-        requires { number < length self.now.index.items }
-        ensures { (slots : ℕ) (rows : List Row) → AreSummed slots rows self.now
-            → AreSums rows number found result }
-    {
-        let above = self.index[number] as usize;
-        if above == 0 {
-            return no_sums();
-        }
-        let total = self.entries[above - 1];
-        NumberSums {
-            first: total.first.get(),
-            stranger: unlike(total.shape, found),
+        if total.there > 0 {
+            entries.push(total)?;
         }
     }
-
-    /// The entries of those patterns that were there.
-    pub fn into_entries(self) -> Vec<Entry>
-        ensures { (slots : ℕ) (rows : List Row) → AreSummed slots rows self → AreOneEach rows
-            → AreEntriesOf rows result.items }
-    {
-        let mut entries = self.entries;
-        if self.absent {
-            entries.retain(|entry| entry.there > 0);
-        }
-        entries
-    }
+    Ok(entries)
 }

@@ -5,13 +5,11 @@ ghost use Rattle.slot_table.specs.Passes.{Known, IsPassOf};
 ghost use Rattle.share_core.specs.Entering.{AsksOnly};
 ghost use Rattle.gather_core.specs.Checking.{all_rows, StandBelow};
 ghost use Rattle.gather_core.specs.Inner.Checking.{IsStandFault};
-ghost use Rattle.gather_core.specs.Inner.Summed.{AreTotals};
 ghost use Rattle.gather_core.specs.Inner.Visiting.{AreVisited};
 
 use crate::agreeing::{Differs, compare};
 use crate::numbers::sums_at;
 use crate::standing::{bits_of, word_of};
-use crate::totals::Totals;
 use harvest_faults::HarvestFault;
 use probe_core::ProbeOrder;
 use share_core::Share;
@@ -22,12 +20,10 @@ fn visit<O: ProbeOrder>(
     table: &SlotTable<O>,
     pass: &mut Pass<O>,
     shares: &[Share],
-    totals: &Option<Totals>,
     number: usize,
     differs: &mut Option<Differs>,
 ) -> Result<(), HarvestFault>
     requires pass { IsPassOf table.now pass.old }
-    requires totals { AreTotals table.now.slots (all_rows shares.now) totals.now }
     requires number { number < table.now.slots }
     ensures pass { IsPassOf table.now pass.new }
     ensures later { AsksOnly table.now.slots pass.old pass.new }
@@ -40,11 +36,7 @@ fn visit<O: ProbeOrder>(
         → IsStandFault table.now.slots pass.new.seen (all_rows shares.now) found) }
 {
     let found = bits_of(table.word_at(pass, number));
-    let sums = match totals {
-        Some(totals) => totals.sums_at(number, found),
-        // Rows that have no totals are looked for in the shares.
-        None => sums_at(shares, number, found),
-    };
+    let sums = sums_at(shares, number, found);
     if let Some(held) = sums.stranger {
         return Err(HarvestFault::stranger(number, held, word_of(found)));
     }
@@ -59,10 +51,8 @@ pub(crate) fn visit_all<O: ProbeOrder>(
     table: &SlotTable<O>,
     pass: &mut Pass<O>,
     shares: &[Share],
-    totals: &Option<Totals>,
 ) -> Result<Option<Differs>, HarvestFault>
     requires pass { IsPassOf table.now pass.old }
-    requires totals { AreTotals table.now.slots (all_rows shares.now) totals.now }
     ensures pass { IsPassOf table.now pass.new }
     ensures later { AsksOnly table.now.slots pass.old pass.new }
     ensures ok { IfOk result (AreVisited table.now.slots (all_rows shares.now) table.now.slots
@@ -72,7 +62,7 @@ pub(crate) fn visit_all<O: ProbeOrder>(
 {
     let mut differs = None;
     for number in 0..table.capacity().slots() {
-        visit(table, pass, shares, totals, number, &mut differs)?;
+        visit(table, pass, shares, number, &mut differs)?;
     }
     Ok(differs)
 }

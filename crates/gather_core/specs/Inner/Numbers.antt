@@ -1,13 +1,9 @@
 -- What the rows of one number are together, those of all shares.
-use Rattle.std.specs.Prelude.{◌≡◌, ℕ, List, Option, None}
+use Rattle.std.specs.Prelude.{◌≡◌, ℕ, List, Option}
 use Rattle.share_core.specs.declared.rows.Row.{Row}
 use Rattle.gather_core.specs.declared.numbers.NumberSums.{NumberSums}
 use Rattle.share_core.specs.Rows.{first_at}
 use Rattle.gather_core.specs.Checking.{stranger_in}
-
--- what no rows are together
-abbrev pub none_summed : NumberSums
-none_summed = record { first = None; stranger = None }
 
 -- the rows of a number have the least of their games, and the first row of another pattern than this one
 pub record AreSums (rows : List Row) (number : ℕ) (found : Option ℕ) (sums : NumberSums) : Type 0 where

@@ -1,10 +1,12 @@
 -- The rows of one number, those of all shares together, and the entries of a dictionary that they give.
-use Rattle.std.specs.Prelude.{◌≡◌, ◌≢◌, ℕ, zero, suc, ◌+◌, ◌^◌, ◌<◌, ◌≤◌, ◌==◌, ◌⊎◌, if◌then◌else◌, List, length, sum_by, Option, Some, None, All, Contains, slice_get, slice_index}
+use Rattle.std.specs.Prelude.{◌≡◌, ◌≢◌, ℕ, ◌+◌, ◌^◌, ◌<◌, ◌≤◌, ◌==◌, ◌⊎◌, if◌then◌else◌, List, sum_by, Option, Some, None, All, Contains}
 use Rattle.std.specs.List.{AllPairs}
 use Rattle.shape_dict.specs.declared.entries.Entry.{Entry}
 use Rattle.tally_core.specs.Entries.{IsShape}
 use Rattle.share_core.specs.declared.rows.Row.{Row}
-use Rattle.share_core.specs.Rows.{AreBelow, earlier, row_of, first_at, there_of}
+use Rattle.share_core.specs.Rows.{earlier, row_of, first_at, there_of}
+use Rattle.harvest_faults.specs.declared.faults.HarvestFault.{HarvestFault}
+use Rattle.harvest_faults.specs.declared.faults.HarvestFault.TheVariants as fault
 use Rattle.gather_core.specs.Gathering.{gathered_entry}
 
 -- ---- one number
@@ -49,24 +51,31 @@ IsLargeAt rows number = (2 ^ 64 ≤ there_at rows number) ⊎ (2 ^ 64 ≤ played
 abbrev pub AreAlike : List Row → Type 0
 AreAlike rows = (one other : Row) → Contains rows one → Contains rows other → one.number ≡ other.number → one.shape ≡ other.shape
 
--- a row is of a number that a table of this many does not have, or of another pattern than one of its number, or a sum is too
--- large
-abbrev pub IsOdd : ℕ → List Row → Type 0
-IsOdd slots rows = AreBelow slots rows → AreAlike rows → (number : ℕ) × IsLargeAt rows number
+-- why the rows of a number have no sums: they are of several patterns, or a sum is too large
+abbrev pub IsSumFault : List Row → ℕ → HarvestFault → Type 0
+IsSumFault rows number fault.Overflow = AreAlike rows → IsLargeAt rows number
+IsSumFault rows number found = ⊥
 
--- ---- numbers with their entries
--- the entry of which this is one more than the place
-abbrev pub entry_below : List Entry → ℕ → Option Entry
-entry_below entries zero = None
-entry_below entries (suc place) = slice_get entries place
+-- ---- the numbers of a table
+-- an entry is what the rows of a number below this one are together, and its pattern was there
+pub record IsListed (rows : List Row) (high : ℕ) (entry : Entry) : Type 0 where
+  pub number : ℕ
+  pub low : number < high
+  pub total : IsTotal rows number entry
+  pub some : 0 < entry.there
 
--- rows of numbers below `slots` were added up: the index has for each number one more than the place of its entry
-pub record IsSummed (slots : ℕ) (rows : List Row) (index : List ℕ) (entries : List Entry) : Type 0 where
-  pub long : length index ≡ slots
-  pub apart : (one other : ℕ) → 0 < slice_index index one → slice_index index one ≡ slice_index index other → one ≡ other
-  pub each : (place : ℕ) → place < length entries → (number : ℕ) × (slice_index index number ≡ place + 1)
-  pub totals : (number : ℕ) → IsTotalAt rows number (entry_below entries (slice_index index number))
+-- the entries are what rows are together at the numbers below this one whose patterns were there
+pub record AreListed (rows : List Row) (high : ℕ) (entries : List Entry) : Type 0 where
+  pub each : All (IsListed rows high) entries
   pub shapes : All IsShape entries
+  pub every : (number : ℕ) → number < high → 0 < there_at rows number → (entry : Entry) × Contains entries entry × IsTotal rows number entry
+  pub apart : AllPairs (λ one other. one.shape ≢ other.shape) entries
+
+-- why there is no list of them: memory was refused, or a sum is too large
+abbrev pub IsListFault : List Row → HarvestFault → Type 0
+IsListFault rows fault.Memory = Unit {0}
+IsListFault rows fault.Overflow = (number : ℕ) × IsLargeAt rows number
+IsListFault rows found = ⊥
 
 -- ---- entries of a dictionary
 -- the entries are what rows count, one for each pattern that was there

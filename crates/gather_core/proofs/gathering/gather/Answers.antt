@@ -1,7 +1,7 @@
 use Rattle.std.proofs.Common.{◌≡◌, ◌≤◌, ◌^◌, sym, subst, ◌∙◌, inr}
 use Rattle.gather_core.proofs.Common.{err_from_is_err_and, IfErr-weaker, IfOk-weaker, all_rows, all_moves, IsGatherFault}
 use Rattle.harvest_faults.specs.declared.faults.HarvestFault.TheVariants as fault
-use Rattle.gather_core.proofs.Stood.{one_each, all_stand, beyond_stands, stand_fault, odd_is_large}
+use Rattle.gather_core.proofs.Stood.{one_each, all_stand, beyond_stands, stand_fault, list_fault}
 use Rattle.gather_core.proofs.gathering.gather.Goals as goal
 
 pub returns-in_err-differs-clause-fault : goal.returns-in_err-differs-clause-fault
@@ -26,24 +26,24 @@ returns-in-Some-clause-fault g c =
     let stand = all_stand (c.slots-slots.ensures.value ∙ c.capacity.ensures.slots) c.in_ok-check_beyond.ensures.ok visited in
     rw c.marks_fault.ensures (c.in_ok-check_games.ensures.ok, stand, rw c.in-Some.is at visited.agree)
 
-pub returns-in_default-totals-clause-fault : goal.returns-in_default-totals-clause-fault
-returns-in_default-totals-clause-fault g c =
-    let visited = c.in_ok-differs.ensures.ok in
-    let slots = c.slots-slots.ensures.value ∙ c.capacity.ensures.slots in
-    let stand = all_stand slots c.in_ok-check_beyond.ensures.ok visited in
-    let odd = rw (c.in_default-totals.is, slots) at c.in_ok-totals.ensures.none in (
-      c.in_ok-check_games.ensures.ok,
-      stand,
-      rw c.in_default.is at visited.agree,
-      odd_is_large c.args.table.now.slots c.visit_all.new.pass.seen c.args.shares.now c.visit_all.ensures.pass.legal stand odd,
-    )
+pub entries_of-requires-clause-below : goal.entries_of-requires-clause-below
+entries_of-requires-clause-below g c row among = c.in_ok-check_beyond.ensures.ok row among
 
-pub add_up-requires-clause-entries : goal.add_up-requires-clause-entries
-add_up-requires-clause-entries g c =
+pub entries_of-requires-clause-each : goal.entries_of-requires-clause-each
+entries_of-requires-clause-each g c =
     let rows = all_rows c.args.shares.now in
     let stand = all_stand (c.slots-slots.ensures.value ∙ c.capacity.ensures.slots) c.in_ok-check_beyond.ensures.ok c.in_ok-differs.ensures.ok in
-    λ κs lives. c.into_entries.ensures c.slots-slots.result rows (rw c.in-Some-totals.is at c.in_ok-totals.ensures.some)
-    (one_each c.args.table.now.slots c.visit_all.new.pass.seen rows c.visit_all.ensures.pass.legal stand)
+    one_each c.args.table.now.slots c.visit_all.new.pass.seen rows c.visit_all.ensures.pass.legal stand
+
+pub returns-in_err-entries-clause-fault : goal.returns-in_err-entries-clause-fault
+returns-in_err-entries-clause-fault g c =
+    let n = c.args.table.now.slots in
+    let new = c.visit_all.new.pass in
+    let visited = c.in_ok-differs.ensures.ok in
+    let stand = all_stand (c.slots-slots.ensures.value ∙ c.capacity.ensures.slots) c.in_ok-check_beyond.ensures.ok visited in
+    let p = err_from_is_err_and c.from_residual-in_err-entries.result c.from_residual-in_err-entries.ensures.1 in
+    rw (p.1, p.2) (list_fault n c.args.games c.args.shares.now c.args.pass.now new c.in_err-entries.field-0.0 c.visit_all.ensures.pass.legal
+    c.in_ok-check_games.ensures.ok stand (rw c.in_default.is at visited.agree) c.in_err-entries.ensures.fault)
 
 pub returns-clause-stand : goal.returns-clause-stand
 returns-clause-stand g c =
