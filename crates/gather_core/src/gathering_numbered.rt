@@ -1,6 +1,5 @@
 //! Numbered shares put together to a dictionary.
-ghost use Rattle.std.specs.Prelude.{◌≡◌, ◌<◌, ℕ, nat_lt, List, All, IfOk, IfErr, IfSome};
-ghost use Rattle.std.specs.List.{filter};
+ghost use Rattle.std.specs.Prelude.{◌≡◌, ◌<◌, List, All, IfOk, IfErr, IfSome};
 ghost use Rattle.std.specs.List.Sorted.{IsNonDecreasingBy, IsPermutation};
 ghost use Rattle.std.specs.Thread.{IsSync};
 ghost use Rattle.harvest_faults.specs.declared.faults.HarvestFault.TheVariants as fault;
@@ -11,14 +10,13 @@ ghost use Rattle.share_core.specs.Shares.{IsShare};
 ghost use Rattle.gather_core.specs.Checking.{all_rows, Stand};
 ghost use Rattle.gather_core.specs.Covering.{all_games, Covers};
 ghost use Rattle.gather_core.specs.Gathering.{all_moves, IsGathered};
-ghost use Rattle.gather_core.specs.Inner.Ranges.{IsUnder};
 ghost use Rattle.gather_core.specs.Inner.Totals.{AreEntriesOf};
 
 use crate::covering::check_numbered;
 use crate::ranges::add_numbered;
 use go_board::Colour;
 use harvest_faults::HarvestFault;
-use shape_core::{Kinds, Shape, Word, canonical, kinds_stay};
+use shape_core::{Kinds, Word, canonical, kinds_stay};
 use shape_dict::{Dictionary, Entry, FirstGame, put_in_order};
 use share_core::NumberedShare;
 use std::alloc::{AllocError, Global};
@@ -26,14 +24,12 @@ use std::marker::Model;
 use std::thread::{Threads, join};
 use tally_core::has_diamonds;
 
-/// An entry that counts nothing. Its pattern is the greatest, which no board has, so that such
-/// entries are the last where entries are put in order.
+/// An entry that counts nothing.
 fn blank() -> Entry
     ensures shape { IsShape result }
     ensures blank { result.there ≡ 0 }
-    ensures under { IsUnder result.shape result }
 {
-    let Some(word) = Word::new((1 << 51) - 1) else {
+    let Some(word) = Word::new(0) else {
         unreachable!()
     };
     let shape = canonical(word, Colour::Black);
@@ -52,8 +48,6 @@ fn blank() -> Entry
 pub struct Room {
     /// For each number an entry that counts nothing.
     entries: Vec<Entry>,
-    /// The pattern of these.
-    top: Shape,
 }
 
 impl Model for Room {
@@ -64,7 +58,7 @@ impl Model for Room {
 
     ghost view = { λ r. length r.entries.items };
 
-    ghost invariant = { λ r. AreTotalsFrom r.top 0 [] r.entries.items };
+    ghost invariant = { λ r. AreTotalsFrom 0 [] r.entries.items };
 }
 
 impl Room {
@@ -75,19 +69,17 @@ impl Room {
     pub fn new(alloc: Global, numbers: usize) -> Result<Room, AllocError>
         ensures { IfOk result (λ room. room ≡ numbers) }
     {
-        let blank = blank();
-        let top = blank.shape;
         let mut entries = Vec::new(alloc);
-        entries.resize(numbers, blank)?;
-        Ok(Room { entries, top })
+        entries.resize(numbers, blank())?;
+        Ok(Room { entries })
     }
 
-    /// The entries, and their pattern.
-    fn into_parts(self) -> (Vec<Entry>, Shape)
-        ensures long { length result.0.items ≡ self }
-        ensures blank { AreTotalsFrom result.1 0 [] result.0.items }
+    /// The entries.
+    fn into_entries(self) -> Vec<Entry>
+        ensures long { length result.items ≡ self }
+        ensures blank { AreTotalsFrom 0 [] result.items }
     {
-        (self.entries, self.top)
+        self.entries
     }
 }
 
@@ -126,18 +118,6 @@ fn in_order<R: Threads + Sync>(
     sorted
 }
 
-/// The entries that count something, where those that don't are the last.
-fn without_blanks(entries: Vec<Entry>) -> Vec<Entry>
-    requires sorted { IsNonDecreasingBy (λ entry. entry.shape) entries.items }
-    requires under { (top : ℕ) × All (IsUnder top) entries.items }
-    ensures { result.items ≡ filter (λ entry. nat_lt 0 entry.there) entries.items }
-{
-    let mut entries = entries;
-    let count = entries.as_slice().partition_point(|entry| entry.there > 0);
-    entries.truncate(count);
-    entries
-}
-
 /// What all shares have counted, an entry for each pattern, in order. None where it does not go.
 fn entries_of<R: Threads + Sync>(
     rt: &R,
@@ -146,22 +126,19 @@ fn entries_of<R: Threads + Sync>(
 ) -> Option<Vec<Entry>>
     requires { (seen : List Happened) × IsLegal room seen
         × Stand room seen (all_rows shares.items) }
-    ensures entries { IfSome result (λ entries. AreEntriesOf (all_rows shares.items)
-        entries.items) }
+    ensures entries { IfSome result (λ entries. (listed : List Entry)
+        × AreEntriesOf (all_rows shares.items) listed × IsPermutation listed entries.items) }
     ensures sorted { IfSome result (λ entries. IsNonDecreasingBy (λ entry. entry.shape)
         entries.items) }
 {
-    let (mut entries, top) = room.into_parts();
-    if !add_numbered(
-        rt,
-        shares.len(),
-        top,
-        entries.as_mut_slice(),
-        shares.as_slice(),
-    ) {
+    let mut entries = room.into_entries();
+    let threads = shares.len();
+    if !add_numbered(rt, threads, entries.as_mut_slice(), shares.as_slice()) {
         return None;
     }
-    Some(without_blanks(in_order(rt, entries, shares)))
+    // Threads would sort a part that counts nothing as slowly as one that does.
+    entries.retain(|entry| entry.there > 0);
+    Some(in_order(rt, entries, shares))
 }
 
 /// The dictionary of numbered shares: for each pattern the sums of all shares, and the least game.

@@ -5,11 +5,10 @@ ghost use Rattle.tally_core.specs.Entries.{IsShape};
 ghost use Rattle.share_core.specs.declared.rows.Row.{Row};
 ghost use Rattle.share_core.specs.WordShares.{unnumbered};
 ghost use Rattle.gather_core.specs.Checking.{all_rows};
-ghost use Rattle.gather_core.specs.Inner.Ranges.{counted, IsUnder, AreTotalsFrom};
+ghost use Rattle.gather_core.specs.Inner.Ranges.{counted, AreTotalsFrom};
 ghost use Rattle.gather_core.specs.Inner.Totals.{IsTotalAt};
 
 use crate::totals::with;
-use shape_core::Shape;
 use shape_dict::Entry;
 use share_core::NumberedShare;
 use std::thread::{Threads, join_mut};
@@ -22,16 +21,15 @@ const MOST_HALVINGS: usize = 3;
 
 /// Adds what was counted of a number's pattern to the number's total, which counts nothing where it
 /// has none yet. The answer is whether it goes: what was never there does not, nor what is of
-/// another pattern or of one that is not below `top`, nor what makes a sum pass 2^64 - 1.
-fn add_entry(total: &mut Entry, entry: Entry, top: Shape) -> bool
+/// another pattern, nor what makes a sum pass 2^64 - 1.
+fn add_entry(total: &mut Entry, entry: Entry) -> bool
     ensures total { OnTrue result ((rows : List Row) (number : ℕ)
         → IsTotalAt rows number (counted total.old)
         → IsTotalAt (rows ++ record (unnumbered entry) { number = number } ∷ []) number
         (counted total.new)) }
     ensures shape { OnTrue result (IsShape total.old → IsShape total.new) }
-    ensures under { OnTrue result (IsUnder top total.old → IsUnder top total.new) }
 {
-    if entry.there == 0 || entry.shape >= top {
+    if entry.there == 0 {
         return false;
     }
     if total.there == 0 {
@@ -49,17 +47,17 @@ fn add_entry(total: &mut Entry, entry: Entry, top: Shape) -> bool
 
 /// Adds what a share has counted at numbers of this range, whose first number is `start`. The
 /// answer is whether all goes.
-fn add_share(totals: &mut [Entry], start: usize, top: Shape, share: &NumberedShare) -> bool
+fn add_share(totals: &mut [Entry], start: usize, share: &NumberedShare) -> bool
     ensures long { length totals.new ≡ length totals.old }
-    ensures added { OnTrue result ((rows : List Row) → AreTotalsFrom top start rows totals.old
-        → AreTotalsFrom top start (rows ++ share.now.rows) totals.new) }
+    ensures added { OnTrue result ((rows : List Row) → AreTotalsFrom start rows totals.old
+        → AreTotalsFrom start (rows ++ share.now.rows) totals.new) }
 {
     for place in 0..share.patterns() {
         let number = share.number_at(place);
         if number < start || number - start >= totals.len() {
             continue;
         }
-        if !add_entry(&mut totals[number - start], share.entry_at(place), top) {
+        if !add_entry(&mut totals[number - start], share.entry_at(place)) {
             return false;
         }
     }
@@ -67,13 +65,13 @@ fn add_share(totals: &mut [Entry], start: usize, top: Shape, share: &NumberedSha
 }
 
 /// Adds what all shares have counted at numbers of this range. The answer is whether all goes.
-fn add_shares(totals: &mut [Entry], start: usize, top: Shape, shares: &[NumberedShare]) -> bool
+fn add_shares(totals: &mut [Entry], start: usize, shares: &[NumberedShare]) -> bool
     ensures long { length totals.new ≡ length totals.old }
-    ensures added { OnTrue result (AreTotalsFrom top start [] totals.old
-        → AreTotalsFrom top start (all_rows shares.now) totals.new) }
+    ensures added { OnTrue result (AreTotalsFrom start [] totals.old
+        → AreTotalsFrom start (all_rows shares.now) totals.new) }
 {
     for share in shares {
-        if !add_share(totals, start, top, share) {
+        if !add_share(totals, start, share) {
             return false;
         }
     }
@@ -87,20 +85,19 @@ fn add_ranges<R: Threads + Sync>(
     rt: &R,
     depth: usize,
     start: usize,
-    top: Shape,
     totals: &mut [Entry],
     shares: &[NumberedShare],
 ) -> bool
     requires { start + length totals.old < 2 ^ 64 }
     ensures long { length totals.new ≡ length totals.old }
-    ensures added { OnTrue result (AreTotalsFrom top start [] totals.old
-        → AreTotalsFrom top start (all_rows shares.now) totals.new) }
+    ensures added { OnTrue result (AreTotalsFrom start [] totals.old
+        → AreTotalsFrom start (all_rows shares.now) totals.new) }
 {
     if depth == 0 || totals.len() < LEAST {
-        return add_shares(totals, start, top, shares);
+        return add_shares(totals, start, shares);
     }
     let (low, high) = totals.split_at_mut(totals.len() / 2);
-    add_both(rt, depth - 1, start, top, low, high, shares)
+    add_both(rt, depth - 1, start, low, high, shares)
 }
 
 /// The same of two ranges that follow one another.
@@ -109,7 +106,6 @@ fn add_both<R: Threads + Sync>(
     rt: &R,
     depth: usize,
     start: usize,
-    top: Shape,
     low: &mut [Entry],
     high: &mut [Entry],
     shares: &[NumberedShare],
@@ -117,24 +113,24 @@ fn add_both<R: Threads + Sync>(
     requires { start + (length low.old + length high.old) < 2 ^ 64 }
     ensures low_long { length low.new ≡ length low.old }
     ensures high_long { length high.new ≡ length high.old }
-    ensures low { OnTrue result (AreTotalsFrom top start [] low.old
-        → AreTotalsFrom top start (all_rows shares.now) low.new) }
-    ensures high { OnTrue result (AreTotalsFrom top (start + length low.old) [] high.old
-        → AreTotalsFrom top (start + length low.old) (all_rows shares.now) high.new) }
+    ensures low { OnTrue result (AreTotalsFrom start [] low.old
+        → AreTotalsFrom start (all_rows shares.now) low.new) }
+    ensures high { OnTrue result (AreTotalsFrom (start + length low.old) [] high.old
+        → AreTotalsFrom (start + length low.old) (all_rows shares.now) high.new) }
 {
     let middle = start + low.len();
     let mut add_low = || -> bool
         requires { start + length low.now < 2 ^ 64 }
         ensures long { length low.exit.now ≡ length low.entry.now }
-        ensures added { OnTrue result (AreTotalsFrom top start [] low.entry.now
-            → AreTotalsFrom top start (all_rows shares.entry.now) low.exit.now) }
-    { add_ranges(rt, depth, start, top, low, shares) };
+        ensures added { OnTrue result (AreTotalsFrom start [] low.entry.now
+            → AreTotalsFrom start (all_rows shares.entry.now) low.exit.now) }
+    { add_ranges(rt, depth, start, low, shares) };
     let mut add_high = || -> bool
         requires { middle + length high.now < 2 ^ 64 }
         ensures long { length high.exit.now ≡ length high.entry.now }
-        ensures added { OnTrue result (AreTotalsFrom top middle [] high.entry.now
-            → AreTotalsFrom top middle (all_rows shares.entry.now) high.exit.now) }
-    { add_ranges(rt, depth, middle, top, high, shares) };
+        ensures added { OnTrue result (AreTotalsFrom middle [] high.entry.now
+            → AreTotalsFrom middle (all_rows shares.entry.now) high.exit.now) }
+    { add_ranges(rt, depth, middle, high, shares) };
     let (low_goes, high_goes) = join_mut(rt, &mut add_low, &mut add_high);
     low_goes && high_goes
 }
@@ -145,14 +141,13 @@ fn add_both<R: Threads + Sync>(
 pub(crate) fn add_numbered<R: Threads + Sync>(
     rt: &R,
     threads: usize,
-    top: Shape,
     totals: &mut [Entry],
     shares: &[NumberedShare],
 ) -> bool
     ensures long { length totals.new ≡ length totals.old }
-    ensures added { OnTrue result (AreTotalsFrom top 0 [] totals.old
-        → AreTotalsFrom top 0 (all_rows shares.now) totals.new) }
+    ensures added { OnTrue result (AreTotalsFrom 0 [] totals.old
+        → AreTotalsFrom 0 (all_rows shares.now) totals.new) }
 {
     let halvings = threads.max(1).ilog2() as usize;
-    add_ranges(rt, halvings.min(MOST_HALVINGS), 0, top, totals, shares)
+    add_ranges(rt, halvings.min(MOST_HALVINGS), 0, totals, shares)
 }

@@ -1,6 +1,5 @@
 use Rattle.std.proofs.Common.{sym, subst}
 use Rattle.gather_core.proofs.Common.{IsGathered}
-use Rattle.std.proofs.lemmas.List.Sorted.{IsPermutation-refl}
 use Rattle.gather_core.proofs.Gathered.{is_gathered}
 use Rattle.gather_core.proofs.gathering_numbered.gather_numbered.Goals.{After-has_diamonds}
 use Rattle.gather_core.proofs.gathering_numbered.gather_numbered.Goals as goal
@@ -18,8 +17,9 @@ gathered g c =
     let of = rw c.as_slice-2.ensures.value at c.in-Some.ensures.shares in
     let moves = rw c.as_slice-2.ensures.value at c.in-Some.ensures.moves in
     let covers = rw c.as_slice.ensures.value at c.in-Ok.ensures.ok in
-    is_gathered c.kinds_stay.ensures.canonical c.kinds_stay.ensures.around c.args.kinds c.args.games shares entries entries
-    c.in-Some-entries_of.ensures.entries (IsPermutation-refl entries) c.in-Some-entries_of.ensures.sorted c.in-Some.moves c.has_diamonds.result
+    let listed = c.in-Some-entries_of.ensures.entries in
+    is_gathered c.kinds_stay.ensures.canonical c.kinds_stay.ensures.around c.args.kinds c.args.games shares listed.0 entries
+    listed.1 listed.2 c.in-Some-entries_of.ensures.sorted c.in-Some.moves c.has_diamonds.result
     of c.requires.kinds c.requires.games covers moves c.has_diamonds.ensures
 
 pub new-dictionary-requires : goal.new-dictionary-requires

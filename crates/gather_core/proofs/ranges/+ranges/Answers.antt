@@ -8,13 +8,12 @@ use Rattle.gather_core.proofs.ranges.+ranges.Goals as goal
 pub add_ranges-returns-clause-added : goal.add_ranges-returns-clause-added
 add_ranges-returns-clause-added g t c = OnTrue_from c.add_both.result _ (λ goes h.
     let start = c.args.start in
-    let top = c.args.top in
     let rows = all_rows c.args.shares.now in
     let low = c.split_at_mut-low.result.0.now in
     let high = c.split_at_mut-low.result.1.now in
     let both = c.add_both.ensures in
-    let whole = subst (AreTotalsFrom top start []) c.split_at_mut-low.ensures.value h in
-    let one = OnTrue_at goes both.low (low_totals top start [] low high whole) in
-    let other = OnTrue_at goes both.high (high_totals top start [] low high whole) in
-    both_totals top start rows c.add_both.new.low c.add_both.new.high one
-    (subst (λ n. AreTotalsFrom top (start + n) rows c.add_both.new.high) (sym both.low_long) other))
+    let whole = subst (AreTotalsFrom start []) c.split_at_mut-low.ensures.value h in
+    let one = OnTrue_at goes both.low (low_totals start [] low high whole) in
+    let other = OnTrue_at goes both.high (high_totals start [] low high whole) in
+    both_totals start rows c.add_both.new.low c.add_both.new.high one
+    (subst (λ n. AreTotalsFrom (start + n) rows c.add_both.new.high) (sym both.low_long) other))

@@ -8,7 +8,7 @@ use Rattle.gather_core.proofs.ranges.add_share.Goals as goal
 
 pub returns-clause-added : goal.returns-clause-added
 returns-clause-added c rows h =
-    subst (λ (rs : List Row). AreTotalsFrom c.args.top c.args.start (rows ++ rs) c.loop-place.totals)
+    subst (λ (rs : List Row). AreTotalsFrom c.args.start (rows ++ rs) c.loop-place.totals)
     (take_all c.loop-place.place c.args.share.now.rows (omega (arith, c.loop-place-test.false, c.patterns-place-end.ensures))) (c.loop-place.invariant.added rows h)
 
 pub loop-place-preserved-then-number-start : goal.loop-place-preserved-then-number-start
@@ -20,7 +20,7 @@ loop-place-preserved-then-number-start c =
     record {
       long = c.loop-place.invariant.long;
       added = λ rows h. rw (take_more all i (blank 0 0) inside, ← append_assoc rows (take i all) (row ∷ []))
-          (total_outside c.args.top c.args.start (rows ++ take i all) c.loop-place.totals row (c.loop-place.invariant.added rows h)
+          (total_outside c.args.start (rows ++ take i all) c.loop-place.totals row (c.loop-place.invariant.added rows h)
           (λ place low same. elim c.then-number-start.branch [
             | then-number-start-via-then-number-start w ↦ absurd (omega (arith, w.if-number-start.true, same, c.number_at-number.ensures))
             | then-number-start-via-else-number-start+then-number-start-2 w ↦ absurd (omega (arith, w.if-number-start-2.true, same, low, c.number_at-number.ensures))
@@ -49,8 +49,7 @@ loop-place-preserved c =
           let here = before.totals at c.index-totals-number.result low in
           let after = c.if-not-add_entry.ensures.total (rows ++ take i all) (start + at) here in
           rw (take_more all i (blank 0 0) inside, ← append_assoc rows (take i all) (row ∷ []))
-          (total_inside c.args.top start (rows ++ take i all) totals row before at c.add_entry.new.total low number
+          (total_inside start (rows ++ take i all) totals row before at c.add_entry.new.total low number
           (subst (λ (r : Row). IsTotalAt ((rows ++ take i all) ++ r ∷ []) (start + at) (counted c.add_entry.new.total)) is after)
-          (c.if-not-add_entry.ensures.shape (before.shapes at c.index-totals-number.result low))
-          (c.if-not-add_entry.ensures.under (before.under at c.index-totals-number.result low)));
+          (c.if-not-add_entry.ensures.shape (before.shapes at c.index-totals-number.result low)));
     }

@@ -7,5 +7,5 @@ use Rattle.gather_core.proofs.ranges.add_share.Given as goal
 abbrev pub invariant-loop-place : goal.invariant-loop-place
 invariant-loop-place l = record {
   long : length l.totals ≡ length l.fn.totals;
-  added : (rows : List Row) → AreTotalsFrom l.top l.start rows l.fn.totals → AreTotalsFrom l.top l.start (rows ++ take l.place l.share.rows) l.totals;
+  added : (rows : List Row) → AreTotalsFrom l.start rows l.fn.totals → AreTotalsFrom l.start (rows ++ take l.place l.share.rows) l.totals;
 }

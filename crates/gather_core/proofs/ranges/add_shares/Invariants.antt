@@ -7,5 +7,5 @@ use Rattle.gather_core.proofs.ranges.add_shares.Given as goal
 abbrev pub invariant-loop-share : goal.invariant-loop-share
 invariant-loop-share l = record {
   long : length l.totals ≡ length l.fn.totals;
-  added : AreTotalsFrom l.top l.start [] l.fn.totals → AreTotalsFrom l.top l.start (all_rows (take l.share-index l.shares)) l.totals;
+  added : AreTotalsFrom l.start [] l.fn.totals → AreTotalsFrom l.start (all_rows (take l.share-index l.shares)) l.totals;
 }
