@@ -32,6 +32,17 @@ use tally_core::{Counted, Settings};
 /// other; two that share a table would take longer than that.
 const LEAST_WORKERS: u8 = 3;
 
+/// How many workers count, where this many were asked for: no more than there are processors, for
+/// which those beyond would only wait, but three at least. Where the system does not say how many
+/// processors there are, all that were asked for.
+fn workers_of<R: Threads>(rt: &R, asked: u8) -> u8 {
+    let processors = match thread::available_parallelism(rt) {
+        Ok(count) => u8::try_from(count.get()).unwrap_or(u8::MAX),
+        Err(_) => u8::MAX,
+    };
+    asked.min(processors).max(LEAST_WORKERS)
+}
+
 /// What a worker has counted by words, and its pass of the table.
 #[derive(Drop)]
 struct Hand {
@@ -195,9 +206,10 @@ fn dictionary_of<R: Threads + Sync>(
     Ok(Some(Counted { dictionary, report }))
 }
 
-/// Counts a collection by several workers, three at least, over one new table of 2^exponent slots:
-/// each takes one game after another that nobody has taken, counts it by words, and gives its
-/// patterns numbers when no game is left. None where a number was wanting.
+/// Counts a collection by several workers over one new table of 2^exponent slots, as many as the
+/// settings say, but no more than there are processors, and three at least. Each takes one game
+/// after another that nobody has taken, counts it by words, and gives its patterns numbers when no
+/// game is left. None where a number was wanting.
 ///
 /// Games are read in parts: the first while the workers make room for patterns, each further one
 /// while the one before is counted. The table is made while the first part is counted. Where a
@@ -234,7 +246,7 @@ pub(crate) fn count_by_words<R: Threads + Sync, G: Gate>(
         capacity,
         gate,
         kinds,
-        workers: settings.workers().max(LEAST_WORKERS),
+        workers: workers_of(rt, settings.workers()),
         bytes,
     };
     let Some(ended) = count_all(rt, &crowd, games)? else {

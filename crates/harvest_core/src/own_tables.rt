@@ -116,8 +116,9 @@ fn count_likely<R: Threads + Sync, G: Gate>(
 ///
 /// One worker alone needs no table that threads share: this thread counts then, in a map, while
 /// another one walks games for it; threads sort what it has counted, and the gate is not asked.
-/// Several workers, three at least and numbered from 0, each take one game after another that
-/// nobody has taken, and count it in a map of their own; the gate is told of each game. The games
+/// Several workers, numbered from 0, each take one game after another that nobody has taken, and
+/// count it in a map of their own; the gate is told of each game. They are as many as the settings
+/// say, but no more than there are processors, and three at least. The games
 /// are read in parts, each while the one before is counted. When none is left the workers give
 /// their patterns numbers in one table, which for a small input has fewer slots, and so takes less
 /// time and memory. A worker whose thread cannot be started works in another one's.
