@@ -1,6 +1,7 @@
 -- Shares of games of an input that were counted by words, and the shares that they become.
 use Rattle.std.proofs.Common.{◌≡◌, ℕ, ◌<◌, ◌≤◌, ◌+◌, ◌==◌, cond, List, [], ◌∷◌, ◌++◌, ap, sym, subst, ◌∙◌, arith, ⊎_elim, All, Contains}
-use Rattle.std.specs.Prelude.{sum_by, map}
+use Rattle.std.specs.Prelude.{sum_by, map, Option, Some, None, IfSome}
+use Rattle.std.specs.Option.{option_or}
 use Rattle.std.specs.List.{AllByRecursion}
 use Rattle.std.proofs.lemmas.Grind.{flat_map-append}
 use Rattle.std.proofs.lemmas.List.{append-nil, get_or_default, get_or-map, length-map}
@@ -118,6 +119,11 @@ stand_taken n one other both met shares share stand more row among =
     (λ (old : Contains (all_rows shares) row). met.keeps_one.numbers row.shape row.number (stand row old))
     (λ (new : Contains share.rows row). met.keeps_other.numbers row.shape row.number (more row new))
     (Contains-append_cases (all_rows shares) share.rows row (subst (λ (rs : List Row). Contains rs row) rows among))
+
+-- what holds of either, where it is given, holds of the first that is
+pub some_or : {X : Type 0} (P : X → Type 0) (one other : Option X) → IfSome one P → IfSome other P → IfSome (option_or one other) P
+some_or P None other first second = second
+some_or P (Some x) other first second = first
 
 -- what holds of all that a function gives
 pub unmapped : {X Y : Type 0} (P : X → Type 0) (f : Y → X) (ys : List Y) → All P (map f ys) → All (λ y. P (f y)) ys

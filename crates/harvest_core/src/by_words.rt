@@ -16,7 +16,7 @@ ghost use Rattle.harvest_core.specs.Inner.Reading.{IsReadFault};
 use crate::counting::{Counter, Crowd};
 use crate::gates::Gate;
 use crate::rounds::{Ended, count_all};
-use gather_core::gather_numbered;
+use gather_core::{Room, gather_numbered};
 use harvest_faults::HarvestFault;
 use job_core::Games;
 use probe_core::{Capacity, OddRuns};
@@ -24,6 +24,7 @@ use shape_core::Kinds;
 use share_core::{NumberedShare, WordShare};
 use slot_table::{Pass, SlotTable};
 use std::alloc::{AllocError, Global};
+use std::sync::atomic::{AtomicU64, Ordering};
 use std::thread;
 use std::thread::Threads;
 use tally_core::{Counted, Settings};
@@ -50,11 +51,19 @@ struct Hand {
     pass: Pass<OddRuns>,
 }
 
-/// The same with numbers, and the pass that gave them.
+/// The same with numbers, the pass that gave them, and from one worker the room for all totals.
 #[derive(Drop)]
 struct NumberedHand {
     share: NumberedShare,
     pass: Pass<OddRuns>,
+    room: Option<Room>,
+}
+
+/// The shares of all workers, and room for the totals of all numbers.
+#[derive(Drop)]
+struct Numbered {
+    shares: Vec<NumberedShare>,
+    room: Room,
 }
 
 /// What was counted by words, each with a pass of its own.
@@ -78,24 +87,36 @@ fn hands_of(
     Ok(hands)
 }
 
-/// The patterns of a worker get numbers in the table. It takes memory for the numbers.
+/// The patterns of a worker get numbers in the table. The first worker that has all, of which
+/// `ended` counts how many they are, makes the room for all totals while others go on: by then each
+/// has given back what its map had left over. It takes memory for the numbers, and for the room.
 ///
 /// # Errors
 ///
 /// `Memory` where memory was refused; `Full` where no number is free for a pattern.
-fn number_hand(table: &SlotTable<OddRuns>, hand: Hand) -> Result<NumberedHand, HarvestFault>
+fn number_hand(
+    alloc: Global,
+    table: &SlotTable<OddRuns>,
+    ended: &AtomicU64,
+    hand: Hand,
+) -> Result<NumberedHand, HarvestFault>
     requires { (bytes : List ℕ) × (kinds : Kinds) × IsHand table.now bytes kinds hand }
     ensures { (bytes : List ℕ) (kinds : Kinds) → IsHand table.now bytes kinds hand
         → IfOk result (IsNumberedHand table.now bytes kinds) }
 {
     let Hand { words, mut pass } = hand;
     let share = words.number(table, &mut pass)?;
-    Ok(NumberedHand { share, pass })
+    let mut room = None;
+    if ended.fetch_add(1, Ordering::SeqCst) == 0 {
+        room = Some(Room::new(alloc, table.capacity().slots())?);
+    }
+    Ok(NumberedHand { share, pass, room })
 }
 
 /// What the hands come to, in their order, each in a thread of its own where one can be started.
 fn number_hands<R: Threads + Sync>(
     rt: &R,
+    alloc: Global,
     table: &SlotTable<OddRuns>,
     hands: Vec<Hand>,
 ) -> Result<Vec<Result<NumberedHand, HarvestFault>>, AllocError>
@@ -104,70 +125,76 @@ fn number_hands<R: Threads + Sync>(
         → IfOk result (λ all. All (λ one. IfOk one (IsNumberedHand table.now bytes kinds))
         all.items) }
 {
+    let ended = &AtomicU64::new(0);
     let work = |hand: Hand| -> Result<NumberedHand, HarvestFault>
         requires { (bytes : List ℕ) × (kinds : Kinds) × IsHand table.now bytes kinds hand }
         ensures { (bytes : List ℕ) (kinds : Kinds) → IsHand table.entry.now bytes kinds hand
             → IfOk result (IsNumberedHand table.entry.now bytes kinds) }
-    { number_hand(table, hand) };
+    { number_hand(alloc, table, ended, hand) };
     thread::map_vec(rt, hands, &work)
 }
 
-/// The shares of all workers, or None where one is wanting. The pass gets the calls of all.
+/// What all workers have numbered, or None where one's share is wanting, or the room. The pass gets
+/// the calls of all.
 fn taken_up(
     alloc: Global,
     table: &SlotTable<OddRuns>,
     pass: &mut Pass<OddRuns>,
     numbered: Vec<Result<NumberedHand, HarvestFault>>,
-) -> Result<Option<Vec<NumberedShare>>, HarvestFault>
+) -> Result<Option<Numbered>, HarvestFault>
     requires pass { IsPassOf table.now pass.old }
     requires numbered { (bytes : List ℕ) × (kinds : Kinds)
         × All (λ one. IfOk one (IsNumberedHand table.now bytes kinds)) numbered.items }
     ensures pass { IsPassOf table.now pass.new }
     ensures shares { (bytes : List ℕ) (kinds : Kinds)
         → All (λ one. IfOk one (IsNumberedHand table.now bytes kinds)) numbered.items
-        → IfOk result (λ found. IfSome found (λ shares.
-        AreNumbered table.now bytes kinds pass.new shares.items)) }
+        → IfOk result (λ found. IfSome found (AreNumbered table.now bytes kinds pass.new)) }
     ensures fault { IfErr result (λ found. found ≡ fault.Memory) }
 {
     let mut shares = Vec::new(alloc);
+    let mut room = None;
     for one in numbered {
         match one {
             Ok(hand) => {
                 let NumberedHand {
                     share,
                     pass: theirs,
+                    room: made,
                 } = hand;
                 table.absorb(pass, theirs);
                 shares.push(share)?;
+                room = room.or(made);
             }
             Err(HarvestFault::Memory) => return Err(HarvestFault::Memory),
             Err(_) => return Ok(None),
         }
     }
-    Ok(Some(shares))
+    let Some(room) = room else {
+        return Ok(None);
+    };
+    Ok(Some(Numbered { shares, room }))
 }
 
-/// The shares of what was counted by words, with numbers. None where a number was wanting. The pass
-/// must be of the table, and gets the calls of all.
+/// What was counted by words, with numbers. None where a number was wanting. The pass must be of
+/// the table, and gets the calls of all.
 fn shares_of<R: Threads + Sync>(
     rt: &R,
     alloc: Global,
     table: &SlotTable<OddRuns>,
     pass: &mut Pass<OddRuns>,
     counters: Vec<Counter>,
-) -> Result<Option<Vec<NumberedShare>>, HarvestFault>
+) -> Result<Option<Numbered>, HarvestFault>
     requires pass { IsPassOf table.now pass.old }
     requires counters { (bytes : List ℕ) × (kinds : Kinds)
         × All (IsCounter bytes kinds) counters.items }
     ensures pass { IsPassOf table.now pass.new }
     ensures shares { (bytes : List ℕ) (kinds : Kinds)
         → All (IsCounter bytes kinds) counters.items
-        → IfOk result (λ found. IfSome found (λ shares.
-        AreNumbered table.now bytes kinds pass.new shares.items)) }
+        → IfOk result (λ found. IfSome found (AreNumbered table.now bytes kinds pass.new)) }
     ensures fault { IfErr result (λ found. found ≡ fault.Memory) }
 {
     let hands = hands_of(alloc, table, pass, counters)?;
-    let numbered = number_hands(rt, table, hands)?;
+    let numbered = number_hands(rt, alloc, table, hands)?;
     taken_up(alloc, table, pass, numbered)
 }
 
@@ -180,7 +207,6 @@ fn dictionary_of<R: Threads + Sync>(
     ended: Ended,
 ) -> Result<Option<Counted>, HarvestFault>
     requires pass { IsPassOf ended.table ended.pass }
-    requires room { ended.room ≡ ended.table.slots }
     requires counters { (bytes : List ℕ) × HasReadAll bytes ended.report
         × All (IsCounter bytes kinds) ended.counters.items }
     ensures harvest { (bytes : List ℕ) → HasReadAll bytes ended.report
@@ -192,13 +218,13 @@ fn dictionary_of<R: Threads + Sync>(
     let Ended {
         table,
         mut pass,
-        room,
         counters,
         report,
     } = ended;
-    let Some(shares) = shares_of(rt, alloc, &table, &mut pass, counters)? else {
+    let Some(numbered) = shares_of(rt, alloc, &table, &mut pass, counters)? else {
         return Ok(None);
     };
+    let Numbered { shares, room } = numbered;
     let found = gather_numbered(rt, alloc, kinds, report.games, room, shares)?;
     let Some(dictionary) = found else {
         return Ok(None);
@@ -212,10 +238,10 @@ fn dictionary_of<R: Threads + Sync>(
 /// game is left. None where a number was wanting.
 ///
 /// Games are read in parts: the first while the workers make room for patterns, each further one
-/// while the one before is counted. The table is made while the first part is counted. Where a
+/// while the one before is counted. The table is made while the last part is counted. Where a
 /// thread cannot be started, another one does its work. It takes memory for the table, for the
-/// records of two parts, for each worker for the patterns of its games and the board, and for the
-/// dictionary.
+/// records of two parts, for each worker for the patterns of its games and the board, for the
+/// totals of all numbers, and for the dictionary.
 ///
 /// # Errors
 ///

@@ -9,8 +9,11 @@ use job_core::{Games, Job};
 use std::alloc::Global;
 use tally_core::Report;
 
-/// How many bytes the trees of a part's games have together, or more by the last of them. Only the
-/// last part has fewer.
+/// How many bytes the trees of the first part's games have together, or more by the last of them.
+/// All wait for that part.
+const FIRST_BYTES: usize = 1 << 19;
+
+/// The same of a later part, which is read while others count.
 const PART_BYTES: usize = 1 << 22;
 
 /// What comes after a part.
@@ -41,24 +44,36 @@ pub(crate) struct Part<'a> {
     pub rest: Rest<'a>,
 }
 
-/// The part that comes next. It takes memory for the records of its games, and for a tree at a
-/// time.
+/// The part that comes next of an input of this many bytes, while these jobs are counted. It ends
+/// only where as much again is left, since the table is made beside the last part. It takes memory
+/// for the records of its games, and for a tree at a time.
 ///
 /// # Errors
 ///
 /// `Sgf` with the input's first fault of syntax, where it is in the part; `Memory` where memory was
 /// refused.
-pub(crate) fn read_part<'a>(alloc: Global, games: Games<'a>) -> Result<Part<'a>, HarvestFault>
+pub(crate) fn read_part<'a>(
+    alloc: Global,
+    input: usize,
+    counted: &[Job<'a>],
+    games: Games<'a>,
+) -> Result<Part<'a>, HarvestFault>
     ensures part { IfOk result (IsPart games.entry.bytes) }
     ensures fault { IfErr result (IsReadFault games.entry.bytes) }
 {
+    let least = if counted.is_empty() {
+        FIRST_BYTES
+    } else {
+        PART_BYTES
+    };
+    let mut left = least;
     let mut games = games;
     let mut jobs = Vec::new(alloc);
-    let mut left = PART_BYTES;
     while let Some(job) = games.next_job(alloc)? {
-        left = left.saturating_sub(job.end().saturating_sub(job.at()));
+        let end = job.end();
+        left = left.saturating_sub(end.saturating_sub(job.at()));
         jobs.push(job)?;
-        if left == 0 {
+        if left == 0 && input.saturating_sub(end) >= least {
             let rest = Rest::More(games);
             return Ok(Part { jobs, rest });
         }

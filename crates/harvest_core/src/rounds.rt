@@ -11,7 +11,6 @@ ghost use Rattle.harvest_core.specs.Inner.Rounds.{IsRound, IsMade, IsEnded};
 use crate::counting::{Counter, Crowd, begin_counter, count_games};
 use crate::gates::Gate;
 use crate::parts::{Part, Rest, read_part};
-use gather_core::Room;
 use harvest_faults::HarvestFault;
 use job_core::{Games, Job};
 use probe_core::OddRuns;
@@ -27,7 +26,7 @@ use tally_core::Report;
 enum Task<'a> {
     /// The worker of this number begins.
     Begin(usize),
-    /// The table is made that is to number all patterns, and room for the totals of its numbers.
+    /// The table is made that is to number all patterns.
     Table,
     /// A worker goes on with the games of the part.
     Count(Counter),
@@ -35,12 +34,11 @@ enum Task<'a> {
     Read(Games<'a>),
 }
 
-/// A table, its first pass, and room for the totals of its numbers.
+/// A table, and its first pass.
 #[derive(Drop)]
 struct Numbering {
     table: SlotTable<OddRuns>,
     pass: Pass<OddRuns>,
-    room: Room,
 }
 
 /// What one thread comes to: what a worker has counted, the table, or the next part.
@@ -65,7 +63,6 @@ struct Round<'a> {
 pub(crate) struct Ended {
     pub table: SlotTable<OddRuns>,
     pub pass: Pass<OddRuns>,
-    pub room: Room,
     /// What each worker has counted, in the order of their numbers.
     pub counters: Vec<Counter>,
     /// What the trees of the input are.
@@ -91,15 +88,18 @@ fn done_by<'a, G: Gate>(
     match task {
         Task::Begin(number) => Ok(Done::Counted(begin_counter(crowd, number))),
         Task::Count(counter) => Ok(Done::Counted(count_games(crowd, jobs, next, counter)?)),
-        Task::Read(games) => Ok(Done::Part(read_part(crowd.alloc, games)?)),
+        Task::Read(games) => Ok(Done::Part(read_part(
+            crowd.alloc,
+            crowd.bytes.len(),
+            jobs,
+            games,
+        )?)),
         Task::Table => {
             let order = OddRuns {
                 capacity: crowd.capacity,
             };
             let (table, pass) = SlotTable::new(crowd.alloc, order)?;
-            // The memory that the table was copied from serves again.
-            let room = Room::new(crowd.alloc, table.capacity().slots())?;
-            Ok(Done::Table(Numbering { table, pass, room }))
+            Ok(Done::Table(Numbering { table, pass }))
         }
     }
 }
@@ -181,12 +181,11 @@ fn first_tasks<'a, G: Gate>(
     Ok(tasks)
 }
 
-/// The tasks of a later round: each worker goes on, the table is made unless it is already, and
-/// where games may be left, a part is read.
+/// The tasks of a later round: each worker goes on, and one part more is read. Where no game is
+/// left to read, the table is made in its place.
 fn next_tasks<'a, G: Gate>(
     crowd: &Crowd<'_, 'a, G>,
     counters: Vec<Counter>,
-    is_made: bool,
     rest: Rest<'a>,
 ) -> Result<Vec<Task<'a>>, AllocError>
     requires counters { All (IsCounter crowd.now.bytes.now crowd.now.kinds) counters.items }
@@ -198,12 +197,10 @@ fn next_tasks<'a, G: Gate>(
     for counter in counters {
         tasks.push(Task::Count(counter))?;
     }
-    if !is_made {
-        tasks.push(Task::Table)?;
-    }
-    if let Rest::More(games) = rest {
-        tasks.push(Task::Read(games))?;
-    }
+    tasks.push(match rest {
+        Rest::More(games) => Task::Read(games),
+        Rest::End(_) => Task::Table,
+    })?;
     Ok(tasks)
 }
 
@@ -213,20 +210,17 @@ fn end_with(made: Option<Numbering>, counters: Vec<Counter>, report: Report) -> 
         → All (IsCounter bytes kinds) counters.items → HasReadAll bytes report
         → IfSome result (IsEnded bytes kinds slots) }
 {
-    let Some(Numbering { table, pass, room }) = made else {
-        return None;
-    };
+    let Numbering { table, pass } = made?;
     Some(Ended {
         table,
         pass,
-        room,
         counters,
         report,
     })
 }
 
 /// The later rounds: the workers go on with this part and all that come after it, and the next one
-/// is read meanwhile; the table is made beside the first. None where a count might be too large.
+/// is read meanwhile; the table is made beside the last. None where a count might be too large.
 /// Each part but the last has a game, so the loop has turns enough.
 ///
 /// # Errors
@@ -245,13 +239,12 @@ fn count_parts<'a, R: Threads + Sync, G: Gate>(
         (IsEnded crowd.now.bytes.now crowd.now.kinds (2 ^ crowd.now.capacity))) }
     ensures fault { IfErr result (IsReadFault crowd.now.bytes.now) }
 {
-    let mut made = None;
     let mut counters = counters;
     let mut part = part;
     for _ in 0..=crowd.bytes.len() {
         let Part { jobs, rest } = part;
         let report = rest.report();
-        let tasks = next_tasks(crowd, counters, made.is_some(), rest)?;
+        let tasks = next_tasks(crowd, counters, rest)?;
         let Some(round) = do_round(rt, crowd, &jobs, tasks)? else {
             return Ok(None);
         };
@@ -260,9 +253,8 @@ fn count_parts<'a, R: Threads + Sync, G: Gate>(
             counters: counted,
             part: read,
         } = round;
-        made = made.or(numbers);
         if let Some(report) = report {
-            return Ok(end_with(made, counted, report));
+            return Ok(end_with(numbers, counted, report));
         }
         let Some(read) = read else {
             return Ok(None);

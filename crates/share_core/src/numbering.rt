@@ -141,7 +141,9 @@ impl WordShare {
         ensures fault { IfErr result (IsNumberFault table.now.slots pass.new.seen self) }
     {
         let kinds = self.counts.kinds();
-        let entries = self.counts.into_entries();
+        let mut entries = self.counts.into_entries();
+        // What the map has left over is for others from here on.
+        entries.shrink_to_fit();
         let numbers = number_all(self.alloc, table, pass, entries.as_slice())?;
         Ok(NumberedShare {
             worker: self.worker,

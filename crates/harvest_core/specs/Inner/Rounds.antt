@@ -23,11 +23,10 @@ IsTask bytes kinds task.Table = Unit {0}
 IsTask bytes kinds (task.Count counter) = IsCounter bytes kinds counter
 IsTask bytes kinds (task.Read games) = games.bytes ≡ bytes
 
--- a table of this number of slots, with a pass of it and room for as many totals
+-- a table of this number of slots, with a pass of it
 pub record IsMade (slots : ℕ) (made : Numbering) : Type 0 where
   pub pass : IsPassOf made.table made.pass
   pub slots_are : made.table.slots ≡ slots
-  pub room : made.room ≡ slots
 
 -- a worker has counted games of the input, or a table of this number of slots was made, or a part of the input's games was read
 abbrev pub IsDone : List ℕ → Kinds → ℕ → Done → Type 0
@@ -54,6 +53,5 @@ pub record IsRound (bytes : List ℕ) (kinds : Kinds) (slots : ℕ) (round : Rou
 pub record IsEnded (bytes : List ℕ) (kinds : Kinds) (slots : ℕ) (ended : Ended) : Type 0 where
   pub table : IsPassOf ended.table ended.pass
   pub slots_are : ended.table.slots ≡ slots
-  pub room : ended.room ≡ slots
   pub counters : All (IsCounter bytes kinds) ended.counters.items
   pub report : HasReadAll bytes ended.report

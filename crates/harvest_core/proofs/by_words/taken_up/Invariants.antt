@@ -1,4 +1,4 @@
-use Rattle.std.proofs.Common.{ℕ, List, Result, All, IfOk}
+use Rattle.std.proofs.Common.{◌≡◌, ℕ, List, Result, All, IfOk, IfSome}
 use Rattle.shape_core.specs.declared.words.Kinds.{Kinds}
 use Rattle.slot_table.specs.Passes.{IsPassOf}
 use Rattle.gather_core.specs.Checking.{all_rows, Stand}
@@ -17,4 +17,6 @@ invariant-loop-one l = record {
   worked : (bytes : List ℕ) (kinds : Kinds) → All (λ (one : Result NumberedHand HarvestFault). IfOk one (IsNumberedHand l.table bytes kinds)) l.fn.numbered.items
       → All (IsWorked bytes kinds) l.shares.items;
   stand : Stand l.table.slots l.pass.seen (all_rows l.shares.items);
+  room : (bytes : List ℕ) (kinds : Kinds) → All (λ (one : Result NumberedHand HarvestFault). IfOk one (IsNumberedHand l.table bytes kinds)) l.fn.numbered.items
+      → IfSome l.room (λ room. room ≡ l.table.slots);
 }

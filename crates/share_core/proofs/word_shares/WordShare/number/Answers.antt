@@ -8,7 +8,7 @@ use Rattle.share_core.proofs.word_shares.WordShare.number.Goals.{After-as_slice}
 
 -- the entries are those that the worker had counted
 entries-are : (g : _) (c : After-as_slice g) → c.as_slice.result.now ≡ c.self.inside.counts.entries
-entries-are g c = c.as_slice.ensures.value ∙ c.into_entries-entries.ensures.entries
+entries-are g c = c.as_slice.ensures.value ∙ c.shrink_to_fit.ensures.items ∙ c.into_entries-entries.ensures.entries
 
 pub returns-in_err-numbers-clause-calls : goal.returns-in_err-numbers-clause-calls
 returns-in_err-numbers-clause-calls g c =
@@ -34,7 +34,7 @@ invariant_of-result g c =
     let n = c.args.table.now.slots in
     let numbers = c.in_ok-numbers.numbers.items in
     let settled : AreSettled n c.number_all.new.pass.seen numbers old.counts.entries = rw (entries-are g before) at c.in_ok-numbers.ensures.settled in
-    rw (c.kinds-kinds.ensures, c.into_entries-entries.ensures.entries) (
+    rw (c.kinds-kinds.ensures, c.shrink_to_fit.ensures.items, c.into_entries-entries.ensures.entries) (
       sym (AllZip-long (IsSettled n c.number_all.new.pass.seen) numbers old.counts.entries settled),
       share_numbered n c.number_all.new.pass.seen numbers old.counts.entries settled old.worker old.counts.kinds old.games.items old.moves
           (rw (← c.self.view_is) at c.requires.share),
@@ -44,7 +44,7 @@ pub returns-clause-numbered : goal.returns-clause-numbered
 returns-clause-numbered g c =
     let old = c.self.inside in
     let before = (goal.at.returns-clause-numbered g c).After-as_slice in
-    rw (c.kinds-kinds.ensures, c.into_entries-entries.ensures.entries, ← c.self.view_is)
+    rw (c.kinds-kinds.ensures, c.shrink_to_fit.ensures.items, c.into_entries-entries.ensures.entries, ← c.self.view_is)
     (words_numbered c.args.table.now.slots c.number_all.new.pass.seen c.in_ok-numbers.numbers.items old.counts.entries (rw (entries-are g before) at c.in_ok-numbers.ensures.settled) old.worker old.counts.kinds old.games.items old.moves
     (rw (c.into_entries-entries.ensures.entries) at c.into_entries-entries.ensures.counted))
 
