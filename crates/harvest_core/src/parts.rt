@@ -1,7 +1,7 @@
 //! The games of an input in parts, each read while the one before is counted.
-ghost use Rattle.std.specs.Prelude.{◌≡◌, ℕ, List, IfOk, IfErr, IfSome};
+ghost use Rattle.std.specs.Prelude.{◌≡◌, ◌+◌, ℕ, List, length, IfOk, IfErr, IfSome};
 ghost use Rattle.game_core.specs.Games.{HasReadAll};
-ghost use Rattle.harvest_core.specs.Inner.Parts.{IsPart, IsRest};
+ghost use Rattle.harvest_core.specs.Inner.Parts.{IsPart, IsRest, games_of};
 ghost use Rattle.harvest_core.specs.Inner.Reading.{IsReadFault};
 
 use harvest_faults::HarvestFault;
@@ -59,6 +59,8 @@ pub(crate) fn read_part<'a>(
     games: Games<'a>,
 ) -> Result<Part<'a>, HarvestFault>
     ensures part { IfOk result (IsPart games.entry.bytes) }
+    ensures all { IfOk result (λ part. games_of part.rest
+        ≡ games.entry.report.games + length part.jobs.items) }
     ensures fault { IfErr result (IsReadFault games.entry.bytes) }
 {
     let least = if counted.is_empty() {

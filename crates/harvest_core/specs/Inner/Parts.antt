@@ -10,6 +10,11 @@ abbrev pub IsRest : List ℕ → Rest → Type 0
 IsRest bytes (rest.More games) = games.bytes ≡ bytes
 IsRest bytes (rest.End report) = HasReadAll bytes report
 
+-- how many games were read once this is to come
+abbrev pub games_of : Rest → ℕ
+games_of (rest.More games) = games.report.games
+games_of (rest.End report) = report.games
+
 -- these are games of these bytes, and this comes after them
 pub record IsPart (bytes : List ℕ) (part : Part) : Type 0 where
   pub jobs : All (λ (job : WrittenGame). job.bytes ≡ bytes) part.jobs.items

@@ -1,4 +1,4 @@
-use Rattle.std.proofs.Common.{◌≡◌, ◌^◌, ◌-◌, All}
+use Rattle.std.proofs.Common.{◌≡◌, ◌+◌, ◌^◌, ◌-◌, All, length}
 use Rattle.game_core.specs.Games.{WrittenGame}
 use Rattle.harvest_core.proofs.parts.read_part.Given as goal
 
@@ -6,6 +6,7 @@ abbrev pub invariant-loop-jobs : goal.invariant-loop-jobs
 invariant-loop-jobs l = record {
   bytes : l.games.bytes ≡ l.fn.games.bytes;
   jobs : All (λ (job : WrittenGame). job.bytes ≡ l.fn.games.bytes) l.jobs.items;
+  all : l.games.report.games ≡ l.fn.games.report.games + length l.jobs.items;
 }
 
 -- each turn reads a game, and an input has at most 2 ^ 28 of them
