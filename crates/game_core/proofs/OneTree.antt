@@ -13,13 +13,13 @@ use Rattle.game_core.specs.Collection.{AreTrees, record_of_tree, games_among, ot
 use Rattle.sgf_core.specs.declared.faults.SgfFault.TheVariants as sgf
 use Rattle.sgf_core.specs.Next.{IsNextTree}
 use Rattle.game_core.specs.Reports.{IsReport}
-use Rattle.game_core.specs.Faults.{IsGamesFault}
+use Rattle.game_core.specs.Faults.{IsNextFault, IsGamesFault}
 use Rattle.game_core.specs.declared.faults.GamesFault.{GamesFault}
 use Rattle.game_core.specs.declared.faults.GamesFault.TheVariants as fault
 use Rattle.game_core.specs.declared.reports.Report.{Report}
 use Rattle.game_core.specs.declared.games.Recorded.{Recorded}
 use Rattle.game_core.specs.Games.{HasRead}
-use Rattle.game_core.specs.Inner.Reading.{IsNextFault, IsNextRecord, Counts}
+use Rattle.game_core.specs.Inner.Reading.{IsNextRecord, Counts}
 
 pub games_push : (records : List (Result Kind RecordFault)) (last : Result Kind RecordFault) → games_among (records ++ last ∷ []) ≡ games_among records ++ games_among (last ∷ [])
 games_push [] last = refl
@@ -111,7 +111,7 @@ moved P bytes other from place same here h = subst (λ b. P b from) same (subst 
 
 -- why no next tree comes is why the input is not read
 pub stops : (bytes : List ℕ) (from : ℕ) (report : Report) (found : GamesFault) → HasRead bytes from report → IsNextFault bytes from found → IsGamesFault bytes found
-stops bytes from report fault.Memory h is = tt
+stops bytes from report fault.Memory h is = (h.small, record { trees = h.trees; end = from; written = h.written; next = is })
 stops bytes from report (fault.Sgf sgf.TooLarge) h is = absurd is
 stops bytes from report (fault.Sgf sgf.Memory) h is = absurd is
 stops bytes from report (fault.Sgf (sgf.Truncated at)) h is = (h.small, record { trees = h.trees; end = from; written = h.written; fault = is })

@@ -3,6 +3,7 @@ use Rattle.std.specs.Prelude.{◌≡◌, ℕ, ◌+◌, ◌≤◌, Bool, List, Op
 use Rattle.game_core.specs.declared.faults.GamesFault.{GamesFault}
 use Rattle.game_core.specs.declared.reports.Report.{Report}
 use Rattle.game_core.specs.Games.{WrittenGame, HasReadAll}
+use Rattle.game_core.specs.Faults.{IsNextFault}
 use Rattle.sgf_core.specs.Limit.{most_bytes}
 
 -- an input, the place up to which its trees were read, what these are, the fault that was met, and whether no tree was left
@@ -28,3 +29,9 @@ pub record HasNoGame (before after : Reading) : Type 0 where
   pub all : HasReadAll after.bytes after.report
   pub games : after.report.games ≡ before.report.games
   pub no_fault : after.fault ≡ None
+
+-- reading stopped: the trees were read up to the one with which the fault comes, and none of them was a game
+pub record IsStopped (before after : Reading) (found : GamesFault) : Type 0 where
+  pub games : after.report.games ≡ before.report.games
+  pub forward : before.from ≤ after.from
+  pub here : IsNextFault after.bytes after.from found

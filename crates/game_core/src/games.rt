@@ -6,12 +6,12 @@ ghost use Rattle.sgf_core.specs.Marks.{marks_of};
 ghost use Rattle.sgf_core.specs.Next.{IsNextTree, HasNoTree};
 ghost use Rattle.sgf_core.specs.declared.faults.SgfFault.TheVariants as sgf;
 ghost use Rattle.go_record.specs.declared.faults.RecordFault.TheVariants as record_fault;
-ghost use Rattle.game_core.specs.Faults.{IsGamesFault};
+ghost use Rattle.game_core.specs.Faults.{IsNextFault, IsGamesFault};
 ghost use Rattle.game_core.specs.declared.faults.GamesFault.TheVariants as fault;
 ghost use Rattle.game_core.specs.declared.games.Step.TheVariants as step;
 ghost use Rattle.game_core.specs.Games.{HasRead};
-ghost use Rattle.game_core.specs.Reading.{IsNextGame, HasNoGame};
-ghost use Rattle.game_core.specs.Inner.Reading.{IsNextFault, IsKept, IsStep, IsNextRecord, Counts};
+ghost use Rattle.game_core.specs.Reading.{IsNextGame, HasNoGame, IsStopped};
+ghost use Rattle.game_core.specs.Inner.Reading.{IsStep, IsNextRecord, Counts};
 ghost use Rattle.sgf_core.specs.Limit.{most_bytes};
 
 use crate::faults::GamesFault;
@@ -83,7 +83,7 @@ impl<'a> Model for Games<'a> {
     } };
 
     ghost invariant = { λ games. HasRead games.bytes.now games.from games.report
-        × IsStage games.bytes.now games.from games.trees.from games.trees.fault games.stage
+        × IsStage games.bytes.now games.from games.trees.from games.stage
         × (games.trees.bytes ≡ games.bytes.now) };
 }
 
@@ -99,8 +99,6 @@ fn next_tree<'a>(alloc: Global, trees: &mut Trees<'a>) -> Result<Option<Tree<'a>
     ensures none { IfOk result (λ found. IfNone found (HasNoTree trees.old.bytes trees.old.from)) }
     ensures bytes { trees.new.bytes ≡ trees.old.bytes }
     ensures fault { IfErr result (IsNextFault trees.old.bytes trees.old.from) }
-    ensures kept { trees.old.fault ≡ None
-        → IfErr result (λ found. IsKept found trees.new.fault) }
 {
     match trees.next_tree(alloc) {
         Ok(found) => Ok(found),
@@ -129,13 +127,10 @@ fn unless_memory(
 fn next_record(alloc: Global, trees: &mut Trees<'_>) -> Result<Option<Recorded>, GamesFault>
     ensures record { IfOk result (λ found.
         IfSome found (IsNextRecord trees.old.bytes trees.old.from)) }
-    ensures after { IfOk result (λ found. IfSome found (λ read. (trees.new.from ≡ read.end)
-        × (trees.new.fault ≡ trees.old.fault))) }
+    ensures after { IfOk result (λ found. IfSome found (λ read. trees.new.from ≡ read.end)) }
     ensures none { IfOk result (λ found. IfNone found (HasNoTree trees.old.bytes trees.old.from)) }
     ensures bytes { trees.new.bytes ≡ trees.old.bytes }
     ensures fault { IfErr result (IsNextFault trees.old.bytes trees.old.from) }
-    ensures kept { trees.old.fault ≡ None
-        → IfErr result (λ found. IsKept found trees.new.fault) }
 {
     let Some(tree) = next_tree(alloc, trees)? else {
         return Ok(None);
@@ -202,6 +197,7 @@ impl<'a> Games<'a> {
     fn step(&mut self, alloc: Global) -> Result<Step<'a>, GamesFault>
         ensures bytes { self.new.bytes ≡ self.old.bytes }
         ensures step { IfOk result (IsStep self.old self.new) }
+        ensures stopped { IfErr result (IsStopped self.old self.new) }
         ensures fault { IfErr result (IsGamesFault self.old.bytes) }
         ensures after_fault { IfErr result (λ found. self.new.fault ≡ Some found) }
         ensures same { IfSome self.old.fault (λ found. (result ≡ Err found)
@@ -244,13 +240,15 @@ impl<'a> Games<'a> {
     ///
     /// # Errors
     ///
-    /// `Sgf` where the next tree has a fault of syntax; `Memory` where memory was refused. After a
-    /// fault, want of memory too, each later call answers it again and changes nothing, so the
-    /// report stays that of the trees that were read.
+    /// `Sgf` where the tree after those that were passed over has a fault of syntax; `Memory` where
+    /// memory was refused, which is asked for only where that tree is whole, so never in place of
+    /// a fault of syntax. The report is then that of the trees before this one. Each later call
+    /// answers the same fault, want of memory too, and changes nothing.
     pub fn next_job(&mut self, alloc: Global) -> Result<Option<Job<'a>>, GamesFault>
         ensures bytes { self.new.bytes ≡ self.old.bytes }
         ensures job { IfOk result (λ found. IfSome found (IsNextGame self.old self.new)) }
         ensures none { IfOk result (λ found. IfNone found (HasNoGame self.old self.new)) }
+        ensures stopped { IfErr result (IsStopped self.old self.new) }
         ensures fault { IfErr result (IsGamesFault self.old.bytes) }
         ensures after_fault { IfErr result (λ found. self.new.fault ≡ Some found) }
         ensures same { IfSome self.old.fault (λ found. (result ≡ Err found)

@@ -2,16 +2,13 @@
 use Rattle.std.specs.Prelude.{◌≡◌, ◌⊎◌, ℕ, ◌+◌, ◌<◌, ◌≤◌, Bool, true, false, List, length, Option, Some, None, Result, Ok, Err}
 use Rattle.sgf_core.specs.Tree.{GameTree}
 use Rattle.sgf_core.specs.Next.{IsNextTree, HasNoTree}
-use Rattle.sgf_core.specs.Reading.{IsFaultAt}
 use Rattle.go_record.specs.Actions.{Actions}
 use Rattle.go_record.specs.declared.records.Kind.{Kind}
 use Rattle.go_record.specs.declared.records.Kind.TheVariants as kind
 use Rattle.go_record.specs.declared.faults.RecordFault.{RecordFault}
 use Rattle.game_core.specs.Collection.{record_of_tree}
-use Rattle.sgf_core.specs.declared.faults.SgfFault.{SgfFault}
-use Rattle.game_core.specs.Faults.{IsGamesFault}
+use Rattle.game_core.specs.Faults.{IsNextFault}
 use Rattle.game_core.specs.declared.faults.GamesFault.{GamesFault}
-use Rattle.game_core.specs.declared.faults.GamesFault.TheVariants as fault
 use Rattle.game_core.specs.declared.reports.Report.{Report}
 use Rattle.game_core.specs.declared.games.Stage.{Stage}
 use Rattle.game_core.specs.declared.games.Stage.TheVariants as stage
@@ -20,21 +17,11 @@ use Rattle.game_core.specs.declared.games.Step.{Step}
 use Rattle.game_core.specs.declared.games.Step.TheVariants as step
 use Rattle.game_core.specs.Reading.{Reading, IsNextGame, HasNoGame}
 
--- why there is no next tree from a place on: a fault of syntax, or memory was wanting
-abbrev pub IsNextFault : List ℕ → ℕ → GamesFault → Type 0
-IsNextFault bytes from fault.Memory = Unit {0}
-IsNextFault bytes from (fault.Sgf found) = IsFaultAt bytes from found
-
--- what the reader of trees keeps where this fault comes: the fault of syntax itself, and none where memory was wanting
-abbrev pub IsKept : GamesFault → Option SgfFault → Type 0
-IsKept fault.Memory kept = kept ≡ None
-IsKept (fault.Sgf found) kept = kept ≡ Some found
-
--- where the next tree is looked for, or why none is: with the place of the reader of trees, and the fault that it keeps
-abbrev pub IsStage : List ℕ → ℕ → ℕ → Option SgfFault → Stage → Type 0
-IsStage bytes from place kept stage.Trees = (place ≡ from) × (kept ≡ None)
-IsStage bytes from place kept stage.End = HasNoTree bytes from
-IsStage bytes from place kept (stage.Fault found) = IsKept found kept × IsGamesFault bytes found
+-- where the next tree is looked for, with the place of the reader of trees; or why none is
+abbrev pub IsStage : List ℕ → ℕ → ℕ → Stage → Type 0
+IsStage bytes from place stage.Trees = place ≡ from
+IsStage bytes from place stage.End = HasNoTree bytes from
+IsStage bytes from place (stage.Fault found) = IsNextFault bytes from found
 
 -- the fault that was met
 abbrev pub fault_of : Stage → Option GamesFault
