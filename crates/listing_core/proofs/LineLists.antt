@@ -15,6 +15,8 @@ use Rattle.listing_core.specs.declared.lines.Line.{Line}
 use Rattle.listing_core.specs.Lines.{line_text, number_text, bounds_text, what_text}
 use Rattle.listing_core.specs.Listing.{number_of, AreLines}
 use Rattle.listing_core.specs.Inner.Reading.{IsLineOf, ListsNext, ListsUpTo}
+use Rattle.listing_core.specs.Inner.Wants.{NextWants, IsWanted}
+use Rattle.listing_core.specs.declared.wants.Want.{Want}
 
 -- how many games there are, the first record apart
 games_first : (recorded : Result Kind RecordFault) (records : List (Result Kind RecordFault)) →
@@ -93,3 +95,17 @@ lines_are_of_trees bytes number place end [] lines h = h.0
 lines_are_of_trees bytes number place end (tree ∷ trees) [] h = absurd h
 lines_are_of_trees bytes number place end (tree ∷ trees) (line ∷ lines) h =
     (line.from, line.to, h.0, lines_are_of_trees bytes (number + length (games_among (record_of_tree tree ∷ []))) line.to end trees lines h.3)
+
+-- what the tree after those that are listed asks for
+pub is_wanted : (bytes : List ℕ) (place number : ℕ) (text : List ℕ) (before : Reading) (found : Want) → before.bytes ≡ bytes → place ≡ before.from →
+    ListsUpTo bytes place number text → NextWants before.bytes before.from found → IsWanted bytes found
+is_wanted bytes place number text before found same here h is = record {
+  before = h.trees;
+  from = place;
+  written = lines_are_of_trees bytes 0 0 place h.trees h.lines h.are;
+  at = is.0;
+  end = is.1;
+  tree = is.2;
+  next = subst (λ b. IsNextTree b place is.0 is.1 is.2) same (subst (λ p. IsNextTree before.bytes p is.0 is.1 is.2) (sym here) is.3);
+  holds = is.4;
+}

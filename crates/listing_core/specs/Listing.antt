@@ -1,10 +1,12 @@
 -- The listing of a collection: the lines of its trees in order, and a last line where it has a fault of syntax.
-use Rattle.std.specs.Prelude.{◌≡◌, ◌≢◌, ℕ, ◌+◌, ◌<◌, ◌≤◌, List, [], ◌∷◌, ◌++◌, length, drop, Option, Some, None, Result, Ok, Err}
+use Rattle.std.specs.Prelude.{◌≡◌, ◌≢◌, ℕ, ◌+◌, ◌<◌, ◌≤◌, List, [], ◌∷◌, ◌++◌, length, Option, Some, None, Result, Ok, Err}
 use Rattle.std.specs.List.{flat_map}
-use Rattle.sgf_core.specs.Tree.{GameTree}
-use Rattle.sgf_core.specs.Next.{BeginsTree, IsNextTree, HasNoTree}
+use Rattle.sgf_core.specs.Tree.{GameTree, main_line_of}
+use Rattle.sgf_core.specs.Next.{IsNextTree, HasNoTree}
 use Rattle.sgf_core.specs.Reading.{IsFaultAt}
 use Rattle.sgf_core.specs.Limit.{most_bytes}
+use Rattle.go_record.specs.Actions.{Actions}
+use Rattle.go_record.specs.Adding.{KeepsAnAction}
 use Rattle.go_record.specs.declared.records.Kind.{Kind}
 use Rattle.go_record.specs.declared.records.Kind.TheVariants as kind
 use Rattle.go_record.specs.declared.faults.RecordFault.{RecordFault}
@@ -12,7 +14,7 @@ use Rattle.go_record.specs.declared.faults.RecordFault.TheVariants as record_fau
 use Rattle.sgf_core.specs.declared.faults.SgfFault.TheVariants as sgf
 use Rattle.engine_core.specs.declared.faults.RunFault.{RunFault}
 use Rattle.engine_core.specs.declared.faults.RunFault.TheVariants as fault
-use Rattle.game_core.specs.Collection.{record_of_tree, games_among}
+use Rattle.game_core.specs.Collection.{AreTrees, record_of_tree, games_among}
 use Rattle.listing_core.specs.declared.lines.Line.{Line}
 use Rattle.listing_core.specs.declared.lines.What.{What}
 use Rattle.listing_core.specs.declared.lines.What.TheVariants as what
@@ -71,16 +73,36 @@ pub record IsListing (found : Listed) (input text : List ℕ) : Type 0 where
 abbrev pub HasListing : List ℕ → List ℕ → Type 0
 HasListing input text = (found : Listed) × IsListing found input text
 
--- a tree begins somewhere
-abbrev pub HasTree : List ℕ → Type 0
-HasTree input = (at : ℕ) × BeginsTree (drop at input)
+-- after trees that can be read, a whole one is next, and this holds of it
+pub record HasTree (Holds : GameTree → Type 0) (input : List ℕ) : Type 0 where
+  pub before : List GameTree
+  pub from : ℕ
+  pub written : AreTrees input 0 before from
+  pub at : ℕ
+  pub end : ℕ
+  pub tree : GameTree
+  pub next : IsNextTree input from at end tree
+  pub holds : Holds tree
 
--- the input is too large, which comes first, or memory was wanting: for a tree, its record or its board only where a tree begins
+-- reading the tree takes memory
+abbrev pub IsTree : GameTree → Type 0
+IsTree tree = Unit {0}
+
+-- reading its record keeps an action, for which memory is asked
+abbrev pub IsKept : GameTree → Type 0
+IsKept tree = KeepsAnAction (main_line_of tree)
+
+-- it is a game, for whose board memory is asked
+abbrev pub IsGame : GameTree → Type 0
+IsGame tree = (game : Actions) × (record_of_tree tree ≡ Ok (kind.Go game))
+
+-- the input is too large, which comes first, or memory was wanting: for a tree, its record or its board only where there is one
+-- that asks for it. Memory for the input comes before all of it.
 abbrev pub IsListingFault : List ℕ → RunFault → Type 0
 IsListingFault input (fault.Sgf sgf.TooLarge) = most_bytes < length input
-IsListingFault input (fault.Sgf sgf.Memory) = (length input ≤ most_bytes) × HasTree input
-IsListingFault input (fault.Record record_fault.Memory) = (length input ≤ most_bytes) × HasTree input
-IsListingFault input (fault.Board found) = (length input ≤ most_bytes) × HasTree input
+IsListingFault input (fault.Sgf sgf.Memory) = (length input ≤ most_bytes) × HasTree IsTree input
+IsListingFault input (fault.Record record_fault.Memory) = (length input ≤ most_bytes) × HasTree IsKept input
+IsListingFault input (fault.Board found) = (length input ≤ most_bytes) × HasTree IsGame input
 IsListingFault input fault.Memory = Unit {0}
 IsListingFault input (fault.Sgf found) = ⊥
 IsListingFault input (fault.Record found) = ⊥

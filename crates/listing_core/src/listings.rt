@@ -1,8 +1,9 @@
 //! The listing of an input.
-ghost use Rattle.std.specs.Prelude.{◌≡◌, ◌≤◌, [], length, IfOk, IfErr, OnErr};
+ghost use Rattle.std.specs.Prelude.{◌≡◌, ◌≤◌, [], length, IfOk, IfErr};
 ghost use Rattle.sgf_core.specs.Limit.{most_bytes};
-ghost use Rattle.listing_core.specs.Listing.{IsListing, IsListingFault, HasTree};
+ghost use Rattle.listing_core.specs.Listing.{IsListing, IsListingFault};
 ghost use Rattle.listing_core.specs.Inner.Reading.{IsEnding};
+ghost use Rattle.listing_core.specs.Inner.Wants.{IsWanted};
 
 use crate::trees::{Step, push_next};
 use crate::wants::Want;
@@ -35,7 +36,7 @@ fn push_lines(alloc: Global, trees: &mut Trees<'_>, text: &mut Vec<u8>) -> Resul
     requires begins { trees.old.from ≡ 0 }
     requires none { text.old.items ≡ [] }
     ensures ending { IfOk result (IsEnding trees.old.bytes text.new.items) }
-    ensures want { OnErr result (HasTree trees.old.bytes) }
+    ensures wanted { IfErr result (IsWanted trees.old.bytes) }
 {
     let mut next = 0;
     let mut last = 0;

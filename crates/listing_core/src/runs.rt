@@ -21,9 +21,11 @@ use std::io::{Read, Write};
 ///
 /// `Sgf` with S4 where the input has more than 2^28 bytes, and with S5 where memory for a tree was
 /// refused; `Record` with G4 and `Board` with B1 where memory for the record or the board of a game
-/// was; `Memory` where that for the input or the listing was; `Read` where the reader failed.
-/// Nothing is written then. `Write` where the writer failed: exactly that number of bytes of the
-/// listing is out. A fault of syntax is no error of the run: the answer says it.
+/// was. Such memory is asked for only where a whole tree is next, G4 only where an action of it
+/// comes before the first fault, and B1 only where it is a game. `Memory` where memory for the
+/// input or the listing was refused; `Read` where the reader failed. Nothing is written then.
+/// `Write` where the writer failed: exactly that number of bytes of the listing is out. A fault of
+/// syntax is no error of the run: the answer says it.
 pub fn run_listing<R: Read, W: Write>(
     alloc: Global,
     reader: &mut R,

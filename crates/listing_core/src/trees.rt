@@ -1,6 +1,6 @@
 //! The trees of an input, one line after another.
-ghost use Rattle.std.specs.Prelude.{◌≡◌, ◌≤◌, ◌∷◌, [], ℕ, List, length, IfOk, OnErr, Result, Ok};
-ghost use Rattle.sgf_core.specs.Tree.{GameTree, Node};
+ghost use Rattle.std.specs.Prelude.{◌≡◌, ◌≤◌, ◌∷◌, [], ℕ, List, length, IfOk, IfErr, Result, Ok};
+ghost use Rattle.sgf_core.specs.Tree.{GameTree, Node, main_line_of};
 ghost use Rattle.sgf_core.specs.Marks.{marks_of};
 ghost use Rattle.go_record.specs.Adding.{IsRecordOrMemory};
 ghost use Rattle.go_record.specs.Record.{record_of};
@@ -8,8 +8,10 @@ ghost use Rattle.go_record.specs.declared.records.Kind.{Kind};
 ghost use Rattle.go_record.specs.declared.records.Kind.TheVariants as kind;
 ghost use Rattle.go_record.specs.declared.faults.RecordFault.{RecordFault};
 ghost use Rattle.game_core.specs.Collection.{record_of_tree, games_among};
-ghost use Rattle.listing_core.specs.Listing.{IsWhat, number_of, HasTree};
+ghost use Rattle.listing_core.specs.Listing.{IsWhat, number_of};
 ghost use Rattle.listing_core.specs.Inner.Reading.{IsLineOf, IsTreeStep, IsStep};
+ghost use Rattle.listing_core.specs.Inner.Wants.{Wants, NextWants};
+ghost use Rattle.listing_core.specs.declared.wants.Want.TheVariants as want;
 
 use crate::lines::{Line, What};
 use crate::occasions::{count_occasions, moves_in};
@@ -33,7 +35,8 @@ pub(crate) enum Step {
 
 /// What a game is.
 fn game_of(alloc: Global, game_record: &Record) -> Result<What, Want>
-    ensures { IfOk result (IsWhat (Ok (kind.Go game_record.now))) }
+    ensures what { IfOk result (IsWhat (Ok (kind.Go game_record.now))) }
+    ensures wanted { IfErr result (λ found. found ≡ want.Board) }
 {
     let mut board = Board::new(alloc, game_record.size())?;
     let actions = game_record.actions();
@@ -47,8 +50,10 @@ fn game_of(alloc: Global, game_record: &Record) -> Result<What, Want>
 
 /// What a tree is, by its record. Want of memory for the record is handed on.
 fn what_of(alloc: Global, recorded: Result<Kind, RecordFault>) -> Result<What, Want>
-    ensures { (line : List Node) → IsRecordOrMemory line recorded
+    ensures what { (line : List Node) → IsRecordOrMemory line recorded
         → IfOk result (IsWhat (record_of line)) }
+    ensures wanted { (line : List Node) → IsRecordOrMemory line recorded
+        → IfErr result (Wants line) }
 {
     match recorded {
         Ok(Kind::Go(game_record)) => game_of(alloc, &game_record),
@@ -98,9 +103,11 @@ fn games_in(line: &Line) -> u64
 
 /// Appends the line of a tree, where `next` is the number of the next game.
 fn push_tree(alloc: Global, tree: &Tree<'_>, next: u64, text: &mut Vec<u8>) -> Result<Step, Want>
-    ensures { (game : GameTree) → tree.now.marks ≡ marks_of game
+    ensures step { (game : GameTree) → tree.now.marks ≡ marks_of game
         → IfOk result (IsTreeStep tree.now (record_of_tree game) next text.old.items
         text.new.items) }
+    ensures wanted { (game : GameTree) → tree.now.marks ≡ marks_of game
+        → IfErr result (Wants (main_line_of game)) }
 {
     let what = what_of(alloc, read_record(alloc, tree))?;
     let line = line_of(tree, next, what);
@@ -121,7 +128,7 @@ pub(crate) fn push_next(
 ) -> Result<Step, Want>
     ensures step { IfOk result
         (IsStep trees.old trees.new next text.old.items text.new.items) }
-    ensures want { OnErr result (HasTree trees.old.bytes) }
+    ensures wanted { IfErr result (NextWants trees.old.bytes trees.old.from) }
 {
     match trees.next_tree(alloc) {
         Ok(Some(tree)) => push_tree(alloc, &tree, next, text),

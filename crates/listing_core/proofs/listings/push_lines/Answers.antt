@@ -1,7 +1,8 @@
 use Rattle.std.proofs.Common.{◌∙◌, ap, sym, subst, arith, length}
 use Rattle.sgf_core.specs.Reading.{Reading}
 use Rattle.listing_core.specs.Inner.Reading.{IsStep}
-use Rattle.listing_core.proofs.LineLists.{lists_on}
+use Rattle.std.proofs.lemmas.Result.{err_from_is_err_and}
+use Rattle.listing_core.proofs.LineLists.{lists_on, is_wanted}
 use Rattle.listing_core.proofs.listings.push_lines.Goals as goal
 
 pub loop-end-preserved : goal.loop-end-preserved
@@ -19,3 +20,10 @@ loop-end-preserved c =
       lists = lists_on c.args.trees.now.bytes c.loop-end.last before after c.loop-end.next c.in-Tree.end c.in-Tree.games c.loop-end.text.items c.push_next.new.text.items
           is.bytes is.end is.lists step;
     }
+
+pub returns-in_err-end-clause-wanted : goal.returns-in_err-end-clause-wanted
+returns-in_err-end-clause-wanted c =
+    let is = c.loop-end.invariant in
+    let p = err_from_is_err_and c.from_residual.result c.from_residual.ensures.1 in
+    rw (p.1, p.2) (is_wanted c.args.trees.now.bytes c.loop-end.last c.loop-end.next c.loop-end.text.items c.loop-end.trees c.in_err-end.field-0.0
+    is.bytes is.end is.lists c.in_err-end.ensures.wanted)
