@@ -33,3 +33,8 @@ pub mod RowLookups
 pub mod Ways
 pub mod WalkedGames
 pub mod CountedAgain
+pub mod WordSets
+pub mod GamesMet
+pub mod SamePositions
+pub mod Different
+pub mod OneBeyond

@@ -47,6 +47,7 @@ fn counter_of<R: Threads + Sync>(
 ) -> Result<Option<(Counter, Report)>, TallyFault>
     ensures counted { IfOk result (λ found.
         IfSome found (λ all. CountsAll kinds bytes.now all.1 all.0)) }
+    ensures within { IfOk result (λ found. IfSome found (λ all. length all.0.counts ≤ most)) }
     ensures more { IfOk result (λ found. IfNone found (HasMore kinds bytes.now most)) }
     ensures few { IfOk result (λ found. IfNone found (most < 2 ^ 63)) }
     ensures fault { IfErr result (IsCountFault bytes.now) }
@@ -69,8 +70,9 @@ fn counted_of(kinds: Kinds, moves: u64, report: Report, entries: Vec<Entry>) -> 
         × CountsAll kinds bytes report counter × IsEndOf counter moves entries.items }
     requires shapes { All IsShape entries.items }
     requires rises { IsStrictlyIncreasing (map (λ entry. entry.shape) entries.items) }
-    ensures { (bytes : List ℕ) (counter : Counter) → CountsAll kinds bytes report counter
+    ensures counted { (bytes : List ℕ) (counter : Counter) → CountsAll kinds bytes report counter
         → IsEndOf counter moves entries.items → IsCounted kinds bytes result }
+    ensures entries { result.dictionary.entries ≡ entries.items }
 {
     let dictionary = dictionary_of(kinds, report.games, moves, entries);
     Counted { dictionary, report }
@@ -101,6 +103,8 @@ pub fn count_within<R: Threads + Sync>(
     bytes: &[u8],
 ) -> Result<Option<Counted>, TallyFault>
     ensures counted { IfOk result (λ found. IfSome found (IsCounted kinds bytes.now)) }
+    ensures within { IfOk result (λ found. IfSome found
+        (λ counted. length counted.dictionary.entries ≤ most)) }
     ensures more { IfOk result (λ found. IfNone found (HasMore kinds bytes.now most)) }
     ensures few { IfOk result (λ found. IfNone found (most < 2 ^ 63)) }
     ensures fault { IfErr result (IsCountFault bytes.now) }

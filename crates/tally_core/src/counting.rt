@@ -80,6 +80,7 @@ fn count_all(
         (AreCounted counter.old walked.now counter.new)) }
     ensures more { IfOk result (λ all. OnFalse all
         (AreTooMany most counter.old walked.now counter.new)) }
+    ensures few { IfOk result (λ all. OnTrue all (length counter.new.counts ≤ most)) }
     ensures fault { IfErr result (λ found. found ≡ tally_fault.Memory) }
 {
     for game in walked {
@@ -187,6 +188,7 @@ pub(crate) fn count_games_beside<R: Threads + Sync>(
         walker.old.games.bytes walker.new.games.report counter.new)) }
     ensures more { IfOk result (λ all. OnFalse all
         (CountsMore walker.old.walk.kinds walker.old.games.bytes most counter.new)) }
+    ensures few { IfOk result (λ all. OnTrue all (length counter.new.counts ≤ most)) }
     ensures fault { IfErr result (IsCountFault walker.old.games.bytes) }
     ensures met { IfErr result (λ found. IfSome walker.new.games.fault
         (λ met. found ≡ reading_fault met)) }

@@ -29,9 +29,10 @@ pub(crate) fn dictionary_of(kinds: Kinds, games: u64, moves: u64, entries: Vec<E
         × CountsGames kinds replayed counts moves) }
     requires shapes { All IsShape entries.items }
     requires rises { IsStrictlyIncreasing (map (λ entry. entry.shape) entries.items) }
-    ensures { (counts : ℕ → Option Count) → AreEntered counts entries.items
+    ensures counted { (counts : ℕ → Option Count) → AreEntered counts entries.items
         → (replayed : List Replayed) → length replayed ≡ games
         → CountsGames kinds replayed counts moves → IsDictionaryOf kinds replayed result }
+    ensures entries { result.entries ≡ entries.items }
 {
     // A canonical word is of the kind that was looked at.
     kinds_stay();

@@ -18,8 +18,8 @@ dictionary_of-dictionary-requires-clause-counted c =
       ),
     )
 
-pub returns : goal.returns
-returns c bytes counter all end = record {
+pub returns-clause-counted : goal.returns-clause-counted
+returns-clause-counted c bytes counter all end = record {
   trees = all.read.trees;
   end = all.read.end;
   games = all.games;
@@ -27,7 +27,7 @@ returns c bytes counter all end = record {
   written = all.read.written;
   no_more = all.read.no_more;
   replayed = all.replayed;
-  dictionary = c.dictionary_of-dictionary.ensures (count_in counter.counts) end.entered all.games
+  dictionary = c.dictionary_of-dictionary.ensures.counted (count_in counter.counts) end.entered all.games
       (games_reported c.args.kinds bytes c.args.report counter all)
       (subst (CountsGames c.args.kinds all.games (count_in counter.counts)) end.moves_left all.counted);
   reported = all.read.reported;

@@ -1,5 +1,8 @@
-use Rattle.std.proofs.lemmas.List.Sorted.{All-permutation}
+use Rattle.std.proofs.Common.{length, ap, ◌∙◌}
+use Rattle.std.proofs.lemmas.List.{length-map}
+use Rattle.std.proofs.lemmas.List.Sorted.{All-permutation, length_permutation}
 use Rattle.tally_core.specs.Entries.{IsShape}
+use Rattle.tally_core.specs.Inner.Entries.{entry_of_pair}
 use Rattle.tally_core.proofs.InOrder.{sorted_rises, sorted_entered}
 use Rattle.tally_core.proofs.dictionaries.entries_within.Goals as goal
 
@@ -15,3 +18,9 @@ pub returns-clause-rises : goal.returns-clause-rises
 returns-clause-rises g c =
     sorted_rises c.args.counts c.into_entries.result.items c.put_in_order.result.items c.into_entries.ensures.entries c.into_entries.ensures.once
     c.put_in_order.ensures.same c.put_in_order.ensures.sorted
+
+pub returns-clause-many : goal.returns-clause-many
+returns-clause-many g c =
+    length_permutation c.into_entries.result.items c.put_in_order.result.items c.put_in_order.ensures.same
+    ∙ ap length c.into_entries.ensures.entries
+    ∙ length-map c.args.counts entry_of_pair

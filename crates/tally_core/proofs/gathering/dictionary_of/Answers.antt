@@ -10,8 +10,8 @@ new-requires c =
     c.args.entries.items c.has_diamonds.result counted.1 c.requires.shapes c.requires.rises
     c.has_diamonds.ensures counted.2.1 counted.2.2).dictionary
 
-pub returns : goal.returns
-returns c counts entered replayed numbered counted =
+pub returns-clause-counted : goal.returns-clause-counted
+returns-clause-counted c counts entered replayed numbered counted =
     subst (IsDictionaryOf c.args.kinds replayed) (sym c.new.ensures)
     (gathered c.kinds_stay.ensures.canonical c.kinds_stay.ensures.around c.args.kinds replayed c.args.games c.args.moves counts
     c.args.entries.items c.has_diamonds.result entered c.requires.shapes c.requires.rises
