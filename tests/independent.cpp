@@ -2,7 +2,10 @@
 // stack, every group is flooded anew, and every pattern is read off the board cell by cell at every occasion. It shares
 // no line with the program, and nothing of it is proved. Both must print the same: `tests/agreement` compares them.
 //
-//     independent TEXT < COLLECTION          TEXT is 1, 2 or 3
+//     independent TEXT [BITS] < COLLECTION   TEXT is 1, 2 or 3
+//
+// Where BITS is given and there are more than 2^BITS patterns, it says which one is the first that is too many, in the
+// order in which they are met: game by game, occasion by occasion, points row by row, the square before the diamond.
 #include "records.hpp"
 
 #include <algorithm>
@@ -143,18 +146,26 @@ struct Entry {
 struct Dictionary {
     uint64_t games = 0, moves = 0, others = 0, refused = 0;
     std::map<uint64_t, Entry> entries;
+    std::vector<uint64_t> met;
 
     void count(std::vector<Kind> &kinds, Board &board, const Action &move) {
         moves++;
-        for (Kind &kind : kinds)
-            for (int row = 0; row < board.rows; row++)
-                for (int column = 0; column < board.columns; column++) {
-                    if (board.at(column, row) != EMPTY) continue;
-                    auto [entry, is_new] = entries.try_emplace(kind.pattern(board, column, row, move.stone));
-                    if (is_new) entry->second.first = games;
-                    entry->second.there++;
-                    if (column == move.at.column && row == move.at.row) entry->second.played++;
-                }
+        for (int row = 0; row < board.rows; row++)
+            for (int column = 0; column < board.columns; column++) {
+                if (board.at(column, row) != EMPTY) continue;
+                bool is_played = column == move.at.column && row == move.at.row;
+                for (Kind &kind : kinds) count_one(kind.pattern(board, column, row, move.stone), is_played);
+            }
+    }
+
+    void count_one(uint64_t pattern, bool is_played) {
+        auto [entry, is_new] = entries.try_emplace(pattern);
+        if (is_new) {
+            entry->second.first = games;
+            met.push_back(pattern);
+        }
+        entry->second.there++;
+        if (is_played) entry->second.played++;
     }
 
     void add(std::vector<Kind> &kinds, const MainLine &line) try {
@@ -191,9 +202,10 @@ struct Dictionary {
 };
 
 int main(int count, char **words) try {
-    int text = count == 2 ? std::atoi(words[1]) : 0;
-    if (text < 1 || text > 3) {
-        std::fprintf(stderr, "independent: TEXT is 1, 2 or 3\n");
+    int text = count == 2 || count == 3 ? std::atoi(words[1]) : 0;
+    int bits = count == 3 ? std::atoi(words[2]) : 63;
+    if (text < 1 || text > 3 || bits < 0 || bits > 63) {
+        std::fprintf(stderr, "independent: TEXT is 1, 2 or 3, and BITS 0 to 63\n");
         return 2;
     }
     std::string input{std::istreambuf_iterator<char>(std::cin), std::istreambuf_iterator<char>()};
@@ -202,6 +214,12 @@ int main(int count, char **words) try {
     Dictionary dictionary;
     Reader reader(input);
     while (auto line = reader.next()) dictionary.add(kinds, *line);
+    uint64_t most = uint64_t(1) << bits;
+    if (dictionary.met.size() > most) {
+        uint64_t beyond = dictionary.met[most];
+        std::fprintf(stderr, "shapes: F1 full in game %lu at %013lx\n", dictionary.entries[beyond].first, beyond);
+        return 4;
+    }
     dictionary.print(text);
     std::fprintf(stderr, "shapes: games %lu other %lu refused %lu\n", dictionary.games, dictionary.others, dictionary.refused);
     return 0;

@@ -8,19 +8,16 @@ use Rattle.sgf_core.specs.declared.faults.SgfFault.TheVariants as sgf
 use Rattle.shape_dict.specs.declared.faults.DictFault.TheVariants as dict_fault
 use Rattle.harvest_faults.specs.declared.faults.HarvestFault.{HarvestFault}
 use Rattle.harvest_faults.specs.declared.faults.HarvestFault.TheVariants as harvest_fault
-use Rattle.tally_core.specs.Counted.{IsCounted}
 use Rattle.tally_core.specs.declared.collections.Counted.{Counted}
 use Rattle.game_core.specs.declared.reports.Report.{Report}
-use Rattle.harvest_core.specs.Harvest.{IsHarvestRefused}
+use Rattle.harvest_core.specs.Harvest.{IsCountedWithin, IsHarvestRefused}
 use Rattle.engine_core.specs.declared.faults.RunFault.{RunFault}
 use Rattle.engine_core.specs.declared.faults.RunFault.TheVariants as fault
 
--- the input was counted over a table of this many slots, with this report, and what was printed is this text of its
--- dictionary, which has no more patterns than the table has slots
+-- the input was counted, with this report, and has at most so many patterns; and what was printed is this text of its dictionary
 pub record IsCountText (slots : ℕ) (kinds : Kinds) (kind : Text) (report : Report) (input text : List ℕ) : Type 0 where
   pub counted : Counted
-  pub of_input : IsCounted kinds input counted
-  pub few : length counted.dictionary.entries ≤ slots
+  pub of_input : IsCountedWithin slots kinds input counted
   pub reported : report ≡ counted.report
   pub printed : text ≡ text_of kind counted.dictionary
 
@@ -32,10 +29,14 @@ abbrev pub ComesFirst : List ℕ → HarvestFault → Type 0
 ComesFirst input found =
     (length input ≤ most_bytes) ⊎ (found ≡ harvest_fault.Sgf sgf.TooLarge) ⊎ (found ≡ harvest_fault.Memory)
 
--- the collection was not counted over a table of n slots, or memory was wanting for the text
+-- the input was counted, and has at most so many patterns
+abbrev pub HasCounted : ℕ → Kinds → List ℕ → Type 0
+HasCounted slots kinds input = (counted : Counted) × IsCountedWithin slots kinds input counted
+
+-- the collection was not counted with at most so many patterns; or it was, and memory was wanting for the text
 abbrev pub IsCountRunFault : ℕ → Kinds → List ℕ → RunFault → Type 0
 IsCountRunFault slots kinds input (fault.Harvest found) = IsHarvestRefused slots input kinds found × ComesFirst input found
-IsCountRunFault slots kinds input (fault.Dict n dict_fault.Memory) = (n ≡ 1) × (length input ≤ most_bytes)
+IsCountRunFault slots kinds input (fault.Dict n dict_fault.Memory) = (n ≡ 1) × HasCounted slots kinds input
 IsCountRunFault slots kinds input (fault.Dict n found) = ⊥
 IsCountRunFault slots kinds input fault.Memory = Unit {0}
 IsCountRunFault slots kinds input (fault.Sgf found) = ⊥

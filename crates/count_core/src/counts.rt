@@ -9,7 +9,6 @@ use harvest_core::{Gate, harvest};
 use shape_dict::Text;
 use std::alloc::Global;
 use std::io::{Read, Write};
-use std::sync::Wait;
 use std::thread::Threads;
 use tally_core::{Report, Settings};
 
@@ -22,7 +21,7 @@ const MOST_THREADS: usize = 16;
 /// The text of the dictionary of the input's games, in parts, and how many trees it has of each
 /// sort.
 #[tactic(auto, using(crate::proofs::Order::comes_first))]
-fn counted_text<T: Threads + Wait + Sync, G: Gate>(
+fn counted_text<T: Threads + Sync, G: Gate>(
     rt: &T,
     alloc: Global,
     settings: Settings,
@@ -40,28 +39,27 @@ fn counted_text<T: Threads + Wait + Sync, G: Gate>(
     Ok((written, counted.report))
 }
 
-/// Reads a collection and writes a text of the dictionary of its games; the answer is how many
-/// trees it has of each sort. The kinds of pattern that are counted are those of the settings:
-/// where diamonds are not counted, texts 2 and 3 say so, and text 1 is that of the squares. As many
-/// workers as the settings say count, three where it is two. They number the patterns in one table
-/// of 2^k slots, or of fewer for a small input; the text is the same whatever the settings'
-/// workers. As many threads as there are workers, 4 at least and 16 at most, make it, in parts that
-/// are written one after another. It takes memory for the input, the table, and for each thread for
-/// the largest tree and its record, the board, and each pattern; and for the text.
+/// Reads a collection, writes a text of the dictionary of its games, and answers how many trees it
+/// has of each sort. The kinds of pattern that are counted are those of the settings: where
+/// diamonds are not counted, texts 2 and 3 say so, and text 1 is that of the squares. The text is
+/// the same for every number of workers. `harvest` counts, and says on how many threads; 4 to 16
+/// threads, as many as there are workers, make the text in parts that are written one after
+/// another. It takes memory for the input, for what `harvest` takes, and for the text.
 ///
-/// The gate is for a test or a display of progress: it is told which worker is about to count which
-/// game, and is told so again where a number was wanting. It changes no answer.
+/// The gate is for a test or a display of progress: where several workers count, it is told which
+/// of them is about to count which game. It changes no answer.
 ///
 /// # Errors
 ///
 /// `Read` where the reader failed; `Memory` where memory for the input was refused, `Harvest` with
-/// F6 where that for counting was, or where a thread was not started for the count that comes to
-/// F1, `Dict` with X6 where that for the text was. Else `Harvest` with S4 where the collection has
-/// more than 2^28 bytes, else with its first fault of syntax (S1 to S3), else with F1 where it has
-/// more than 2^k patterns: which of these comes is determined by the input and the settings.
-/// Nothing is written then. `Write` where the writer failed: exactly that number of bytes of the
-/// text is out. F2 to F4, F8 and F9 never come.
-pub fn run_count<T: Threads + Wait + Sync, G: Gate, R: Read, W: Write>(
+/// F6 where that for counting was, `Dict` with X6 where that for the text of a collection that was
+/// counted was. Else `Harvest` with S4 where the collection has more than 2^28 bytes, else with its
+/// first fault of syntax (S1 to S3), else with F1 where it has more than 2^k patterns: the pattern
+/// with which they are first more, in the order of the games and of their walks, and the first game
+/// that has it. The input and the settings alone determine which of these comes. Nothing is written
+/// then. `Write` where the writer failed: exactly that number of bytes of the text is out. F2 to
+/// F4, F8 and F9 never come.
+pub fn run_count<T: Threads + Sync, G: Gate, R: Read, W: Write>(
     rt: &T,
     alloc: Global,
     settings: Settings,

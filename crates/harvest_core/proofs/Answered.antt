@@ -19,7 +19,7 @@ use Rattle.harvest_faults.specs.declared.faults.HarvestFault.TheVariants as faul
 use Rattle.harvest_core.specs.declared.working.Worked.{Worked}
 use Rattle.harvest_core.specs.InTable.{IsInTable, IsFullOf}
 use Rattle.harvest_core.specs.Working.{IsCallIn}
-use Rattle.harvest_core.specs.Harvest.{HasHarvested, IsHarvestFault, IsHarvestRefused}
+use Rattle.harvest_core.specs.Harvest.{HasHarvested, IsHarvestFault, IsRefusedAlone}
 use Rattle.harvest_core.specs.Inner.Parted.{refusals_of}
 use Rattle.harvest_core.specs.Inner.Crew.{StandsAmong, AgreesWithTable}
 use Rattle.harvest_core.proofs.InTable.{call_in_kept, still_in_table, contains_cons}
@@ -126,21 +126,22 @@ no_call e none = absurd (let low = none.1 in omega arith)
 
 -- there no key and no mark is another's
 pub refused_alone : {O : Type 0} (n : ℕ) (bytes : List ℕ) (kinds : Kinds) (earlier : List Happened) (after : Known O) (found : HarvestFault) → earlier ≡ [] →
-    ((found ≡ fault.Memory → ⊥) → IsWhole after.stake) → IsAlone after → IsHarvestFault n bytes kinds earlier after found → IsHarvestRefused n bytes kinds found
+    ((found ≡ fault.Memory → ⊥) → IsWhole after.stake) → IsAlone after → IsHarvestFault n bytes kinds earlier after found → IsRefusedAlone n bytes kinds found
 refused_alone n bytes kinds earlier after fault.Memory none whole alone h = tt
 refused_alone n bytes kinds earlier after (fault.Sgf found) none whole alone h = h
 refused_alone n bytes kinds earlier after (fault.Full game word) none whole alone h = h
-refused_alone n bytes kinds earlier after (fault.Stranger number of_share (Some key)) none whole alone h =
+refused_alone n bytes kinds earlier after (fault.Stranger number None (Some key)) none whole alone h =
     let all = alone (whole (λ is. absurd cc)) in
     let entered = was_entered n after.seen key number h.1.number_is in
     let one : Happened = call.Asked (asked.Enter key) (answer.Number number) in
     let mine = h.1.others (subst (λ (es : List Happened). Contains es one) (sym all) entered) in
     no_call one (subst (λ (es : List Happened). Contains es one) none mine)
-refused_alone n bytes kinds earlier after (fault.Stranger number of_share None) none whole alone h = absurd h
+refused_alone n bytes kinds earlier after (fault.Stranger number None None) none whole alone h = absurd h
+refused_alone n bytes kinds earlier after (fault.Stranger number (Some row) of_table) none whole alone h = absurd h
 refused_alone n bytes kinds earlier after (fault.Marks number of_shares (Some game)) none whole alone h =
     let all = alone (whole (λ is. absurd cc)) in
     let one : Happened = call.Marked number game in
-    let mine = h.1.others (subst (λ (es : List Happened). Contains es one) (sym all) h.1.marked) in
+    let mine = h.2.others (subst (λ (es : List Happened). Contains es one) (sym all) h.2.marked) in
     no_call one (subst (λ (es : List Happened). Contains es one) none mine)
 refused_alone n bytes kinds earlier after (fault.Marks number of_shares None) none whole alone h = absurd h
 refused_alone n bytes kinds earlier after (fault.Missing game) none whole alone h = absurd h
@@ -149,7 +150,7 @@ refused_alone n bytes kinds earlier after fault.BadSettings none whole alone h =
 refused_alone n bytes kinds earlier after fault.Overflow none whole alone h = absurd h
 
 pub answered_alone : {O T : Type 0} (n : ℕ) (bytes : List ℕ) (kinds : Kinds) (earlier : List Happened) (after : Known O) (r : Result T HarvestFault) → earlier ≡ [] →
-    ((r ≡ Err fault.Memory → ⊥) → IsWhole after.stake) → IsAlone after → IfErr r (IsHarvestFault n bytes kinds earlier after) → IfErr r (IsHarvestRefused n bytes kinds)
+    ((r ≡ Err fault.Memory → ⊥) → IsWhole after.stake) → IsAlone after → IfErr r (IsHarvestFault n bytes kinds earlier after) → IfErr r (IsRefusedAlone n bytes kinds)
 answered_alone n bytes kinds earlier after (Ok x) none whole alone h = tt
 answered_alone n bytes kinds earlier after (Err found) none whole alone h = refused_alone n bytes kinds earlier after found none (λ other. whole (λ is. other (same_err found fault.Memory is))) alone h
   where

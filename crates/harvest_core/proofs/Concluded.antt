@@ -22,12 +22,13 @@ use Rattle.harvest_faults.specs.declared.faults.HarvestFault.{HarvestFault}
 use Rattle.harvest_faults.specs.declared.faults.HarvestFault.TheVariants as fault
 use Rattle.gather_core.specs.Agreeing.{agreeing_firsts, IsMarksFault}
 use Rattle.gather_core.specs.Checking.{all_rows, is_shape, is_stranger, shape_at, IsStranger}
-use Rattle.gather_core.specs.Confirming.{HasShape, HasShapeAt, IsUnknown, IsUnconfirmed, IsConfirmation}
+use Rattle.gather_core.specs.Confirming.{first_shape, HasShape, HasShapeAt, IsUnknown, IsUnconfirmed, IsConfirmation}
 use Rattle.gather_core.specs.Covering.{all_games, times_of}
 use Rattle.gather_core.specs.GatherFaults.{IsGatherFault}
 use Rattle.share_core.specs.Making.{HasRow}
-use Rattle.share_core.specs.Rows.{first_at}
+use Rattle.share_core.specs.Rows.{row_of, first_at}
 use Rattle.share_core.specs.Shares.{Held}
+use Rattle.slot_table.proofs.Contents.{one_key}
 use Rattle.gather_core.proofs.Confirmed.{more_patterns}
 use Rattle.harvest_core.specs.declared.taking.Crop.{Crop}
 use Rattle.harvest_core.specs.InTable.{HasGameBy}
@@ -106,25 +107,43 @@ no_marks rows (suc count) p game among = ⊎_elim
 
 module _ {O : Type 0} (n : ℕ) (bytes : List ℕ) (kinds : Kinds) (earlier : List Happened) (before after : Known O) (rows : List Row) (read : IsRead bytes)
     (together : AreTogether n earlier before rows) where
+  -- a number whose key is the pattern of no row has no row
+  no_row : (number key : ℕ) → Keeps n before.seen after.seen → IsNumber (content_of n after.seen) key number → (HasShape rows key → ⊥) → first_shape rows number ≡ None
+  no_row number key keeps is unknown = of_row (row_of rows number) refl
+    where
+      of_row : (found : Option Row) → row_of rows number ≡ found → option_map (λ (row : Row). row.shape) found ≡ None
+      of_row None has = refl
+      of_row (Some row) has =
+          let at = find_some (λ (r : Row). r.number == number) rows row has in
+          let here : row.number ≡ number = (let test = at.1 in Prim.grind (arith, nat_tests)) in
+          let stands = subst (λ p. IsNumber (content_of n after.seen) row.shape p) here (keeps.numbers row.shape row.number (together.stands row at.0)) in
+          absurd (unknown (row, at.0, one_key n after.seen row.shape key number stands is))
+
   -- why the shares do not confirm that the table is full of their patterns
-  unconfirmed : (word number : ℕ) (of_share of_table : Option ℕ) → IsAbsent (content_of n before.seen) word → IsFull (content_of n before.seen) → IsLater n before [] after →
+  unconfirmed : (shares : List Held) (word number : ℕ) (of_share of_table : Option ℕ) → rows ≡ all_rows shares → All (IsWorked bytes kinds) shares →
+      IsAbsent (content_of n before.seen) word → IsFull (content_of n before.seen) → IsLater n before [] after →
       IsUnconfirmed n after.seen rows word number of_share of_table → IsHarvestFault n bytes kinds earlier after (fault.Stranger number of_share of_table)
-  unconfirmed word number of_share of_table absent full later h = ⊎_elim
+  unconfirmed shares word number of_share of_table same worked absent full later h = ⊎_elim
       (λ (free : IsFree (content_of n after.seen) number). absurd (full_kept n before.seen after.seen later.keeps full number free))
       (λ (other : IsUnknown n after.seen rows number ⊎ HasShapeAt rows number word). ⊎_elim
       (λ (unknown : IsUnknown n after.seen rows number).
       let key = unknown.0 in
-      subst (λ (t : Option ℕ). IsHarvestFault n bytes kinds earlier after (fault.Stranger number of_share t)) (sym (h.table ∙ unknown.1.stands)) (
+      subst (λ (s : Option ℕ). IsHarvestFault n bytes kinds earlier after (fault.Stranger number s of_table)) (sym (h.share ∙ no_row number key later.keeps unknown.1 unknown.2))
+      (subst (λ (t : Option ℕ). IsHarvestFault n bytes kinds earlier after (fault.Stranger number None t)) (sym (h.table ∙ unknown.1.stands)) (
         read,
         record {
+          full = full_kept n before.seen after.seen later.keeps full;
           number_is = unknown.1;
           others = λ mine. ⊎_elim
               (λ (old : Contains earlier (call.Asked (asked.Enter key) (answer.Number number))). old)
               (λ (rowed : HasRow rows number key). absurd (let row = row_there rows number key rowed in unknown.2 (row.0, row.1, row.3)))
               (together.calls (call.Asked (asked.Enter key) (answer.Number number))
               (subst (λ (calls : List Happened). Contains calls (call.Asked (asked.Enter key) (answer.Number number))) (later.calls ∙ append-nil (calls_of before)) mine));
+          least = λ lesser low inside.
+              let known = h.known lesser low inside in
+              (known.0, known.1, shape_known bytes kinds shares known.0 worked (subst (λ (rs : List Row). HasShape rs known.0) same known.2));
         },
-      ))
+      )))
       (λ (row : HasShapeAt rows number word).
       absurd (absent row.0.number (subst (λ s. IsNumber (content_of n before.seen) s row.0.number) row.3 (together.stands row.0 row.1))))
       other)
@@ -139,7 +158,7 @@ module _ {O : Type 0} (n : ℕ) (bytes : List ℕ) (kinds : Kinds) (earlier : Li
       (subst (λ w. IsHarvestFault n bytes kinds earlier after (fault.Full game w)) (sym h.1)
       (full_is n after.seen bytes kinds shares game word legal read worked pattern (refl, refl, h.2, h.3)))
   explained shares game word (fault.Stranger number of_share of_table) same legal worked pattern absent full later h =
-      unconfirmed word number of_share of_table absent full later (subst (λ (rs : List Row). IsUnconfirmed n after.seen rs word number of_share of_table) (sym same) h)
+      unconfirmed shares word number of_share of_table same worked absent full later (subst (λ (rs : List Row). IsUnconfirmed n after.seen rs word number of_share of_table) (sym same) h)
   explained shares game word (fault.Missing other) same legal worked pattern absent full later h = absurd h
   explained shares game word (fault.Twice other) same legal worked pattern absent full later h = absurd h
   explained shares game word fault.BadSettings same legal worked pattern absent full later h = absurd h
@@ -160,6 +179,7 @@ module _ {O : Type 0} (n : ℕ) (bytes : List ℕ) (kinds : Kinds) (earlier : Li
           h.4 game (subst (λ p. IsAtMost (least_at p before.seen) game) row.2 (together.marked row.0 row.1 game row.3))
   marked number of_shares (Some game) h = (
     read,
+    h.2,
     record {
       marked = h.5;
       others = λ mine. ⊎_elim

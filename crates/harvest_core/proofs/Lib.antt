@@ -15,6 +15,5 @@ mod Concluded
 mod Answered
 mod Parted
 mod Promised
-mod OwnTables
-mod Alone
+mod Whole
 mod ByWords

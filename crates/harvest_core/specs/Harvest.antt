@@ -1,6 +1,6 @@
 -- What several workers count of an input over one table of numbers, and why they may not.
-use Rattle.std.specs.Prelude.{◌≡◌, ◌≢◌, ℕ, ◌≤◌, ◌⊎◌, List, length, Some, All, AllPairs, Contains}
-use Rattle.probe_core.specs.Sequential.{IsNumber}
+use Rattle.std.specs.Prelude.{◌≡◌, ◌≢◌, ℕ, ◌<◌, ◌≤◌, ◌⊎◌, List, length, Some, None, All, AllPairs, Contains}
+use Rattle.probe_core.specs.Sequential.{IsNumber, IsFull}
 use Rattle.probe_core.specs.declared.calls.Call.TheVariants as asked
 use Rattle.probe_core.specs.declared.calls.Answer.TheVariants as answer
 use Rattle.slot_table.specs.declared.entries.Happened.{Happened}
@@ -9,6 +9,7 @@ use Rattle.slot_table.specs.History.{content_of, Begins, Keeps}
 use Rattle.slot_table.specs.Passes.{Known, calls_of}
 use Rattle.shape_core.specs.declared.words.Kinds.{Kinds}
 use Rattle.shape_dict.specs.declared.entries.Entry.{Entry}
+use Rattle.tally_core.specs.Beyond.{IsFirstBeyond}
 use Rattle.tally_core.specs.Counted.{IsCounted, IsCountFault}
 use Rattle.tally_core.specs.declared.collections.Counted.{Counted}
 use Rattle.game_core.specs.declared.reports.Report.{Report}
@@ -27,6 +28,11 @@ AreNumbered n seen entries = (entry : Entry) → Contains entries entry → (num
 pub record IsHarvest (n : ℕ) (seen : List Happened) (kinds : Kinds) (bytes : List ℕ) (counted : Counted) : Type 0 where
   pub counted_is : IsCounted kinds bytes counted
   pub numbered : AreNumbered n seen counted.dictionary.entries
+  pub few : length counted.dictionary.entries ≤ n
+
+-- the input's games were counted, as one thread counts them, and have at most n patterns
+pub record IsCountedWithin (n : ℕ) (kinds : Kinds) (bytes : List ℕ) (counted : Counted) : Type 0 where
+  pub counted_is : IsCounted kinds bytes counted
   pub few : length counted.dictionary.entries ≤ n
 
 -- all trees of the input can be read
@@ -53,12 +59,15 @@ pub record HasHarvested {O : Type 0} (n : ℕ) (bytes : List ℕ) (kinds : Kinds
   pub kept : (e : Happened) → Contains (calls_of old) e → Contains (calls_of new) e
   pub calls : (e : Happened) → Contains (calls_of new) e → Contains (calls_of old) e ⊎ IsCallIn n new.seen bytes kinds e
 
--- the key of a number, which the harvest did not enter: where the pass has a call that gave it the number, that is one of those
--- which it had made before
-pub record IsOthersKey {O : Type 0} (n : ℕ) (earlier : List Happened) (after : Known O) (number key : ℕ) : Type 0 where
+-- the table is full, and this is the least number whose key is not known to be a pattern of the input. The harvest did not enter
+-- that key: where the pass has a call that gave it the number, that is one of those which it had made before
+pub record IsOthersKey {O : Type 0} (n : ℕ) (bytes : List ℕ) (kinds : Kinds) (earlier : List Happened) (after : Known O) (number key : ℕ) : Type 0 where
+  pub full : IsFull (content_of n after.seen)
   pub number_is : IsNumber (content_of n after.seen) key number
   pub others : Contains (calls_of after) (call.Asked (asked.Enter key) (answer.Number number))
       → Contains earlier (call.Asked (asked.Enter key) (answer.Number number))
+  pub least : (lesser : ℕ) → lesser < number → lesser < n
+      → (known : ℕ) × IsNumber (content_of n after.seen) known lesser × IsPatternIn bytes kinds known
 
 -- a game that is marked at a number, and that the harvest did not mark there
 pub record IsOthersMark {O : Type 0} (earlier : List Happened) (after : Known O) (number game : ℕ) : Type 0 where
@@ -66,20 +75,30 @@ pub record IsOthersMark {O : Type 0} (earlier : List Happened) (after : Known O)
   pub others : Contains (calls_of after) (call.Marked number game) → Contains earlier (call.Marked number game)
 
 -- why an input was not counted by a pass that had made these calls before: memory was refused; it is too large or has a fault
--- of syntax; it has more patterns than the table has numbers; or it can be read, and somebody else uses the table: a number has
--- a key, or a game is marked at it, that is not from here
+-- of syntax; it has more patterns than the table has numbers; or it can be read, and somebody else uses the table: where that is
+-- full, a number that no share has a row of has a key, or a game other than the shares' is marked at it, that is not from here
 abbrev pub IsHarvestFault : {O : Type 0} → ℕ → List ℕ → Kinds → List Happened → Known O → HarvestFault → Type 0
 IsHarvestFault n bytes kinds earlier after fault.Memory = Unit {0}
 IsHarvestFault n bytes kinds earlier after (fault.Sgf found) = IsCountFault bytes (tally.Sgf found)
 IsHarvestFault n bytes kinds earlier after (fault.Full game word) = HasMorePatterns n bytes kinds game word
-IsHarvestFault n bytes kinds earlier after (fault.Stranger number of_share (Some key)) = IsRead bytes × IsOthersKey n earlier after number key
-IsHarvestFault n bytes kinds earlier after (fault.Marks number of_shares (Some game)) = IsRead bytes × IsOthersMark earlier after number game
+IsHarvestFault n bytes kinds earlier after (fault.Stranger number None (Some key)) = IsRead bytes × IsOthersKey n bytes kinds earlier after number key
+IsHarvestFault n bytes kinds earlier after (fault.Marks number of_shares (Some game)) =
+    IsRead bytes × (of_shares ≢ Some game) × IsOthersMark earlier after number game
 IsHarvestFault n bytes kinds earlier after found = ⊥
 
--- why an input was not counted over a table that nobody else uses: memory was refused; or it is too large or has a fault of
--- syntax; or it has more patterns than the table has numbers
+-- why a harvest over somebody's table gave no dictionary, where nobody else uses that table: memory was refused; or the input is
+-- too large or has a fault of syntax; or it has more patterns than the table has numbers
+abbrev pub IsRefusedAlone : ℕ → List ℕ → Kinds → HarvestFault → Type 0
+IsRefusedAlone n bytes kinds fault.Memory = Unit {0}
+IsRefusedAlone n bytes kinds (fault.Sgf found) = IsCountFault bytes (tally.Sgf found)
+IsRefusedAlone n bytes kinds (fault.Full game word) = HasMorePatterns n bytes kinds game word
+IsRefusedAlone n bytes kinds found = ⊥
+
+-- why an input of which at most n patterns are counted was not: memory was refused; or it is too large or has a fault of syntax;
+-- or it can be read, and this is the pattern with which its patterns, in the order of the games and of their walks, are first
+-- more than n, and this the first game that has it
 abbrev pub IsHarvestRefused : ℕ → List ℕ → Kinds → HarvestFault → Type 0
 IsHarvestRefused n bytes kinds fault.Memory = Unit {0}
 IsHarvestRefused n bytes kinds (fault.Sgf found) = IsCountFault bytes (tally.Sgf found)
-IsHarvestRefused n bytes kinds (fault.Full game word) = HasMorePatterns n bytes kinds game word
+IsHarvestRefused n bytes kinds (fault.Full game word) = IsRead bytes × IsFirstBeyond kinds bytes n game word
 IsHarvestRefused n bytes kinds found = ⊥

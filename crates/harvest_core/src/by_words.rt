@@ -4,11 +4,10 @@ ghost use Rattle.std.specs.Prelude.{IfSome, IsErrAnd};
 ghost use Rattle.sgf_core.specs.Limit.{most_bytes};
 ghost use Rattle.sgf_core.specs.declared.faults.SgfFault.TheVariants as sgf;
 ghost use Rattle.shape_core.specs.declared.words.Kinds.{Kinds};
-ghost use Rattle.slot_table.specs.declared.entries.Happened.{Happened};
 ghost use Rattle.slot_table.specs.Passes.{IsPassOf};
 ghost use Rattle.game_core.specs.Games.{HasReadAll};
 ghost use Rattle.harvest_faults.specs.declared.faults.HarvestFault.TheVariants as fault;
-ghost use Rattle.harvest_core.specs.Harvest.{IsHarvest};
+ghost use Rattle.harvest_core.specs.Harvest.{IsCountedWithin};
 ghost use Rattle.harvest_core.specs.Inner.Counting.{IsCounter};
 ghost use Rattle.harvest_core.specs.Inner.Numbering.{IsHand, IsNumberedHand, AreNumbered};
 ghost use Rattle.harvest_core.specs.Inner.Reading.{IsReadFault};
@@ -211,8 +210,8 @@ fn dictionary_of<R: Threads + Sync>(
         × All (IsCounter bytes kinds) ended.counters.items }
     ensures harvest { (bytes : List ℕ) → HasReadAll bytes ended.report
         → All (IsCounter bytes kinds) ended.counters.items
-        → IfOk result (λ found. IfSome found (λ counted. (seen : List Happened)
-        × IsHarvest ended.table.slots seen kinds bytes counted)) }
+        → IfOk result (λ found. IfSome found
+        (IsCountedWithin ended.table.slots kinds bytes)) }
     ensures fault { IfErr result (λ found. found ≡ fault.Memory) }
 {
     let Ended {
@@ -258,8 +257,8 @@ pub(crate) fn count_by_words<R: Threads + Sync, G: Gate>(
     requires { exponent ≤ 22 }
     ensures large { most_bytes < length bytes.now
         → IsErrAnd result (λ found. (found ≡ fault.Memory) ⊎ (found ≡ fault.Sgf sgf.TooLarge)) }
-    ensures harvest { IfOk result (λ found. IfSome found (λ counted. (seen : List Happened)
-        × IsHarvest (2 ^ exponent) seen settings.kinds bytes.now counted)) }
+    ensures harvest { IfOk result (λ found. IfSome found
+        (IsCountedWithin (2 ^ exponent) settings.kinds bytes.now)) }
     ensures fault { IfErr result (IsReadFault bytes.now) }
 {
     let Some(capacity) = Capacity::new(exponent) else {

@@ -16,7 +16,7 @@ ghost use Rattle.gather_core.specs.GatherFaults.{IsGatherFault};
 ghost use Rattle.game_core.specs.Games.{HasReadAll};
 ghost use Rattle.harvest_core.specs.InTable.{IsFullOf};
 ghost use Rattle.harvest_core.specs.Working.{IsWorked, IsRefusal};
-ghost use Rattle.harvest_core.specs.Harvest.{IsRead, IsHarvest, IsHarvestFault, IsHarvestRefused};
+ghost use Rattle.harvest_core.specs.Harvest.{IsRead, IsHarvest, IsHarvestFault, IsRefusedAlone};
 ghost use Rattle.harvest_core.specs.Harvest.{HasHarvested};
 ghost use Rattle.harvest_core.specs.Inner.Crew.{IsCrop};
 ghost use Rattle.harvest_core.specs.Inner.Parted.{refusals_of};
@@ -183,9 +183,11 @@ pub(crate) fn stakes_come_together()
 /// else `Memory` where memory was refused or a worker was not started; else `Sgf` with the first
 /// fault of syntax; else `Full` with a game and one of its patterns for which no number was free,
 /// where the input has as many other patterns as the table has numbers. In a table that nobody else
-/// uses no other fault comes. Else `Stranger` may name a number whose key, and `Marks` one whose
-/// mark, somebody else made: `Stranger` where a number was wanting, `Marks` where all games were
-/// counted. After each the table keeps the numbers and marks that it got.
+/// uses no other fault comes. Else `Stranger` comes where the table is full, and names the least
+/// number whose key is no pattern that was counted: somebody else made it, and no share has a row
+/// of it. `Marks` comes where all games were counted, and names a number with a mark that somebody
+/// else made, and the shares' least game there, which is another. After each the table keeps the
+/// numbers and marks that it got.
 pub fn harvest_on<R: Threads + Wait + Sync, O: ProbeOrder, G: Gate>(
     rt: &R,
     alloc: Global,
@@ -208,7 +210,7 @@ where
     ensures fault { IfErr result
         (IsHarvestFault table.now.slots bytes.now settings.kinds (calls_of pass.old) pass.new) }
     ensures alone { IsWhole pass.old.stake → calls_of pass.old ≡ []
-        → IfErr result (IsHarvestRefused table.now.slots bytes.now settings.kinds) }
+        → IfErr result (IsRefusedAlone table.now.slots bytes.now settings.kinds) }
 {
     stakes_come_together();
     let games = Games::new(bytes)?;

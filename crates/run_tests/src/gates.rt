@@ -1,10 +1,10 @@
 //! Gates that hold workers back: games are in work at once, and the thread that reads helps. And
 //! one that notes what it is told.
-use crate::harvests::{collection, text_of};
+use crate::harvests::{CREWS, capacity_of, collection, counted_on, text_of};
 use crate::sheets::{Bytes, Full};
 use count_core::run_count;
 use harvest_core::{Gate, harvest};
-use shape_core::Kinds;
+use probe_core::OddStep;
 use shape_dict::Text;
 use std::alloc::Global;
 use std::sync::Wait;
@@ -12,7 +12,7 @@ use std::sync::atomic::{AtomicU64, Ordering};
 use std::test::Fail;
 use std::thread;
 use std::thread::Threads;
-use tally_core::{Settings, count_plain};
+use tally_core::Settings;
 
 /// How often a gate looks before it gives up. A program that works one game after another fails,
 /// and does not hang.
@@ -41,26 +41,72 @@ impl Gate for TwoAtOnce {
     }
 }
 
+/// Counts the squares of a collection over a new table of four slots: the text.
+fn text_over_new<R: Threads + Wait + Sync, G: Gate>(
+    rt: &R,
+    alloc: Global,
+    order: OddStep,
+    workers: u8,
+    bytes: &[u8],
+    gate: &G,
+) -> Result<Vec<u8>, Fail> {
+    let settings = Settings::new(workers, 2)?;
+    let counted = counted_on(rt, alloc, order, settings, bytes, gate)?;
+    text_of(alloc, &counted.dictionary)
+}
+
+/// The same by `harvest`.
+fn text_of_harvest<R: Threads + Sync, G: Gate>(
+    rt: &R,
+    alloc: Global,
+    workers: u8,
+    bytes: &[u8],
+    gate: &G,
+) -> Result<Vec<u8>, Fail> {
+    let counted = harvest(rt, alloc, Settings::new(workers, 2)?, bytes, gate)?;
+    text_of(alloc, &counted.dictionary)
+}
+
+/// The text of five games of each of two sorts.
+const OF_10: &str =
+    "shapes 3 games 10 moves 15 squares 3 diamonds -\n3fff3fcffffff 10 5 1\n3fffbfcffffff 5 5 1\n3fffffcffffff 5 5 0\n";
+
+/// Whether two games were in work at once, where each of ten games was begun once.
+fn was_together(gate: &TwoAtOnce) -> bool {
+    let begun = gate.begun.load(Ordering::SeqCst);
+    begun == 10 && gate.together.load(Ordering::SeqCst) == 1
+}
+
+fn two_at_once() -> TwoAtOnce {
+    TwoAtOnce {
+        begun: AtomicU64::new(0),
+        together: AtomicU64::new(0),
+    }
+}
+
 #[test]
 fn gate_two_at_once(rt: HostRuntime) -> Result<(), Fail> {
     let alloc = rt.alloc();
     let bytes = collection(alloc, 5)?;
     for workers in [2, 7, 64] {
-        let gate = TwoAtOnce {
-            begun: AtomicU64::new(0),
-            together: AtomicU64::new(0),
-        };
-        let counted = harvest(&rt, alloc, Settings::new(workers, 2)?, &bytes, &gate)?;
-        assert_eq!(rt;
-            gate.together.load(Ordering::SeqCst),
-            1,
-            "{workers} workers"
-        );
-        assert_eq!(rt; gate.begun.load(Ordering::SeqCst), 10, "{workers} workers");
-        let text = text_of(alloc, &counted.dictionary)?;
-        let wanted =
-            "shapes 3 games 10 moves 15 squares 3 diamonds -\n3fff3fcffffff 10 5 1\n3fffbfcffffff 5 5 1\n3fffffcffffff 5 5 0\n";
-        assert_eq!(rt; text.as_slice(), wanted.as_bytes());
+        let gate = two_at_once();
+        let text = text_of_harvest(&rt, alloc, workers, &bytes, &gate)?;
+        assert!(rt; text.as_slice() == OF_10.as_bytes(), "{workers} workers");
+        assert!(rt; was_together(&gate), "{workers} workers");
+    }
+    Ok(())
+}
+
+#[test]
+fn gate_two_at_once_over_a_table(rt: HostRuntime) -> Result<(), Fail> {
+    let alloc = rt.alloc();
+    let bytes = collection(alloc, 5)?;
+    let capacity = capacity_of(&rt, 2);
+    for workers in CREWS {
+        let gate = two_at_once();
+        let text = text_over_new(&rt, alloc, OddStep { capacity }, workers, &bytes, &gate)?;
+        assert!(rt; text.as_slice() == OF_10.as_bytes(), "{workers} workers");
+        assert!(rt; was_together(&gate), "{workers} workers");
     }
     Ok(())
 }
@@ -96,28 +142,28 @@ impl Gate for ReaderHelps {
     }
 }
 
+/// The text of one hundred and fifty games of each of two sorts.
+const OF_300: &str =
+    "shapes 3 games 300 moves 450 squares 3 diamonds -\n3fff3fcffffff 300 150 1\n3fffbfcffffff 150 150 1\n3fffffcffffff 150 150 0\n";
+
+/// Whether the thread that reads counted a game, and nobody gave up before.
+fn has_helped(gate: &ReaderHelps) -> bool {
+    gate.helped.load(Ordering::SeqCst) > 0 && gate.given_up.load(Ordering::SeqCst) == 0
+}
+
 #[test]
 fn reader_helps(rt: HostRuntime) -> Result<(), Fail> {
     let alloc = rt.alloc();
     let bytes = collection(alloc, 150)?;
-    let plain = count_plain(alloc, Kinds::Squares, &bytes)?;
-    for workers in [2, 7, 64] {
+    let capacity = capacity_of(&rt, 2);
+    for workers in CREWS {
         let gate = ReaderHelps {
             helped: AtomicU64::new(0),
             given_up: AtomicU64::new(0),
         };
-        let counted = harvest(&rt, alloc, Settings::new(workers, 2)?, &bytes, &gate)?;
-        assert!(rt; gate.helped.load(Ordering::SeqCst) > 0, "{workers} workers");
-        assert_eq!(rt;
-            gate.given_up.load(Ordering::SeqCst),
-            0,
-            "{workers} workers"
-        );
-        assert!(rt; counted.dictionary.entries() == plain.dictionary.entries());
-        let text = text_of(alloc, &counted.dictionary)?;
-        let wanted =
-            "shapes 3 games 300 moves 450 squares 3 diamonds -\n3fff3fcffffff 300 150 1\n3fffbfcffffff 150 150 1\n3fffffcffffff 150 150 0\n";
-        assert_eq!(rt; text.as_slice(), wanted.as_bytes());
+        let text = text_over_new(&rt, alloc, OddStep { capacity }, workers, &bytes, &gate)?;
+        assert!(rt; text.as_slice() == OF_300.as_bytes(), "{workers} workers");
+        assert!(rt; has_helped(&gate), "{workers} workers");
     }
     Ok(())
 }
@@ -141,7 +187,7 @@ impl Gate for Notes {
 }
 
 /// What a gate notes while three workers count this collection.
-fn noted<R: Threads + Wait + Sync>(
+fn noted<R: Threads + Sync>(
     rt: &R,
     alloc: Global,
     bytes: &[u8],

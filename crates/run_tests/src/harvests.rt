@@ -4,7 +4,7 @@ ghost use Rattle.slot_table.specs.Passes.{IsPassOf};
 ghost use Rattle.job_core.specs.Rule.{worker};
 
 use crate::jobs::{put_until_full, puts_an_end};
-use harvest_core::{FreeGate, Returned, Worker, harvest, harvest_on, work};
+use harvest_core::{FreeGate, Gate, Returned, Worker, harvest, harvest_on, work};
 use harvest_faults::HarvestFault;
 use job_core::{Desk, Games, new_queue};
 use probe_core::{Capacity, Linear, OddRuns, OddStep, ProbeOrder};
@@ -34,7 +34,7 @@ const EMPTY: u64 = 0x3fff3fcffffff;
 const TAKEN: u64 = 0x3fffbfcffffff;
 
 /// How many workers each collection is counted by.
-const CREWS: [u8; 4] = [1, 2, 7, 64];
+pub(crate) const CREWS: [u8; 4] = [1, 2, 7, 64];
 
 /// A collection of twice as many games: one of one point and one of two points in turn.
 pub(crate) fn collection(alloc: Global, pairs: u64) -> Result<Vec<u8>, AllocError> {
@@ -53,7 +53,7 @@ pub(crate) fn text_of(alloc: Global, dictionary: &Dictionary) -> Result<Vec<u8>,
     Ok(text)
 }
 
-fn capacity_of(rt: &impl Abort, k: u32) -> Capacity {
+pub(crate) fn capacity_of(rt: &impl Abort, k: u32) -> Capacity {
     Capacity::new(k).expect(rt, "an exponent up to 22")
 }
 
@@ -91,17 +91,18 @@ fn any_number_of_workers_counts_the_same(rt: HostRuntime) -> Result<(), Fail> {
 }
 
 /// Counts squares over a new table of this order.
-fn counted_on<R: Threads + Wait + Sync, O: ProbeOrder + Send + Sync>(
+pub(crate) fn counted_on<R: Threads + Wait + Sync, O: ProbeOrder + Send + Sync, G: Gate>(
     rt: &R,
     alloc: Global,
     order: O,
     settings: Settings,
     bytes: &[u8],
+    gate: &G,
 ) -> Result<Counted, HarvestFault> {
     let Ok((table, mut pass)) = SlotTable::new(alloc, order) else {
         return Err(HarvestFault::Memory);
     };
-    harvest_on(rt, alloc, settings, &table, &mut pass, bytes, &FreeGate)
+    harvest_on(rt, alloc, settings, &table, &mut pass, bytes, gate)
 }
 
 /// Twenty games: ten empty boards of two points, and ten of one.
@@ -125,11 +126,11 @@ fn any_order_of_probes_counts_the_same(rt: HostRuntime) -> Result<(), Fail> {
     let capacity = capacity_of(&rt, 2);
     for workers in CREWS {
         let settings = Settings::new(workers, 0)?;
-        let odd = counted_on(&rt, alloc, OddStep { capacity }, settings, &bytes)?;
+        let odd = counted_on(&rt, alloc, OddStep { capacity }, settings, &bytes, &FreeGate)?;
         assert_20(&rt, alloc, &bytes, &odd)?;
-        let linear = counted_on(&rt, alloc, Linear { capacity }, settings, &bytes)?;
+        let linear = counted_on(&rt, alloc, Linear { capacity }, settings, &bytes, &FreeGate)?;
         assert_20(&rt, alloc, &bytes, &linear)?;
-        let runs = counted_on(&rt, alloc, OddRuns { capacity }, settings, &bytes)?;
+        let runs = counted_on(&rt, alloc, OddRuns { capacity }, settings, &bytes, &FreeGate)?;
         assert_20(&rt, alloc, &bytes, &runs)?;
     }
     Ok(())
@@ -238,24 +239,18 @@ fn a_worker_draws_to_the_first_end(rt: HostRuntime) -> Result<(), Fail> {
     Ok(())
 }
 
-/// Whether the fault is want of a number for a pattern of the game that it names.
-fn is_full(fault: &HarvestFault) -> bool {
-    match fault {
-        HarvestFault::Full { game, word } if game % 2 == 0 => word.bits() == ALONE,
-        HarvestFault::Full { word, .. } => word.bits() == EMPTY || word.bits() == TAKEN,
-        _ => false,
-    }
-}
-
 #[test]
 fn a_table_too_small_by_one_pattern(rt: HostRuntime) -> Result<(), Fail> {
     let alloc = rt.alloc();
-    for (workers, pairs) in [(1, 1), (2, 5), (7, 5), (7, 150), (64, 150)] {
+    let full = HarvestFault::Full {
+        game: 1,
+        word: word_of(&rt, TAKEN),
+    };
+    for (workers, pairs) in [(1, 1), (2, 5), (3, 5), (4, 5), (7, 150), (64, 150)] {
         let bytes = collection(alloc, pairs)?;
         let settings = Settings::new(workers, 1)?;
         let counted = harvest(&rt, alloc, settings, &bytes, &FreeGate);
-        let fault = counted.err().ok_or("three patterns of two numbers")?;
-        assert!(rt; is_full(&fault), "{workers} workers");
+        assert!(rt; counted.err() == Some(full), "{workers} workers");
     }
     Ok(())
 }

@@ -8,7 +8,6 @@ use harvest_core::FreeGate;
 use shapes_line::Task;
 use std::alloc::Global;
 use std::io::{Read, Write};
-use std::sync::Wait;
 use std::thread::Threads;
 use tally_core::Report;
 
@@ -41,7 +40,7 @@ impl Answer {
 ///
 /// Those of the engine, and what is out then is what the engine says. `Write` where a text of help
 /// was not written whole.
-pub fn do_task<T: Threads + Wait + Sync, R: Read, W: Write>(
+pub fn do_task<T: Threads + Sync, R: Read, W: Write>(
     threads: &T,
     alloc: Global,
     task: Task,

@@ -43,11 +43,8 @@ returns-clause-harvest g c bytes read counted =
     let gathered = rw c.in-Some-found.is at c.in_ok-found.ensures.gathered in
     let covers = rw c.in-Some-found.is at c.in_ok-found.ensures.covers in
     let dictionary = c.in-Some-found.dictionary in
-    let parts = numbered c.args.ended.table.slots seen c.args.kinds c.args.ended.report.games shares dictionary c.shares_of.ensures.pass.legal all.stand gathered in (
-      seen,
-      record {
-        counted_is = harvested bytes c.args.kinds shares c.args.ended.report dictionary all.worked read covers gathered;
-        numbered = parts.0;
-        few = parts.1;
-      },
-    )
+    let parts = numbered c.args.ended.table.slots seen c.args.kinds c.args.ended.report.games shares dictionary c.shares_of.ensures.pass.legal all.stand gathered in
+    record {
+      counted_is = harvested bytes c.args.kinds shares c.args.ended.report dictionary all.worked read covers gathered;
+      few = parts.1;
+    }

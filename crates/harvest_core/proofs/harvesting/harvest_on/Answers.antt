@@ -2,7 +2,7 @@ use Rattle.std.proofs.Common.{◌≡◌, ◌++◌, ◌⊎◌, ℕ, List, [], Err
 use Rattle.slot_table.specs.Passes.{Known, calls_of}
 use Rattle.slot_table.specs.Stakes.{IsAsMuch, halved, half_of}
 use Rattle.harvest_faults.specs.declared.faults.HarvestFault.TheVariants as fault
-use Rattle.harvest_core.specs.Harvest.{HasHarvested, IsHarvestRefused}
+use Rattle.harvest_core.specs.Harvest.{HasHarvested, IsRefusedAlone}
 use Rattle.harvest_core.proofs.Answered.{answered_alone}
 use Rattle.harvest_core.proofs.harvesting.harvest_on.Goals as goal
 
@@ -29,6 +29,6 @@ returns-clause-alone g c whole none =
     let n = c.args.table.now.slots in
     let old = c.args.pass.now in
     let mid : calls_of c.split.new.pass ≡ [] = ap (λ (p : Known _). calls_of p) c.split.ensures.same ∙ none in
-    subst (λ ks. IfErr c.conclude.result (IsHarvestRefused n c.args.bytes.now ks)) c.kinds-2.ensures
+    subst (λ ks. IfErr c.conclude.result (IsRefusedAlone n c.args.bytes.now ks)) c.kinds-2.ensures
     (answered_alone n c.args.bytes.now c.kinds-2.result (calls_of c.split.new.pass) c.conclude.new.pass c.conclude.result mid
     (λ fine. c.stakes_come_together.ensures.whole c.conclude.new.pass.stake old.stake (returns-clause-stake g c fine) whole) c.conclude.ensures.alone c.conclude.ensures.fault)
