@@ -1,19 +1,2 @@
-mod Additions
-mod Drawn
-mod Harvested
-mod Sized
-mod Keyed
-mod Weighed
-mod Limited
-mod InTable
-mod CallsIn
-mod Stays
-mod Dealt
-mod Taken
-mod Together
-mod Concluded
-mod Answered
-mod Parted
-mod Promised
-mod Whole
+pub mod Harvested
 mod ByWords

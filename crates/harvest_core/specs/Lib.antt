@@ -1,4 +1,3 @@
-pub mod InTable
 pub mod Working
 pub mod Harvest
 pub mod Inner

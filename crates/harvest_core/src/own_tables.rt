@@ -36,7 +36,8 @@ fn likely_exponent(bytes: usize, most: u32) -> u32
 /// which they are first more and the first game that has it, unless it cannot be read.
 fn first_too_many(alloc: Global, kinds: Kinds, most: usize, bytes: &[u8]) -> HarvestFault
     requires { HasMore kinds bytes.now most }
-    ensures { IsHarvestRefused most bytes.now kinds result }
+    ensures large { most_bytes < length bytes.now → result ≡ fault.Sgf sgf.TooLarge }
+    ensures refused { IsHarvestRefused most bytes.now kinds result }
 {
     one_first_beyond();
     match first_beyond(alloc, kinds, most, bytes) {

@@ -4,7 +4,7 @@ ghost use Rattle.slot_table.specs.Passes.{IsPassOf};
 ghost use Rattle.job_core.specs.Rule.{worker};
 
 use crate::jobs::{put_until_full, puts_an_end};
-use harvest_core::{FreeGate, Gate, Returned, Worker, harvest, harvest_on, work};
+use harvest_core::{FreeGate, Gate, harvest};
 use harvest_faults::HarvestFault;
 use job_core::{Desk, Games, new_queue};
 use probe_core::{Capacity, Linear, OddRuns, OddStep, ProbeOrder};
@@ -17,6 +17,7 @@ use std::process::Abort;
 use std::sync::Wait;
 use std::test::Fail;
 use std::thread::Threads;
+use table_harvest::{Returned, Worker, harvest_on, work};
 use tally_core::{Counted, Report, Settings, count_plain};
 
 /// One move on a board of one point: one pattern.

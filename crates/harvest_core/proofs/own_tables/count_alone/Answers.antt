@@ -1,1 +1,0 @@
-use Rattle.harvest_core.proofs.own_tables.count_alone.Goals as goal

@@ -1,6 +1,0 @@
-use Rattle.std.proofs.Common.{◌≡◌, ◌+◌}
-use Rattle.harvest_core.proofs.reading.close.Given as goal
-
--- as many ends as turns were put
-abbrev pub invariant-loop : goal.invariant-loop
-invariant-loop g l = l.desk ≡ record l.fn.desk { ends_put = l.fn.desk.ends_put + l.counter }

@@ -1,6 +1,0 @@
-use Rattle.std.proofs.Common.{◌≡◌}
-use Rattle.harvest_core.proofs.reading.put_end.Given as goal
-
--- nothing was put yet
-abbrev pub invariant-loop : goal.invariant-loop
-invariant-loop g l = l.desk ≡ l.fn.desk

@@ -1,0 +1,16 @@
+mod Additions
+mod Drawn
+mod Sized
+mod Keyed
+mod Weighed
+mod Limited
+mod InTable
+mod CallsIn
+mod Stays
+mod Dealt
+mod Taken
+mod Together
+mod Concluded
+mod Answered
+mod Parted
+mod Promised

@@ -1,0 +1,43 @@
+-- What the definitions of `Harvest` serve inside the crate.
+use Rattle.std.specs.Prelude.{◌≡◌, ℕ, ◌⊎◌, List, [], Contains}
+use Rattle.slot_table.specs.declared.entries.Happened.{Happened}
+use Rattle.slot_table.specs.Passes.{Known, calls_of}
+use Rattle.share_core.specs.declared.rows.Row.{Row}
+use Rattle.harvest_faults.specs.declared.faults.HarvestFault.{HarvestFault}
+use Rattle.harvest_faults.specs.declared.faults.HarvestFault.TheVariants as fault
+use Rattle.share_core.specs.Shares.{Held}
+use Rattle.gather_core.specs.Checking.{all_rows, Stand}
+use Rattle.gather_core.specs.Confirming.{IsConfirmation}
+use Rattle.gather_core.specs.GatherFaults.{IsGatherFault}
+use Rattle.table_harvest.specs.declared.working.Worked.{Worked}
+use Rattle.table_harvest.specs.declared.taking.Crop.{Crop}
+use Rattle.table_harvest.specs.InTable.{AreFirstsMarked, StandsIn}
+use Rattle.table_harvest.specs.Inner.Parted.{shares_of, refusals_of, IsWorst}
+
+-- the rows of all shares stand in the table of n numbers after what a pass has seen, their first games are marked, and each call
+-- of the pass that is not one of these earlier ones stands in the rows
+pub record AreTogether {O : Type 0} (n : ℕ) (earlier : List Happened) (pass : Known O) (rows : List Row) : Type 0 where
+  pub stands : Stand n pass.seen rows
+  pub marked : AreFirstsMarked pass.seen rows
+  pub calls : (e : Happened) → Contains (calls_of pass) e → Contains earlier e ⊎ StandsIn rows e
+
+-- what is told of a game that was refused: for want of a number what the shares confirm, and else the same fault
+abbrev pub IsExplained : ℕ → List Happened → List Held → HarvestFault → HarvestFault → Type 0
+IsExplained n seen shares (fault.Full game word) found = IsConfirmation n seen (all_rows shares) game word found
+IsExplained n seen shares refused found = found ≡ refused
+
+-- games were refused, and this is told of the refusal that goes first
+pub record IsFirstTold (n : ℕ) (seen : List Happened) (worked : List Worked) (found : HarvestFault) : Type 0 where
+  pub first : HarvestFault
+  pub worst : IsWorst (refusals_of worked) first
+  pub explained : IsExplained n seen (shares_of worked) first found
+
+-- why all threads give no dictionary, for what a pass had seen before the shares were looked at, and after: memory was refused;
+-- or a game was; or none was, and all shares do not go together
+abbrev pub IsToldOf : {O : Type 0} → ℕ → Crop O → Known O → Known O → HarvestFault → Type 0
+IsToldOf n crop before after found = (found ≡ fault.Memory) ⊎ (IsFirstTold n after.seen crop.worked.items found
+    ⊎ ((refusals_of crop.worked.items ≡ []) × IsGatherFault n crop.report.games (shares_of crop.worked.items) before after found))
+
+-- the same, whatever the pass had seen before the shares were looked at
+abbrev pub IsTold : {O : Type 0} → ℕ → Crop O → Known O → HarvestFault → Type 0
+IsTold {O = O} n crop after found = (before : Known O) × IsToldOf n crop before after found

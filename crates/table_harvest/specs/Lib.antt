@@ -1,0 +1,4 @@
+pub mod InTable
+pub mod Working
+pub mod Harvest
+pub mod Inner

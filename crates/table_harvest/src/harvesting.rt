@@ -1,0 +1,231 @@
+//! What several workers count over one table: the dictionary of an input.
+ghost use Rattle.std.specs.Prelude.{◌≡◌, ◌≢◌, ◌⊎◌, ◌*◌, ◌<◌, ◌≤◌, ◌++◌, ◌∷◌, [], ℕ, List};
+ghost use Rattle.std.specs.Prelude.{length, max, min, All, Contains, MatchResult, IfOk, IfErr, IfSome};
+ghost use Rattle.std.specs.Prelude.{Some};
+ghost use Rattle.sgf_core.specs.Limit.{most_bytes};
+ghost use Rattle.sgf_core.specs.declared.faults.SgfFault.TheVariants as sgf;
+ghost use Rattle.shape_core.specs.declared.words.Kinds.{Kinds};
+ghost use Rattle.slot_table.specs.declared.entries.Happened.{Happened};
+ghost use Rattle.slot_table.specs.Passes.{IsPassOf, IsAlone, calls_of};
+ghost use Rattle.slot_table.specs.Stakes.{IsAsMuch, IsWhole, halved, half_of};
+ghost use Rattle.harvest_faults.specs.declared.faults.HarvestFault.TheVariants as fault;
+ghost use Rattle.gather_core.specs.Checking.{all_rows};
+ghost use Rattle.gather_core.specs.Covering.{all_games};
+ghost use Rattle.share_core.specs.Entering.{AsksOnly};
+ghost use Rattle.gather_core.specs.GatherFaults.{IsGatherFault};
+ghost use Rattle.game_core.specs.Games.{HasReadAll};
+ghost use Rattle.table_harvest.specs.InTable.{IsFullOf};
+ghost use Rattle.harvest_core.specs.Working.{IsWorked};
+ghost use Rattle.table_harvest.specs.Working.{IsRefusal};
+ghost use Rattle.harvest_core.specs.Harvest.{IsRead};
+ghost use Rattle.table_harvest.specs.Harvest.{IsHarvest, IsHarvestFault, IsRefusedAlone};
+ghost use Rattle.table_harvest.specs.Harvest.{HasHarvested};
+ghost use Rattle.table_harvest.specs.Inner.Crew.{IsCrop};
+ghost use Rattle.table_harvest.specs.Inner.Parted.{refusals_of};
+ghost use Rattle.table_harvest.specs.Inner.Reading.{IsOnceEach};
+ghost use Rattle.table_harvest.specs.Inner.Harvest.{AreTogether, IsExplained, IsTold};
+
+use harvest_core::Gate;
+use crate::parting::{Parted, part, want_memory, worst};
+use crate::taking::Crop;
+use crate::threads::Crew;
+use crate::workers::Worker;
+use gather_core::{confirm_full, gather};
+use harvest_faults::HarvestFault;
+use job_core::{Desk, Games, new_queue};
+use probe_core::ProbeOrder;
+use shape_core::Kinds;
+use share_core::Share;
+use slot_table::{Pass, SlotTable, laws};
+use std::alloc::Global;
+use std::sync::Wait;
+use std::thread::Threads;
+use tally_core::{Counted, Report, Settings};
+
+/// Why a game was not added to a share: where no number was free for a pattern of it, all shares
+/// tell whether that is so.
+fn explain<O: ProbeOrder>(
+    table: &SlotTable<O>,
+    pass: &mut Pass<O>,
+    shares: &[Share],
+    refused: HarvestFault,
+) -> HarvestFault
+    requires pass { IsPassOf table.now pass.old }
+    ensures pass { IsPassOf table.now pass.new }
+    ensures later { AsksOnly table.now.slots pass.old pass.new }
+    ensures explained { IsExplained table.now.slots pass.new.seen shares.now refused result }
+    ensures why { (bytes : List ℕ) (kinds : Kinds) (earlier : List Happened) → IsRead bytes
+        → All (IsWorked bytes kinds) shares.now → IsRefusal bytes kinds refused
+        → IsFullOf table.now.slots pass.old.seen (Some refused)
+        → AreTogether table.now.slots earlier pass.old (all_rows shares.now)
+        → IsHarvestFault table.now.slots bytes kinds earlier pass.new result }
+{
+    match refused {
+        HarvestFault::Full { game, word } => confirm_full(table, pass, shares, game, word),
+        other => other,
+    }
+}
+
+/// The dictionary of all shares, of an input that was read.
+fn count_of<R: Threads + Sync, O: ProbeOrder>(
+    rt: &R,
+    alloc: Global,
+    kinds: Kinds,
+    table: &SlotTable<O>,
+    pass: &mut Pass<O>,
+    report: Report,
+    shares: &[Share],
+) -> Result<Counted, HarvestFault>
+    requires pass { IsPassOf table.now pass.old }
+    requires worked { (bytes : List ℕ) × HasReadAll bytes report
+        × All (IsWorked bytes kinds) shares.now }
+    ensures pass { IsPassOf table.now pass.new }
+    ensures later { AsksOnly table.now.slots pass.old pass.new }
+    ensures gathered { IfErr result
+        (IsGatherFault table.now.slots report.games shares.now pass.old pass.new) }
+    ensures harvest { (bytes : List ℕ) → HasReadAll bytes report
+        → All (IsWorked bytes kinds) shares.now
+        → IfOk result (IsHarvest table.now.slots pass.new.seen kinds bytes) }
+    ensures fault { (bytes : List ℕ) (earlier : List Happened) → HasReadAll bytes report
+        → All (IsWorked bytes kinds) shares.now → IsOnceEach report.games (all_games shares.now)
+        → AreTogether table.now.slots earlier pass.old (all_rows shares.now)
+        → IfErr result (IsHarvestFault table.now.slots bytes kinds earlier pass.new) }
+{
+    let dictionary = gather(rt, alloc, table, pass, kinds, report.games, shares)?;
+    Ok(Counted { dictionary, report })
+}
+
+/// The dictionary of all shares, or the fault that is told, in this order: want of memory, that of
+/// the input, the one that goes first of the games that were refused, and that of the shares
+/// together. The calls of all threads come to this pass.
+fn conclude<R: Threads + Sync, O: ProbeOrder>(
+    rt: &R,
+    alloc: Global,
+    kinds: Kinds,
+    table: &SlotTable<O>,
+    pass: &mut Pass<O>,
+    bytes: &[u8],
+    crop: Crop<O>,
+) -> Result<Counted, HarvestFault>
+    requires pass { IsPassOf table.now pass.old }
+    requires crop { (stake : List ℕ) × IsCrop table.now bytes.now kinds stake crop }
+    ensures pass { IsPassOf table.now pass.new }
+    ensures calls { HasHarvested table.now.slots bytes.now kinds pass.old pass.new }
+    ensures stake { pass.new.stake ≡ pass.old.stake ++ crop.pass.stake }
+    ensures alone { IsAlone pass.new }
+    ensures memory { Contains (refusals_of crop.worked.items) fault.Memory
+        → result ≡ Err fault.Memory }
+    ensures input { IfSome crop.fault (λ found. (result ≡ Err found)
+        ⊎ (result ≡ Err fault.Memory)) }
+    ensures refused { crop.fault ≡ None → MatchResult result
+        (λ _. refusals_of crop.worked.items ≡ []) (IsTold table.now.slots crop pass.new) }
+    ensures harvest { IfOk result (IsHarvest table.now.slots pass.new.seen kinds bytes.now) }
+    ensures fault { IfErr result
+        (IsHarvestFault table.now.slots bytes.now kinds (calls_of pass.old) pass.new) }
+{
+    let Crop {
+        worked,
+        report,
+        fault,
+        pass: theirs,
+    } = crop;
+    let _ = bytes;
+    table.absorb(pass, theirs);
+    let Parted { shares, refusals } = part(alloc, worked)?;
+    if want_memory(&refusals) {
+        return Err(HarvestFault::Memory);
+    }
+    if let Some(fault) = fault {
+        return Err(fault);
+    }
+    match worst(&refusals) {
+        Some(refused) => Err(explain(table, pass, &shares, refused)),
+        None => count_of(rt, alloc, kinds, table, pass, report, &shares),
+    }
+}
+
+/// How many places the queue of this number of workers has: 16 for each, but at least 16 and at
+/// most 128.
+fn places_for(workers: u8) -> usize
+    ensures places { result ≡ min 128 (16 * max 1 workers) }
+    ensures least { 16 ≤ result }
+    ensures most { result ≤ 128 }
+{
+    (16 * usize::from(workers).max(1)).min(128)
+}
+
+/// What comes back for a half of a stake makes the whole of it again, and whatever is as much as
+/// the whole is the whole.
+fn stakes_come_together()
+    ensures halves { (stake back : List ℕ) → IsAsMuch back (half_of stake)
+        → IsAsMuch (halved stake ++ back) stake }
+    ensures whole { (stake whole : List ℕ) → IsAsMuch stake whole → IsWhole whole → IsWhole stake }
+    ensures first { IsWhole (0 ∷ []) }
+{
+    laws::a_split_loses_no_stake();
+    laws::stakes_add_up();
+    laws::as_much_as_the_whole_is_the_whole();
+}
+
+/// Counts a whole collection by several workers over a table: the dictionary of its games, which
+/// are numbered from 0 in their order, and what its trees are. It is what `count_plain` answers,
+/// whatever the table, the gate, the number of workers and their turns. This project's own.
+///
+/// This thread reads, and counts what the queue has no room for; as many workers as the settings
+/// say count what they draw from it. The slots of the settings are not looked at: those of the
+/// table count. The pass must be of the table, which may have numbers already. Afterwards it has
+/// made the calls of all threads: they entered patterns of the input alone, and marked games of it
+/// at numbers of their own patterns alone. It has as much stake as before, unless `Memory` was
+/// told. It takes memory for a queue of at most 128 games, for each thread for the largest tree and
+/// its record, the board and the patterns of its games, and for the dictionary.
+///
+/// # Errors
+///
+/// `Sgf` with S4 where the input has more than 2^28 bytes, and then nothing was done to the table;
+/// else `Memory` where memory was refused or a worker was not started; else `Sgf` with the first
+/// fault of syntax; else `Full` with a game and one of its patterns for which no number was free,
+/// where the input has as many other patterns as the table has numbers. In a table that nobody else
+/// uses no other fault comes. Else `Stranger` comes where the table is full, and names the least
+/// number whose key is no pattern that was counted: somebody else made it, and no share has a row
+/// of it. `Marks` comes where all games were counted, and names a number with a mark that somebody
+/// else made, and the shares' least game there, which is another. After each the table keeps the
+/// numbers and marks that it got.
+pub fn harvest_on<R: Threads + Wait + Sync, O: ProbeOrder, G: Gate>(
+    rt: &R,
+    alloc: Global,
+    settings: Settings,
+    table: &SlotTable<O>,
+    pass: &mut Pass<O>,
+    bytes: &[u8],
+    gate: &G,
+) -> Result<Counted, HarvestFault>
+where
+    O: Send + Sync,
+    requires pass { IsPassOf table.now pass.old }
+    ensures pass { IsPassOf table.now pass.new }
+    ensures calls { HasHarvested table.now.slots bytes.now settings.kinds pass.old pass.new }
+    ensures stake { result ≢ Err fault.Memory → IsAsMuch pass.new.stake pass.old.stake }
+    ensures large { most_bytes < length bytes.now
+        → (result ≡ Err (fault.Sgf sgf.TooLarge)) × (pass.new ≡ pass.old) }
+    ensures harvest { IfOk result
+        (IsHarvest table.now.slots pass.new.seen settings.kinds bytes.now) }
+    ensures fault { IfErr result
+        (IsHarvestFault table.now.slots bytes.now settings.kinds (calls_of pass.old) pass.new) }
+    ensures alone { IsWhole pass.old.stake → calls_of pass.old ≡ []
+        → IfErr result (IsRefusedAlone table.now.slots bytes.now settings.kinds) }
+{
+    stakes_come_together();
+    let games = Games::new(bytes)?;
+    let (queue, seat) = new_queue(alloc, places_for(settings.workers()))?;
+    let own = Worker {
+        desk: Desk::open(&queue, seat, bytes),
+        table,
+        pass: table.split(pass),
+        gate,
+        number: 0,
+        workers: usize::from(settings.workers()),
+        kinds: settings.kinds(),
+    };
+    let crop = Crew::begin(games, own).run(rt, alloc)?;
+    conclude(rt, alloc, settings.kinds(), table, pass, bytes, crop)
+}

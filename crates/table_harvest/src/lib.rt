@@ -1,0 +1,18 @@
+//! A collection counted by several workers, game by game, over a table that is somebody else's.
+//!
+//! Faults are told in this order: want of memory of the thread that reads or of any worker; faults
+//! of the input; of the games that were refused `Full` of the least game, then `Stranger`; and then
+//! those of all shares together. `Overflow` never comes: no count of an input is too large.
+#![tactic(auto)]
+
+mod harvesting;
+mod parting;
+mod reading;
+mod taking;
+mod threads;
+mod workers;
+mod working;
+
+pub use harvesting::harvest_on;
+pub use workers::{Returned, Worker, work};
+pub use working::Worked;

@@ -1,0 +1,170 @@
+//! The thread that reads: it makes a job of each game and puts it into the queue, and counts those
+//! that the queue hands back.
+ghost use Rattle.std.specs.Prelude.{◌≡◌, ◌+◌, ◌≤◌, ◌⊎◌, ◌↔◌, [], true, None};
+ghost use Rattle.std.specs.Prelude.{IsTrue, IfErr, OnOk};
+ghost use Rattle.job_core.specs.declared.items.Item.TheVariants as item;
+ghost use Rattle.shape_core.specs.declared.words.Kinds.{Kinds};
+ghost use Rattle.game_core.specs.Games.{HasReadAll};
+ghost use Rattle.job_core.specs.Rising.{past};
+ghost use Rattle.job_core.specs.Rule.{MayPut, putting};
+ghost use Rattle.job_core.specs.Inner.Rule.{IsInStep};
+ghost use Rattle.slot_table.specs.Passes.{IsPassOf};
+ghost use Rattle.gather_core.specs.Checking.{Stand};
+ghost use Rattle.harvest_faults.specs.declared.faults.HarvestFault.TheVariants as fault;
+ghost use Rattle.table_harvest.specs.InTable.{IsInTableSince, GoesOnInTable};
+ghost use Rattle.harvest_core.specs.Working.{IsWorked};
+ghost use Rattle.table_harvest.specs.Working.{IsRefused, IsCounted, CallsIn};
+ghost use Rattle.harvest_core.specs.Inner.Reading.{IsReadFault};
+ghost use Rattle.table_harvest.specs.Inner.Reading.{AreDealt, IsReadingOf};
+
+use harvest_core::Gate;
+use crate::workers::Worker;
+use crate::working::Worked;
+use harvest_faults::HarvestFault;
+use job_core::{Desk, Games, Item, Job};
+use probe_core::ProbeOrder;
+use std::alloc::Global;
+use std::sync::Wait;
+use std::thread;
+use tally_core::Report;
+
+/// Puts a job into the queue, and counts it here where the queue is full.
+fn offer<'a, R: Wait, O: ProbeOrder, G: Gate>(
+    rt: &R,
+    own: &mut Worker<'_, 'a, '_, O, G>,
+    worked: &mut Worked,
+    job: Job<'a>,
+)
+    requires pass { IsPassOf own.old.table.now own.old.pass }
+    requires job { MayPut own.old.desk (item.Job job) }
+    ensures same { own.new ≡ record own.old { desk = own.new.desk; pass = own.new.pass } }
+    ensures pass { IsPassOf own.old.table.now own.new.pass }
+    ensures offered { ((own.new.desk ≡ putting own.old.desk (item.Job job.entry))
+        × (worked.new ≡ worked.old))
+        ⊎ ((own.new.desk ≡ own.old.desk) × IsCounted job.entry.game worked.old worked.new) }
+    ensures worker { worked.new.share.worker ≡ worked.old.share.worker }
+    ensures worked { (kinds : Kinds) → IsWorked job.entry.bytes kinds worked.old.share
+        → past worked.old.share.games ≤ job.entry.game
+        → IsWorked job.entry.bytes kinds worked.new.share }
+    ensures refused { (kinds : Kinds) → IsWorked job.entry.bytes kinds worked.old.share
+        → Stand own.old.table.now.slots own.old.pass.seen worked.old.share.rows
+        → IsRefused job.entry.bytes kinds worked.old.refused
+        → IsRefused job.entry.bytes kinds worked.new.refused }
+    ensures calls { (kinds : Kinds) → worked.old.share.kinds ≡ kinds
+        → CallsIn own.old.table.now.slots job.entry.bytes kinds own.old.pass own.new.pass }
+    ensures table { GoesOnInTable own.old.table.now.slots own.old.pass own.new.pass
+        worked.old worked.new }
+{
+    match own.desk.put(rt, Item::Job(job)) {
+        Ok(()) => (),
+        Err(Item::Job(back)) => worked.count(own.table, &mut own.pass, own.gate, &back),
+        Err(Item::End) => (),
+    }
+}
+
+/// Whether memory was refused to a worker.
+fn wants_memory(worked: &Worked) -> bool
+    ensures { IsTrue result ↔ (worked.now.refused ≡ Some fault.Memory) }
+{
+    matches!(worked.refused, Some(HarvestFault::Memory))
+}
+
+/// Reads all games of an input of which none was read. Want of memory ends it, also where it came
+/// in counting here.
+fn read_all<'a, R: Wait, O: ProbeOrder, G: Gate>(
+    rt: &R,
+    alloc: Global,
+    games: &mut Games<'a>,
+    own: &mut Worker<'_, 'a, '_, O, G>,
+    worked: &mut Worked,
+) -> Result<(), HarvestFault>
+    requires pass { IsPassOf own.old.table.now own.old.pass }
+    requires step { IsInStep games.old own.old.desk }
+    requires none { (games.old.report.games ≡ 0) × (own.old.desk.put ≡ []) }
+    requires begun { (worked.old.share.games ≡ []) × (worked.old.share.rows ≡ [])
+        × (worked.old.refused ≡ None) }
+    requires worked { IsWorked games.old.bytes own.old.kinds worked.old.share }
+    ensures same { own.new ≡ record own.old {
+      desk = record own.old.desk { put = own.new.desk.put };
+      pass = own.new.pass;
+    } }
+    ensures pass { IsPassOf own.old.table.now own.new.pass }
+    ensures worker { worked.new.share.worker ≡ worked.old.share.worker }
+    ensures worked { IsWorked games.old.bytes own.old.kinds worked.new.share }
+    ensures refused { IsRefused games.old.bytes own.old.kinds worked.new.refused }
+    ensures calls { CallsIn own.old.table.now.slots games.old.bytes own.old.kinds
+        own.old.pass own.new.pass }
+    ensures table { IsInTableSince own.old.table.now.slots own.old.pass own.new.pass worked.new }
+    ensures all { OnOk result (HasReadAll games.old.bytes games.new.report) }
+    ensures dealt { OnOk result (AreDealt games.new.report.games own.new.desk.put worked.new) }
+    ensures fault { IfErr result (IsReadFault games.old.bytes) }
+{
+    loop {
+        match games.next_job(alloc)? {
+            Some(job) => offer(rt, own, worked, job),
+            None => return Ok(()),
+        }
+        if wants_memory(worked) {
+            return Err(HarvestFault::Memory);
+        }
+    }
+}
+
+/// Puts an end, and tries again while the queue is full.
+fn put_end<R: Wait>(rt: &R, desk: &mut Desk<'_, '_>)
+    requires { desk.old.writes ≡ true }
+    ensures { desk.new ≡ putting desk.old item.End }
+{
+    for _ in rt.forever() {
+        if desk.put(rt, Item::End).is_ok() {
+            break;
+        }
+        thread::yield_now();
+    }
+}
+
+/// Puts an end for each worker, and no other item.
+pub(crate) fn close<R: Wait>(rt: &R, desk: &mut Desk<'_, '_>, workers: usize)
+    requires { desk.old.writes ≡ true }
+    ensures { desk.new ≡ record desk.old { ends_put = desk.old.ends_put + workers } }
+{
+    for _ in 0..workers {
+        put_end(rt, desk);
+    }
+}
+
+/// What the thread that reads has come to, with its desk and pass.
+#[derive(Drop)]
+pub(crate) struct Reading<'q, 'a, 't, O: ProbeOrder, G: Gate> {
+    pub worked: Worked,
+    pub report: Report,
+    pub fault: Option<HarvestFault>,
+    pub own: Worker<'q, 'a, 't, O, G>,
+}
+
+/// Reads all games and puts an end for each worker that was started. It waits for the workers.
+pub(crate) fn read_games<'q, 'a, 't, R: Wait, O: ProbeOrder, G: Gate>(
+    rt: &R,
+    alloc: Global,
+    games: Games<'a>,
+    own: Worker<'q, 'a, 't, O, G>,
+    workers: usize,
+) -> Reading<'q, 'a, 't, O, G>
+    requires pass { IsPassOf own.table.now own.pass }
+    requires step { IsInStep games own.desk }
+    requires none { (games.report.games ≡ 0) × (own.desk.put ≡ []) }
+    ensures reading { IsReadingOf games.entry.bytes own.entry result }
+    ensures ends { result.own.desk.ends_put ≡ own.entry.desk.ends_put + workers }
+{
+    let mut games = games;
+    let mut own = own;
+    let mut worked = Worked::begin(alloc, 0, own.kinds);
+    let outcome = read_all(rt, alloc, &mut games, &mut own, &mut worked);
+    close(rt, &mut own.desk, workers);
+    Reading {
+        worked,
+        report: games.report(),
+        fault: outcome.err(),
+        own,
+    }
+}

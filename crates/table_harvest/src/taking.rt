@@ -1,0 +1,44 @@
+//! What workers hand back is taken up: their games, what their desks drew and what their passes
+//! called.
+ghost use Rattle.std.specs.Prelude.{[], OnOk};
+ghost use Rattle.table_harvest.specs.Inner.Crew.{HasTaken};
+
+use harvest_core::Gate;
+use crate::workers::{Returned, Worker};
+use crate::working::Worked;
+use harvest_faults::HarvestFault;
+use probe_core::ProbeOrder;
+use slot_table::Pass;
+use std::alloc::AllocError;
+use tally_core::Report;
+
+/// What all threads came to, and the pass that made the calls of all of them.
+#[derive(Drop)]
+pub(crate) struct Crop<O> {
+    pub worked: Vec<Worked>,
+    pub report: Report,
+    pub fault: Option<HarvestFault>,
+    pub pass: Pass<O>,
+}
+
+/// Takes up what each worker hands back, in their order.
+pub(crate) fn take_up<'q, 'a, O: ProbeOrder, G: Gate>(
+    own: &mut Worker<'q, 'a, '_, O, G>,
+    worked: &mut Vec<Worked>,
+    all: Vec<Returned<'q, 'a, O>>,
+) -> Result<(), AllocError>
+    requires { HasTaken own.old all.items all.items own.old worked.old.items }
+    ensures { OnOk result (HasTaken own.old all.entry.items [] own.new worked.new.items) }
+{
+    for back in all {
+        let Returned {
+            worked: one,
+            desk,
+            pass,
+        } = back;
+        own.desk.take_up(desk);
+        own.table.absorb(&mut own.pass, pass);
+        worked.push(one)?;
+    }
+    Ok(())
+}
