@@ -1,4 +1,4 @@
-# What each file of tools/count-many has, which runs this file with -v work=WORK over the names of the parts in their order. A line
+# What each file of tools/count-many has, which runs this file with `work` in its environment over the names of the parts in their order. A line
 # `NUMBER<tab>NAME<tab>GAMES<tab>OTHERS<tab>REFUSED<tab>FAULT<tab>FIRST` for each file: its place among all, its name, how many of
 # its trees are of each sort, the first fault of a refused game with its place in the file, and the number of its first game.
 
@@ -11,8 +11,8 @@ function put() {
 
 BEGIN { OFS = "\t"; all_games = 0 }
 {
-    list = work "/parts/" $0
-    listing = work "/listings/" $0
+    list = ENVIRON["work"] "/parts/" $0
+    listing = ENVIRON["work"] "/listings/" $0
     count = file = 0
     place = 0
     while ((getline line < list) > 0) {
