@@ -1,4 +1,6 @@
-# Draws the pattern of each line of a dictionary: X is the player to move, O the other one, # off the board, * the point itself.
+# Draws the pattern of each line of a dictionary: X is the player to move, O the other one, # off the board, * the point itself. A
+# header has none, and stays as it is.
+/^shapes / { print; next }
 {
     cells = ""
     for (i = 13; i > 0; i--) {
