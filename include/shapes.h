@@ -7,20 +7,27 @@
  * it. docs/rules.md has these rules.
  *
  * Each call returns a status, SHAPES_DONE or why not; what it was to write is as it was then, unless its comment says
- * otherwise. Each is proved to do what its comment says, to touch no memory but what it is given, and to end. What the
- * caller owes, which nothing checks:
+ * otherwise. What is proved of each is which values it writes and which status it returns, that it touches no memory
+ * but what it is given, and that it ends. How long a call takes, and how much memory, is only measured. What the caller
+ * owes, which nothing checks:
  *
  * - a pointer is never null, also where a length is 0, is aligned as its type is, and what it points to is as long as
  *   is said. What a call writes to may hold anything before;
  * - what a call writes to is used by nothing else in the meantime: not by another thread, and not through another
- *   argument of the call. What it only reads may be read by others too.
+ *   argument of the call;
+ * - what a call only reads may be read by others too, and is written by nobody in the meantime: not by another thread,
+ *   and where it is a mapped file not by another process. One that is cut off meanwhile ends the process;
+ * - malloc, realloc and free are those of one allocator, which aligns a block to each power of two up to 16 that
+ *   divides its size, as those of C libraries do. A process that replaces one of them replaces all;
+ * - shapes_read is not called in a signal handler, nor in a child that a process with threads has forked.
  *
  * So any number of threads may call at the same time, each with memory of its own to write to. No call keeps anything,
  * reads or writes files, or ends the process. shapes_read alone asks for memory (malloc), and frees it before it
- * returns; do not call it in a signal handler. The library is for x86-64 processors (x86-64-v2) under Linux:
+ * returns. The library is for x86-64 processors (x86-64-v2) under Linux. Besides its calls it has three names of its
+ * own, rattle_alloc, rattle_realloc and rattle_dealloc, which only one library of a program may have:
  *
  *     cc -I include yours.c out/libshapes.a
- *     cc -shared -o libshapes.so -Wl,--whole-archive out/libshapes.a -Wl,--no-whole-archive
+ *     cc -I include yours.c -L out -lshapes
  */
 #ifndef SHAPES_H
 #define SHAPES_H
@@ -31,6 +38,9 @@
 #ifdef __cplusplus
 extern "C" {
 #endif
+
+/* The version of this header and of the library beside it: 10100 is 1.1.0. */
+#define SHAPES_VERSION 10100
 
 /* What a call returns. From 11 on these are the faults X1 to X8 of a dictionary's text (docs/formats.md). */
 enum {
@@ -76,7 +86,7 @@ struct shapes_header {
     uint64_t moves;    /* how many moves onto empty points they have */
     uint64_t squares;  /* how many squares follow */
     uint64_t diamonds; /* how many diamonds follow, or SHAPES_UNKNOWN where they were not counted */
-    uint64_t patterns; /* how many lines follow: squares and diamonds */
+    uint64_t patterns; /* how many lines follow: squares and diamonds, or 2^64 - 1 where they are more */
 };
 
 /* Writes the word of the square whose cells have these 25 codes.
@@ -104,7 +114,7 @@ uint32_t shapes_diamond_of_glyphs(const char *glyphs, size_t length, uint64_t *w
 uint32_t shapes_glyphs(uint64_t word, char glyphs[25]);
 
 /* Writes what the header of a dictionary's text says. The lines after it are not looked at, so of a text that is none
- * it may say anything.
+ * it may say anything: `patterns` is no size to multiply and to ask memory for, and length / 18 is one.
  * SHAPES_BAD_HEADER exactly where the bytes do not begin with a header. */
 uint32_t shapes_header(const char *text, size_t length, struct shapes_header *header);
 
@@ -113,11 +123,12 @@ uint32_t shapes_header(const char *text, size_t length, struct shapes_header *he
  * for length / 18 entries is always enough, since a line has 18 bytes or more.
  * SHAPES_NO_ROOM where it is not enough: `number` becomes how many there are. SHAPES_BAD_HEADER to SHAPES_TOO_LARGE for
  * the first fault of the text: `number` becomes its line, counted from 1 at the header, or 0 where it is of no line.
- * Memory is taken while it works, about 60 bytes an entry; SHAPES_NO_MEMORY can only come after a header and a first
- * line without a fault. */
+ * Memory is taken while it works, up to some 100 bytes an entry (measured); SHAPES_NO_MEMORY can only come after a
+ * header and a first line without a fault. */
 uint32_t shapes_read(const char *text, size_t length, struct shapes_entry *entries, size_t room, uint64_t *number);
 
-/* Writes the entry of a shape among `count` entries whose shapes rise, as shapes_read writes them, by halves.
+/* Writes the entry of a shape among `count` entries whose shapes rise: those that shapes_read writes, or any others of
+ * your own, as some that you have chosen of them. It looks at about log2 of `count` of them (measured).
  * SHAPES_ABSENT where none has the shape. Where the shapes do not rise, one that is there may be missed. */
 uint32_t shapes_find(const struct shapes_entry *entries, size_t count, uint64_t shape, struct shapes_entry *entry);
 

@@ -158,6 +158,26 @@ static void try_reading(void) {
     refused_at = 0;
 }
 
+// A header alone may say any number of lines, whose sum stops at the greatest number.
+static void try_headers(void) {
+    static const struct { const char *text; uint64_t patterns; } cases[] = {
+        {"shapes 1 games 0 moves 0 patterns 576460752303423488\n", 1ULL << 59},
+        {"shapes 2 games 0 moves 0 squares 18446744073709551615 diamonds 1\n", UINT64_MAX},
+        {"shapes 2 games 0 moves 0 squares 7 diamonds -\n", 7},
+    };
+    struct shapes_header *header = room_for(sizeof *header);
+    struct shapes_entry *entries = room_for(4 * sizeof *entries);
+    uint64_t *number = room_for(sizeof *number);
+    for (size_t k = 0; k < sizeof cases / sizeof *cases; k++) {
+        size_t length = strlen(cases[k].text);
+        char *whole = copy_of(cases[k].text, length);
+        uint32_t status = shapes_header(whole, length, header);
+        check(status == SHAPES_DONE && header->patterns == cases[k].patterns, cases[k].text);
+        status = shapes_read(whole, length, entries, length / 18, number);
+        check(status == SHAPES_BAD_LINE && *number == 2 && entries[0].shape == UNTOUCHED, "a header alone");
+    }
+}
+
 static void try_faults(void) {
     static const struct { const char *text; uint32_t status; uint64_t line; } cases[] = {
         {"shapes 4 games 0 moves 0 patterns 0\n", SHAPES_BAD_HEADER, 0},
@@ -198,6 +218,17 @@ static void try_finding(void) {
         }
         check(holds, "a shape that is there, or is not");
     }
+    // Some of a dictionary's entries, chosen by the caller.
+    struct shapes_entry chosen[3] = {wanted_entries[0], wanted_entries[3], wanted_entries[5]};
+    struct shapes_entry *entries = copy_of(chosen, sizeof chosen);
+    int holds = 1;
+    for (size_t k = 0; k < 6; k++) {
+        int is_chosen = k == 0 || k == 3 || k == 5;
+        uint32_t status = shapes_find(entries, 3, wanted_entries[k].shape, entry);
+        holds &= status == (is_chosen ? SHAPES_DONE : SHAPES_ABSENT);
+        if (is_chosen) holds &= memcmp(entry, &wanted_entries[k], sizeof *entry) == 0;
+    }
+    check(holds, "entries that the caller has chosen");
 }
 
 int main(void) {
@@ -206,6 +237,7 @@ int main(void) {
         try_canonical();
         try_glyphs();
         try_reading();
+        try_headers();
         try_faults();
         try_finding();
     }
