@@ -3,9 +3,10 @@
  *     cc -I include -o keys examples/keys.c out/libshapes.a
  *     echo 'square ......XO................. black' | ./keys [DICTIONARY]
  *
- * Each line of standard input is a kind, 25 glyphs row by row, and who is to move. A line of output is the canonical
- * word; with a dictionary also how often the pattern was there and was played. A line that is none gives `-`, and the
- * status is 1 then. */
+ * Each line of standard input is a kind, 25 glyphs row by row, and who is to move, parted by spaces. A line of output
+ * is the canonical word; with a dictionary also how often the pattern was there and was played. So each line has its
+ * own answer: one that is none gives `-`, and the status is 1 then. It is 3 where the dictionary is none, and 6 where
+ * the answers could not be written. */
 #include <inttypes.h>
 #include <stdio.h>
 #include <stdlib.h>
@@ -65,14 +66,30 @@ static int key_of(const char *kind, const char *glyphs, const char *mover, uint6
     return status == SHAPES_DONE && shapes_canonical(word, colour, shape) == SHAPES_DONE;
 }
 
+/* Reads one line, and its key. Returns whether it had one; `last` becomes whether the input has ended before it. */
+static int read_key(FILE *input, uint64_t *shape, int *last) {
+    char line[64], kind[64], glyphs[64], mover[64], more;
+    int letter;
+    size_t length = 0;
+    while ((letter = getc(input)) != EOF && letter != '\n') {
+        if (length < sizeof line) line[length] = letter ? (char)letter : '?';
+        length++;
+    }
+    *last = letter == EOF && length == 0;
+    if (length >= sizeof line) return 0; /* No pattern's line is as long. */
+    line[length] = '\0';
+    return sscanf(line, "%s %s %s %c", kind, glyphs, mover, &more) == 3 && key_of(kind, glyphs, mover, shape);
+}
+
 int main(int count, char **words) {
     struct dictionary dictionary = {NULL, 0};
     if (count > 1 && !read_dictionary(words[1], &dictionary)) return 3;
-    char kind[8], glyphs[32], mover[8];
     int status = 0;
-    while (scanf("%7s %31s %7s", kind, glyphs, mover) == 3) {
+    for (;;) {
         uint64_t shape;
-        if (!key_of(kind, glyphs, mover, &shape)) {
+        int last, has_key = read_key(stdin, &shape, &last);
+        if (last) break;
+        if (!has_key) {
             puts("-");
             status = 1;
             continue;
@@ -86,5 +103,9 @@ int main(int count, char **words) {
         puts("");
     }
     free(dictionary.entries);
+    if (fflush(stdout) != 0 || ferror(stdout)) {
+        fputs("keys: the answers could not be written\n", stderr);
+        return 6;
+    }
     return status;
 }
