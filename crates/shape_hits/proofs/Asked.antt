@@ -1,14 +1,14 @@
 -- What the values of options say.
-use Rattle.std.proofs.Common.{◌≡◌, ◌≢◌, ◌^◌, ℕ, List, Some, None, Result, Ok, Err, IfOk, IfErr, sym, subst, ◌∙◌, inl, inr, codes}
+use Rattle.std.proofs.Common.{◌≡◌, ◌^◌, ℕ, List, Some, None, Result, Ok, Err, IfOk, IfErr, sym, subst, ◌∙◌, inl, inr, codes}
 use Rattle.clap.specs.Words.{Row, first_of}
 use Rattle.clap.specs.declared.parser.matches.ArgMatches.{ArgMatches}
 use Rattle.command_lines.specs.Lines.{AreTaken}
-use Rattle.command_lines.specs.Patterns.{HasNoColour, IsSpellingFault}
+use Rattle.command_lines.specs.Patterns.{IsSpellingFault}
 use Rattle.command_lines.specs.Values.{HasNoNumber, rows_in}
 use Rattle.engine_core.specs.declared.faults.RunFault.{RunFault}
 use Rattle.engine_core.specs.declared.faults.RunFault.TheVariants as fault
 use Rattle.shape_hits.specs.Commands.{program_app}
-use Rattle.shape_hits.specs.Words.{HasNoMost, IsAlone, HasNoPatterns, IsPatternsFault, IsAsked, HasNoSearch, IsSearchOf, IsSearchFault, IsAnswered, IsWordsFault}
+use Rattle.shape_hits.specs.Words.{HasNoMost, IsPatternsFault, IsAsked, IsSearchOf, IsSearchFault, IsAnswered, IsWordsFault}
 use Rattle.shape_hits.specs.declared.words.Task.{Task}
 use Rattle.shape_hits.specs.declared.words.Task.TheVariants as task
 
@@ -17,19 +17,9 @@ pub no_most : (rows : List Row) (text : List ℕ) → first_of (codes "most") ro
 no_most rows text is none None given small = let both = sym is ∙ given in absurd (cc)
 no_most rows text is none (Some most) given small = none most given small
 
--- without glyphs or without a colour no pattern is spelled
-pub no_pattern : (rows : List Row) → first_of (codes "words") rows ≡ None → HasNoColour rows → HasNoPatterns rows
-no_pattern rows no_words is None are = are.0 no_words
-no_pattern rows no_words (inl none) (Some shape) are = let both = sym none ∙ are.1.has_glyphs in absurd (cc)
-no_pattern rows no_words (inr (inl none)) (Some shape) are = let both = sym none ∙ are.1.has_mover in absurd (cc)
-no_pattern rows no_words (inr (inr bad)) (Some shape) are =
-    let same = sym are.1.has_mover ∙ bad.2 in
-    let movers : are.1.mover ≡ bad.1 = cc in
-    bad.3 are.1.pattern.colour (sym movers ∙ are.1.pattern.moves)
-
 -- why no pattern is spelled, where no file of words is named
 pub pattern_fault : (rows : List Row) (found : RunFault) → first_of (codes "words") rows ≡ None → IsSpellingFault rows found → IsPatternsFault rows found
-pattern_fault rows fault.Usage no_words bad = inl (no_pattern rows no_words bad)
+pattern_fault rows fault.Usage no_words bad = inl (no_words, bad)
 pattern_fault rows (fault.Glyph found) no_words bad = (no_words, bad)
 pattern_fault rows (fault.Sgf found) no_words bad = absurd bad
 pattern_fault rows (fault.Record found) no_words bad = absurd bad
@@ -40,15 +30,9 @@ pattern_fault rows fault.Read no_words bad = absurd bad
 pattern_fault rows (fault.Write written) no_words bad = absurd bad
 pattern_fault rows fault.Memory no_words bad = absurd bad
 
--- where words are named, nothing may be spelled
-pub no_beside : (rows : List Row) → first_of (codes "words") rows ≢ None → (IsAlone rows → ⊥) → HasNoPatterns rows
-no_beside rows named none (Some shape) are = named are.0
-no_beside rows named none None are = none are.1
-
 -- what no search can be asked for by
 pub no_search_patterns : (rows : List Row) (found : RunFault) → IsPatternsFault rows found → IsSearchFault rows found
-no_search_patterns rows fault.Usage (inl none) = inl (λ asked is most workers. none asked.shape is.patterns)
-no_search_patterns rows fault.Usage (inr diamonds) = inr diamonds
+no_search_patterns rows fault.Usage bad = inl bad
 no_search_patterns rows (fault.Glyph found) bad = bad
 no_search_patterns rows (fault.Sgf found) bad = absurd bad
 no_search_patterns rows (fault.Record found) bad = absurd bad
@@ -58,12 +42,6 @@ no_search_patterns rows (fault.Dict n found) bad = absurd bad
 no_search_patterns rows fault.Read bad = absurd bad
 no_search_patterns rows (fault.Write written) bad = absurd bad
 no_search_patterns rows fault.Memory bad = absurd bad
-
-pub no_search_most : (rows : List Row) → HasNoMost rows → HasNoSearch rows
-no_search_most rows none asked is most workers = none asked.search.most is.most most
-
-pub no_search_workers : (rows : List Row) → HasNoNumber (2 ^ 8) (codes "workers") rows → HasNoSearch rows
-no_search_workers rows none asked is most workers = none asked.workers is.workers workers
 
 -- what is asked for by values that `clap` takes
 pub search_answered : (words : List (List ℕ)) (matches : ArgMatches) (result : Result Task RunFault) → AreTaken program_app words matches →

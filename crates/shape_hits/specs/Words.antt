@@ -2,8 +2,8 @@
 use Rattle.std.specs.Prelude.{◌≡◌, ◌≢◌, ◌⊎◌, ◌<◌, ◌^◌, ℕ, List, [], Option, Some, None, IfSome, codes, option_map}
 use Rattle.clap.specs.Words.{Row, first_of, matches_of}
 use Rattle.command_lines.specs.Lines.{AsksForHelp, IsAskingFault, refusals_of}
-use Rattle.command_lines.specs.Patterns.{IsBadSpelling, IsKindOf, IsSpelled}
-use Rattle.command_lines.specs.Values.{IsChoiceOf, IsNumberOf}
+use Rattle.command_lines.specs.Patterns.{HasNoColour, IsBadSpelling, IsKindOf, IsSpelled}
+use Rattle.command_lines.specs.Values.{HasNoNumber, IsChoiceOf, IsNumberOf}
 use Rattle.shape_core.specs.declared.words.Kind.TheVariants as kind
 use Rattle.shape_core.specs.declared.spelling.GlyphFault.{GlyphFault}
 use Rattle.engine_core.specs.declared.faults.RunFault.{RunFault}
@@ -59,31 +59,29 @@ pub record IsAsked (rows : List Row) (asked : Asked) : Type 0 where
 abbrev pub HasNoMost : List Row → Type 0
 HasNoMost rows = (most : Option ℕ) → IsMostOf rows most → IfSome most (λ n. n < 2 ^ 64) → ⊥
 
--- the values ask for no patterns
-abbrev pub HasNoPatterns : List Row → Type 0
-HasNoPatterns rows = (shape : Option ℕ) → ArePatterns rows shape → ⊥
+-- no file of words is named, and the glyphs or the colour are missing, or the colour is none
+abbrev pub HasNoPattern : List Row → Type 0
+HasNoPattern rows = (first_of (codes "words") rows ≡ None) × HasNoColour rows
+
+-- a file of words is named, and a part of a pattern is spelled beside it
+abbrev pub HasPatternBeside : List Row → Type 0
+HasPatternBeside rows =
+    (first_of (codes "words") rows ≢ None)
+    × ((first_of (codes "glyphs") rows ≢ None) ⊎ (first_of (codes "colour") rows ≢ None) ⊎ IsKindOf rows kind.Diamond)
 
 -- no file of words is named, and the glyphs spell no pattern
 abbrev pub IsBadPattern : List Row → GlyphFault → Type 0
 IsBadPattern rows found = (first_of (codes "words") rows ≡ None) × IsBadSpelling rows found
 
--- a file of words is named, and diamonds are asked for beside it
-abbrev pub HasDiamondWords : List Row → Type 0
-HasDiamondWords rows = (first_of (codes "words") rows ≢ None) × IsKindOf rows kind.Diamond
-
 -- why there are no patterns to look for
 abbrev pub IsPatternsFault : List Row → RunFault → Type 0
-IsPatternsFault rows fault.Usage = HasNoPatterns rows ⊎ HasDiamondWords rows
+IsPatternsFault rows fault.Usage = HasNoPattern rows ⊎ HasPatternBeside rows
 IsPatternsFault rows (fault.Glyph found) = IsBadPattern rows found
 IsPatternsFault rows found = ⊥
 
--- the values ask for no search: `most` is below 2 ^ 64, and `workers` below 2 ^ 8
-abbrev pub HasNoSearch : List Row → Type 0
-HasNoSearch rows = (asked : Asked) → IsAsked rows asked → IfSome asked.search.most (λ n. n < 2 ^ 64) → asked.workers < 2 ^ 8 → ⊥
-
--- why there is nothing to do: the glyphs spell no pattern, or the values ask for no search otherwise
+-- why there is nothing to do: there are no patterns to look for, or a number is missing or too large
 abbrev pub IsSearchFault : List Row → RunFault → Type 0
-IsSearchFault rows fault.Usage = HasNoSearch rows ⊎ HasDiamondWords rows
+IsSearchFault rows fault.Usage = IsPatternsFault rows fault.Usage ⊎ HasNoMost rows ⊎ HasNoNumber (2 ^ 8) (codes "workers") rows
 IsSearchFault rows (fault.Glyph found) = IsBadPattern rows found
 IsSearchFault rows found = ⊥
 

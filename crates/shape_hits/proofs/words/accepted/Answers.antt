@@ -1,8 +1,8 @@
-use Rattle.std.proofs.Common.{sym, subst, inl}
+use Rattle.std.proofs.Common.{sym, subst, inl, inr}
 use Rattle.std.proofs.lemmas.Result.{err_from_is_err_and}
 use Rattle.command_lines.specs.Values.{rows_in}
 use Rattle.shape_hits.specs.Words.{IsMostOf}
-use Rattle.shape_hits.proofs.Asked.{no_search_patterns, no_search_most, no_search_workers}
+use Rattle.shape_hits.proofs.Asked.{no_search_patterns}
 use Rattle.shape_hits.proofs.words.accepted.Goals as goal
 
 pub returns-in_err-shape-clause-fault : goal.returns-in_err-shape-clause-fault
@@ -11,10 +11,10 @@ returns-in_err-shape-clause-fault c =
     rw (p.1, p.2) (no_search_patterns (rows_in c.args.matches.now) c.in_err-shape.field-0.0 c.in_err-shape.ensures.fault)
 
 pub returns-in_default-clause-fault : goal.returns-in_default-clause-fault
-returns-in_default-clause-fault c = inl (no_search_most (rows_in c.args.matches.now) c.in_default.ensures.none)
+returns-in_default-clause-fault c = inr (inl c.in_default.ensures.none)
 
 pub returns-in_default-small_number-clause-fault : goal.returns-in_default-small_number-clause-fault
-returns-in_default-small_number-clause-fault c = inl (no_search_workers (rows_in c.args.matches.now) c.in_default-small_number.ensures.none)
+returns-in_default-small_number-clause-fault c = inr (inr c.in_default-small_number.ensures.none)
 
 pub returns-clause-search : goal.returns-clause-search
 returns-clause-search c =
