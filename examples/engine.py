@@ -5,6 +5,7 @@
 
 engine.c says what is read and printed, and with which statuses.
 """
+import signal
 import sys
 
 from shapes import Shapes, around, board_of
@@ -60,4 +61,6 @@ def main():
 
 
 if __name__ == "__main__":
+    # A reader that stops early, as head, is no fault of this program.
+    signal.signal(signal.SIGPIPE, signal.SIG_DFL)
     sys.exit(main())

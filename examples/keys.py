@@ -7,6 +7,7 @@ Each line of standard input is a kind, 25 glyphs row by row, and who is to move,
 the canonical word; with a dictionary also how often the pattern was there and was played. So each line has its own
 answer: one that is none gives `-`, and the status is 1 then. It is 3 where the dictionary is none.
 """
+import signal
 import sys
 
 from shapes import Shapes
@@ -55,4 +56,6 @@ def main():
 
 
 if __name__ == "__main__":
+    # A reader that stops early, as head, is no fault of this program.
+    signal.signal(signal.SIGPIPE, signal.SIG_DFL)
     sys.exit(main())
