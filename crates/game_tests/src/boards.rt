@@ -4,155 +4,169 @@ ghost use Rattle.go_board.specs.Point.{IsOn};
 
 use go_board::{Board, BoardFault, Colour, Played, Point, Replayable, Size, Stone};
 use shape_core::{Field, Kinds};
-use std::process::Abort;
+use std::alloc::Global;
 use std::test::Fail;
 
-fn board_of(rt: &HostRuntime, columns: u8, rows: u8) -> Result<Board, Fail> {
-    let size = Size::new(columns, rows).ok_or("a size from 1 to 52")?;
-    Ok(Board::new(rt.alloc(), size)?)
+/// What a move takes that takes nothing.
+const NOTHING: Played = Played {
+    taken: 0,
+    own_lost: 0,
+};
+
+/// What a move takes that takes one stone of the opponent.
+const ONE: Played = Played {
+    taken: 1,
+    own_lost: 0,
+};
+
+/// What a move takes that takes its own stone alone.
+const OWN: Played = Played {
+    taken: 0,
+    own_lost: 1,
+};
+
+fn board_of(alloc: Global, columns: u8, rows: u8) -> Option<Board> {
+    Board::new(alloc, Size::new(columns, rows)?).ok()
 }
 
-fn set(rt: &impl Abort, board: &mut Board, stone: Stone, column: u8, row: u8) {
+/// Sets a point, if it is on the board.
+fn set(board: &mut Board, stone: Stone, column: u8, row: u8) {
     let point = Point { column, row };
-    assert!(rt; board.size().has(point));
-    board.set(point, stone);
+    if board.size().has(point) {
+        board.set(point, stone);
+    }
 }
 
-fn play(rt: &impl Abort, board: &mut Board, colour: Colour, column: u8, row: u8) -> Played {
+/// What a move takes, if its point is on the board.
+fn play(board: &mut Board, colour: Colour, column: u8, row: u8) -> Option<Played> {
     let point = Point { column, row };
-    assert!(rt; board.size().has(point));
-    board.play(colour, point)
+    if !board.size().has(point) {
+        return None;
+    }
+    Some(board.play(colour, point))
 }
 
-fn lives(rt: &impl Abort, board: &mut Board, column: u8, row: u8) -> bool {
+/// Whether the stone at a point has a liberty, if there is one.
+fn lives(board: &mut Board, column: u8, row: u8) -> Option<bool> {
     let point = Point { column, row };
-    assert!(rt; board.size().has(point));
-    assert!(rt; board.cell(point) != Stone::Empty);
-    board.has_liberty(point)
+    if !board.size().has(point) || board.cell(point) == Stone::Empty {
+        return None;
+    }
+    Some(board.has_liberty(point))
 }
 
-/// The cells are these, row by row from the top: `.` empty, `X` black, `O` white.
-fn assert_shows(rt: &impl Abort, board: &Board, cells: &[u8]) {
-    let mut wanted = cells.iter();
-    for row in 0..board.size().rows() {
-        for column in 0..board.size().columns() {
-            let point = Point { column, row };
-            assert!(rt; board.size().has(point));
-            let cell = match board.cell(point) {
-                Stone::Empty => b'.',
-                Stone::Black => b'X',
-                Stone::White => b'O',
-            };
-            assert_eq!(rt; wanted.next().copied(), Some(cell));
+/// How a cell is written: `.` empty, `X` black, `O` white.
+fn letter(stone: Stone) -> u8 {
+    match stone {
+        Stone::Empty => b'.',
+        Stone::Black => b'X',
+        Stone::White => b'O',
+    }
+}
+
+/// Whether the cells are these, row by row from the top.
+fn shows(board: &Board, cells: &[u8]) -> bool {
+    let size = board.size();
+    for index in 0..size.area() {
+        if cells.get(index).copied() != Some(letter(board.cell(size.point(index)))) {
+            return false;
         }
     }
-    assert_eq!(rt; wanted.next().copied(), None);
+    cells.len() == size.area()
+}
+
+/// Whether a board of three columns and two rows shows its stones, after a capture, and so does its
+/// copy, which has no stones that were removed.
+fn is_copied(alloc: Global, board: &mut Board) -> Option<bool> {
+    set(board, Stone::White, 0, 0);
+    set(board, Stone::Black, 1, 0);
+    play(board, Colour::Black, 0, 1)?;
+    set(board, Stone::White, 2, 1);
+    let removed = board.removed().len();
+    let copied = board.copied(alloc).ok()?;
+    Some(removed == 1 && copied.removed().is_empty() && shows(&copied, b".X.X.O"))
 }
 
 #[test]
 fn copied_board_has_the_stones(rt: HostRuntime) -> Result<(), Fail> {
-    let mut board = board_of(&rt, 3, 2)?;
-    set(&rt, &mut board, Stone::White, 0, 0);
-    set(&rt, &mut board, Stone::Black, 1, 0);
-    play(&rt, &mut board, Colour::Black, 0, 1);
-    set(&rt, &mut board, Stone::White, 2, 1);
-    assert_eq!(&rt; board.removed().len(), 1);
-    let copied = board.copied(rt.alloc())?;
-    assert_shows(&rt, &copied, b".X.X.O");
-    assert_eq!(&rt; copied.removed().len(), 0);
+    let mut board = board_of(rt.alloc(), 3, 2).ok_or("no board")?;
+    assert!(rt; is_copied(rt.alloc(), &mut board) == Some(true));
     Ok(())
 }
 
 #[test]
 fn sizes_are_from_1_to_52(rt: HostRuntime) {
-    for (columns, rows, some) in [
-        (1, 1, true),
-        (52, 52, true),
-        (0, 9, false),
-        (9, 0, false),
-        (53, 9, false),
-        (9, 53, false),
-    ] {
-        assert_eq!(rt;
-            Size::new(columns, rows).is_some(),
-            some,
-            "at {columns} by {rows}"
-        );
-    }
+    assert!(rt; Size::new(1, 1).is_some() && Size::new(52, 52).is_some());
+    assert!(rt; Size::new(0, 9).is_none() && Size::new(9, 0).is_none());
+    assert!(rt; Size::new(53, 9).is_none() && Size::new(9, 53).is_none());
+}
+
+/// Whether the point of a board of three columns and two rows that has this index is this one, and
+/// it has that index.
+fn is_place(size: Size, index: usize, column: u8, row: u8) -> bool {
+    let point = Point { column, row };
+    index < size.area()
+        && size.has(point)
+        && size.point(index) == point
+        && size.index(point) == index
 }
 
 #[test]
 fn places_are_row_by_row(rt: HostRuntime) -> Result<(), Fail> {
     let size = Size::new(3, 2).ok_or("a size from 1 to 52")?;
-    assert_eq!(rt; size.area(), 6);
-    for (index, column, row) in [(0, 0, 0), (2, 2, 0), (3, 0, 1), (5, 2, 1)] {
-        let point = Point { column, row };
-        assert!(rt; index < size.area() && size.has(point));
-        assert_eq!(rt; size.point(index), point);
-        assert_eq!(rt; size.index(point), index);
-    }
+    assert!(rt; size.area() == 6);
+    assert!(rt; is_place(size, 0, 0, 0) && is_place(size, 2, 2, 0));
+    assert!(rt; is_place(size, 3, 0, 1) && is_place(size, 5, 2, 1));
     Ok(())
+}
+
+/// Whether two stones side by side in the middle stay.
+fn stay(board: &mut Board) -> bool {
+    board.size().columns() == 3
+        && board.removed().is_empty()
+        && play(board, Colour::Black, 1, 1) == Some(NOTHING)
+        && play(board, Colour::White, 0, 1) == Some(NOTHING)
+        && shows(board, b"...OX....")
 }
 
 #[test]
 fn stones_with_liberties_stay(rt: HostRuntime) -> Result<(), Fail> {
-    let mut board = board_of(&rt, 3, 3)?;
-    assert_eq!(rt; board.size().columns(), 3);
-    assert_eq!(rt; board.removed().len(), 0);
-    assert_eq!(rt;
-        play(&rt, &mut board, Colour::Black, 1, 1),
-        Played {
-            taken: 0,
-            own_lost: 0
-        }
-    );
-    assert_eq!(rt;
-        play(&rt, &mut board, Colour::White, 0, 1),
-        Played {
-            taken: 0,
-            own_lost: 0
-        }
-    );
-    assert_shows(&rt, &board, b"...OX....");
+    let mut board = board_of(rt.alloc(), 3, 3).ok_or("no board")?;
+    assert!(rt; stay(&mut board));
     Ok(())
+}
+
+/// Whether the opponent's stone on two points is taken, and none of one's own.
+fn takes(board: &mut Board, colour: Colour, column: u8) -> bool {
+    play(board, colour, column, 0) == Some(ONE) && board.removed().len() == 1
+}
+
+/// Whether on two points in a row each move but the first takes the stone before it.
+fn take_in_turn(board: &mut Board) -> bool {
+    play(board, Colour::Black, 0, 0) == Some(NOTHING)
+        && takes(board, Colour::White, 1)
+        && takes(board, Colour::Black, 0)
+        && takes(board, Colour::White, 1)
+        && board.removed().contains(&Point { column: 0, row: 0 })
+        && shows(board, b".O")
 }
 
 #[test]
 fn each_move_captures_before_its_own_stone_is_judged(rt: HostRuntime) -> Result<(), Fail> {
-    let mut board = board_of(&rt, 2, 1)?;
-    assert_eq!(rt;
-        play(&rt, &mut board, Colour::Black, 0, 0),
-        Played {
-            taken: 0,
-            own_lost: 0
-        }
-    );
-    for (colour, column) in [(Colour::White, 1), (Colour::Black, 0), (Colour::White, 1)] {
-        assert_eq!(rt;
-            play(&rt, &mut board, colour, column, 0),
-            Played {
-                taken: 1,
-                own_lost: 0
-            }
-        );
-        assert_eq!(rt; board.removed().len(), 1);
-    }
-    assert_shows(&rt, &board, b".O");
-    assert!(rt; board.removed().contains(&Point { column: 0, row: 0 }));
+    let mut board = board_of(rt.alloc(), 2, 1).ok_or("no board")?;
+    assert!(rt; take_in_turn(&mut board));
     Ok(())
+}
+
+/// Whether a stone on one point takes itself off.
+fn takes_itself_off(board: &mut Board) -> bool {
+    play(board, Colour::Black, 0, 0) == Some(OWN) && shows(board, b".")
 }
 
 #[test]
 fn a_stone_alone_takes_itself_off(rt: HostRuntime) -> Result<(), Fail> {
-    let mut board = board_of(&rt, 1, 1)?;
-    assert_eq!(rt;
-        play(&rt, &mut board, Colour::Black, 0, 0),
-        Played {
-            taken: 0,
-            own_lost: 1
-        }
-    );
-    assert_shows(&rt, &board, b".");
+    let mut board = board_of(rt.alloc(), 1, 1).ok_or("no board")?;
+    assert!(rt; takes_itself_off(&mut board));
     Ok(())
 }
 
@@ -164,88 +178,105 @@ fn play_by_trait<B: Replayable>(board: &mut B, colour: Colour, point: Point) -> 
     board.play_move(colour, point)
 }
 
-/// On two points in a row White takes the stone of Black, who takes that of White; on one point
-/// Black takes its own.
-fn assert_taken<B: Replayable>(rt: &impl Abort, pair: &mut B, single: &mut B)
-    requires pair { ((B.board_of pair.old).size.columns ≡ 2)
-        × ((B.board_of pair.old).size.rows ≡ 1) }
-    requires single { ((B.board_of single.old).size.columns ≡ 1)
-        × ((B.board_of single.old).size.rows ≡ 1) }
+/// Whether on two points in a row White takes the stone of Black, who takes that of White.
+fn take_by_trait<B: Replayable>(pair: &mut B) -> bool
+    requires { ((B.board_of pair.old).size.columns ≡ 2) × ((B.board_of pair.old).size.rows ≡ 1) }
 {
     let left = Point { column: 0, row: 0 };
     let right = Point { column: 1, row: 0 };
-    let nothing = Played {
-        taken: 0,
-        own_lost: 0,
-    };
-    let one = Played {
-        taken: 1,
-        own_lost: 0,
-    };
-    let own = Played {
-        taken: 0,
-        own_lost: 1,
-    };
-    assert_eq!(rt; play_by_trait(pair, Colour::Black, left), nothing);
-    assert_eq!(rt; play_by_trait(pair, Colour::White, right), one);
-    assert_eq!(rt; play_by_trait(pair, Colour::Black, left), one);
-    assert_eq!(rt; play_by_trait(single, Colour::Black, left), own);
+    let first = play_by_trait(pair, Colour::Black, left);
+    let second = play_by_trait(pair, Colour::White, right);
+    let third = play_by_trait(pair, Colour::Black, left);
+    first == NOTHING && second == ONE && third == ONE
+}
+
+/// The same for a board, where a board is made.
+fn board_takes(alloc: Global) -> Option<bool> {
+    let mut pair = Board::new(alloc, Size::new(2, 1)?).ok()?;
+    Some(take_by_trait(&mut pair))
+}
+
+/// The same for a field.
+fn field_takes(alloc: Global) -> Option<bool> {
+    let size = Size::new(2, 1)?;
+    let mut pair = Field::with_kinds(alloc, size, Kinds::Both).ok()?;
+    Some(take_by_trait(&mut pair))
+}
+
+/// What a move on a board of one point takes.
+fn board_of_one_takes(alloc: Global) -> Option<Played> {
+    let mut single = Board::new(alloc, Size::new(1, 1)?).ok()?;
+    let point = Point { column: 0, row: 0 };
+    Some(play_by_trait(&mut single, Colour::Black, point))
+}
+
+/// What a move on a field of one point takes.
+fn field_of_one_takes(alloc: Global) -> Option<Played> {
+    let mut single = Field::with_kinds(alloc, Size::new(1, 1)?, Kinds::Both).ok()?;
+    let point = Point { column: 0, row: 0 };
+    Some(play_by_trait(&mut single, Colour::Black, point))
 }
 
 #[test]
-fn moves_by_the_trait_say_what_they_take(rt: HostRuntime) -> Result<(), Fail> {
-    let two = Size::new(2, 1).ok_or("a size from 1 to 52")?;
-    let one = Size::new(1, 1).ok_or("a size from 1 to 52")?;
-    let mut pair = Board::new(rt.alloc(), two)?;
-    let mut single = Board::new(rt.alloc(), one)?;
-    assert_taken(&rt, &mut pair, &mut single);
-    let mut pair = Field::with_kinds(rt.alloc(), two, Kinds::Both)?;
-    let mut single = Field::with_kinds(rt.alloc(), one, Kinds::Both)?;
-    assert_taken(&rt, &mut pair, &mut single);
-    Ok(())
+fn moves_by_the_trait_say_what_they_take(rt: HostRuntime) {
+    assert!(rt; board_takes(rt.alloc()) == Some(true));
+    assert!(rt; field_takes(rt.alloc()) == Some(true));
+    assert!(rt; board_of_one_takes(rt.alloc()) == Some(OWN));
+    assert!(rt; field_of_one_takes(rt.alloc()) == Some(OWN));
+}
+
+/// Whether a row of Black at the edge, below which White has set one, has no liberty and stays.
+fn stays_without_liberties(board: &mut Board) -> bool {
+    for column in 0..3 {
+        set(board, Stone::Black, column, 0);
+        set(board, Stone::White, column, 1);
+    }
+    lives(board, 0, 0) == Some(false)
+        && lives(board, 0, 1) == Some(true)
+        && play(board, Colour::Black, 1, 2) == Some(NOTHING)
+        && shows(board, b"XXXOOO.X.")
 }
 
 #[test]
 fn setup_captures_nothing(rt: HostRuntime) -> Result<(), Fail> {
-    let mut board = board_of(&rt, 3, 3)?;
-    for column in 0..3 {
-        set(&rt, &mut board, Stone::Black, column, 0);
-        set(&rt, &mut board, Stone::White, column, 1);
-    }
-    assert!(rt; !lives(&rt, &mut board, 0, 0));
-    assert!(rt; lives(&rt, &mut board, 0, 1));
-    assert_eq!(rt;
-        play(&rt, &mut board, Colour::Black, 1, 2),
-        Played {
-            taken: 0,
-            own_lost: 0
-        }
-    );
-    assert_shows(&rt, &board, b"XXXOOO.X.");
+    let mut board = board_of(rt.alloc(), 3, 3).ok_or("no board")?;
+    assert!(rt; stays_without_liberties(&mut board));
     Ok(())
 }
 
-#[test]
-fn the_largest_group_is_removed(rt: HostRuntime) -> Result<(), Fail> {
-    for (colour, taken, own_lost) in [(Colour::White, 2703, 0), (Colour::Black, 0, 2704)] {
-        let mut board = board_of(&rt, 52, 52)?;
-        for row in 0..52 {
-            for column in 0..52 {
-                set(&rt, &mut board, Stone::Black, column, row);
-            }
+/// What the last move takes on the largest board, where Black has all other points.
+fn last_of_all(alloc: Global, colour: Colour) -> Option<Played> {
+    let mut board = board_of(alloc, 52, 52)?;
+    for row in 0..52 {
+        for column in 0..52 {
+            set(&mut board, Stone::Black, column, row);
         }
-        set(&rt, &mut board, Stone::Empty, 51, 51);
-        assert_eq!(rt;
-            play(&rt, &mut board, colour, 51, 51),
-            Played { taken, own_lost }
-        );
     }
-    Ok(())
+    set(&mut board, Stone::Empty, 51, 51);
+    play(&mut board, colour, 51, 51)
+}
+
+#[test]
+fn the_largest_group_is_removed(rt: HostRuntime) {
+    let by_white = Played {
+        taken: 2703,
+        own_lost: 0,
+    };
+    let by_black = Played {
+        taken: 0,
+        own_lost: 2704,
+    };
+    assert!(rt; last_of_all(rt.alloc(), Colour::White) == Some(by_white));
+    assert!(rt; last_of_all(rt.alloc(), Colour::Black) == Some(by_black));
+}
+
+/// Whether want of memory is said so.
+fn says(alloc: Global, wanted: &str) -> Result<bool, Fail> {
+    Ok(format!(in alloc; "{}", BoardFault::Memory)?.as_str() == wanted)
 }
 
 #[test]
 fn refused_memory_has_a_text(rt: HostRuntime) -> Result<(), Fail> {
-    let text = format!(in rt.alloc(); "{}", BoardFault::Memory)?;
-    assert_eq!(rt; text.as_str(), "B1 no memory");
+    assert!(rt; says(rt.alloc(), "B1 no memory")?);
     Ok(())
 }

@@ -6,76 +6,87 @@ ghost use Rattle.sgf_core.specs.Marks.{marks_of};
 use sgf_core::{Mark, SgfFault, Tree, Trees, is_white};
 use std::alloc::{AllocError, Global};
 
-/// Where the trees of a collection begin and end, up to a fault. Want of memory is an `Err`.
-fn read(alloc: Global, bytes: &[u8]) -> Result<(Vec<(usize, usize)>, Option<SgfFault>), SgfFault> {
-    let mut bounds = Vec::new(alloc);
+/// Where the next tree begins and ends.
+fn next_bounds(alloc: Global, trees: &mut Trees<'_>) -> Result<Option<(usize, usize)>, SgfFault> {
+    match trees.next_tree(alloc)? {
+        Some(tree) => Ok(Some((tree.at(), tree.end()))),
+        None => Ok(None),
+    }
+}
+
+/// Whether the trees of a collection begin and end here, and then this comes.
+fn reads(
+    alloc: Global,
+    bytes: &[u8],
+    bounds: &[(usize, usize)],
+    last: Result<Option<(usize, usize)>, SgfFault>,
+) -> Result<bool, SgfFault> {
     let mut trees = Trees::new(bytes)?;
-    for _ in 0..bytes.len() + 1 {
-        match trees.next_tree(alloc) {
-            Ok(Some(tree)) => bounds.push((tree.at(), tree.end()))?,
-            Ok(None) => return Ok((bounds, None)),
-            Err(SgfFault::Memory) => return Err(SgfFault::Memory),
-            Err(fault) => return Ok((bounds, Some(fault))),
+    for wanted in bounds {
+        if next_bounds(alloc, &mut trees) != Ok(Some(*wanted)) {
+            return Ok(false);
         }
     }
-    Ok((bounds, None))
+    Ok(next_bounds(alloc, &mut trees) == last)
 }
 
 #[test]
-fn trees_and_faults(rt: HostRuntime) -> Result<(), SgfFault> {
-    let rows: [(&[u8], &[(usize, usize)], Option<SgfFault>); 7] = [
-        (b"(;SZ[1];C[a\\]", &[], Some(SgfFault::Truncated(0))),
-        (
-            b"(;SZ[1];B[aa])(;SZ[1",
-            &[(0, 14)],
-            Some(SgfFault::Truncated(14)),
-        ),
-        (b"(;SZ;B[aa])", &[], Some(SgfFault::NoValue(4))),
-        (b"(;SZ[1](;B[aa]);W[aa])", &[], Some(SgfFault::BadByte(15))),
-        (
-            b"mail (c) text (;SZ[1]C[a\\]b;B\\\\];B[aa]) end",
-            &[(14, 39)],
-            None,
-        ),
-        (b"(  ", &[], None),
-        (b"( \n;)(;)", &[(0, 5), (5, 8)], None),
-    ];
-    for (bytes, want, fault) in rows {
-        let found = read(rt.alloc(), bytes)?;
-        assert_eq!(rt; found.0.as_slice(), want, "trees of {bytes:?}");
-        assert_eq!(rt; found.1, fault, "fault of {bytes:?}");
-    }
-    Ok(())
+fn trees_and_faults(rt: HostRuntime) {
+    let alloc = rt.alloc();
+    let open = b"(;SZ[1];C[a\\]";
+    assert!(rt; reads(alloc, open, &[], Err(SgfFault::Truncated(0))) == Ok(true));
+    let second = b"(;SZ[1];B[aa])(;SZ[1";
+    assert!(rt; reads(alloc, second, &[(0, 14)], Err(SgfFault::Truncated(14))) == Ok(true));
+    assert!(rt; reads(alloc, b"(;SZ;B[aa])", &[], Err(SgfFault::NoValue(4))) == Ok(true));
+    let after = b"(;SZ[1](;B[aa]);W[aa])";
+    assert!(rt; reads(alloc, after, &[], Err(SgfFault::BadByte(15))) == Ok(true));
+    let mail = b"mail (c) text (;SZ[1]C[a\\]b;B\\\\];B[aa]) end";
+    assert!(rt; reads(alloc, mail, &[(14, 39)], Ok(None)) == Ok(true));
+    assert!(rt; reads(alloc, b"(  ", &[], Ok(None)) == Ok(true));
+    assert!(rt; reads(alloc, b"( \n;)(;)", &[(0, 5), (5, 8)], Ok(None)) == Ok(true));
+}
+
+/// Whether a fault that comes after the first tree comes at each further call.
+fn is_kept(alloc: Global, trees: &mut Trees<'_>) -> bool {
+    let fault = Err(SgfFault::Truncated(14));
+    next_bounds(alloc, trees) == Ok(Some((0, 14)))
+        && next_bounds(alloc, trees) == fault
+        && next_bounds(alloc, trees) == fault
 }
 
 #[test]
 fn a_fault_stays(rt: HostRuntime) -> Result<(), SgfFault> {
     let mut trees = Trees::new(b"(;SZ[1];B[aa])(;SZ[1")?;
-    assert!(rt; trees.next_tree(rt.alloc())?.is_some());
-    for _ in 0..2 {
-        assert_eq!(rt;
-            trees.next_tree(rt.alloc()).err(),
-            Some(SgfFault::Truncated(14))
-        );
-    }
+    assert!(rt; is_kept(rt.alloc(), &mut trees));
     Ok(())
 }
 
-#[test]
-fn names_of_older_formats(rt: HostRuntime) -> Result<(), SgfFault> {
-    let mut trees = Trees::new(b"(;GaMe[1]SiZe[1];Black[aa])")?;
-    let names: [&[u8]; 3] = [b"GM", b"SZ", b"B"];
+/// Whether the properties of a tree have these names.
+fn are_named(tree: &Tree<'_>, names: &[&[u8]]) -> bool {
     let mut place = 0;
-    if let Some(tree) = trees.next_tree(rt.alloc())? {
-        for mark in tree.marks() {
-            if let Mark::Prop(property) = mark {
-                assert!(rt; place < names.len() && property.is(names[place]));
-                place += 1;
+    for mark in tree.marks() {
+        if let Mark::Prop(property) = mark {
+            if place >= names.len() || !property.is(names[place]) {
+                return false;
             }
+            place += 1;
         }
     }
-    assert_eq!(rt; place, 3);
-    Ok(())
+    place == names.len()
+}
+
+/// Whether names with small letters are read as those of capitals alone.
+fn are_older_names(alloc: Global) -> Result<bool, SgfFault> {
+    let mut trees = Trees::new(b"(;GaMe[1]SiZe[1];Black[aa])")?;
+    match trees.next_tree(alloc)? {
+        Some(tree) => Ok(are_named(&tree, &[b"GM", b"SZ", b"B"])),
+        None => Ok(false),
+    }
+}
+
+#[test]
+fn names_of_older_formats(rt: HostRuntime) {
+    assert!(rt; are_older_names(rt.alloc()) == Ok(true));
 }
 
 /// A value's bytes: all that there are, with a backslash before what it takes the meaning from.
@@ -90,32 +101,43 @@ fn all_bytes(alloc: Global) -> Result<Vec<u8>, AllocError> {
     Ok(value)
 }
 
+/// A tree with a property of two values, of which this is the first.
+fn with_value(alloc: Global, value: &[u8]) -> Result<Vec<u8>, AllocError> {
+    let mut bytes = Vec::new(alloc);
+    bytes.extend_from_slice(b"(;C[")?;
+    bytes.extend_from_slice(value)?;
+    bytes.extend_from_slice(b"][b])")?;
+    Ok(bytes)
+}
+
+/// Whether a tree has this value, and then one of a byte.
+fn has_values(tree: &Tree<'_>, value: &[u8]) -> bool {
+    for mark in tree.marks() {
+        if let Mark::Prop(property) = mark {
+            let values = property.values();
+            return values.len() == 2
+                && (values[0].at, values[1].at) == (4, 264)
+                && values[0].bytes == value
+                && values[1].bytes == b"b".as_slice();
+        }
+    }
+    false
+}
+
+/// Whether this value is read as it is.
+fn is_read(alloc: Global, value: &[u8]) -> Result<bool, SgfFault> {
+    let bytes = with_value(alloc, value)?;
+    let mut trees = Trees::new(bytes.as_slice())?;
+    match trees.next_tree(alloc)? {
+        Some(tree) => Ok(has_values(&tree, value)),
+        None => Ok(false),
+    }
+}
+
 #[test]
 fn a_value_of_all_bytes(rt: HostRuntime) -> Result<(), SgfFault> {
     let value = all_bytes(rt.alloc())?;
-    let mut bytes = Vec::new(rt.alloc());
-    bytes.extend_from_slice(b"(;C[")?;
-    bytes.extend_from_slice(value.as_slice())?;
-    bytes.extend_from_slice(b"][b])")?;
-    let mut found = 0;
-    let mut trees = Trees::new(bytes.as_slice())?;
-    if let Some(tree) = trees.next_tree(rt.alloc())? {
-        for mark in tree.marks() {
-            if let Mark::Prop(property) = mark {
-                for one in property.values() {
-                    let (at, want) = if found == 0 {
-                        (4, value.as_slice())
-                    } else {
-                        (264, b"b".as_slice())
-                    };
-                    assert_eq!(rt; one.at, at);
-                    assert_eq!(rt; one.bytes, want);
-                    found = 1;
-                }
-            }
-        }
-    }
-    assert_eq!(rt; found, 1);
+    assert!(rt; is_read(rt.alloc(), value.as_slice()) == Ok(true));
     Ok(())
 }
 
@@ -131,46 +153,61 @@ fn nested(alloc: Global, ends: usize) -> Result<Vec<u8>, AllocError> {
     Ok(bytes)
 }
 
-#[test]
-fn a_million_trees_within_each_other(rt: HostRuntime) -> Result<(), SgfFault> {
-    let whole = nested(rt.alloc(), 1_000_000)?;
-    let mut trees = Trees::new(whole.as_slice())?;
+/// How many nodes and properties the main line of a tree has.
+fn lengths(tree: &Tree<'_>) -> (usize, usize) {
     let mut nodes = 0usize;
     let mut properties = 0usize;
-    if let Some(tree) = trees.next_tree(rt.alloc())? {
-        assert_eq!(rt; (tree.at(), tree.end()), (0, 3_000_000));
-        for node in tree.main_line() {
-            nodes = nodes.saturating_add(1);
-            for _ in node.props() {
-                properties = properties.saturating_add(1);
-            }
+    for node in tree.main_line() {
+        nodes = nodes.saturating_add(1);
+        for _ in node.props() {
+            properties = properties.saturating_add(1);
         }
     }
-    assert_eq!(rt; (nodes, properties), (1_000_000, 0));
-    assert!(rt; trees.next_tree(rt.alloc())?.is_none());
-    let less = nested(rt.alloc(), 999_999)?;
-    let mut trees = Trees::new(less.as_slice())?;
-    assert_eq!(rt;
-        trees.next_tree(rt.alloc()).err(),
-        Some(SgfFault::Truncated(0))
-    );
+    (nodes, properties)
+}
+
+/// How many nodes and properties the main line of the first tree has.
+fn first_lengths(alloc: Global, bytes: &[u8]) -> Result<Option<(usize, usize)>, SgfFault> {
+    let mut trees = Trees::new(bytes)?;
+    match trees.next_tree(alloc)? {
+        Some(tree) => Ok(Some(lengths(&tree))),
+        None => Ok(None),
+    }
+}
+
+#[test]
+fn a_million_trees_within_each_other(rt: HostRuntime) -> Result<(), SgfFault> {
+    let alloc = rt.alloc();
+    let whole = nested(alloc, 1_000_000)?;
+    assert!(rt; reads(alloc, whole.as_slice(), &[(0, 3_000_000)], Ok(None)) == Ok(true));
+    assert!(rt; first_lengths(alloc, whole.as_slice()) == Ok(Some((1_000_000, 0))));
     Ok(())
 }
 
 #[test]
-fn too_large(rt: HostRuntime) -> Result<(), SgfFault> {
-    let chunk = vec![in rt.alloc(); b' '; 1 << 16]?;
-    let mut bytes = Vec::new(rt.alloc());
-    for _ in 0..1 << 12 {
-        bytes.extend_from_slice(chunk.as_slice())?;
-    }
-    let spaces = read(rt.alloc(), bytes.as_slice())?;
-    assert!(rt; spaces.0.is_empty() && spaces.1.is_none());
+fn a_million_trees_and_an_end_less(rt: HostRuntime) -> Result<(), SgfFault> {
+    let less = nested(rt.alloc(), 999_999)?;
+    let fault = Err(SgfFault::Truncated(0));
+    assert!(rt; reads(rt.alloc(), less.as_slice(), &[], fault) == Ok(true));
+    Ok(())
+}
+
+/// As many spaces as the largest input has.
+fn most_spaces(alloc: Global) -> Result<Vec<u8>, AllocError> {
+    vec![in alloc; b' '; 1 << 28]
+}
+
+/// Whether an input has no trees, and is too large with a byte more.
+fn is_largest(alloc: Global, bytes: &mut Vec<u8>) -> Result<bool, SgfFault> {
+    let is_read = reads(alloc, bytes.as_slice(), &[], Ok(None))?;
     bytes.push(b' ')?;
-    assert_eq!(rt;
-        Trees::new(bytes.as_slice()).err(),
-        Some(SgfFault::TooLarge)
-    );
+    Ok(is_read && Trees::new(bytes.as_slice()).err() == Some(SgfFault::TooLarge))
+}
+
+#[test]
+fn too_large(rt: HostRuntime) -> Result<(), SgfFault> {
+    let mut bytes = most_spaces(rt.alloc())?;
+    assert!(rt; is_largest(rt.alloc(), &mut bytes) == Ok(true));
     Ok(())
 }
 
@@ -195,14 +232,19 @@ fn places(alloc: Global, tree: &Tree<'_>, name: &[u8]) -> Result<Vec<usize>, All
     Ok(places)
 }
 
-#[test]
-fn places_of_moves(rt: HostRuntime) -> Result<(), SgfFault> {
-    let mut trees = Trees::new(b"(;B[aa]W[bb];C[x]Bl[cc][dd](;B[ee])(;B[ff]))")?;
-    if let Some(tree) = trees.next_tree(rt.alloc())? {
-        let found = places(rt.alloc(), &tree, b"B")?;
-        assert_eq!(rt; found.as_slice(), [4, 20, 24, 31].as_slice());
+/// Whether the values of the moves of Black stand here.
+fn are_places(alloc: Global, bytes: &[u8], wanted: &[usize]) -> Result<bool, SgfFault> {
+    let mut trees = Trees::new(bytes)?;
+    match trees.next_tree(alloc)? {
+        Some(tree) => Ok(places(alloc, &tree, b"B")?.as_slice() == wanted),
+        None => Ok(false),
     }
-    Ok(())
+}
+
+#[test]
+fn places_of_moves(rt: HostRuntime) {
+    let bytes = b"(;B[aa]W[bb];C[x]Bl[cc][dd](;B[ee])(;B[ff]))";
+    assert!(rt; are_places(rt.alloc(), bytes, &[4, 20, 24, 31]) == Ok(true));
 }
 
 /// A tree of 2^16 nodes, of which the first has a property of 300 values, and each other a move.
@@ -219,34 +261,54 @@ fn long_tree(alloc: Global) -> Result<Vec<u8>, AllocError> {
     Ok(bytes)
 }
 
+/// How many values the properties with this name have, and where the first and the last stand.
+fn ends_of(
+    alloc: Global,
+    tree: &Tree<'_>,
+    name: &[u8],
+) -> Result<(usize, Option<usize>, Option<usize>), AllocError> {
+    let found = places(alloc, tree, name)?;
+    Ok((found.len(), found.first().copied(), found.last().copied()))
+}
+
+/// Whether this is the long tree.
+fn is_long_tree(alloc: Global, tree: &Tree<'_>) -> bool {
+    (tree.at(), tree.end()) == (0, 394_415)
+        && lengths(tree) == (65_536, 65_536)
+        && ends_of(alloc, tree, b"AB") == Ok((300, Some(5), Some(1_201)))
+        && ends_of(alloc, tree, b"B") == Ok((65_535, Some(1_207), Some(394_411)))
+}
+
+/// Whether the long tree is read as it is.
+fn reads_long_tree(alloc: Global, bytes: &[u8]) -> Result<bool, SgfFault> {
+    let mut trees = Trees::new(bytes)?;
+    match trees.next_tree(alloc)? {
+        Some(tree) => Ok(is_long_tree(alloc, &tree)),
+        None => Ok(false),
+    }
+}
+
 #[test]
 fn many_values_and_nodes(rt: HostRuntime) -> Result<(), SgfFault> {
     let bytes = long_tree(rt.alloc())?;
-    let mut trees = Trees::new(bytes.as_slice())?;
-    let mut nodes = 0usize;
-    if let Some(tree) = trees.next_tree(rt.alloc())? {
-        assert_eq!(rt; (tree.at(), tree.end()), (0, 394_415));
-        for _ in tree.main_line() {
-            nodes = nodes.saturating_add(1);
-        }
-        let values = places(rt.alloc(), &tree, b"AB")?;
-        assert_eq!(rt; values.len(), 300);
-        assert_eq!(rt; values.first().copied(), Some(5));
-        assert_eq!(rt; values.last().copied(), Some(1_201));
-        let moves = places(rt.alloc(), &tree, b"B")?;
-        assert_eq!(rt; moves.len(), 65_535);
-        assert_eq!(rt; moves.last().copied(), Some(394_411));
-    }
-    assert_eq!(rt; nodes, 65_536);
+    assert!(rt; reads_long_tree(rt.alloc(), bytes.as_slice()) == Ok(true));
     Ok(())
 }
 
-/// Where the next tree begins and ends.
-fn next_bounds(alloc: Global, trees: &mut Trees<'_>) -> Result<Option<(usize, usize)>, SgfFault> {
-    match trees.next_tree(alloc)? {
-        Some(tree) => Ok(Some((tree.at(), tree.end()))),
-        None => Ok(None),
+/// Where the next tree begins and ends, asked once more where memory was refused.
+fn bounds_again(alloc: Global, trees: &mut Trees<'_>) -> Result<Option<(usize, usize)>, SgfFault> {
+    let found = next_bounds(alloc, trees);
+    if found == Err(SgfFault::Memory) {
+        return next_bounds(alloc, trees);
     }
+    found
+}
+
+/// Whether three answers come, each at the second call at the latest.
+fn are_found_again(alloc: Global, trees: &mut Trees<'_>) -> bool {
+    bounds_again(alloc, trees) == Ok(Some((0, 23)))
+        && bounds_again(alloc, trees) == Ok(Some((23, 31)))
+        && bounds_again(alloc, trees) == Err(SgfFault::Truncated(31))
 }
 
 /// With memory refused at any request each answer comes at the second call at the latest, once
@@ -254,30 +316,12 @@ fn next_bounds(alloc: Global, trees: &mut Trees<'_>) -> Result<Option<(usize, us
 #[test]
 fn memory_is_found_when_asked_again(rt: HostRuntime) -> Result<(), SgfFault> {
     let mut trees = Trees::new(b"(;AB[aa][bb][cc];B[aa])(;SZ[1])(;SZ[1]")?;
-    for wanted in [
-        Ok(Some((0, 23))),
-        Ok(Some((23, 31))),
-        Err(SgfFault::Truncated(31)),
-    ] {
-        let mut found = next_bounds(rt.alloc(), &mut trees);
-        if found == Err(SgfFault::Memory) {
-            found = next_bounds(rt.alloc(), &mut trees);
-        }
-        assert!(rt; found == wanted);
-    }
+    assert!(rt; are_found_again(rt.alloc(), &mut trees));
     Ok(())
 }
 
 #[test]
 fn white_bytes(rt: HostRuntime) {
-    for (byte, white) in [
-        (0x08, false),
-        (0x09, true),
-        (0x0d, true),
-        (0x0e, false),
-        (b' ', true),
-        (b'a', false),
-    ] {
-        assert_eq!(rt; is_white(byte), white);
-    }
+    assert!(rt; is_white(0x09) && is_white(0x0d) && is_white(b' '));
+    assert!(rt; !is_white(0x08) && !is_white(0x0e) && !is_white(b'a'));
 }

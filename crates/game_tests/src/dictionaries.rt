@@ -1,7 +1,6 @@
 //! Dictionaries read, asked, joined and written, from outside.
 use shape_dict::{DictFault, Dictionary, Text, push_line, push_number, push_word, word_bits};
-use std::alloc::Global;
-use std::process::Abort;
+use std::alloc::{AllocError, Global};
 use std::test::Fail;
 
 const ONE: &[u8] = b"shapes 1 games 1 moves 1 patterns 1\n3fffffcffffff 1 1\n";
@@ -14,275 +13,247 @@ const BOTH: &[u8] =
 const FIRST: &[u8] =
     b"shapes 3 games 1 moves 2 squares 2 diamonds 2\n3fff3fcffffff 2 1 0\n3fffbfcffffff 1 1 0\n7ffcffcffffff 2 1 0\n7ffeffcffffff 1 1 0\n";
 
-fn read(alloc: Global, text: &[u8]) -> Result<Dictionary, Fail> {
-    Ok(Dictionary::read(alloc, text)?)
-}
-
-/// The text of a dictionary is this one.
-fn assert_text(
-    rt: &impl Abort,
+/// Whether the text of a dictionary is this one.
+fn is_text(
     alloc: Global,
-    found: &Dictionary,
+    dictionary: &Dictionary,
     text: Text,
     wanted: &[u8],
-) -> Result<(), Fail> {
+) -> Result<bool, DictFault> {
     let mut out = Vec::new(alloc);
-    found.write(text, &mut out)?;
-    assert!(rt; out.as_slice() == wanted);
-    Ok(())
+    dictionary.write(text, &mut out)?;
+    Ok(out.as_slice() == wanted)
 }
 
-/// Reading these bytes gives this fault.
-fn assert_fault(rt: &impl Abort, alloc: Global, text: &[u8], wanted: DictFault) {
-    match Dictionary::read(alloc, text) {
-        Ok(_) => assert!(rt; false),
-        Err(found) => assert!(rt; found == wanted),
-    }
+/// Whether the dictionary of the first text is written so.
+fn rewrites(alloc: Global, read: &[u8], text: Text, wanted: &[u8]) -> Result<bool, DictFault> {
+    let dictionary = Dictionary::read(alloc, read)?;
+    is_text(alloc, &dictionary, text, wanted)
 }
 
 #[test]
-fn texts_are_read_and_written(rt: HostRuntime) -> Result<(), Fail> {
-    assert_text(&rt, rt.alloc(), &read(rt.alloc(), ONE)?, Text::One, ONE)?;
-    assert_text(&rt, rt.alloc(), &read(rt.alloc(), TWO)?, Text::One, TWO)?;
-    assert_text(&rt, rt.alloc(), &read(rt.alloc(), BOTH)?, Text::Two, BOTH)?;
-    assert_text(&rt, rt.alloc(), &read(rt.alloc(), BOTH)?, Text::One, ONE)?;
-    assert_text(
-        &rt,
-        rt.alloc(),
-        &read(rt.alloc(), FIRST)?,
-        Text::Three,
-        FIRST,
-    )?;
+fn texts_are_read_and_written(rt: HostRuntime) {
+    let alloc = rt.alloc();
+    assert!(rt; rewrites(alloc, ONE, Text::One, ONE) == Ok(true));
+    assert!(rt; rewrites(alloc, TWO, Text::One, TWO) == Ok(true));
+    assert!(rt; rewrites(alloc, BOTH, Text::Two, BOTH) == Ok(true));
+    assert!(rt; rewrites(alloc, BOTH, Text::One, ONE) == Ok(true));
+    assert!(rt; rewrites(alloc, FIRST, Text::Three, FIRST) == Ok(true));
     let empty = b"shapes 1 games 0 moves 0 patterns 0\n";
-    assert_text(&rt, rt.alloc(), &read(rt.alloc(), empty)?, Text::One, empty)?;
-    assert_text(
-        &rt,
-        rt.alloc(),
-        &read(rt.alloc(), ONE)?,
-        Text::Two,
-        b"shapes 2 games 1 moves 1 squares 1 diamonds -\n3fffffcffffff 1 1\n",
-    )
+    assert!(rt; rewrites(alloc, empty, Text::One, empty) == Ok(true));
+    let unknown = b"shapes 2 games 1 moves 1 squares 1 diamonds -\n3fffffcffffff 1 1\n";
+    assert!(rt; rewrites(alloc, ONE, Text::Two, unknown) == Ok(true));
+}
+
+/// Whether the first dictionary finds each of its own entries, and none of the second.
+fn finds_its_own(one: &Dictionary, other: &Dictionary) -> bool {
+    for entry in one.entries() {
+        if one.find(entry.shape) != Some(*entry) {
+            return false;
+        }
+    }
+    for entry in other.entries() {
+        if one.find(entry.shape).is_some() {
+            return false;
+        }
+    }
+    true
+}
+
+/// Whether a dictionary is of one game, two moves and two squares.
+fn is_of_two(dictionary: &Dictionary) -> bool {
+    (dictionary.games(), dictionary.moves()) == (1, 2)
+        && !dictionary.counts_diamonds()
+        && dictionary.entries().len() == 2
 }
 
 #[test]
 fn the_parts_are_known(rt: HostRuntime) -> Result<(), Fail> {
-    let dictionary = read(rt.alloc(), TWO)?;
-    assert!(rt; dictionary.games() == 1);
-    assert!(rt; dictionary.moves() == 2);
-    assert!(rt; !dictionary.counts_diamonds());
-    assert!(rt; dictionary.entries().len() == 2);
-    for entry in dictionary.entries() {
-        assert!(rt; dictionary.find(entry.shape) == Some(*entry));
-    }
-    let other = read(rt.alloc(), ONE)?;
-    for entry in other.entries() {
-        assert!(rt; dictionary.find(entry.shape) == None);
-    }
+    let two = Dictionary::read(rt.alloc(), TWO)?;
+    let one = Dictionary::read(rt.alloc(), ONE)?;
+    assert!(rt; is_of_two(&two) && finds_its_own(&two, &one));
     Ok(())
 }
 
-#[test]
-fn joins_are_sums(rt: HostRuntime) -> Result<(), Fail> {
-    let one = read(rt.alloc(), ONE)?;
-    let two = read(rt.alloc(), TWO)?;
-    let sum = Dictionary::join(rt.alloc(), &one, &two)?;
-    assert_text(
-        &rt,
-        rt.alloc(),
-        &sum,
-        Text::One,
-        b"shapes 1 games 2 moves 3 patterns 3\n3fff3fcffffff 2 1\n3fffbfcffffff 1 1\n3fffffcffffff 1 1\n",
-    )?;
-    let twice = Dictionary::join(rt.alloc(), &two, &two)?;
-    assert_text(
-        &rt,
-        rt.alloc(),
-        &twice,
-        Text::One,
-        b"shapes 1 games 2 moves 4 patterns 2\n3fff3fcffffff 4 2\n3fffbfcffffff 2 2\n",
-    )?;
-    let both = Dictionary::join(
-        rt.alloc(),
-        &read(rt.alloc(), BOTH)?,
-        &read(rt.alloc(), FIRST)?,
-    )?;
-    assert_text(
-        &rt,
-        rt.alloc(),
-        &both,
-        Text::Three,
-        b"shapes 3 games 2 moves 3 squares 3 diamonds 3\n3fff3fcffffff 2 1 1\n3fffbfcffffff 1 1 1\n3fffffcffffff 1 1 -\n7ffcffcffffff 2 1 1\n7ffeffcffffff 1 1 1\n7fffffcffffff 1 1 -\n",
-    )
+/// The sum of the dictionaries of these texts.
+fn joined(alloc: Global, left: &[u8], right: &[u8]) -> Result<Dictionary, DictFault> {
+    let one = Dictionary::read(alloc, left)?;
+    let other = Dictionary::read(alloc, right)?;
+    Dictionary::join(alloc, &one, &other)
+}
+
+/// Whether the sum of the dictionaries of these texts is written so.
+fn adds_up(
+    alloc: Global,
+    left: &[u8],
+    right: &[u8],
+    text: Text,
+    wanted: &[u8],
+) -> Result<bool, DictFault> {
+    let sum = joined(alloc, left, right)?;
+    is_text(alloc, &sum, text, wanted)
 }
 
 #[test]
-fn joins_are_refused(rt: HostRuntime) -> Result<(), Fail> {
-    let large = read(
-        rt.alloc(),
-        b"shapes 1 games 1 moves 0 patterns 1\n3fffffcffffff 18446744073709551615 0\n",
-    )?;
-    match Dictionary::join(rt.alloc(), &large, &large) {
-        Ok(_) => assert!(rt; false),
-        Err(found) => assert!(rt; found == DictFault::Overflow),
-    }
-    match Dictionary::join(
-        rt.alloc(),
-        &read(rt.alloc(), ONE)?,
-        &read(rt.alloc(), BOTH)?,
-    ) {
-        Ok(_) => assert!(rt; false),
-        Err(found) => assert!(rt; found == DictFault::MixedKinds),
-    }
-    Ok(())
+fn joins_are_sums(rt: HostRuntime) {
+    let alloc = rt.alloc();
+    let sum =
+        b"shapes 1 games 2 moves 3 patterns 3\n3fff3fcffffff 2 1\n3fffbfcffffff 1 1\n3fffffcffffff 1 1\n";
+    assert!(rt; adds_up(alloc, ONE, TWO, Text::One, sum) == Ok(true));
+    let twice = b"shapes 1 games 2 moves 4 patterns 2\n3fff3fcffffff 4 2\n3fffbfcffffff 2 2\n";
+    assert!(rt; adds_up(alloc, TWO, TWO, Text::One, twice) == Ok(true));
+    let both =
+        b"shapes 3 games 2 moves 3 squares 3 diamonds 3\n3fff3fcffffff 2 1 1\n3fffbfcffffff 1 1 1\n3fffffcffffff 1 1 -\n7ffcffcffffff 2 1 1\n7ffeffcffffff 1 1 1\n7fffffcffffff 1 1 -\n";
+    assert!(rt; adds_up(alloc, BOTH, FIRST, Text::Three, both) == Ok(true));
 }
 
 #[test]
-fn fronts_are_read(rt: HostRuntime) -> Result<(), Fail> {
-    let (front, count) = Dictionary::read_front(
-        rt.alloc(),
-        b"shapes 1 games 1 moves 1 patterns 1\n3fffffcffffff 1 1\nx",
-    )?;
-    assert!(rt; count == 54);
-    assert_text(&rt, rt.alloc(), &front, Text::One, ONE)?;
-    match Dictionary::read_front(rt.alloc(), b"x") {
-        Ok(_) => assert!(rt; false),
-        Err(found) => assert!(rt; found == DictFault::BadHeader),
-    }
-    Ok(())
+fn joins_are_refused(rt: HostRuntime) {
+    let alloc = rt.alloc();
+    let large = b"shapes 1 games 1 moves 0 patterns 1\n3fffffcffffff 18446744073709551615 0\n";
+    assert!(rt; joined(alloc, large, large).err() == Some(DictFault::Overflow));
+    assert!(rt; joined(alloc, ONE, BOTH).err() == Some(DictFault::MixedKinds));
+}
+
+/// Whether the dictionary at the front of a text is this one, and ends here.
+fn has_front(alloc: Global, text: &[u8], wanted: &[u8], end: usize) -> Result<bool, DictFault> {
+    let (front, count) = Dictionary::read_front(alloc, text)?;
+    Ok(count == end && is_text(alloc, &front, Text::One, wanted)?)
 }
 
 #[test]
-fn faults_stand_at_their_lines(rt: HostRuntime) -> Result<(), Fail> {
-    assert_fault(&rt, rt.alloc(), b"", DictFault::BadHeader);
-    assert_fault(
-        &rt,
-        rt.alloc(),
+fn fronts_are_read(rt: HostRuntime) {
+    let more = b"shapes 1 games 1 moves 1 patterns 1\n3fffffcffffff 1 1\nx";
+    assert!(rt; has_front(rt.alloc(), more, ONE, 54) == Ok(true));
+    assert!(rt; has_front(rt.alloc(), b"x", ONE, 1) == Err(DictFault::BadHeader));
+}
+
+/// Texts that are none, each with its fault.
+const FAULTS: [(&[u8], DictFault); 17] = [
+    (b"", DictFault::BadHeader),
+    (
         b"shapes 1 games 01 moves 0 patterns 0\n",
         DictFault::BadHeader,
-    );
-    assert_fault(
-        &rt,
-        rt.alloc(),
+    ),
+    (
         b"shapes 1 games 18446744073709551616 moves 0 patterns 0\n",
         DictFault::BadHeader,
-    );
-    assert_fault(
-        &rt,
-        rt.alloc(),
+    ),
+    (
         b"shapes 1 games 1 moves 1 patterns 1\n3fffffcffffff 1 1\n\n",
         DictFault::BadLine(3),
-    );
-    assert_fault(
-        &rt,
-        rt.alloc(),
+    ),
+    (
         b"shapes 1 games 1 moves 1 patterns 1\n3FFFFFCFFFFFF 1 1\n",
         DictFault::BadLine(2),
-    );
-    assert_fault(
-        &rt,
-        rt.alloc(),
+    ),
+    (
         b"shapes 1 games 1 moves 1 patterns 1\n3fffffcffffff 1 1",
         DictFault::BadLine(2),
-    );
-    assert_fault(
-        &rt,
-        rt.alloc(),
+    ),
+    (
         b"shapes 1 games 1 moves 1 patterns 1\n3fffffcffffff 01 1\n",
         DictFault::BadLine(2),
-    );
-    assert_fault(
-        &rt,
-        rt.alloc(),
+    ),
+    (
         b"shapes 1 games 1 moves 2 patterns 2\n3fffbfcffffff 1 1\n3fff3fcffffff 2 1\n",
         DictFault::NotRising(3),
-    );
-    assert_fault(
-        &rt,
-        rt.alloc(),
+    ),
+    (
         b"shapes 1 games 1 moves 0 patterns 1\n0000000000100 1 0\n",
         DictFault::NotCanonical(2),
-    );
-    assert_fault(
-        &rt,
-        rt.alloc(),
+    ),
+    (
         b"shapes 1 games 1 moves 2 patterns 1\n3fffffcffffff 1 1\nz",
         DictFault::WrongTotals,
-    );
-    assert_fault(
-        &rt,
-        rt.alloc(),
+    ),
+    (
         b"shapes 1 games 0 moves 1 patterns 0\n",
         DictFault::WrongTotals,
-    );
-    assert_fault(
-        &rt,
-        rt.alloc(),
+    ),
+    (
         b"shapes 2 games 1 moves 1 squares 1 diamonds 1\n3fffffcffffff 1 1\n7fffffcffffff 1 0\n",
         DictFault::WrongTotals,
-    );
-    assert_fault(
-        &rt,
-        rt.alloc(),
+    ),
+    (
         b"shapes 2 games 1 moves 1 squares 1 diamonds 1\n3fffffcffffff 1 1\n",
         DictFault::BadLine(3),
-    );
-    assert_fault(
-        &rt,
-        rt.alloc(),
+    ),
+    (
         b"shapes 3 games 1 moves 1 squares 1 diamonds -\n3fffffcffffff 1 1 1\n",
         DictFault::BadLine(2),
-    );
-    Ok(())
-}
-
-#[test]
-fn promised_lines_are_missed(rt: HostRuntime) {
-    assert_fault(
-        &rt,
-        rt.alloc(),
+    ),
+    (
         b"shapes 1 games 1 moves 1 patterns 18446744073709551615\n3fffffcffffff 1 1\n",
         DictFault::BadLine(3),
-    );
-    assert_fault(
-        &rt,
-        rt.alloc(),
+    ),
+    (
         b"shapes 2 games 1 moves 1 squares 18446744073709551615 diamonds 18446744073709551615\n3fffffcffffff 1 1\n",
         DictFault::BadLine(3),
-    );
-    assert_fault(
-        &rt,
-        rt.alloc(),
+    ),
+    (
         b"shapes 2 games 1 moves 1 squares 1 diamonds 18446744073709551615\n3fffffcffffff 1 1\n7fffffcffffff 1 1\n",
         DictFault::BadLine(4),
-    );
+    ),
+];
+
+#[test]
+fn faults_stand_at_their_lines(rt: HostRuntime) {
+    for (text, wanted) in &FAULTS {
+        assert!(rt; Dictionary::read(rt.alloc(), text).err() == Some(*wanted));
+    }
+}
+
+/// Appends numbers, each before a space.
+fn push_numbers(out: &mut Vec<u8>, numbers: &[u64]) -> Result<(), AllocError> {
+    for number in numbers {
+        push_number(out, *number)?;
+        out.push(b' ')?;
+    }
+    Ok(())
+}
+
+/// Whether numbers are written so.
+fn are_written(alloc: Global, numbers: &[u64], wanted: &[u8]) -> Result<bool, AllocError> {
+    let mut out = Vec::new(alloc);
+    push_numbers(&mut out, numbers)?;
+    Ok(out.as_slice() == wanted)
 }
 
 #[test]
-fn parts_are_appended(rt: HostRuntime) -> Result<(), Fail> {
-    let dictionary = read(rt.alloc(), FIRST)?;
-    let mut out = Vec::new(rt.alloc());
-    for number in [0, 9, 10, 18_446_744_073_709_551_615] {
-        push_number(&mut out, number)?;
-        out.push(b' ')?;
-    }
-    assert!(rt; out.as_slice() == b"0 9 10 18446744073709551615 ".as_slice());
-    out.clear();
+fn numbers_are_appended(rt: HostRuntime) {
+    let wanted = b"0 9 10 18446744073709551615 ";
+    let numbers = [0, 9, 10, 18_446_744_073_709_551_615];
+    assert!(rt; are_written(rt.alloc(), &numbers, wanted) == Ok(true));
+}
+
+/// Appends the words of a dictionary, and then its lines in text 2 and text 3.
+fn push_all(out: &mut Vec<u8>, dictionary: &Dictionary) -> Result<(), AllocError> {
     for entry in dictionary.entries() {
-        push_word(&mut out, entry.shape)?;
+        push_word(out, entry.shape)?;
     }
-    let words = b"3fff3fcffffff3fffbfcffffff7ffcffcffffff7ffeffcffffff";
-    assert!(rt; out.as_slice() == words.as_slice());
-    out.clear();
     for entry in dictionary.entries() {
-        push_line(&mut out, Text::Two, entry)?;
+        push_line(out, Text::Two, entry)?;
     }
-    if let Some(entry) = dictionary.entries().first() {
-        push_line(&mut out, Text::Three, entry)?;
+    for entry in dictionary.entries() {
+        push_line(out, Text::Three, entry)?;
     }
-    let lines =
-        b"3fff3fcffffff 2 1\n3fffbfcffffff 1 1\n7ffcffcffffff 2 1\n7ffeffcffffff 1 1\n3fff3fcffffff 2 1 0\n";
-    assert!(rt; out.as_slice() == lines.as_slice());
     Ok(())
+}
+
+/// Whether the words and lines of the dictionary of the first text are these.
+fn has_lines(alloc: Global, text: &[u8], wanted: &[u8]) -> Result<bool, DictFault> {
+    let dictionary = Dictionary::read(alloc, text)?;
+    let mut out = Vec::new(alloc);
+    push_all(&mut out, &dictionary)?;
+    Ok(out.as_slice() == wanted)
+}
+
+#[test]
+fn words_and_lines_are_appended(rt: HostRuntime) {
+    let wanted =
+        b"3fff3fcffffff3fffbfcffffff7ffcffcffffff7ffeffcffffff3fff3fcffffff 2 1\n3fffbfcffffff 1 1\n7ffcffcffffff 2 1\n7ffeffcffffff 1 1\n3fff3fcffffff 2 1 0\n3fffbfcffffff 1 1 0\n7ffcffcffffff 2 1 0\n7ffeffcffffff 1 1 0\n";
+    assert!(rt; has_lines(rt.alloc(), FIRST, wanted) == Ok(true));
 }
 
 #[test]

@@ -5,174 +5,165 @@ use shape_core::{
     from_diamond_glyphs, from_glyphs, glyphs, image,
 };
 use std::alloc::{AllocError, Global};
-use std::process::Abort;
 use std::test::Fail;
 
-fn bits_of_shape(rt: &impl Abort, glyphs: &[u8], mover: Colour) -> u64 {
-    let word = from_glyphs(glyphs).expect(rt, "glyphs of a square");
-    canonical(word, mover).word().bits()
-}
-
-fn bits_of_diamond(rt: &impl Abort, glyphs: &[u8], mover: Colour) -> u64 {
-    let word = from_diamond_glyphs(glyphs).expect(rt, "glyphs of a diamond");
-    canonical(word, mover).word().bits()
+/// The canonical words of a square that is written so, before a move of Black and of White.
+fn squares(glyphs: &[u8]) -> Option<(u64, u64)> {
+    let word = from_glyphs(glyphs).ok()?;
+    let black = canonical(word, Colour::Black).word().bits();
+    Some((black, canonical(word, Colour::White).word().bits()))
 }
 
 #[test]
 fn squares_have_these_canonical_words(rt: HostRuntime) {
-    for (glyphs, black, white) in [
-        (b".........................", 0, 0),
-        (
-            b"############.############",
-            0x3fffffcffffff,
-            0x3fffffcffffff,
-        ),
-        (
-            b"############..###########",
-            0x3fff3fcffffff,
-            0x3fff3fcffffff,
-        ),
-        (
-            b"###########X.############",
-            0x3fff7fcffffff,
-            0x3fffbfcffffff,
-        ),
-        (
-            b"...........X.O...........",
-            0x0000004800000,
-            0x0000004800000,
-        ),
-        (
-            b"....X....................",
-            0x0000000000001,
-            0x0000000000002,
-        ),
-    ] {
-        assert_eq!(&rt; bits_of_shape(&rt, glyphs, Colour::Black), black);
-        assert_eq!(&rt; bits_of_shape(&rt, glyphs, Colour::White), white);
-    }
+    assert!(rt; squares(b".........................") == Some((0, 0)));
+    let alone = squares(b"############.############");
+    assert!(rt; alone == Some((0x3fffffcffffff, 0x3fffffcffffff)));
+    let empty = squares(b"############..###########");
+    assert!(rt; empty == Some((0x3fff3fcffffff, 0x3fff3fcffffff)));
+    let taken = squares(b"###########X.############");
+    assert!(rt; taken == Some((0x3fff7fcffffff, 0x3fffbfcffffff)));
+    let both = squares(b"...........X.O...........");
+    assert!(rt; both == Some((0x0000004800000, 0x0000004800000)));
+    assert!(rt; squares(b"....X....................") == Some((1, 2)));
+}
+
+/// The canonical word of a diamond that is written so, before a move.
+fn diamond_of(glyphs: &[u8], mover: Colour) -> Option<u64> {
+    let word = from_diamond_glyphs(glyphs).ok()?;
+    Some(canonical(word, mover).word().bits())
 }
 
 #[test]
 fn diamonds_have_these_canonical_words(rt: HostRuntime) {
-    for (glyphs, mover, bits) in [
-        (b"############.############", Colour::Black, 0x7fffffcffffff),
-        (b"############..###########", Colour::Black, 0x7ffcffcffffff),
-        (b"###########X.############", Colour::White, 0x7ffeffcffffff),
-        (b"############....#########", Colour::Black, 0x4cfcffcffffff),
-        (b"###########....##########", Colour::Black, 0x7cfcffcffcfff),
-    ] {
-        assert_eq!(&rt; bits_of_diamond(&rt, glyphs, mover), bits);
-    }
+    let black = Colour::Black;
+    assert!(rt; diamond_of(b"############.############", black) == Some(0x7fffffcffffff));
+    assert!(rt; diamond_of(b"############..###########", black) == Some(0x7ffcffcffffff));
+    let taken = diamond_of(b"###########X.############", Colour::White);
+    assert!(rt; taken == Some(0x7ffeffcffffff));
+    assert!(rt; diamond_of(b"############....#########", black) == Some(0x4cfcffcffffff));
+    assert!(rt; diamond_of(b"###########....##########", black) == Some(0x7cfcffcffcfff));
 }
 
 #[test]
 fn wrong_glyphs_are_refused(rt: HostRuntime) {
-    assert_eq!(&rt;
-        from_glyphs(b"xxxxxxxxxxxxxxxxxxxxxxxx"),
-        Err(GlyphFault::BadLength)
-    );
-    assert_eq!(&rt;
-        from_glyphs(b"...x....................."),
-        Err(GlyphFault::BadGlyph(3))
-    );
-    assert_eq!(&rt; from_diamond_glyphs(b""), Err(GlyphFault::BadLength));
+    assert!(rt; from_glyphs(b"xxxxxxxxxxxxxxxxxxxxxxxx") == Err(GlyphFault::BadLength));
+    assert!(rt; from_glyphs(b"...x.....................") == Err(GlyphFault::BadGlyph(3)));
+    assert!(rt; from_diamond_glyphs(b"") == Err(GlyphFault::BadLength));
+}
+
+/// Whether a fault is said so.
+fn says(alloc: Global, fault: GlyphFault, wanted: &str) -> Result<bool, Fail> {
+    Ok(format!(in alloc; "{fault}")?.as_str() == wanted)
 }
 
 #[test]
 fn faults_have_these_texts(rt: HostRuntime) -> Result<(), Fail> {
-    let length = format!(in rt.alloc(); "{}", GlyphFault::BadLength)?;
-    assert_eq!(&rt; length.as_str(), "H2 bad length");
-    let glyph = format!(in rt.alloc(); "{}", GlyphFault::BadGlyph(3))?;
-    assert_eq!(&rt; glyph.as_str(), "H1 bad glyph at 3");
+    assert!(rt; says(rt.alloc(), GlyphFault::BadLength, "H2 bad length")?);
+    assert!(rt; says(rt.alloc(), GlyphFault::BadGlyph(3), "H1 bad glyph at 3")?);
     Ok(())
+}
+
+/// Whether a word is the square of a point above a white stone, where the board has no other point.
+fn is_read(word: Word) -> bool {
+    word.kind() == Kind::Square
+        && word.bits() == 0x3fffbfcffffff
+        && [word.code(11), word.code(12), word.code(13), word.code(17)] == [3, 0, 3, 2]
+        && glyphs(word) == *b"############.####O#######"
 }
 
 #[test]
 fn words_say_what_they_are(rt: HostRuntime) -> Result<(), Fail> {
-    assert_eq!(&rt; Word::new(1 << 51), None);
+    assert!(rt; Word::new(1 << 51) == None);
     let diamond = Word::new(1 << 50).ok_or("a diamond")?;
-    assert_eq!(&rt; diamond.kind(), Kind::Diamond);
+    assert!(rt; diamond.kind() == Kind::Diamond);
     let word = Word::new(0x3fffbfcffffff).ok_or("a square")?;
-    assert_eq!(&rt; word.kind(), Kind::Square);
-    assert_eq!(&rt; word.bits(), 0x3fffbfcffffff);
-    assert_eq!(&rt;
-        [word.code(11), word.code(12), word.code(13), word.code(17)],
-        [3, 0, 3, 2]
-    );
-    assert_eq!(&rt; glyphs(word), *b"############.####O#######");
+    assert!(rt; is_read(word));
     Ok(())
 }
 
+/// The glyphs of the image of a corner under the symmetry of this number.
+fn corner_under(number: u8) -> Option<[u8; 25]> {
+    let corner = from_glyphs(b".X.......................").ok()?;
+    Some(glyphs(image(corner, Symmetry::new(number)?)))
+}
+
 #[test]
-fn corners_move_as_the_symmetries_say(rt: HostRuntime) -> Result<(), Fail> {
-    let corner = from_glyphs(b".X.......................")?;
-    for (number, image_of_corner) in [
-        (0, b".X......................."),
-        (1, b".........X..............."),
-        (2, b".......................X."),
-        (3, b"...............X........."),
-        (4, b"...X....................."),
-        (5, b".....................X..."),
-        (6, b".....X..................."),
-        (7, b"...................X....."),
-    ] {
-        let symmetry = Symmetry::new(number).ok_or("a number below 8")?;
-        assert_eq!(&rt; glyphs(image(corner, symmetry)), *image_of_corner);
-    }
-    assert_eq!(&rt; Symmetry::new(8), None);
-    Ok(())
+fn corners_move_as_the_symmetries_say(rt: HostRuntime) {
+    assert!(rt; corner_under(0) == Some(*b".X......................."));
+    assert!(rt; corner_under(1) == Some(*b".........X..............."));
+    assert!(rt; corner_under(2) == Some(*b".......................X."));
+    assert!(rt; corner_under(3) == Some(*b"...............X........."));
+    assert!(rt; corner_under(4) == Some(*b"...X....................."));
+    assert!(rt; corner_under(5) == Some(*b".....................X..."));
+    assert!(rt; corner_under(6) == Some(*b".....X..................."));
+    assert!(rt; corner_under(7) == Some(*b"...................X....."));
+    assert!(rt; Symmetry::new(8) == None);
 }
 
 #[test]
 fn shapes_are_least_words(rt: HostRuntime) -> Result<(), Fail> {
     let word = from_glyphs(b"....X....................")?;
-    assert_eq!(&rt; Shape::of_word(word), None);
     let least = Word::new(1).ok_or("a square")?;
-    assert_eq!(&rt; Shape::of_word(least), Some(canonical(word, Colour::Black)));
-    assert_eq!(&rt; glyphs(exchange(least)), *b"O........................");
+    assert!(rt; Shape::of_word(word) == None);
+    assert!(rt; Shape::of_word(least) == Some(canonical(word, Colour::Black)));
+    assert!(rt; glyphs(exchange(least)) == *b"O........................");
     Ok(())
 }
 
-fn size_of(columns: u8, rows: u8) -> Result<Size, Fail> {
-    Ok(Size::new(columns, rows).ok_or("a size from 1 to 52")?)
+/// Whether the cell, the square and the diamond of a point are those of the board.
+fn is_seen(field: &Field, board: &Board, point: Point) -> bool {
+    field.size().has(point)
+        && board.size().has(point)
+        && field.kinds() == Kinds::Both
+        && field.cell(point) == board.cell(point)
+        && field.word(point) == around(board, point)
+        && field.diamond(point) == diamond(board, point)
 }
 
-/// Every word and diamond of the field is that of the board.
-fn assert_words(rt: &impl Abort, field: &Field, board: &Board) {
-    assert!(rt; field.kinds() == Kinds::Both);
-    for row in 0..board.size().rows() {
-        for column in 0..board.size().columns() {
-            let point = Point { column, row };
-            assert!(rt; field.size().has(point) && board.size().has(point));
-            assert_eq!(rt; field.cell(point), board.cell(point));
-            assert_eq!(rt; field.word(point), around(board, point));
-            assert_eq!(rt; field.diamond(point), diamond(board, point));
+/// Whether this is so at each point of the board.
+fn are_seen(field: &Field, board: &Board) -> bool {
+    let size = board.size();
+    for index in 0..size.area() {
+        if !is_seen(field, board, size.point(index)) {
+            return false;
         }
     }
+    true
 }
 
-/// Both patterns of every point of the field are those of the board, for both colours to move, and
-/// the columns of a row that the field calls empty are those of the board.
-fn assert_patterns(rt: &impl Abort, field: &Field, board: &Board) {
-    for row in 0..board.size().rows() {
-        assert!(rt; row < field.size().rows() && field.kinds() == Kinds::Both);
-        let empty = field.empty_columns(row);
-        for column in 0..board.size().columns() {
-            let point = Point { column, row };
-            assert!(rt; field.size().has(point) && board.size().has(point));
-            assert_eq!(rt;
-                (empty >> column) & 1 == 1,
-                board.cell(point) == Stone::Empty
-            );
-            for mover in [Colour::Black, Colour::White] {
-                let square = canonical(around(board, point), mover);
-                assert_eq!(rt; field.canonical(point, mover), square);
-                let own = canonical(diamond(board, point), mover);
-                assert_eq!(rt; field.canonical_diamond(point, mover), own);
-            }
+/// Whether both patterns of a point before a move are those of the board.
+fn is_canonical(field: &Field, board: &Board, point: Point, mover: Colour) -> bool {
+    field.size().has(point)
+        && board.size().has(point)
+        && field.kinds() == Kinds::Both
+        && field.canonical(point, mover) == canonical(around(board, point), mover)
+        && field.canonical_diamond(point, mover) == canonical(diamond(board, point), mover)
+}
+
+/// Whether the field says of a point that it is empty where the board does.
+fn is_empty_alike(field: &Field, board: &Board, point: Point) -> bool {
+    if point.row >= field.size().rows() || !board.size().has(point) || point.column >= 64 {
+        return false;
+    }
+    let is_empty = (field.empty_columns(point.row) >> point.column) & 1 == 1;
+    is_empty == (board.cell(point) == Stone::Empty)
+}
+
+/// Whether the patterns of each point are those of the board, for both colours to move, and so are
+/// the columns of each row that the field calls empty.
+fn are_canonical(field: &Field, board: &Board) -> bool {
+    let size = board.size();
+    for index in 0..size.area() {
+        let point = size.point(index);
+        if !is_empty_alike(field, board, point)
+            || !is_canonical(field, board, point, Colour::Black)
+            || !is_canonical(field, board, point, Colour::White)
+        {
+            return false;
         }
     }
+    true
 }
 
 /// The field's marks, which are taken out: for each row a number with a bit for each column.
@@ -193,29 +184,38 @@ fn is_among(marks: &[u64], point: Point) -> bool {
 }
 
 /// Whether a point is among the field's marks, which are taken out.
-fn is_marked(rt: &impl Abort, alloc: Global, field: &mut Field, point: Point) -> bool {
-    let marks = moved_marks(alloc, field).expect(rt, "memory for marks");
-    is_among(&marks, point)
+fn is_marked(alloc: Global, field: &mut Field, point: Point) -> Result<bool, AllocError> {
+    let marks = moved_marks(alloc, field)?;
+    Ok(is_among(&marks, point))
 }
 
-/// Each point whose square or diamond is another than that of the board is among these marks.
-fn assert_among(rt: &impl Abort, marks: &[u64], field: &Field, before: &Board) {
-    for row in 0..before.size().rows() {
-        for column in 0..before.size().columns() {
-            let point = Point { column, row };
-            assert!(rt; field.kinds() == Kinds::Both);
-            assert!(rt; field.size().has(point) && before.size().has(point));
-            let same = field.word(point) == around(before, point)
-                && field.diamond(point) == diamond(before, point);
-            assert!(rt; same || is_among(marks, point));
+/// Whether each point whose square or diamond is another than that of the board is among these
+/// marks.
+fn are_among(marks: &[u64], field: &Field, before: &Board) -> bool {
+    let size = before.size();
+    for index in 0..size.area() {
+        let point = size.point(index);
+        if !is_among(marks, point) && !has_same_words(field, before, point) {
+            return false;
         }
     }
+    true
 }
 
-/// Each point whose square or diamond is another than that of the board is among the field's marks.
-fn assert_marks(rt: &impl Abort, alloc: Global, field: &mut Field, before: &Board) {
-    let marks = moved_marks(alloc, field).expect(rt, "memory for marks");
-    assert_among(rt, &marks, field, before);
+/// Whether a point has the square and the diamond of the board.
+fn has_same_words(field: &Field, before: &Board, point: Point) -> bool {
+    field.size().has(point)
+        && before.size().has(point)
+        && field.kinds() == Kinds::Both
+        && field.word(point) == around(before, point)
+        && field.diamond(point) == diamond(before, point)
+}
+
+/// Whether each point whose square or diamond is another than that of the board is among the
+/// field's marks, which are taken out.
+fn has_marks(alloc: Global, field: &mut Field, before: &Board) -> Result<bool, AllocError> {
+    let marks = moved_marks(alloc, field)?;
+    Ok(are_among(&marks, field, before))
 }
 
 /// A point of a window of five columns and five rows that wanders over a board.
@@ -227,13 +227,30 @@ fn wandering(size: Size, turn: usize) -> Point {
     }
 }
 
-/// The same moves on a field and on a board. After each of them the words and the marks are
-/// compared.
-fn play_along(rt: &impl Abort, alloc: Global, columns: u8, rows: u8) -> Result<(), Fail> {
-    let size = size_of(columns, rows)?;
-    let mut field = Field::new(alloc, size)?;
-    let mut board = Board::new(alloc, size)?;
-    let mut before = Board::new(alloc, size)?;
+/// Whether a move does the same on a field and on a board.
+fn is_played_alike(field: &mut Field, board: &mut Board, colour: Colour, point: Point) -> bool {
+    field.size().has(point)
+        && board.size().has(point)
+        && field.play(colour, point) == board.play(colour, point)
+        && field.removed() == board.removed()
+}
+
+/// Plays on a board, if the point is on it.
+fn follow(board: &mut Board, colour: Colour, point: Point) {
+    if board.size().has(point) {
+        board.play(colour, point);
+    }
+}
+
+/// Whether the same moves on a field and on two boards, of which the second is one move behind,
+/// have the same words and marks after each of them.
+fn are_played_alike(
+    alloc: Global,
+    field: &mut Field,
+    board: &mut Board,
+    before: &mut Board,
+) -> Result<bool, AllocError> {
+    let size = board.size();
     for turn in 0..300 {
         let point = wandering(size, turn);
         let colour = if turn % 2 == 0 {
@@ -241,53 +258,108 @@ fn play_along(rt: &impl Abort, alloc: Global, columns: u8, rows: u8) -> Result<(
         } else {
             Colour::White
         };
-        assert!(rt; field.size().has(point) && board.size().has(point));
-        assert_eq!(rt; field.play(colour, point), board.play(colour, point));
-        assert_eq!(rt; field.removed(), board.removed());
-        assert_words(rt, &field, &board);
-        assert_marks(rt, alloc, &mut field, &before);
-        assert!(rt; before.size().has(point));
-        before.play(colour, point);
+        if !is_played_alike(field, board, colour, point) || !are_seen(field, board) {
+            return Ok(false);
+        }
+        if !has_marks(alloc, field, before)? {
+            return Ok(false);
+        }
+        follow(before, colour, point);
     }
-    assert_patterns(rt, &field, &board);
-    Ok(())
+    Ok(are_canonical(field, board))
+}
+
+/// The same on two new boards.
+fn play_beside(alloc: Global, field: &mut Field, board: &mut Board) -> Option<bool> {
+    let mut before = Board::new(alloc, board.size()).ok()?;
+    are_played_alike(alloc, field, board, &mut before).ok()
+}
+
+/// The same on new boards of the field's size.
+fn play_on(alloc: Global, field: &mut Field) -> Option<bool> {
+    let mut board = Board::new(alloc, field.size()).ok()?;
+    play_beside(alloc, field, &mut board)
+}
+
+/// The same on a new field and new boards of this size.
+fn play_along(alloc: Global, columns: u8, rows: u8) -> Option<bool> {
+    let mut field = Field::new(alloc, Size::new(columns, rows)?).ok()?;
+    play_on(alloc, &mut field)
 }
 
 #[test]
-fn field_from_scratch(rt: HostRuntime) -> Result<(), Fail> {
-    for (columns, rows) in [(1, 1), (2, 1), (5, 5), (19, 19), (52, 52)] {
-        play_along(&rt, rt.alloc(), columns, rows)?;
+fn field_from_scratch(rt: HostRuntime) {
+    assert!(rt; play_along(rt.alloc(), 1, 1) == Some(true));
+    assert!(rt; play_along(rt.alloc(), 2, 1) == Some(true));
+    assert!(rt; play_along(rt.alloc(), 5, 5) == Some(true));
+    assert!(rt; play_along(rt.alloc(), 19, 19) == Some(true));
+    assert!(rt; play_along(rt.alloc(), 52, 52) == Some(true));
+}
+
+/// A field of squares with three columns and three rows.
+fn small_field(alloc: Global) -> Result<Field, Fail> {
+    let size = Size::new(3, 3).ok_or("a size from 1 to 52")?;
+    Ok(Field::with_kinds(alloc, size, Kinds::Squares)?)
+}
+
+/// The corner of a field, and its middle where it has three columns and three rows.
+const CORNER: Point = Point { column: 0, row: 0 };
+
+const MIDDLE: Point = Point { column: 1, row: 1 };
+
+/// Sets a point, if it is on the field.
+fn set(field: &mut Field, point: Point, stone: Stone) {
+    if field.size().has(point) {
+        field.set(point, stone);
     }
-    Ok(())
+}
+
+/// The cell and the square of the corner.
+fn at_corner(field: &Field) -> Option<(Stone, Word)> {
+    if !field.size().has(CORNER) {
+        return None;
+    }
+    Some((field.cell(CORNER), field.word(CORNER)))
+}
+
+/// Whether the copy of a field with a white stone at its corner has the stone, its word and its
+/// mark.
+fn is_copied(alloc: Global, field: &Field) -> Result<bool, Fail> {
+    let mut copied = field.copied(alloc)?;
+    let corner = at_corner(&copied).map(|(cell, _)| cell);
+    let is_same = at_corner(&copied) == at_corner(field) && corner == Some(Stone::White);
+    Ok(is_marked(alloc, &mut copied, CORNER)? && is_same)
 }
 
 #[test]
 fn copied_field_has_the_stones(rt: HostRuntime) -> Result<(), Fail> {
-    let size = size_of(3, 3)?;
-    let mut field = Field::with_kinds(rt.alloc(), size, Kinds::Squares)?;
-    let corner = Point { column: 0, row: 0 };
-    assert!(&rt; field.size().has(corner));
-    field.set(corner, Stone::White);
-    let mut copied = field.copied(rt.alloc())?;
-    assert!(&rt; copied.size().has(corner));
-    assert_eq!(&rt; copied.cell(corner), Stone::White);
-    assert_eq!(&rt; copied.word(corner), field.word(corner));
-    assert!(&rt; is_marked(&rt, rt.alloc(), &mut copied, corner));
+    let mut field = small_field(rt.alloc())?;
+    set(&mut field, CORNER, Stone::White);
+    assert!(rt; is_copied(rt.alloc(), &field)?);
     Ok(())
+}
+
+/// Whether the square of the corner is written so.
+fn is_at_corner(field: &Field, wanted: &[u8; 25]) -> bool {
+    match at_corner(field) {
+        Some((_, word)) => glyphs(word) == *wanted,
+        None => false,
+    }
+}
+
+/// Whether a stone in the middle that is set and taken off changes the square of the corner and
+/// marks it.
+fn is_changed(alloc: Global, field: &mut Field) -> Result<bool, AllocError> {
+    set(field, MIDDLE, Stone::White);
+    let has_stone = is_at_corner(field, b"############...##.O.##...");
+    let marked = is_marked(alloc, field, CORNER)?;
+    set(field, MIDDLE, Stone::Empty);
+    Ok(has_stone && marked && is_at_corner(field, b"############...##...##..."))
 }
 
 #[test]
 fn set_stones_change_words(rt: HostRuntime) -> Result<(), Fail> {
-    let size = size_of(3, 3)?;
-    let mut field = Field::with_kinds(rt.alloc(), size, Kinds::Squares)?;
-    let middle = Point { column: 1, row: 1 };
-    let corner = Point { column: 0, row: 0 };
-    assert!(&rt; field.size().has(middle) && field.size().has(corner));
-    field.set(middle, Stone::White);
-    assert_eq!(&rt; glyphs(field.word(corner)), *b"############...##.O.##...");
-    assert!(&rt; is_marked(&rt, rt.alloc(), &mut field, corner));
-    assert!(&rt; field.size().has(middle) && field.size().has(corner));
-    field.set(middle, Stone::Empty);
-    assert_eq!(&rt; glyphs(field.word(corner)), *b"############...##...##...");
+    let mut field = small_field(rt.alloc())?;
+    assert!(rt; is_changed(rt.alloc(), &mut field) == Ok(true));
     Ok(())
 }

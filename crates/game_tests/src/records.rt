@@ -80,8 +80,8 @@ fn trees_have_these_records(rt: HostRuntime) -> Result<(), Fail> {
         (b"(;SZ[9];B[jj];W[a])", Err(RecordFault::OffBoard(10))),
         (b"(;SZ[9]AB[aa:jj];W[a])", Err(RecordFault::OffBoard(10))),
     ];
-    for (bytes, wanted) in rows {
-        assert!(rt; is_recorded(rt.alloc(), bytes, wanted)?, "{bytes:?}");
+    for (bytes, wanted) in &rows {
+        assert!(rt; is_recorded(rt.alloc(), bytes, *wanted)?, "{bytes:?}");
     }
     Ok(())
 }

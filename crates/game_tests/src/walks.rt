@@ -260,18 +260,28 @@ fn compare_on(
     compare(rt, alloc, both, &game)
 }
 
+/// Compares both walks on each size of board.
+fn compare_all(
+    rt: &impl Abort,
+    alloc: Global,
+    squares: &mut Walk,
+    both: &mut Walk,
+) -> Result<(), Fail> {
+    assert!(rt; both.meetings().is_empty());
+    for columns in 1..8 {
+        for rows in 1..8 {
+            compare_on(rt, alloc, squares, both, columns, rows)?;
+        }
+    }
+    Ok(())
+}
+
 #[test]
 fn walks_count_as_the_plain_definition(rt: HostRuntime) -> Result<(), Fail> {
     let alloc = rt.alloc();
     let mut squares = Walk::begin(alloc, Kinds::Squares);
     let mut both = Walk::begin(alloc, Kinds::Both);
-    assert!(&rt; both.meetings().is_empty());
-    for columns in 1..8 {
-        for rows in 1..8 {
-            compare_on(&rt, alloc, &mut squares, &mut both, columns, rows)?;
-        }
-    }
-    Ok(())
+    compare_all(&rt, alloc, &mut squares, &mut both)
 }
 
 /// How many moves and meetings the walk of a game has.
