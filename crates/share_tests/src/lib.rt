@@ -2,6 +2,8 @@
 #![tactic(auto)]
 
 #[cfg(test)]
+mod games;
+#[cfg(test)]
 mod rows;
 #[cfg(test)]
 mod shares;

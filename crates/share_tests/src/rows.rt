@@ -1,94 +1,86 @@
 //! The rows of a share, one after another.
 ghost use Rattle.slot_table.specs.Passes.{IsPassOf};
 
+use crate::games::{add, first};
 use probe_core::ProbeOrder;
 use shape_core::Kinds;
-use shape_dict::FirstGame;
-use share_core::{Row, Share};
-use share_samples::{
-    ALONE, EMPTY, ONE_POINT, TAKEN, TWO_POINTS, add_written, first_share, shape_of, table_of,
-};
+use share_core::Share;
+use share_samples::{ALONE, EMPTY, ONE_POINT, TAKEN, TWO_POINTS, table_of};
 use slot_table::{Pass, SlotTable};
 use std::alloc::Global;
-use std::test::Fail;
 
-/// Whether these rows have one that is this but for its number.
-fn has_row(rows: &[Row], wanted: Row) -> bool {
-    rows.iter().any(|row| {
-        *row == Row {
-            number: row.number,
-            ..wanted
-        }
-    })
-}
-
-/// A row of the pattern whose word has these bits, if there is one.
-fn row_of(bits: u64, there: u64, played: u64, first: u32) -> Option<Row> {
-    Some(Row {
-        number: 0,
-        shape: shape_of(bits)?,
-        there,
-        played,
-        first: FirstGame::new(Some(u64::from(first))),
-    })
-}
-
-/// The rows of a share, as they come.
-fn rows_of(alloc: Global, share: &Share) -> Result<Vec<Row>, Fail> {
-    let mut rows = Vec::new(alloc);
+/// Whether a share has a row that counts so the pattern whose word has these bits.
+fn has_row(share: &Share, bits: u64, there: u64, played: u64, first: u64) -> bool {
     for row in share.rows() {
-        rows.push(row)?;
+        if row.shape.word().bits() == bits {
+            let counts = (row.there, row.played, row.first.get());
+            return counts == (there, played, Some(first));
+        }
     }
-    Ok(rows)
+    false
 }
 
-/// Whether the numbers of rows rise.
-fn is_rising(rows: &[Row]) -> bool {
+/// How many rows a share has, where their numbers rise.
+fn rising_rows(share: &Share) -> Option<usize> {
     let mut before = None;
-    for row in rows {
+    let mut many = 0usize;
+    for row in share.rows() {
         if before >= Some(row.number) {
-            return false;
+            return None;
         }
         before = Some(row.number);
+        many = many.saturating_add(1);
+    }
+    Some(many)
+}
+
+/// Whether each row of a share is found by its number.
+fn finds_its_rows(share: &Share) -> bool {
+    for row in share.rows() {
+        if share.row_at(row.number) != Some(row) {
+            return false;
+        }
     }
     true
 }
 
-/// A share of both games, the second one first.
-fn share_of_both<O: ProbeOrder>(
+/// Whether a share has both games, the second one first, and their rows.
+fn has_both(share: &Share) -> bool {
+    share.games() == [1, 0].as_slice()
+        && share.moves() == 3
+        && rising_rows(share) == Some(3)
+        && has_row(share, EMPTY, 2, 1, 1)
+        && has_row(share, TAKEN, 1, 1, 1)
+        && has_row(share, ALONE, 1, 1, 0)
+        && finds_its_rows(share)
+}
+
+/// Adds both games to a share, the second one first: whether it takes them.
+fn add_both<O: ProbeOrder>(
     alloc: Global,
+    share: &mut Share,
     table: &SlotTable<O>,
     pass: &mut Pass<O>,
-) -> Result<Share, Fail>
+) -> bool
     requires { IsPassOf table.now pass.old }
 {
+    let second = add(alloc, share, table, pass, 1, TWO_POINTS);
+    second == Some(Ok(())) && add(alloc, share, table, pass, 0, ONE_POINT) == Some(Ok(()))
+}
+
+/// Whether a share of both games over a table of 2^k numbers has them and their rows.
+fn counts_both(alloc: Global, k: u32) -> Option<bool> {
+    let (table, mut pass) = table_of(alloc, k)?;
     let mut share = Share::begin(alloc, 0, Kinds::Squares);
-    add_written(alloc, &mut share, table, pass, 1, TWO_POINTS).ok_or("no record")??;
-    add_written(alloc, &mut share, table, pass, 0, ONE_POINT).ok_or("no record")??;
-    Ok(share)
+    let added = add_both(alloc, &mut share, &table, &mut pass);
+    Some(added && has_both(&share))
 }
 
-/// The rows of that share, but for their numbers.
-fn rows_of_both() -> Option<[Row; 3]> {
-    Some([
-        row_of(EMPTY, 2, 1, 1)?,
-        row_of(TAKEN, 1, 1, 1)?,
-        row_of(ALONE, 1, 1, 0)?,
-    ])
-}
-
+/// The numbers of the larger table lie in eight pages of a share's index.
 #[test]
-fn rows_come_by_rising_numbers(rt: HostRuntime) -> Result<(), Fail> {
-    let alloc = rt.alloc();
-    let wanted = rows_of_both().ok_or("no rows")?;
-    let (table, mut pass) = table_of(alloc, 4).ok_or("no table")?;
-    let share = share_of_both(alloc, &table, &mut pass)?;
-    let rows = rows_of(alloc, &share)?;
-    assert!(rt; rows.len() == 3 && is_rising(&rows));
-    for row in wanted {
-        assert!(rt; has_row(&rows, row));
-    }
-    Ok(())
+fn rows_come_by_rising_numbers_and_are_found(rt: HostRuntime) {
+    assert!(rt; counts_both(rt.alloc(), 4) == Some(true));
+    assert!(rt; counts_both(rt.alloc(), 7) == Some(true));
 }
 
 /// Whether a share has this many rows, after which none comes, asked twice.
@@ -102,25 +94,15 @@ fn ends_after(share: &Share, many: usize) -> bool {
     rows.next().is_none() && rows.next().is_none()
 }
 
-#[test]
-fn no_row_comes_after_the_last(rt: HostRuntime) -> Result<(), Fail> {
-    let alloc = rt.alloc();
-    let (table, mut pass) = table_of(alloc, 4).ok_or("no table")?;
-    let share = first_share(alloc, &table, &mut pass, ONE_POINT).ok_or("no share")?;
-    assert!(rt; ends_after(&share, 1));
-    assert!(rt; ends_after(&Share::begin(alloc, 0, Kinds::Squares), 0));
-    Ok(())
+/// Whether a share of the game of one point has one row.
+fn ends_after_one(alloc: Global) -> Option<bool> {
+    let (table, mut pass) = table_of(alloc, 4)?;
+    let share = first(alloc, &table, &mut pass, ONE_POINT)?;
+    Some(ends_after(&share, 1))
 }
 
-/// The numbers of this table lie in eight pages of a share's index.
 #[test]
-fn each_row_is_found_by_its_number(rt: HostRuntime) -> Result<(), Fail> {
-    let alloc = rt.alloc();
-    let (table, mut pass) = table_of(alloc, 7).ok_or("no table")?;
-    let share = share_of_both(alloc, &table, &mut pass)?;
-    assert!(rt; share.games() == [1, 0].as_slice() && share.moves() == 3);
-    for row in rows_of(alloc, &share)? {
-        assert!(rt; share.row_at(row.number) == Some(row));
-    }
-    Ok(())
+fn no_row_comes_after_the_last(rt: HostRuntime) {
+    assert!(rt; ends_after_one(rt.alloc()) == Some(true));
+    assert!(rt; ends_after(&Share::begin(rt.alloc(), 0, Kinds::Squares), 0));
 }

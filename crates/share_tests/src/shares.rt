@@ -1,123 +1,103 @@
 //! Shares seen from outside: small tables, and games of other tables.
-use harvest_faults::HarvestFault;
-use sgf_core::SgfFault;
-use shape_core::{Kinds, Shape, Word};
-use shape_dict::FirstGame;
-use share_core::{Row, Share};
-use share_samples::{
-    ALONE, EMPTY, ONE_POINT, TAKEN, TWO_POINTS, add_written, first_share, shape_of, table_of,
-};
-use std::alloc::Global;
-use std::test::Fail;
+ghost use Rattle.std.specs.Prelude.{◌<◌};
+ghost use Rattle.sgf_core.specs.Limit.{most_bytes};
+ghost use Rattle.slot_table.specs.Passes.{IsPassOf};
 
-/// The fault of a number that has this pattern in a share, and that one in the table.
-fn stranger(number: usize, of_share: Option<Word>, of_table: Option<Word>) -> HarvestFault {
-    HarvestFault::Stranger {
-        number,
-        of_share,
-        of_table,
-    }
-}
+use crate::games::{add, first};
+use harvest_faults::HarvestFault;
+use probe_core::ProbeOrder;
+use shape_core::{Kinds, Word};
+use share_core::{Row, Share};
+use share_samples::{ALONE, EMPTY, ONE_POINT, TAKEN, TWO_POINTS, table_of};
+use slot_table::{Pass, SlotTable};
+use std::alloc::Global;
 
 /// Whether a share has the game 0 alone, of this many moves.
 fn has_first_alone(share: &Share, moves: u64) -> bool {
     share.games() == [0].as_slice() && share.moves() == moves
 }
 
-/// Adds the game that is written here by a table of its own, and answers the fault, if there is
-/// one.
-fn refusal_elsewhere(
+/// Adds the game of two points by a table of its own, and answers what came of it.
+fn add_elsewhere(alloc: Global, share: &mut Share) -> Option<Result<(), HarvestFault>> {
+    let (table, mut pass) = table_of(alloc, 0)?;
+    add(alloc, share, &table, &mut pass, 1, TWO_POINTS)
+}
+
+/// The fault of a game of another table, and whether the share is as before.
+fn refused_elsewhere(alloc: Global) -> Option<(Result<(), HarvestFault>, bool)> {
+    let (table, mut pass) = table_of(alloc, 0)?;
+    let mut share = first(alloc, &table, &mut pass, ONE_POINT)?;
+    let added = add_elsewhere(alloc, &mut share)?;
+    Some((added, has_first_alone(&share, 1)))
+}
+
+#[test]
+fn a_share_takes_no_game_of_another_table(rt: HostRuntime) {
+    let stranger = HarvestFault::Stranger {
+        number: 0,
+        of_share: Word::new(ALONE),
+        of_table: Word::new(EMPTY),
+    };
+    assert!(rt; refused_elsewhere(rt.alloc()) == Some((Err(stranger), true)));
+}
+
+/// Whether the table has no number for the pattern of this word, where a game is added to a share.
+fn wants_a_number<O: ProbeOrder>(
     alloc: Global,
     share: &mut Share,
+    table: &SlotTable<O>,
+    pass: &mut Pass<O>,
+    game: u64,
     bytes: &[u8],
-) -> Result<Option<HarvestFault>, Fail> {
-    let (table, mut pass) = table_of(alloc, 0).ok_or("no table")?;
-    let added = add_written(alloc, share, &table, &mut pass, 1, bytes).ok_or("no record")?;
-    Ok(added.err())
+    word: Word,
+) -> bool
+    requires pass { IsPassOf table.now pass.old }
+    requires game { game < most_bytes }
+{
+    let full = HarvestFault::Full { game, word };
+    add(alloc, share, table, pass, game, bytes) == Some(Err(full))
+}
+
+/// Whether a table of two numbers is too small for both games, and the share is as before.
+fn is_too_small(alloc: Global) -> Option<bool> {
+    let alone = Word::new(ALONE)?;
+    let (table, mut pass) = table_of(alloc, 1)?;
+    let mut share = first(alloc, &table, &mut pass, TWO_POINTS)?;
+    let wants = wants_a_number(alloc, &mut share, &table, &mut pass, 1, ONE_POINT, alone);
+    Some(wants && has_first_alone(&share, 2))
 }
 
 #[test]
-fn a_share_takes_no_game_of_another_table(rt: HostRuntime) -> Result<(), Fail> {
-    let alloc = rt.alloc();
-    let alone = Word::new(ALONE).ok_or("no word")?;
-    let empty = Word::new(EMPTY).ok_or("no word")?;
-    let (table, mut pass) = table_of(alloc, 0).ok_or("no table")?;
-    let mut share = first_share(alloc, &table, &mut pass, ONE_POINT).ok_or("no share")?;
-    let refused = refusal_elsewhere(alloc, &mut share, TWO_POINTS)?;
-    assert!(rt; refused == Some(stranger(0, Some(alone), Some(empty))));
-    assert!(rt; has_first_alone(&share, 1));
-    Ok(())
+fn a_table_too_small_by_one_pattern(rt: HostRuntime) {
+    assert!(rt; is_too_small(rt.alloc()) == Some(true));
 }
 
-#[test]
-fn a_table_too_small_by_one_pattern(rt: HostRuntime) -> Result<(), Fail> {
-    let alloc = rt.alloc();
-    let word = Word::new(ALONE).ok_or("no word")?;
-    let (table, mut pass) = table_of(alloc, 1).ok_or("no table")?;
-    let mut share = first_share(alloc, &table, &mut pass, TWO_POINTS).ok_or("no share")?;
-    let added = add_written(alloc, &mut share, &table, &mut pass, 1, ONE_POINT);
-    let refused = added.ok_or("no record")?.err();
-    assert!(rt; refused == Some(HarvestFault::Full { game: 1, word }));
-    assert!(rt; has_first_alone(&share, 2));
-    Ok(())
+/// Whether this is the row of the empty board of two points at the first number, and counts nothing.
+fn is_blank(row: Row) -> bool {
+    row.number == 0
+        && row.shape.word().bits() == EMPTY
+        && row.there == 0
+        && row.played == 0
+        && row.first.get().is_none()
 }
 
-/// Whether a share has no game, and a row at the first number alone, which counts nothing.
-fn has_blank_alone(share: &Share, shape: Shape) -> bool {
-    let blank = Row {
-        number: 0,
-        shape,
-        there: 0,
-        played: 0,
-        first: FirstGame::new(None),
-    };
+/// Whether a share of the worker 3 has no game, and that row alone.
+fn has_blank_alone(share: &Share) -> bool {
     let is_empty = share.games().is_empty() && share.moves() == 0;
-    is_empty && share.row_at(0) == Some(blank) && share.row_at(1) == None
+    let has_blank = share.row_at(0).is_some_and(is_blank) && share.row_at(1).is_none();
+    share.worker() == 3 && is_empty && has_blank
 }
 
-#[test]
-fn a_refused_game_leaves_rows_without_counts(rt: HostRuntime) -> Result<(), Fail> {
-    let alloc = rt.alloc();
-    let word = Word::new(TAKEN).ok_or("no word")?;
-    let empty = shape_of(EMPTY).ok_or("no pattern")?;
-    let (table, mut pass) = table_of(alloc, 0).ok_or("no table")?;
+/// Whether a game that finds one number and wants another leaves a row that counts nothing.
+fn leaves_a_blank(alloc: Global) -> Option<bool> {
+    let taken = Word::new(TAKEN)?;
+    let (table, mut pass) = table_of(alloc, 0)?;
     let mut share = Share::begin(alloc, 3, Kinds::Squares);
-    let added = add_written(alloc, &mut share, &table, &mut pass, 0, TWO_POINTS);
-    let refused = added.ok_or("no record")?.err();
-    assert!(rt; refused == Some(HarvestFault::Full { game: 0, word }));
-    assert!(rt; share.worker() == 3 && has_blank_alone(&share, empty));
-    Ok(())
+    let wants = wants_a_number(alloc, &mut share, &table, &mut pass, 0, TWO_POINTS, taken);
+    Some(wants && has_blank_alone(&share))
 }
 
 #[test]
-fn faults_have_texts(rt: HostRuntime) -> Result<(), Fail> {
-    let word = Word::new(0x48).ok_or("no word")?;
-    for (fault, text) in [
-        (
-            HarvestFault::Full { game: 7, word },
-            "F1 full in game 7 at 0000000000048",
-        ),
-        (HarvestFault::Missing(1), "F2 missing game 1"),
-        (HarvestFault::Twice(30), "F3 game 30 twice"),
-        (stranger(5, None, Some(word)), "F4 stranger at number 5"),
-        (HarvestFault::BadSettings, "F5 bad settings"),
-        (HarvestFault::Memory, "F6 no memory"),
-        (
-            HarvestFault::Sgf(SgfFault::BadByte(15)),
-            "S2 bad byte at 15",
-        ),
-        (HarvestFault::Overflow, "F8 count too large"),
-        (
-            HarvestFault::Marks {
-                number: 2,
-                of_shares: None,
-                of_table: Some(0),
-            },
-            "F9 mark differs at number 2",
-        ),
-    ] {
-        let said = format!(in rt.alloc(); "{fault}")?;
-        assert_eq!(rt; said.as_str(), text);
-    }
-    Ok(())
+fn a_refused_game_leaves_rows_without_counts(rt: HostRuntime) {
+    assert!(rt; leaves_a_blank(rt.alloc()) == Some(true));
 }

@@ -1,14 +1,16 @@
 //! What a worker counts by words, and the numbers that its patterns get.
+ghost use Rattle.std.specs.Prelude.{IfSome};
+ghost use Rattle.share_core.specs.Shares.{IsShare};
 ghost use Rattle.slot_table.specs.Passes.{IsPassOf};
 
 use harvest_faults::HarvestFault;
 use probe_core::{Answer, Key, ProbeOrder};
-use share_core::NumberedShare;
+use share_core::{NumberedShare, WordShare};
 use share_samples::{
     ALONE, EMPTY, ONE_POINT, TAKEN, TWO_POINTS, record_of, shape_of, table_of, words_of,
 };
 use slot_table::{Pass, SlotTable};
-use std::test::Fail;
+use std::alloc::Global;
 
 /// How often the pattern whose word has these bits was there and was played by a share, and its
 /// first game, if the share has it once, at the number that the table has for it.
@@ -37,35 +39,46 @@ fn counted<O: ProbeOrder>(
     found
 }
 
-#[test]
-fn patterns_that_were_counted_get_numbers(rt: HostRuntime) -> Result<(), Fail> {
-    let alloc = rt.alloc();
-    let (table, mut pass) = table_of(alloc, 2).ok_or("no table")?;
-    let first = record_of(alloc, TWO_POINTS).ok_or("no record")?;
-    let second = record_of(alloc, ONE_POINT).ok_or("no record")?;
-    let words = words_of(alloc, &first, &second)?;
-    let share = words.number(&table, &mut pass)?;
-    assert!(rt; share.moves() == 3);
-    assert!(rt; share.games() == [0, 1].as_slice());
-    assert!(rt; counted(&table, &mut pass, &share, EMPTY) == Some((2, 1, Some(0))));
-    assert!(rt; counted(&table, &mut pass, &share, TAKEN) == Some((1, 1, Some(0))));
-    assert!(rt; counted(&table, &mut pass, &share, ALONE) == Some((1, 1, Some(1))));
-    Ok(())
+/// What a worker has counted by words of both games, the one of two points first.
+fn both(alloc: Global) -> Option<WordShare>
+    ensures { IfSome result IsShare }
+{
+    let first = record_of(alloc, TWO_POINTS)?;
+    let second = record_of(alloc, ONE_POINT)?;
+    words_of(alloc, &first, &second).ok()
 }
 
-/// Whether no number was free for a pattern of the game 0 or 1.
-fn is_full(fault: HarvestFault) -> bool {
-    matches!(fault, HarvestFault::Full { game, .. } if game < 2)
+/// Whether a share has both games, and each of their patterns once.
+fn has_both<O: ProbeOrder>(table: &SlotTable<O>, pass: &mut Pass<O>, share: &NumberedShare) -> bool
+    requires { IsPassOf table.now pass.old }
+{
+    share.moves() == 3
+        && share.games() == [0, 1].as_slice()
+        && counted(table, pass, share, EMPTY) == Some((2, 1, Some(0)))
+        && counted(table, pass, share, TAKEN) == Some((1, 1, Some(0)))
+        && counted(table, pass, share, ALONE) == Some((1, 1, Some(1)))
+}
+
+/// Whether the patterns of both games get numbers of a table of four.
+fn are_numbered(alloc: Global) -> Option<bool> {
+    let (table, mut pass) = table_of(alloc, 2)?;
+    let share = both(alloc)?.number(&table, &mut pass).ok()?;
+    Some(has_both(&table, &mut pass, &share))
 }
 
 #[test]
-fn a_number_is_wanting(rt: HostRuntime) -> Result<(), Fail> {
-    let alloc = rt.alloc();
-    let (table, mut pass) = table_of(alloc, 1).ok_or("no table")?;
-    let first = record_of(alloc, TWO_POINTS).ok_or("no record")?;
-    let second = record_of(alloc, ONE_POINT).ok_or("no record")?;
-    let words = words_of(alloc, &first, &second)?;
-    let fault = words.number(&table, &mut pass).err().ok_or("no fault")?;
-    assert!(rt; is_full(fault));
-    Ok(())
+fn patterns_that_were_counted_get_numbers(rt: HostRuntime) {
+    assert!(rt; are_numbered(rt.alloc()) == Some(true));
+}
+
+/// The fault of a table of two numbers.
+fn fault_of_two(alloc: Global) -> Option<HarvestFault> {
+    let (table, mut pass) = table_of(alloc, 1)?;
+    both(alloc)?.number(&table, &mut pass).err()
+}
+
+#[test]
+fn a_number_is_wanting(rt: HostRuntime) {
+    let fault = fault_of_two(rt.alloc());
+    assert!(rt; matches!(fault, Some(HarvestFault::Full { game, .. }) if game < 2));
 }
