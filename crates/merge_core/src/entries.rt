@@ -6,9 +6,9 @@ use shape_dict::Entry;
 pub enum NextFault {
     /// A sum is over 2^64 - 1.
     Overflow,
-    /// A read of the dictionary of this number, from 1, failed, or it gave other bytes than before.
+    /// A read of the dictionary of this number, from 1, failed, or what it gave is no text.
     Read(usize),
-    /// A dictionary gave other bytes than before.
+    /// What was read fits nothing that was read before.
     Changed,
     /// Memory was refused.
     Memory,

@@ -16,10 +16,12 @@ pub enum MergeFault {
     /// those before it.
     #[error("dictionary {n}: {fault}")]
     Dict { n: usize, fault: DictFault },
-    /// A read of the dictionary of this number failed, or it gave other bytes than before.
+    /// A read of the dictionary of this number failed, or what it gave in the second reading is no
+    /// text, or has a word outside of the range that was read.
     #[error("dictionary {n}: I1 read failed, {written} bytes written")]
     Read { n: usize, written: usize },
-    /// A dictionary gave other bytes than before.
+    /// The join of the second reading can't be made, or has another number of patterns than that
+    /// of the first.
     #[error("I1 read failed, {written} bytes written")]
     Changed { written: usize },
     /// A write failed.

@@ -99,9 +99,12 @@ fn merge_ranges<T: Threads + Sync, S: Sources + Sync, W: Write>(
 ///
 /// `Empty` where there is no dictionary. `Dict` with the number of the first dictionary, from 1,
 /// that cannot be read (X1 to X5) or added to those before it (X7, X9), and its fault: nothing is
-/// written then. `Read` where a dictionary could not be opened or read, or gave other bytes than
-/// before; `Changed` where that is all that is known; `Memory` where memory was refused; `Write`
-/// where the writer failed. Each of these has the number of bytes of the text that are out.
+/// written then. `Read` where a dictionary could not be opened or read, or what it gave in the
+/// second reading is no text, or has a word outside of the range that is read; `Changed` where the
+/// join of the second reading can't be made, or has another number of patterns than that of the
+/// first; `Memory` where memory was refused; `Write` where the writer failed. Each of these has the
+/// number of bytes that are out. Any other change between the readings goes unseen, and what is
+/// written is then the join of neither.
 pub fn run_merge<T: Threads + Sync, S: Sources + Sync, W: Write>(
     rt: &T,
     alloc: Global,
