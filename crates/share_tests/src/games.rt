@@ -1,5 +1,5 @@
-//! Games that are added to shares. Of each call the tests need the pass alone, so no other clause of
-//! `share_samples` is passed on: the less is known, the less a proof has to look through.
+//! Games that are added to shares. The tests need of each call its pass alone, so no other clause
+//! of `share_samples` is passed on: the less is known, the less a proof has to look through.
 ghost use Rattle.std.specs.Prelude.{◌<◌};
 ghost use Rattle.sgf_core.specs.Limit.{most_bytes};
 ghost use Rattle.slot_table.specs.Passes.{IsPassOf};

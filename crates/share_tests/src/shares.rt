@@ -72,7 +72,8 @@ fn a_table_too_small_by_one_pattern(rt: HostRuntime) {
     assert!(rt; is_too_small(rt.alloc()) == Some(true));
 }
 
-/// Whether this is the row of the empty board of two points at the first number, and counts nothing.
+/// Whether this is the row of the empty board of two points at the first number, and counts
+/// nothing.
 fn is_blank(row: Row) -> bool {
     row.number == 0
         && row.shape.word().bits() == EMPTY
