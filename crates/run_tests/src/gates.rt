@@ -187,11 +187,7 @@ impl Gate for Notes {
 }
 
 /// What a gate notes while three workers count this collection.
-fn noted<R: Threads + Sync>(
-    rt: &R,
-    alloc: Global,
-    bytes: &[u8],
-) -> Result<(u64, u64), Fail> {
+fn noted<R: Threads + Sync>(rt: &R, alloc: Global, bytes: &[u8]) -> Result<(u64, u64), Fail> {
     let gate = Notes {
         told: AtomicU64::new(0),
         strange: AtomicU64::new(0),

@@ -127,11 +127,25 @@ fn any_order_of_probes_counts_the_same(rt: HostRuntime) -> Result<(), Fail> {
     let capacity = capacity_of(&rt, 2);
     for workers in CREWS {
         let settings = Settings::new(workers, 0)?;
-        let odd = counted_on(&rt, alloc, OddStep { capacity }, settings, &bytes, &FreeGate)?;
+        let odd = counted_on(
+            &rt,
+            alloc,
+            OddStep { capacity },
+            settings,
+            &bytes,
+            &FreeGate,
+        )?;
         assert_20(&rt, alloc, &bytes, &odd)?;
         let linear = counted_on(&rt, alloc, Linear { capacity }, settings, &bytes, &FreeGate)?;
         assert_20(&rt, alloc, &bytes, &linear)?;
-        let runs = counted_on(&rt, alloc, OddRuns { capacity }, settings, &bytes, &FreeGate)?;
+        let runs = counted_on(
+            &rt,
+            alloc,
+            OddRuns { capacity },
+            settings,
+            &bytes,
+            &FreeGate,
+        )?;
         assert_20(&rt, alloc, &bytes, &runs)?;
     }
     Ok(())

@@ -1,5 +1,5 @@
 -- What a worker has counted of an input, and why it was refused.
-use Rattle.std.specs.Prelude.{◌≡◌, ℕ, ◌+◌, ◌≤◌, ◌^◌, ◌*◌, ◌⊎◌, List, [], ◌∷◌, ◌++◌, length, All, Contains, Option, Some, None}
+use Rattle.std.specs.Prelude.{◌≡◌, ℕ, ◌+◌, ◌≤◌, ◌^◌, ◌*◌, ◌⊎◌, List, [], ◌∷◌, ◌++◌, length, Contains, Option, Some, None}
 use Rattle.go_record.specs.Actions.{Actions}
 use Rattle.shape_core.specs.declared.words.Kinds.{Kinds}
 use Rattle.job_core.specs.Rising.{Rising, past}
@@ -7,7 +7,7 @@ use Rattle.job_core.specs.declared.hands.Hand.{Hand}
 use Rattle.share_core.specs.declared.rows.Row.{Row}
 use Rattle.harvest_faults.specs.declared.faults.HarvestFault.{HarvestFault}
 use Rattle.harvest_faults.specs.declared.faults.HarvestFault.TheVariants as fault
-use Rattle.share_core.specs.Shares.{Held, Added, IsShareOf, IsPatternOf}
+use Rattle.share_core.specs.Shares.{Held}
 use Rattle.share_core.specs.Adding.{IsTooLarge, IsKept, IsAddFault}
 use Rattle.gather_core.specs.Confirming.{HasShape}
 use Rattle.share_core.specs.Entering.{IsCall, CallsOnly}

@@ -25,12 +25,12 @@ ghost use Rattle.table_harvest.specs.Inner.Parted.{refusals_of};
 ghost use Rattle.table_harvest.specs.Inner.Reading.{IsOnceEach};
 ghost use Rattle.table_harvest.specs.Inner.Harvest.{AreTogether, IsExplained, IsTold};
 
-use harvest_core::Gate;
 use crate::parting::{Parted, part, want_memory, worst};
 use crate::taking::Crop;
 use crate::threads::Crew;
 use crate::workers::Worker;
 use gather_core::{confirm_full, gather};
+use harvest_core::Gate;
 use harvest_faults::HarvestFault;
 use job_core::{Desk, Games, new_queue};
 use probe_core::ProbeOrder;

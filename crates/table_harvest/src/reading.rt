@@ -17,9 +17,9 @@ ghost use Rattle.table_harvest.specs.Working.{IsRefused, IsCounted, CallsIn};
 ghost use Rattle.harvest_core.specs.Inner.Reading.{IsReadFault};
 ghost use Rattle.table_harvest.specs.Inner.Reading.{AreDealt, IsReadingOf};
 
-use harvest_core::Gate;
 use crate::workers::Worker;
 use crate::working::Worked;
+use harvest_core::Gate;
 use harvest_faults::HarvestFault;
 use job_core::{Desk, Games, Item, Job};
 use probe_core::ProbeOrder;

@@ -3,9 +3,9 @@
 ghost use Rattle.std.specs.Prelude.{[], OnOk};
 ghost use Rattle.table_harvest.specs.Inner.Crew.{HasTaken};
 
-use harvest_core::Gate;
 use crate::workers::{Returned, Worker};
 use crate::working::Worked;
+use harvest_core::Gate;
 use harvest_faults::HarvestFault;
 use probe_core::ProbeOrder;
 use slot_table::Pass;

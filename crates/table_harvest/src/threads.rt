@@ -11,11 +11,11 @@ ghost use Rattle.table_harvest.specs.Inner.Crew.{IsHandleOf, IsBackOf, IsCrop, I
 ghost use Rattle.table_harvest.specs.Inner.Crew.{stakes_of, stakes_back};
 ghost use Rattle.table_harvest.specs.Inner.Crew.{promised_of, numbers_back, workers_of};
 
-use harvest_core::Gate;
 use crate::reading::{Reading, close, read_games};
 use crate::taking::{Crop, take_up};
 use crate::workers::{Returned, Worker, work};
 use crate::working::Worked;
+use harvest_core::Gate;
 use harvest_faults::HarvestFault;
 use job_core::{Desk, Games};
 use probe_core::ProbeOrder;

@@ -2,8 +2,8 @@
 ghost use Rattle.slot_table.specs.Passes.{IsPassOf};
 ghost use Rattle.table_harvest.specs.Working.{IsReturned};
 
-use harvest_core::Gate;
 use crate::working::Worked;
+use harvest_core::Gate;
 use job_core::{Desk, Item};
 use probe_core::ProbeOrder;
 use shape_core::Kinds;

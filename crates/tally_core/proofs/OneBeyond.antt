@@ -283,11 +283,11 @@ module _ (one_result : HaveOneResult) where
       let first = front one_result kinds bytes 0 h.end few.end h.trees few.trees h.games few.games h.written few.written few.no_more h.replayed few.replayed in
       let all = once_each (patterns_in kinds few.games) in
       let among : All (λ w. is_in w all ≡ true) h.shapes = λ k d inside.
-          let w = get_or h.shapes k d in
-          in_once w (patterns_in kinds few.games)
-          ∙ ap (is_in w) (patterns-are kinds few.games ∙ ap all_of first.1 ∙ all-append (by_game kinds h.games) first.0)
-          ∙ in-front w (all_of (by_game kinds h.games)) (all_of first.0)
-          (ap (is_in w) (sym (patterns-are kinds h.games)) ∙ sym (has-is w (patterns_in kinds h.games)) ∙ met-there kinds w h.games (h.there k d inside)) in
+      let w = get_or h.shapes k d in
+      in_once w (patterns_in kinds few.games)
+      ∙ ap (is_in w) (patterns-are kinds few.games ∙ ap all_of first.1 ∙ all-append (by_game kinds h.games) first.0)
+      ∙ in-front w (all_of (by_game kinds h.games)) (all_of first.0)
+      (ap (is_in w) (sym (patterns-are kinds h.games)) ∙ sym (has-is w (patterns_in kinds h.games)) ∙ met-there kinds w h.games (h.there k d inside)) in
       let bound = different_few h.shapes all h.different among in
       let more = h.more in
       let many = few.few in
