@@ -38,7 +38,7 @@ pub record IsHitsText (search : Search) (words : List ℕ) (found : Outcome) (in
 abbrev pub HasHitsText : Search → List ℕ → List ℕ → List ℕ → Type 0
 HasHitsText search words input text = (found : Outcome) × IsHitsText search words found input text
 
--- the input is too large, which comes first, or has this fault of syntax, or memory was wanting
+-- the input is too large, which comes first, or has this fault of syntax, or memory was wanting: for the input itself, or later
 abbrev pub IsHitsFault : List ℕ → RunFault → Type 0
 IsHitsFault input (fault.Sgf sgf.TooLarge) = most_bytes < length input
 IsHitsFault input (fault.Sgf found) = (length input ≤ most_bytes) × HasFault input found

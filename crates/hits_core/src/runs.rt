@@ -102,9 +102,10 @@ fn hits_text<T: Threads + Sync>(
 ///
 /// # Errors
 ///
-/// `Read` where the reader failed; `Memory` where memory was refused; else `Sgf` with S4 where the
-/// collection has more than 2^28 bytes, else with its first fault of syntax (S1 to S3). Nothing is
-/// written then. `Write` where the writer failed: exactly that number of bytes of the text is out.
+/// `Read` where the reader failed; `Memory` where memory was refused, which says nothing of the
+/// collection, since memory for that is asked first; else `Sgf` with S4 where the collection has
+/// more than 2^28 bytes, else with its first fault of syntax (S1 to S3). Nothing is written then.
+/// `Write` where the writer failed: exactly that number of bytes of the text is out.
 pub fn run_hits<T: Threads + Sync, R: Read, W: Write>(
     rt: &T,
     alloc: Global,
