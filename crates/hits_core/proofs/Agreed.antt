@@ -112,7 +112,7 @@ module _ (stay : KindsStay) (words : List ℕ) (which : Kinds) (word : ℕ) (wan
   one-point : (game : Game) (number : ℕ) (size : Extent) (p q : Position) (mover : Colour) (at here : Point) → game.recorded.size ≡ size → AreSame size p q →
       times_hit word (hits_at words game (record { number = number; occasion = record { position = p; mover = mover; at = at } }) here) ≡ times_in word (patterns_at (kinds_of which) size q mover here)
   one-point game number size p q mover at here sized same =
-      hit-map word (λ w. record { game = game.number; number = number; at = here; mover = mover; place = game.place; word = w }) (λ w. refl) (wanted_at words game.recorded.size p mover here)
+      hit-map word (λ w. record { game = game.number; number = number; at = here; mover = mover; place = game.place; rows = game.recorded.size.rows; word = w }) (λ w. refl) (wanted_at words game.recorded.size p mover here)
       ∙ kept-word (is_wanted words) word wanted (patterns_at (kinds_of kinds.Both) game.recorded.size p mover here)
       ∙ ap (λ (s : Extent). times_in word (patterns_at (kinds_of kinds.Both) s p mover here)) sized
       ∙ ap (times_in word) (patterns-same (kinds_of kinds.Both) size p q mover here same)

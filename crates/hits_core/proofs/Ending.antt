@@ -41,7 +41,7 @@ answered (Some n) outcome.NotFound hits all cut is = none-found (max n 1) all (o
 answered (Some n) outcome.Done hits all cut is = λ none. is (cut ∙ ap (take (max n 1)) none ∙ take-none (max n 1))
 
 pub is-text : (search : Search) (words input text : List ℕ) (found : Outcome) (hits : List Hit) → AreHitsIn search words input hits →
-    text ≡ flat_map (line_text search.shown) (first_of search.most hits) → IsAnswer found hits → IsHitsText search words found input text
+    text ≡ flat_map (line_text search) (first_of search.most hits) → IsAnswer found hits → IsHitsText search words found input text
 is-text search words input text found hits are printed is =
     let read = are.read in
     let part = are.part in
@@ -61,5 +61,5 @@ is-text search words input text found hits are printed is =
         enough = ⊎_elim (λ (none : part.rest ≡ []). inl none) (λ (full : IsFull (limit_of search.most) part.found). inr (enough-full search.most part.found full)) part.enough;
       };
       answered = answered search.most found hits part.found part.cut is;
-      printed = printed ∙ ap (flat_map (line_text search.shown)) (ap (first_of search.most) part.cut ∙ first-limit search.most part.found);
+      printed = printed ∙ ap (flat_map (line_text search)) (ap (first_of search.most) part.cut ∙ first-limit search.most part.found);
     }

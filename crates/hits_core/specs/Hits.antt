@@ -27,7 +27,7 @@ points_seen sought.There size occasion = filter (λ point. is_empty (occasion.po
 abbrev pub hits_at : List ℕ → Game → Turn → Point → List Hit
 hits_at words game turn point =
     map
-    (λ word. record { game = game.number; number = turn.number; at = point; mover = turn.occasion.mover; place = game.place; word = word })
+    (λ word. record { game = game.number; number = turn.number; at = point; mover = turn.occasion.mover; place = game.place; rows = game.recorded.size.rows; word = word })
     (wanted_at words game.recorded.size turn.occasion.position turn.occasion.mover point)
 
 -- the hits of an occasion

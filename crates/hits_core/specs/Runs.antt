@@ -33,7 +33,7 @@ pub record IsHitsText (search : Search) (words : List ℕ) (found : Outcome) (in
   pub hits : List Hit
   pub of_games : AreFirstHits search.sought words search.most games hits
   pub answered : IsAnswer found hits
-  pub printed : text ≡ flat_map (line_text search.shown) (first_of search.most hits)
+  pub printed : text ≡ flat_map (line_text search) (first_of search.most hits)
 
 abbrev pub HasHitsText : Search → List ℕ → List ℕ → List ℕ → Type 0
 HasHitsText search words input text = (found : Outcome) × IsHitsText search words found input text

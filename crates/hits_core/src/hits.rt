@@ -15,6 +15,8 @@ pub struct Hit {
     pub mover: Colour,
     /// The place of the first parenthesis of the game's tree, a byte offset in the input, from 0.
     pub place: usize,
+    /// How many rows the game's board has.
+    pub rows: u8,
     /// The pattern's canonical word.
     pub word: Shape,
 }

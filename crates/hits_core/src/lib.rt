@@ -22,5 +22,5 @@ pub use hits::Hit;
 pub use laws::hits_agree_with_counts;
 pub use lists::{WordsFault, read_wanted, status_of};
 pub use runs::run_hits;
-pub use searches::{Search, Shown, Sought};
+pub use searches::{Search, Shown, Sought, Spelling};
 pub use wanted::Wanted;

@@ -20,11 +20,12 @@ pub(crate) struct Sight {
     pub(crate) diamond: Option<Shape>,
 }
 
-/// An occasion: its game's number and place, the number of its move, and who moves.
+/// An occasion: its game's number, place and rows, the number of its move, and who moves.
 #[derive(Clone, Copy)]
 pub(crate) struct Moment {
     pub(crate) game: u64,
     pub(crate) place: usize,
+    pub(crate) rows: u8,
     pub(crate) number: u64,
     pub(crate) mover: Colour,
 }
@@ -79,6 +80,7 @@ impl Moment {
             at,
             mover: self.mover,
             place: self.place,
+            rows: self.rows,
             word,
         }
     }

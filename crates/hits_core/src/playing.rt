@@ -55,6 +55,7 @@ fn look(
     let moment = Moment {
         game: game.number,
         place: game.place,
+        rows: game.recorded.size().rows(),
         number,
         mover: colour,
     };

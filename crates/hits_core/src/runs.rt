@@ -82,7 +82,7 @@ fn hits_text<T: Threads + Sync>(
         Ok(hits) => hits,
         Err(fault) => return Err(run_fault(fault)),
     };
-    let text = text_of(alloc, search.shown, search.most, &hits)?;
+    let text = text_of(alloc, search, &hits)?;
     Ok((text, outcome_of(&hits)))
 }
 

@@ -18,6 +18,16 @@ pub enum Shown {
     WordsToo,
 }
 
+/// How points are written.
+#[derive(Clone, Copy, Debug, PartialEq, Eq)]
+pub enum Spelling {
+    /// As SGF has them: the letter of the column, and that of the row from the top.
+    Letters,
+    /// As boards are labelled: the letters of the column, without I, and the number of the row from
+    /// below.
+    Coordinates,
+}
+
 /// What is asked for, beside the patterns.
 #[derive(Clone, Copy, Debug, PartialEq, Eq)]
 pub struct Search {
@@ -27,4 +37,6 @@ pub struct Search {
     pub most: Option<u64>,
     /// What the lines show.
     pub shown: Shown,
+    /// How their points are written.
+    pub spelling: Spelling,
 }

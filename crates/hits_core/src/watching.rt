@@ -206,6 +206,7 @@ impl Watch {
         let moment = Moment {
             game: game.number,
             place: game.place,
+            rows: game.recorded.size().rows(),
             number,
             mover: colour,
         };

@@ -3,10 +3,11 @@ ghost use Rattle.std.specs.Prelude.{◌≡◌, ◌++◌, OnOk, IfOk};
 ghost use Rattle.std.specs.List.{flat_map};
 ghost use Rattle.hits_core.specs.Hits.{first_of};
 ghost use Rattle.hits_core.specs.Lines.{letter_of, point_text, colour_text, front_text};
+ghost use Rattle.hits_core.specs.Lines.{column_letter, column_text, coordinates_text, spelled};
 ghost use Rattle.hits_core.specs.Lines.{turn_text, where_text, line_text};
 
 use crate::hits::Hit;
-use crate::searches::Shown;
+use crate::searches::{Search, Shown, Spelling};
 use go_board::{Colour, Point};
 use shape_core::Shape;
 use shape_dict::{push_number, push_word};
@@ -23,11 +24,55 @@ fn letter(side: u8) -> u8
     }
 }
 
-/// Appends a point: the letter of its column, then that of its row.
+/// Appends a point as SGF has it: the letter of its column, then that of its row.
 fn push_point(text: &mut Vec<u8>, point: Point) -> Result<(), AllocError>
     ensures { OnOk result (text.new.items ≡ text.old.items ++ point_text point) }
 {
     text.extend_from_slice(&[letter(point.column), letter(point.row)])
+}
+
+/// The letter of a column from 0 to 24, as boards have it: there is no I.
+fn column_letter(column: u8) -> u8
+    ensures { result ≡ column_letter column }
+{
+    if column < 8 {
+        b'A' + column
+    } else {
+        b'B' + column.min(24)
+    }
+}
+
+/// Appends the letters of a column.
+fn push_column(text: &mut Vec<u8>, column: u8) -> Result<(), AllocError>
+    ensures { OnOk result (text.new.items ≡ text.old.items ++ column_text column) }
+{
+    if column < 25 {
+        return text.extend_from_slice(&[column_letter(column)]);
+    }
+    text.extend_from_slice(&[column_letter(column / 25 - 1), column_letter(column % 25)])
+}
+
+/// Appends a point of a board of this many rows, as boards are labelled.
+fn push_coordinates(text: &mut Vec<u8>, rows: u8, point: Point) -> Result<(), AllocError>
+    ensures { OnOk result (text.new.items ≡ text.old.items ++ coordinates_text rows point) }
+{
+    push_column(text, point.column)?;
+    push_number(text, u64::from(rows.saturating_sub(point.row)))
+}
+
+/// Appends a point of a board of this many rows.
+fn push_spelled(
+    text: &mut Vec<u8>,
+    spelling: Spelling,
+    rows: u8,
+    point: Point,
+) -> Result<(), AllocError>
+    ensures { OnOk result (text.new.items ≡ text.old.items ++ spelled spelling rows point) }
+{
+    match spelling {
+        Spelling::Letters => push_point(text, point),
+        Spelling::Coordinates => push_coordinates(text, rows, point),
+    }
 }
 
 /// Appends a colour's name.
@@ -64,10 +109,10 @@ fn push_turn(text: &mut Vec<u8>, hit: &Hit) -> Result<(), AllocError>
 }
 
 /// Appends the point, who was to move, and the place of the game's tree.
-fn push_where(text: &mut Vec<u8>, hit: &Hit) -> Result<(), AllocError>
-    ensures { OnOk result (text.new.items ≡ text.old.items ++ where_text hit.now) }
+fn push_where(text: &mut Vec<u8>, spelling: Spelling, hit: &Hit) -> Result<(), AllocError>
+    ensures { OnOk result (text.new.items ≡ text.old.items ++ where_text spelling hit.now) }
 {
-    push_point(text, hit.at)?;
+    push_spelled(text, spelling, hit.rows, hit.at)?;
     text.extend_from_slice(b" ")?;
     push_colour(text, hit.mover)?;
     text.extend_from_slice(b" ")?;
@@ -76,12 +121,12 @@ fn push_where(text: &mut Vec<u8>, hit: &Hit) -> Result<(), AllocError>
 }
 
 /// Appends the line of a hit.
-fn push_line(text: &mut Vec<u8>, shown: Shown, hit: &Hit) -> Result<(), AllocError>
-    ensures { OnOk result (text.new.items ≡ text.old.items ++ line_text shown hit.now) }
+fn push_line(text: &mut Vec<u8>, search: Search, hit: &Hit) -> Result<(), AllocError>
+    ensures { OnOk result (text.new.items ≡ text.old.items ++ line_text search hit.now) }
 {
-    push_front(text, shown, hit.word)?;
+    push_front(text, search.shown, hit.word)?;
     push_turn(text, hit)?;
-    push_where(text, hit)
+    push_where(text, search.spelling, hit)
 }
 
 /// The first hits, as many as are asked for.
@@ -95,18 +140,13 @@ fn first(hits: &[Hit], most: Option<u64>) -> &[Hit]
 }
 
 /// The lines of the first hits, as many as are asked for.
-pub(crate) fn text_of(
-    alloc: Global,
-    shown: Shown,
-    most: Option<u64>,
-    hits: &[Hit],
-) -> Result<Vec<u8>, AllocError>
+pub(crate) fn text_of(alloc: Global, search: Search, hits: &[Hit]) -> Result<Vec<u8>, AllocError>
     ensures { IfOk result (λ text. text.items
-        ≡ flat_map (line_text shown) (first_of most hits.now)) }
+        ≡ flat_map (line_text search) (first_of search.most hits.now)) }
 {
     let mut text = Vec::new(alloc);
-    for hit in first(hits, most) {
-        push_line(&mut text, shown, hit)?;
+    for hit in first(hits, search.most) {
+        push_line(&mut text, search, hit)?;
     }
     Ok(text)
 }

@@ -14,4 +14,6 @@ patterns_app =
     (word_rule (codes "colour"))) (flag_rule (codes "diamond"))) (option_rule (codes "words"))
 
 abbrev pub program_app : App
-program_app = with_rule (with_rule (with_rule patterns_app (flag_rule (codes "there"))) most_rule) workers_rule
+program_app =
+    with_rule (with_rule (with_rule (with_rule patterns_app (flag_rule (codes "there"))) (flag_rule (codes "coordinates"))) most_rule)
+    workers_rule

@@ -12,6 +12,8 @@ use Rattle.hits_core.specs.declared.searches.Shown.{Shown}
 use Rattle.hits_core.specs.declared.searches.Shown.TheVariants as shown
 use Rattle.hits_core.specs.declared.searches.Sought.{Sought}
 use Rattle.hits_core.specs.declared.searches.Sought.TheVariants as sought
+use Rattle.hits_core.specs.declared.searches.Spelling.{Spelling}
+use Rattle.hits_core.specs.declared.searches.Spelling.TheVariants as spelling
 use Rattle.shape_hits.specs.Commands.{program_app}
 use Rattle.shape_hits.specs.declared.words.Asked.{Asked}
 use Rattle.shape_hits.specs.declared.words.Task.{Task}
@@ -29,6 +31,10 @@ IsMostOf rows (Some most) = IsNumberOf (codes "most") rows most
 -- whether the flag was given says which times are listed
 abbrev pub IsSoughtOf : List Row → Sought → Type 0
 IsSoughtOf rows found = IsChoiceOf (codes "there") sought.There sought.Played rows found
+
+-- whether the flag was given says how points are written
+abbrev pub IsSpellingOf : List Row → Spelling → Type 0
+IsSpellingOf rows found = IsChoiceOf (codes "coordinates") spelling.Coordinates spelling.Letters rows found
 
 -- no part of a pattern is spelled
 pub record IsAlone (rows : List Row) : Type 0 where
@@ -53,6 +59,7 @@ pub record IsAsked (rows : List Row) (asked : Asked) : Type 0 where
   pub sought : IsSoughtOf rows asked.search.sought
   pub most : IsMostOf rows asked.search.most
   pub shown : asked.search.shown ≡ shown_for asked.shape
+  pub spelling : IsSpellingOf rows asked.search.spelling
   pub workers : IsNumberOf (codes "workers") rows asked.workers
 
 -- `--most` has a value that is no number below 2 ^ 64

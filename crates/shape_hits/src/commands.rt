@@ -18,7 +18,8 @@ pattern was played, or was there:
   3 17 dp black 2051    in game 3, at move 17, at the point dp, with Black to move; the game is at byte 2051
 
 Games count from 0 as `shapes count` numbers them, moves from 1 with passes among them, and a point is
-spelled as SGF spells it. With --words each line begins with the pattern's word.
+spelled as SGF spells it; with --coordinates it is the D4 of a board of 19 rows. With --words each line
+begins with the pattern's word.
 
 The glyphs are: . an empty point, X a black stone, O a white one, # off the board. Those of a square
 come in five rows of 5 from the top, those of a diamond in rows of 1, 3, 5, 7, 5, 3 and 1. The point
@@ -70,6 +71,11 @@ pub fn program<'a>(alloc: Global) -> Result<Command<'a>, AllocError>
             alloc,
             "there",
             "Each time that a pattern was there, and not only when it was played",
+        ))?
+        .arg(flag_argument(
+            alloc,
+            "coordinates",
+            "Points as boards are labelled, as N14, in place of the letters that SGF has",
         ))?
         .arg(most_argument(alloc))?
         .arg(workers_argument(

@@ -4,7 +4,7 @@ ghost use Rattle.std.specs.Prelude.{IfSome, IfNone, None, MatchBool};
 ghost use Rattle.clap.specs.Words.{first_of};
 ghost use Rattle.command_lines.specs.Values.{rows_in};
 ghost use Rattle.shape_hits.specs.Words.{ArePatterns, HasNoMost, IsAnswered, IsMostOf};
-ghost use Rattle.shape_hits.specs.Words.{IsPatternsFault, IsSearchFault, IsSearchOf, IsSoughtOf};
+ghost use Rattle.shape_hits.specs.Words.{IsPatternsFault, IsSearchFault, IsSearchOf, IsSoughtOf, IsSpellingOf};
 ghost use Rattle.shape_hits.specs.Words.{IsWordsFault, shown_for};
 
 use crate::commands::program;
@@ -13,7 +13,7 @@ use command_lines::{
     Line, choice, kind_of, number, read_line, small_number, spelled_pattern, word_of,
 };
 use engine_core::RunFault;
-use hits_core::{Search, Shown, Sought};
+use hits_core::{Search, Shown, Sought, Spelling};
 use shape_core::{Kind, Shape};
 use std::alloc::Global;
 
@@ -121,11 +121,18 @@ fn search_of(matches: &ArgMatches<'_>, most: Option<u64>, shape: &Option<Shape>)
     ensures sought { IsSoughtOf (rows_in matches.now) result.sought }
     ensures most { result.most ≡ most }
     ensures shown { result.shown ≡ shown_for shape.now }
+    ensures spelling { IsSpellingOf (rows_in matches.now) result.spelling }
 {
     Search {
         sought: choice(matches, "there", Sought::There, Sought::Played),
         most,
         shown: shown_for(shape),
+        spelling: choice(
+            matches,
+            "coordinates",
+            Spelling::Coordinates,
+            Spelling::Letters,
+        ),
     }
 }
 

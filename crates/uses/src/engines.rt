@@ -2,7 +2,7 @@
 //! `sheet_core` and `stream_core`.
 use engine_core::{Outcome, run_board};
 use harvest_core::{FreeGate, harvest};
-use hits_core::{Search, Shown, Sought, Wanted, run_hits};
+use hits_core::{Search, Shown, Sought, Spelling, Wanted, run_hits};
 use listing_core::{Listed, run_listing};
 use shape_core::{Kind, Kinds, Shape, Word};
 use sheet_core::{Asked, Form, Order, run_sheet};
@@ -55,6 +55,7 @@ fn hits_core(rt: HostRuntime) -> Result<(), Fail> {
         sought: Sought::Played,
         most: None,
         shown: Shown::Places,
+        spelling: Spelling::Letters,
     };
     let mut games = Cursor::new(b"(;SZ[1];B[aa])");
     let mut lines = Vec::new(alloc);

@@ -34,7 +34,15 @@ patterns_in sight = listed sight.square ++ listed sight.diamond
 -- the hit of a word at a point
 abbrev pub hit_in : Moment → Point → ℕ → Hit
 hit_in moment point word =
-    record { game = moment.game; number = moment.number; at = point; mover = moment.mover; place = moment.place; word = word }
+    record {
+      game = moment.game;
+      number = moment.number;
+      at = point;
+      mover = moment.mover;
+      place = moment.place;
+      rows = moment.rows;
+      word = word;
+    }
 
 -- as many hits as are asked for
 abbrev pub IsFull : Option ℕ → List Hit → Type 0

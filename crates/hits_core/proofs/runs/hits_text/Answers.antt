@@ -12,7 +12,7 @@ returns-clause-text g c =
     let search = c.args.search in
     let hits = c.in-Ok.hits in
     is-text search c.args.wanted.now c.args.input.now c.in_ok-text.text.items c.outcome_of.result hits.items c.in-Ok.ensures.hits
-    (c.in_ok-text.ensures ∙ ap (λ (hs : List Hit). flat_map (line_text search.shown) (first_of search.most hs)) c.deref.ensures.value)
+    (c.in_ok-text.ensures ∙ ap (λ (hs : List Hit). flat_map (line_text search) (first_of search.most hs)) c.deref.ensures.value)
     (subst (IsAnswer c.outcome_of.result) c.deref-2.ensures.value c.outcome_of.ensures)
 
 pub returns-in-Err-clause-fault : goal.returns-in-Err-clause-fault

@@ -24,5 +24,6 @@ returns-clause-search c =
       sought = c.search_of-search.ensures.sought;
       most = subst (IsMostOf (rows_in c.args.matches.now)) (sym c.search_of-search.ensures.most) c.in-Some.ensures.most;
       shown = c.search_of-search.ensures.shown;
+      spelling = c.search_of-search.ensures.spelling;
       workers = c.in-Some-small_number.ensures.number;
     }
