@@ -8,7 +8,7 @@ engine.c says what is read and printed, and with which statuses.
 import signal
 import sys
 
-from shapes import Shapes, around, board_of
+from shapes import Shapes, board_of
 
 LEAST = 50
 LETTERS = "abcdefghijklmnopqrstuvwxyzABCDEFGHIJKLMNOPQRSTUVWXYZ"
@@ -32,11 +32,10 @@ def board_in(text):
 
 def moves(shapes, table, board, mover):
     """The empty points whose patterns the table has, with their entries, row by row."""
-    for y, row in enumerate(board):
-        for x, code in enumerate(row):
-            entry = None if code else table.find(shapes.key_of_codes("square", around(board, y, x), mover))
-            if entry:
-                yield LETTERS[x] + LETTERS[y], entry
+    for column, row, code in board.points():
+        entry = None if code else table.find(shapes.key_of_codes("square", shapes.around(board, column, row), mover))
+        if entry:
+            yield LETTERS[column] + LETTERS[row], entry
 
 
 def main():

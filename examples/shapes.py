@@ -65,6 +65,7 @@ class Shapes:
             "diamond": [codes, number],
             "square_of_glyphs": [c_char_p, c_size_t, number],
             "diamond_of_glyphs": [c_char_p, c_size_t, number],
+            "around": [codes, c_size_t, c_uint32, c_uint32, c_uint32, codes],
             "canonical": [c_uint64, c_uint32, number],
             "read": [c_char_p, c_size_t, POINTER(Entry), c_size_t, number],
             "find": [POINTER(Entry), c_size_t, c_uint64, POINTER(Entry)],
@@ -98,6 +99,12 @@ class Shapes:
             return None
         return self.canonical(word, mover)
 
+    def around(self, board, column, row):
+        """The 25 codes of the square round a point of a board, or None where it has no such point."""
+        points, codes = (c_uint8 * max(len(board.codes), 1))(*board.codes), (c_uint8 * 25)()
+        status = self.calls.shapes_around(points, len(board.codes), board.columns, column, row, codes)
+        return list(codes) if status == DONE else None
+
     def read(self, text):
         """The dictionary of a text in bytes. ValueError says which fault a text has, as shapes_read tells it."""
         room, number = len(text) // 18, c_uint64()  # A line has 18 bytes or more.
@@ -109,14 +116,16 @@ class Shapes:
 
 
 def board_of(rows):
-    """The codes of a board's points, row by row from the top, from its rows of . X and O."""
-    return [[CODES[glyph] for glyph in row] for row in rows]
+    """A board of rows of . X and O that are as long as one another: the codes of its points, row by row from the top."""
+    return Board(len(rows[0]), bytes(CODES[glyph] for row in rows for glyph in row))
 
 
-def around(board, row, column):
-    """The 25 codes of the square round a point of a board."""
-    return [
-        board[y][x] if 0 <= y < len(board) and 0 <= x < len(board[0]) else OFF_BOARD
-        for y in range(row - 2, row + 3)
-        for x in range(column - 2, column + 3)
-    ]
+class Board:
+    """The codes of a board's points, row by row from the top, and how many columns it has."""
+
+    def __init__(self, columns, codes):
+        self.columns, self.codes = columns, codes
+
+    def points(self):
+        """The column, the row and the code of each point."""
+        return ((place % self.columns, place // self.columns, code) for place, code in enumerate(self.codes))

@@ -52,6 +52,7 @@ enum {
     SHAPES_BAD_LENGTH = 5,     /* there are not 25 glyphs */
     SHAPES_BAD_GLYPH = 6,      /* a byte is no glyph */
     SHAPES_NO_ROOM = 7,        /* there is not room for all entries */
+    SHAPES_BAD_POINT = 8,      /* the board has no such point */
     SHAPES_BAD_HEADER = 11,    /* X1: the text does not begin with a header */
     SHAPES_BAD_LINE = 12,      /* X2: a line is missing or is none, or bytes follow the text */
     SHAPES_NOT_RISING = 13,    /* X3: a line's word is not above that of the line before */
@@ -96,6 +97,13 @@ uint32_t shapes_square(const uint8_t codes[25], uint64_t *word);
 /* Writes the word of the diamond whose cells have these 25 codes: rows of one, three, five, seven, five, three and one.
  * SHAPES_BAD_CODE exactly where a code is over 3. */
 uint32_t shapes_diamond(const uint8_t codes[25], uint64_t *word);
+
+/* Writes the codes of the square round a point of a board, as shapes_square takes them: those of its points, and
+ * SHAPES_OFF_BOARD off the board. The board is the codes of all its points, row by row from the top, with so many
+ * columns; the point's column and row are counted from 0.
+ * SHAPES_BAD_POINT exactly where the column is not below `columns`, or row * columns + column not below `points`. */
+uint32_t shapes_around(const uint8_t *board, size_t points, uint32_t columns, uint32_t column, uint32_t row,
+                       uint8_t codes[25]);
 
 /* Writes the canonical word of a word with this mover, SHAPES_BLACK or SHAPES_WHITE.
  * SHAPES_BAD_WORD exactly where the number is 2^51 or more, and else SHAPES_BAD_MOVER exactly where there is no such

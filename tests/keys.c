@@ -67,6 +67,36 @@ static void try_codes(void) {
     check(shapes_square(codes, word) == SHAPES_DONE && *word == (1ULL << 50) - 1, "a square off the board");
 }
 
+// A board of three columns and two rows, whose points have the codes 1 to 6; some calls take fewer of its points.
+static void try_around(void) {
+    const uint8_t points[6] = {1, 2, 3, 4, 5, 6};
+    uint8_t *codes = room_for(25);
+    int sums = 1, faults = 1;
+    for (size_t count = 0; count <= 6; count++) {
+        uint8_t *board = copy_of(points, count);
+        for (uint32_t row = 0; row < 4; row++) {
+            for (uint32_t column = 0; column < 5; column++) {
+                int is_point = column < 3 && 3 * row + column < count;
+                memset(codes, 0x5a, 25);
+                uint32_t status = shapes_around(board, count, 3, column, row, codes);
+                faults &= status == (is_point ? SHAPES_DONE : SHAPES_BAD_POINT) && (is_point || codes[24] == 0x5a);
+                for (int cell = 0; is_point && cell < 25; cell++) {
+                    int x = (int)column + cell % 5 - 2, y = (int)row + cell / 5 - 2;
+                    int is_on = x >= 0 && x < 3 && y >= 0 && 3 * y + x < (int)count;
+                    sums &= codes[cell] == (is_on ? 3 * y + x + 1 : SHAPES_OFF_BOARD);
+                }
+            }
+        }
+    }
+    check(sums, "what stands round a point");
+    check(faults, "a point that the board does not have");
+    uint8_t *board = copy_of(points, 6);
+    memset(codes, 0x5a, 25);
+    uint32_t beyond = shapes_around(board, 6, UINT32_MAX, UINT32_MAX - 1, UINT32_MAX, codes);
+    uint32_t none = shapes_around(board, 6, 0, 0, 0, codes);
+    check(beyond == SHAPES_BAD_POINT && none == SHAPES_BAD_POINT && codes[0] == 0x5a, "the greatest numbers, and no columns");
+}
+
 static void try_canonical(void) {
     uint64_t *shape = room_for(sizeof *shape);
     check(shapes_canonical(0x9000, SHAPES_BLACK, shape) == SHAPES_DONE && *shape == 0x9000, "a canonical word");
@@ -234,6 +264,7 @@ static void try_finding(void) {
 int main(void) {
     for (at_end = 0; at_end < 2; at_end++) {
         try_codes();
+        try_around();
         try_canonical();
         try_glyphs();
         try_reading();

@@ -5,3 +5,4 @@ pub mod Glyphs
 pub mod Entries
 pub mod Read
 pub mod Found
+pub mod Around

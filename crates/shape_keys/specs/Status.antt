@@ -26,6 +26,7 @@ number_of status.BadMover = 4
 number_of status.BadLength = 5
 number_of status.BadGlyph = 6
 number_of status.NoRoom = 7
+number_of status.BadPoint = 8
 number_of (status.BadText found) = number_of_fault found
 
 -- the line that a fault names, from 1 at the header, or 0 where it names none

@@ -1,6 +1,7 @@
 //! The keys of patterns, and lookups in dictionaries, for programs in other languages.
 #![tactic(auto)]
 
+mod around;
 mod canonical;
 mod codes;
 mod colours;

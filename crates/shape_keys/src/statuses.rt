@@ -23,6 +23,8 @@ pub enum Status {
     BadGlyph,
     /// There is not room for all entries.
     NoRoom,
+    /// The board has no such point.
+    BadPoint,
     /// What is wrong with a text of a dictionary.
     BadText(DictFault),
 }
@@ -44,6 +46,7 @@ impl Status {
             Status::BadLength => 5,
             Status::BadGlyph => 6,
             Status::NoRoom => 7,
+            Status::BadPoint => 8,
             Status::BadText(fault) => number_of_fault(fault),
         }
     }
