@@ -7,8 +7,8 @@ ghost use Rattle.command_lines.specs.Arguments.{bare_app};
 use clap::Command;
 use std::alloc::Global;
 
-/// The version of all programs.
-const VERSION: &str = "1.0.0";
+/// The version of all programs, which is that on top of `CHANGELOG.md`.
+const VERSION: &str = "1.1.0";
 
 /// A subcommand of this name, without arguments. Its help says what it is about, how it is used
 /// and, at the end, these notes. It takes no memory.

@@ -19,12 +19,11 @@ const NOTES: &str =
 
 Examples:
   cat games/*.sgf | shapes count > games.dict
-  shapes find '###########X.############' white < games.dict
+  shapes find '......XO.................' black < games.dict
   cat a.dict b.dict | shapes join > all.dict
 
 Exit status: 0 done, 1 not found, 2 wrong words, 3 input refused, 4 more patterns than the table
-has room for, 5 no memory, 6 a read or a write
-failed";
+has room for, 5 no memory, 6 a read or a write failed";
 
 /// The end of the help of `count`.
 const COUNT_NOTES: &str =
