@@ -14,6 +14,9 @@ mod patterns;
 mod texts;
 mod values;
 
+// what is said of a file that a value names
+mod unread;
+
 pub use arguments::{
     colour_argument, diamond_argument, flag_argument, glyphs_argument, option_argument,
     text_argument, workers_argument,
@@ -22,4 +25,5 @@ pub use lines::{Line, read_line};
 pub use patterns::spelled_pattern;
 pub use programs::{command_named, program_named};
 pub use texts::text_of;
+pub use unread::why_unread;
 pub use values::{choice, kind_of, number, small_number, word_of};

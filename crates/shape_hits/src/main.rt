@@ -4,6 +4,7 @@
 mod commands;
 mod words;
 
+use command_lines::why_unread;
 use engine_core::{Outcome, RunFault, own_words, status_of, write_output};
 use hits_core::{Wanted, WordsFault, read_wanted, run_hits, status_of as words_status};
 use std::fs::File;
@@ -28,6 +29,17 @@ fn wanted_of(rt: &HostRuntime, asked: &Asked<'_>) -> Result<Wanted, WordsFault> 
     }
 }
 
+/// Says what is wrong with the list of words, with the file that could not be read.
+fn tell(rt: &HostRuntime, asked: &Asked<'_>, fault: &WordsFault) {
+    let _ = match (fault, asked.words) {
+        (WordsFault::Unread, Some(name)) => {
+            let why = why_unread(rt, name).unwrap_or("a read failed");
+            eprintln!(rt; "shape_hits: {fault}: {name}: {why}")
+        }
+        _ => eprintln!(rt; "shape_hits: {fault}"),
+    };
+}
+
 /// The status of a search.
 fn ended(outcome: Outcome) -> ExitCode {
     match outcome {
@@ -45,7 +57,7 @@ fn find<T: Threads + Sync>(
     let wanted = match wanted_of(rt, asked) {
         Ok(wanted) => wanted,
         Err(fault) => {
-            let _ = eprintln!(rt; "shape_hits: {fault}");
+            tell(rt, asked, &fault);
             return Ok(ExitCode::from(words_status(&fault)));
         }
     };

@@ -132,10 +132,8 @@ fn look_at_all(rt: &HostRuntime, names: &[&str]) -> Result<Vec<Seen>, AllocError
 pub fn look_at(rt: &HostRuntime, asked: &Asked<'_>) -> Result<Sights, AllocError>
     ensures { IfOk result (AreOf asked.now) }
 {
-    let target = match asked.out {
-        Some(name) => look(rt, name),
-        None => Seen::Nothing,
-    };
+    // Standard output may be one of the dictionaries, to which a shell appends.
+    let target = look(rt, asked.out.unwrap_or("/dev/stdout"));
     let dictionaries = look_at_all(rt, &asked.names)?;
     Ok(Sights {
         target,

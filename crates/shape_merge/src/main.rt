@@ -57,7 +57,7 @@ fn join_files<T: Threads + Sync>(
     }
     match join(threads, rt, asked) {
         Ok(()) => Ok(0),
-        Err(fault) => Ok(tell(rt, &asked.names, &fault)),
+        Err(fault) => Ok(tell(rt, asked, &fault)),
     }
 }
 

@@ -2,8 +2,10 @@
 ghost use Rattle.std.specs.Prelude.{◌≡◌, ◌+◌, ◌<◌, ℕ, Some, length, slice_get};
 ghost use Rattle.merge_core.specs.Status.{status_of};
 
+use crate::words::Asked;
+use command_lines::why_unread;
 use merge_core::{MergeFault, status_of};
-use std::io;
+use std::{fs, io};
 
 /// The name of a dictionary's file, by its number from 1.
 fn name_of<'a>(names: &[&'a str], n: usize) -> &'a str
@@ -15,23 +17,39 @@ fn name_of<'a>(names: &[&'a str], n: usize) -> &'a str
     names[n - 1]
 }
 
-/// Says in one line what is wrong, and answers the exit status. Where standard error takes nothing,
-/// the status still says it.
-pub fn tell(rt: &HostRuntime, names: &[&str], fault: &MergeFault) -> u8
+/// Says that a write of the file of this name failed, and why, as far as the system tells it.
+fn tell_unwritten(rt: &HostRuntime, name: &str, written: usize) {
+    let why = match fs::metadata(rt, name) {
+        Ok(found) if found.is_dir() => "it is a folder",
+        Ok(_) => "a write failed",
+        Err(_) => "it can't be made",
+    };
+    let _ = eprintln!(rt; "shape_merge: I2 write failed after {written} bytes: {name}: {why}");
+}
+
+/// Says that the file of this name was not read, and why, as far as the system tells it.
+fn tell_unread(rt: &HostRuntime, n: usize, name: &str, written: usize) {
+    let why = why_unread(rt, name).unwrap_or("read failed or changed");
+    let _ = eprintln!(rt; "shape_merge: dictionary {n}, {name}: I1 {why}, {written} bytes written");
+}
+
+/// Says in one line what is wrong, with the file that it is about, and answers the exit status.
+/// Where standard error takes nothing, the status still says it.
+pub fn tell(rt: &HostRuntime, asked: &Asked<'_>, fault: &MergeFault) -> u8
     ensures { result ≡ status_of fault.now }
 {
-    let _ = match fault {
-        MergeFault::Dict { n, fault } => {
-            let name = name_of(names, *n);
-            eprintln!(rt; "shape_merge: dictionary {n}, {name}: {fault}")
+    match (fault, asked.out) {
+        (MergeFault::Dict { n, fault }, _) => {
+            let name = name_of(&asked.names, *n);
+            let _ = eprintln!(rt; "shape_merge: dictionary {n}, {name}: {fault}");
         }
-        MergeFault::Read { n, written } => {
-            let name = name_of(names, *n);
-            eprintln!(rt;
-                "shape_merge: dictionary {n}, {name}: I1 read failed or changed, {written} bytes written"
-            )
+        (MergeFault::Read { n, written }, _) => {
+            tell_unread(rt, *n, name_of(&asked.names, *n), *written);
         }
-        other => eprintln!(rt; "shape_merge: {other}"),
-    };
+        (MergeFault::Write { written }, Some(name)) => tell_unwritten(rt, name, *written),
+        (other, _) => {
+            let _ = eprintln!(rt; "shape_merge: {other}");
+        }
+    }
     status_of(fault)
 }
