@@ -1,12 +1,18 @@
 //! Why a table had no number for a pattern, as all shares tell it.
+ghost use Rattle.std.specs.Prelude.{◌<◌};
+ghost use Rattle.sgf_core.specs.Limit.{most_bytes};
+ghost use Rattle.slot_table.specs.Passes.{IsPassOf};
+
 use gather_core::confirm_full;
 use harvest_faults::HarvestFault;
-use probe_core::Key;
+use probe_core::{Key, ProbeOrder};
 use shape_core::{Kinds, Word};
 use share_core::Share;
 use share_samples::{
     ALONE, EMPTY, ONE_POINT, TAKEN, TWO_POINTS, add_written, first_share, table_of,
 };
+use slot_table::{Pass, SlotTable};
+use std::alloc::Global;
 use std::test::Fail;
 
 /// The fault of a number that has this pattern in a share, and that one in the table.
@@ -23,59 +29,95 @@ fn full(game: u64, word: Word) -> HarvestFault {
     HarvestFault::Full { game, word }
 }
 
+/// What all shares tell of a pattern that a table of one number has not, and of the one that it
+/// has.
+fn confirmed_of_one(alloc: Global, other: Word, own: Word) -> Option<(HarvestFault, HarvestFault)> {
+    let (table, mut pass) = table_of(alloc, 0)?;
+    let shares = [first_share(alloc, &table, &mut pass, ONE_POINT)?];
+    let of_other = confirm_full(&table, &mut pass, &shares, 0, other);
+    Some((of_other, confirm_full(&table, &mut pass, &shares, 0, own)))
+}
+
 #[test]
 fn a_table_is_full_of_patterns_but_not_of_one_it_has(rt: HostRuntime) -> Result<(), Fail> {
-    let alloc = rt.alloc();
     let empty = Word::new(EMPTY).ok_or("no word")?;
     let alone = Word::new(ALONE).ok_or("no word")?;
-    let (table, mut pass) = table_of(alloc, 0).ok_or("no table")?;
-    let shares = [first_share(alloc, &table, &mut pass, ONE_POINT).ok_or("no share")?];
-    assert!(rt; confirm_full(&table, &mut pass, &shares, 0, empty) == full(0, empty));
     let same = stranger(0, Some(alone), Some(alone));
-    assert!(rt; confirm_full(&table, &mut pass, &shares, 0, alone) == same);
+    assert!(rt; confirmed_of_one(rt.alloc(), empty, alone) == Some((full(0, empty), same)));
     Ok(())
+}
+
+/// Why a share takes no game, and what it tells of the pattern without a number: both are said.
+fn refuse<O: ProbeOrder>(
+    alloc: Global,
+    mut share: Share,
+    table: &SlotTable<O>,
+    pass: &mut Pass<O>,
+    game: u64,
+    bytes: &[u8],
+    word: Word,
+) -> (Option<Result<(), HarvestFault>>, HarvestFault)
+    requires pass { IsPassOf table.now pass.old }
+    requires game { game < most_bytes }
+{
+    let added = add_written(alloc, &mut share, table, pass, game, bytes);
+    (added, confirm_full(table, pass, &[share], game, word))
+}
+
+/// The same of a table of two numbers, a share of two patterns, and a game with another one.
+fn refuse_third(
+    alloc: Global,
+    word: Word,
+) -> Option<(Option<Result<(), HarvestFault>>, HarvestFault)> {
+    let (table, mut pass) = table_of(alloc, 1)?;
+    let share = first_share(alloc, &table, &mut pass, TWO_POINTS)?;
+    Some(refuse(alloc, share, &table, &mut pass, 1, ONE_POINT, word))
 }
 
 #[test]
 fn a_refusal_of_a_full_table_is_confirmed(rt: HostRuntime) -> Result<(), Fail> {
-    let alloc = rt.alloc();
     let alone = Word::new(ALONE).ok_or("no word")?;
-    let (table, mut pass) = table_of(alloc, 1).ok_or("no table")?;
-    let mut share = first_share(alloc, &table, &mut pass, TWO_POINTS).ok_or("no share")?;
-    let added = add_written(alloc, &mut share, &table, &mut pass, 1, ONE_POINT);
-    let refused = added.ok_or("no record")?.err();
-    assert!(rt; refused == Some(full(1, alone)));
-    assert!(rt; confirm_full(&table, &mut pass, &[share], 1, alone) == full(1, alone));
+    let told = Some((Some(Err(full(1, alone))), full(1, alone)));
+    assert!(rt; refuse_third(rt.alloc(), alone) == told);
     Ok(())
 }
 
-/// The refused game's first pattern has the one number, and a row that counts nothing.
+/// The same of a table of one number and a game of two patterns: the first one has the number, and
+/// a row that counts nothing.
+fn refuse_second(
+    alloc: Global,
+    word: Word,
+) -> Option<(Option<Result<(), HarvestFault>>, HarvestFault)> {
+    let (table, mut pass) = table_of(alloc, 0)?;
+    let share = Share::begin(alloc, 3, Kinds::Squares);
+    Some(refuse(alloc, share, &table, &mut pass, 0, TWO_POINTS, word))
+}
+
 #[test]
 fn a_refusal_is_confirmed_by_a_row_without_counts(rt: HostRuntime) -> Result<(), Fail> {
-    let alloc = rt.alloc();
     let taken = Word::new(TAKEN).ok_or("no word")?;
-    let (table, mut pass) = table_of(alloc, 0).ok_or("no table")?;
-    let mut share = Share::begin(alloc, 3, Kinds::Squares);
-    let added = add_written(alloc, &mut share, &table, &mut pass, 0, TWO_POINTS);
-    let refused = added.ok_or("no record")?.err();
-    assert!(rt; refused == Some(full(0, taken)));
-    assert!(rt; confirm_full(&table, &mut pass, &[share], 0, taken) == full(0, taken));
+    let told = Some((Some(Err(full(0, taken))), full(0, taken)));
+    assert!(rt; refuse_second(rt.alloc(), taken) == told);
     Ok(())
+}
+
+/// The same where one of two numbers has a key that no share entered.
+fn refuse_beside_a_key(
+    alloc: Global,
+    key: Key,
+    word: Word,
+) -> Option<(Option<Result<(), HarvestFault>>, HarvestFault)> {
+    let (table, mut pass) = table_of(alloc, 1)?;
+    let _ = table.enter(&mut pass, key);
+    let share = Share::begin(alloc, 0, Kinds::Squares);
+    Some(refuse(alloc, share, &table, &mut pass, 0, TWO_POINTS, word))
 }
 
 #[test]
 fn a_key_of_no_share_is_a_stranger(rt: HostRuntime) -> Result<(), Fail> {
-    let alloc = rt.alloc();
-    let five = Key::new(5).ok_or("no key")?;
-    let of_table = Word::new(5).ok_or("no word")?;
+    let key = Key::new(5).ok_or("no key")?;
     let taken = Word::new(TAKEN).ok_or("no word")?;
-    let (table, mut pass) = table_of(alloc, 1).ok_or("no table")?;
-    let _ = table.enter(&mut pass, five);
-    let mut share = Share::begin(alloc, 0, Kinds::Squares);
-    let added = add_written(alloc, &mut share, &table, &mut pass, 0, TWO_POINTS);
-    let refused = added.ok_or("no record")?.err();
-    assert!(rt; refused == Some(full(0, taken)));
-    let found = confirm_full(&table, &mut pass, &[share], 0, taken);
-    assert!(rt; found == stranger(0, None, Some(of_table)));
+    let told = Some((Some(Err(full(0, taken))), stranger(0, None, Word::new(5))));
+    assert!(rt; refuse_beside_a_key(rt.alloc(), key, taken) == told);
     Ok(())
 }

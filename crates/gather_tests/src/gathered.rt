@@ -1,5 +1,6 @@
 //! Shares put together: games that are there twice or not at all, and what others did to a table.
-ghost use Rattle.std.specs.Prelude.{◌<◌, ◌≤◌};
+ghost use Rattle.std.specs.Prelude.{◌≡◌, ◌∷◌, [], ◌<◌, ◌≤◌};
+ghost use Rattle.shape_core.specs.declared.words.Kinds.TheVariants as kinds;
 ghost use Rattle.slot_table.specs.Passes.{IsPassOf};
 ghost use Rattle.sgf_core.specs.Limit.{most_bytes};
 
@@ -8,7 +9,8 @@ use go_record::Record;
 use harvest_faults::HarvestFault;
 use probe_core::ProbeOrder;
 use shape_core::{Kinds, Word};
-use shape_dict::Dictionary;
+use shape_dict::{Dictionary, Entry};
+use share_core::Share;
 use share_samples::{
     ALONE, EMPTY, ONE_POINT, TAKEN, TWO_POINTS, entry_of, first_share, record_of, share_of,
     table_of, words_of,
@@ -39,71 +41,139 @@ fn gather_two<R: Threads + Sync, O: ProbeOrder>(
 }
 
 /// Whether a dictionary is of this many games and moves.
-fn is_of(dictionary: &Dictionary, games: u64, moves: u64) -> bool {
+pub(crate) fn is_of(dictionary: &Dictionary, games: u64, moves: u64) -> bool {
     dictionary.games() == games && dictionary.moves() == moves
+}
+
+/// Whether a dictionary has these entries, which are all there.
+pub(crate) fn has(dictionary: &Dictionary, wanted: &[Option<Entry>]) -> bool {
+    for (entry, wanted) in dictionary.entries().iter().zip(wanted) {
+        if Some(*entry) != *wanted {
+            return false;
+        }
+    }
+    dictionary.entries().len() == wanted.len()
+}
+
+/// Whether both games are in the dictionary of two shares, of which each has one.
+fn are_both_gathered<R: Threads + Sync, O: ProbeOrder>(
+    rt: &R,
+    alloc: Global,
+    table: &SlotTable<O>,
+    pass: &mut Pass<O>,
+    record: &Record,
+) -> Result<bool, HarvestFault>
+    requires { IsPassOf table.now pass.old }
+{
+    let both = gather_two(rt, alloc, table, pass, record, 1, 2)?;
+    let is_right = is_of(&both, 2, 2) && !both.counts_diamonds();
+    Ok(is_right && has(&both, &[entry_of(ALONE, 2, 2, 0)]))
+}
+
+/// Why two shares with the same game give no dictionary of three games, and two with the first and
+/// the last of them, and whether two shares with the first and the second give one of both.
+fn gathered_in_pairs<R: Threads + Sync>(
+    rt: &R,
+    alloc: Global,
+    record: &Record,
+) -> Option<
+    (
+        Option<HarvestFault>,
+        Option<HarvestFault>,
+        Result<bool, HarvestFault>,
+    ),
+> {
+    let (table, mut pass) = table_of(alloc, 0)?;
+    let twice = gather_two(rt, alloc, &table, &mut pass, record, 0, 3).err();
+    let missing = gather_two(rt, alloc, &table, &mut pass, record, 2, 3).err();
+    let both = are_both_gathered(rt, alloc, &table, &mut pass, record);
+    Some((twice, missing, both))
 }
 
 #[test]
 fn each_game_is_in_one_share(rt: HostRuntime) -> Result<(), Fail> {
-    let alloc = rt.alloc();
-    let wanted = [entry_of(ALONE, 2, 2, 0).ok_or("no entry")?];
-    let record = record_of(alloc, ONE_POINT).ok_or("no record")?;
-    let (table, mut pass) = table_of(alloc, 0).ok_or("no table")?;
-    let twice = gather_two(&rt, alloc, &table, &mut pass, &record, 0, 3).err();
-    let missing = gather_two(&rt, alloc, &table, &mut pass, &record, 2, 3).err();
-    assert!(rt; twice == Some(HarvestFault::Twice(0)));
-    assert!(rt; missing == Some(HarvestFault::Missing(1)));
-    let both = gather_two(&rt, alloc, &table, &mut pass, &record, 1, 2)?;
-    assert!(rt; is_of(&both, 2, 2) && both.entries() == wanted.as_slice());
-    assert!(rt; !both.counts_diamonds());
+    let record = record_of(rt.alloc(), ONE_POINT).ok_or("no record")?;
+    let twice = Some(HarvestFault::Twice(0));
+    let missing = Some(HarvestFault::Missing(1));
+    let found = gathered_in_pairs(&rt, rt.alloc(), &record);
+    assert!(rt; found == Some((twice, missing, Ok(true))));
     Ok(())
 }
 
+/// Whether no share gives a dictionary without games, which counts diamonds.
+fn gathers_none<R: Threads + Sync>(rt: &R, alloc: Global) -> Result<bool, HarvestFault> {
+    let Some((table, mut pass)) = table_of(alloc, 0) else {
+        return Err(HarvestFault::Memory);
+    };
+    let none = gather(rt, alloc, &table, &mut pass, Kinds::Both, 0, &[])?;
+    Ok(is_of(&none, 0, 0) && none.entries().is_empty() && none.counts_diamonds())
+}
+
 #[test]
-fn no_share_has_no_pattern(rt: HostRuntime) -> Result<(), Fail> {
-    let alloc = rt.alloc();
-    let (table, mut pass) = table_of(alloc, 0).ok_or("no table")?;
-    let none = gather(&rt, alloc, &table, &mut pass, Kinds::Both, 0, &[])?;
-    assert!(rt; is_of(&none, 0, 0) && none.entries().is_empty());
-    assert!(rt; none.counts_diamonds());
-    Ok(())
+fn no_share_has_no_pattern(rt: HostRuntime) {
+    assert!(rt; gathers_none(&rt, rt.alloc()) == Ok(true));
+}
+
+/// Why a share gives no dictionary over another table, and what is told there of another pattern.
+fn gathered_elsewhere<R: Threads + Sync>(
+    rt: &R,
+    alloc: Global,
+    share: Share,
+    word: Word,
+) -> Option<(Option<HarvestFault>, HarvestFault)>
+    requires kinds { share.kinds ≡ kinds.Squares }
+    requires games { share.games ≡ 0 ∷ [] }
+{
+    let (table, mut pass) = table_of(alloc, 0)?;
+    let shares = [share];
+    let gathered = gather(rt, alloc, &table, &mut pass, Kinds::Squares, 1, &shares).err();
+    Some((gathered, confirm_full(&table, &mut pass, &shares, 0, word)))
+}
+
+/// The same of a share of the game of one point.
+fn first_elsewhere<R: Threads + Sync>(
+    rt: &R,
+    alloc: Global,
+    word: Word,
+) -> Option<(Option<HarvestFault>, HarvestFault)> {
+    let (table, mut pass) = table_of(alloc, 0)?;
+    let share = first_share(alloc, &table, &mut pass, ONE_POINT)?;
+    gathered_elsewhere(rt, alloc, share, word)
+}
+
+/// The fault of the game of one point over a table that has no pattern.
+fn first_is_free() -> HarvestFault {
+    HarvestFault::Stranger {
+        number: 0,
+        of_share: Word::new(ALONE),
+        of_table: None,
+    }
 }
 
 #[test]
 fn a_share_of_another_table_is_a_stranger(rt: HostRuntime) -> Result<(), Fail> {
-    let alloc = rt.alloc();
-    let alone = Word::new(ALONE).ok_or("no word")?;
     let empty = Word::new(EMPTY).ok_or("no word")?;
-    let (table, mut pass) = table_of(alloc, 0).ok_or("no table")?;
-    let shares = [first_share(alloc, &table, &mut pass, ONE_POINT).ok_or("no share")?];
-    let (second, mut other) = table_of(alloc, 0).ok_or("no table")?;
-    let free = HarvestFault::Stranger {
-        number: 0,
-        of_share: Some(alone),
-        of_table: None,
-    };
-    let gathered = gather(&rt, alloc, &second, &mut other, Kinds::Squares, 1, &shares).err();
-    assert!(rt; gathered == Some(free));
-    assert!(rt; confirm_full(&second, &mut other, &shares, 0, empty) == free);
+    let told = Some((Some(first_is_free()), first_is_free()));
+    assert!(rt; first_elsewhere(&rt, rt.alloc(), empty) == told);
     Ok(())
 }
 
-#[test]
-fn a_mark_of_another_differs(rt: HostRuntime) -> Result<(), Fail> {
-    let alloc = rt.alloc();
-    let (table, mut pass) = table_of(alloc, 0).ok_or("no table")?;
-    let share = first_share(alloc, &table, &mut pass, b"(;SZ[1]AB[aa];W[aa])");
-    let shares = [share.ok_or("no share")?];
-    assert!(&rt; table.capacity().slots() == 1);
+/// Why a share gives no dictionary where another marked the number of its pattern.
+fn gathered_with_a_mark<R: Threads + Sync>(rt: &R, alloc: Global) -> Option<HarvestFault> {
+    let (table, mut pass) = table_of(alloc, 0)?;
+    let share = first_share(alloc, &table, &mut pass, b"(;SZ[1]AB[aa];W[aa])")?;
     table.mark(&mut pass, 0, 0);
-    let gathered = gather(&rt, alloc, &table, &mut pass, Kinds::Squares, 1, &shares).err();
+    gather(rt, alloc, &table, &mut pass, Kinds::Squares, 1, &[share]).err()
+}
+
+#[test]
+fn a_mark_of_another_differs(rt: HostRuntime) {
     let differs = HarvestFault::Marks {
         number: 0,
         of_shares: None,
         of_table: Some(0),
     };
-    assert!(rt; gathered == Some(differs));
-    Ok(())
+    assert!(rt; gathered_with_a_mark(&rt, rt.alloc()) == Some(differs));
 }
 
 /// Gathers what one worker has counted by words of two games, the games 0 and 1, as that of this
@@ -128,18 +198,30 @@ fn gather_words<R: Threads + Sync>(
     gather_numbered(rt, alloc, Kinds::Squares, games, room, shares)
 }
 
+/// Whether both games are gathered by words as those of two games, and not as those of three.
+fn are_numbered<R: Threads + Sync>(
+    rt: &R,
+    alloc: Global,
+    first: &Record,
+    second: &Record,
+) -> Result<bool, HarvestFault> {
+    let wanted = [
+        entry_of(EMPTY, 2, 1, 0),
+        entry_of(TAKEN, 1, 1, 0),
+        entry_of(ALONE, 1, 1, 1),
+    ];
+    let is_right = match gather_words(rt, alloc, first, second, 2)? {
+        Some(dictionary) => is_of(&dictionary, 2, 3) && has(&dictionary, &wanted),
+        None => false,
+    };
+    Ok(gather_words(rt, alloc, first, second, 3)?.is_none() && is_right)
+}
+
 #[test]
 fn numbered_shares_have_each_game(rt: HostRuntime) -> Result<(), Fail> {
     let alloc = rt.alloc();
-    let wanted = [
-        entry_of(EMPTY, 2, 1, 0).ok_or("no entry")?,
-        entry_of(TAKEN, 1, 1, 0).ok_or("no entry")?,
-        entry_of(ALONE, 1, 1, 1).ok_or("no entry")?,
-    ];
     let first = record_of(alloc, TWO_POINTS).ok_or("no record")?;
     let second = record_of(alloc, ONE_POINT).ok_or("no record")?;
-    let dictionary = gather_words(&rt, alloc, &first, &second, 2)?.ok_or("nothing")?;
-    assert!(rt; is_of(&dictionary, 2, 3) && dictionary.entries() == wanted.as_slice());
-    assert!(rt; gather_words(&rt, alloc, &first, &second, 3)?.is_none());
+    assert!(rt; are_numbered(&rt, alloc, &first, &second) == Ok(true));
     Ok(())
 }

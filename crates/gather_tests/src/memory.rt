@@ -6,18 +6,18 @@ ghost use Rattle.shape_core.specs.declared.words.Kinds.TheVariants as kinds;
 ghost use Rattle.slot_table.specs.Passes.{IsPassOf};
 ghost use Rattle.sgf_core.specs.Limit.{most_bytes};
 
+use crate::gathered::{has, is_of};
 use gather_core::gather;
 use go_record::Record;
 use harvest_faults::HarvestFault;
 use probe_core::ProbeOrder;
 use shape_core::Kinds;
-use shape_dict::{Dictionary, Entry};
+use shape_dict::Dictionary;
 use share_core::{Row, Share};
 use share_samples::{entry_of, record_of, table_of};
 use slot_table::{Pass, SlotTable};
 use std::alloc::Global;
 use std::process::Abort;
-use std::test::Fail;
 use std::thread::Threads;
 
 /// Two points: Black plays at one of them, and White at the other.
@@ -143,34 +143,32 @@ fn gather_or_keep<O: ProbeOrder>(
     gathered.ok()
 }
 
-/// The counts of both games, in which an empty point was next to an empty one twice each, once next
-/// to the other colour, and once next to its own; by squares, and by diamonds.
-fn wanted_of() -> Option<[Entry; 6]> {
-    Some([
-        entry_of(0x3fff3fcffffff, 4, 2, 0)?,
-        entry_of(0x3fff7fcffffff, 1, 1, 0)?,
-        entry_of(0x3fffbfcffffff, 1, 1, 1)?,
-        entry_of(0x7ffcffcffffff, 4, 2, 0)?,
-        entry_of(0x7ffdffcffffff, 1, 1, 0)?,
-        entry_of(0x7ffeffcffffff, 1, 1, 1)?,
-    ])
+/// Whether a dictionary has the counts of both games, in which an empty point was next to an empty
+/// one twice each, once next to the other colour, and once next to its own; by squares, and by
+/// diamonds.
+fn is_right(dictionary: &Dictionary) -> bool {
+    let wanted = [
+        entry_of(0x3fff3fcffffff, 4, 2, 0),
+        entry_of(0x3fff7fcffffff, 1, 1, 0),
+        entry_of(0x3fffbfcffffff, 1, 1, 1),
+        entry_of(0x7ffcffcffffff, 4, 2, 0),
+        entry_of(0x7ffdffcffffff, 1, 1, 0),
+        entry_of(0x7ffeffcffffff, 1, 1, 1),
+    ];
+    is_of(dictionary, 2, 4) && has(dictionary, &wanted)
+}
+
+/// Whether a share has both games, and its dictionary their counts; None where memory was refused
+/// twice.
+fn counts_both(rt: &(impl Abort + Threads + Sync), alloc: Global) -> Option<bool> {
+    let (table, mut pass) = table_of(alloc, 4)?;
+    let share = share_of_both(rt, alloc, &table, &mut pass)?;
+    let is_whole = has_both(&share);
+    let dictionary = gather_or_keep(rt, alloc, &table, &mut pass, share)?;
+    Some(is_whole && is_right(&dictionary))
 }
 
 #[test]
-fn memory_is_found_or_named(rt: HostRuntime) -> Result<(), Fail> {
-    let alloc = rt.alloc();
-    let wanted = wanted_of().ok_or("no entries")?;
-    let Some((table, mut pass)) = table_of(alloc, 4) else {
-        return Ok(());
-    };
-    let Some(share) = share_of_both(&rt, alloc, &table, &mut pass) else {
-        return Ok(());
-    };
-    assert!(rt; has_both(&share));
-    let Some(dictionary) = gather_or_keep(&rt, alloc, &table, &mut pass, share) else {
-        return Ok(());
-    };
-    assert_eq!(rt; (dictionary.games(), dictionary.moves()), (2, 4));
-    assert!(rt; dictionary.entries() == wanted.as_slice());
-    Ok(())
+fn memory_is_found_or_named(rt: HostRuntime) {
+    assert!(rt; counts_both(&rt, rt.alloc()) != Some(false));
 }
