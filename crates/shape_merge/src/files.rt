@@ -47,29 +47,51 @@ impl Sources for Dictionaries<'_> {
     }
 }
 
-/// A file that is made, or made empty, when the first byte is written.
-#[derive(Drop)]
-pub struct Target<'a> {
-    rt: &'a HostRuntime,
-    name: &'a str,
-    file: Option<File>,
+/// What a file can be made by.
+pub trait Maker {
+    /// Makes the file, or makes it empty where it is there.
+    ///
+    /// # Errors
+    ///
+    /// An error of the system, where it can't be made.
+    fn make(&self) -> io::Result<File>;
 }
 
-/// The file of this name, which isn't touched before the first byte is written.
-pub fn new_target<'a>(rt: &'a HostRuntime, name: &'a str) -> Target<'a>
-    ensures { result ≡ record { rt = rt.entry; name = name.entry; file = None } }
-{
-    Target {
-        rt,
-        name,
-        file: None,
+/// The name of a file that is to be made.
+#[derive(Drop)]
+pub struct Named<'a> {
+    pub rt: &'a HostRuntime,
+    pub name: &'a str,
+}
+
+impl Maker for Named<'_> {
+    fn make(&self) -> io::Result<File> {
+        File::create(self.rt, self.name)
     }
 }
 
-impl Write for Target<'_> {
+/// A file that is made, or made empty, when the first byte is written.
+#[derive(Drop)]
+pub struct Target<M> {
+    maker: M,
+    file: Option<File>,
+}
+
+/// The file that is made by this when the first byte is written, and isn't touched before: nothing
+/// is known here of what makes it, so nothing can be made.
+pub fn new_target<M>(maker: M) -> Target<M>
+    ensures { result ≡ record { maker = maker; file = None } }
+{
+    Target { maker, file: None }
+}
+
+impl<M: Maker> Write for Target<M> {
     fn write(&mut self, bytes: &[u8]) -> io::Result<usize> {
+        if bytes.is_empty() {
+            return Ok(0);
+        }
         if self.file.is_none() {
-            self.file = Some(File::create(self.rt, self.name)?);
+            self.file = Some(self.maker.make()?);
         }
         match &mut self.file {
             Some(file) => file.write(bytes),

@@ -8,7 +8,7 @@ mod telling;
 mod words;
 
 use engine_core::{RunFault, own_words, status_of, write_output};
-use files::{Dictionaries, look_at, new_target, which_is_barred};
+use files::{Dictionaries, Named, look_at, new_target, which_is_barred};
 use merge_core::{MergeFault, run_merge};
 use std::io;
 use std::process::ExitCode;
@@ -30,13 +30,8 @@ fn join<T: Threads + Sync>(
     };
     match asked.out {
         Some(name) => {
-            run_merge(
-                threads,
-                alloc,
-                asked.text,
-                &sources,
-                &mut new_target(rt, name),
-            )
+            let mut target = new_target(Named { rt, name });
+            run_merge(threads, alloc, asked.text, &sources, &mut target)
         }
         None => run_merge(threads, alloc, asked.text, &sources, &mut rt.stdout()),
     }
