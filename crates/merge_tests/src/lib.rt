@@ -4,6 +4,8 @@
 #[cfg(test)]
 mod changes;
 #[cfg(test)]
+mod known;
+#[cfg(test)]
 mod merges;
 #[cfg(test)]
 mod readers;

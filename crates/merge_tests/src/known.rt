@@ -1,0 +1,85 @@
+//! Texts in memory whose bytes are known, and what it means for them that a join ended well.
+ghost use Rattle.std.specs.Prelude.{ℕ, List, [], map, Some, IfOk, IfErr};
+ghost use Rattle.merge_core.specs.Merge.{IsMergeText, IsMergeFault};
+
+use merge_core::{MergeFault, Sources, run_merge};
+use shape_dict::Text;
+use std::alloc::Global;
+use std::io;
+use std::thread::Threads;
+
+/// Texts in memory.
+#[derive(Clone, Copy)]
+struct Known<'a> {
+    texts: &'a [&'a [u8]],
+}
+
+impl<'a> Sources for Known<'a> {
+    ghost use Rattle.std.specs.Prelude.{length, slice_get, option_map};
+
+    type Reader = &'a [u8];
+
+    ghost number = { λ known. length known.texts.now };
+
+    ghost bytes = { λ known n. option_map (λ text. text.now) (slice_get known.texts.now n) };
+
+    fn count(&self) -> usize {
+        self.texts.len()
+    }
+
+    fn open(&self, n: usize) -> io::Result<&'a [u8]> {
+        Ok(self.texts[n])
+    }
+
+    fn size(&self, n: usize) -> io::Result<usize> {
+        Ok(self.texts[n].len())
+    }
+
+    fn open_at(&self, n: usize, place: usize) -> io::Result<&'a [u8]> {
+        let text = self.texts[n];
+        if place < text.len() {
+            return Ok(&text[place..]);
+        }
+        Ok(&[])
+    }
+}
+
+/// A text of the join of the dictionaries of these texts.
+fn join_of<T: Threads + Sync>(
+    rt: &T,
+    alloc: Global,
+    text: Text,
+    texts: &[&[u8]],
+) -> Result<Vec<u8>, MergeFault>
+    ensures joined { IfOk result (λ joined.
+        IsMergeText text (map (λ input. input.now) texts.now) joined.items) }
+    ensures fault { IfErr result (λ found. (out : List ℕ)
+        × IsMergeFault text (map (λ input. input.now) texts.now) (Some []) (Some out) found) }
+{
+    let sources = Known { texts };
+    let mut out = Vec::new(alloc);
+    match run_merge(rt, alloc, text, &sources, &mut out) {
+        Ok(()) => Ok(out),
+        Err(fault) => Err(fault),
+    }
+}
+
+const LEFT: &[u8] = b"shapes 1 games 1 moves 2 patterns 2\n3fff3fcffffff 2 1\n3fffbfcffffff 1 1\n";
+
+const RIGHT: &[u8] = b"shapes 3 games 3 moves 1 squares 1 diamonds -\n3fff3fcffffff 5 1 2\n";
+
+const JOINED: &[u8] =
+    b"shapes 3 games 4 moves 3 squares 2 diamonds -\n3fff3fcffffff 7 2 -\n3fffbfcffffff 1 1 -\n";
+
+/// Whether the join of the texts is the one by hand.
+fn is_joined<T: Threads + Sync>(rt: &T, alloc: Global, texts: &[&[u8]]) -> bool {
+    match join_of(rt, alloc, Text::Three, texts) {
+        Ok(joined) => joined.as_slice() == JOINED,
+        Err(_) => false,
+    }
+}
+
+#[test]
+fn known_texts_are_joined(rt: HostRuntime) {
+    assert!(rt; is_joined(&rt, rt.alloc(), &[LEFT, RIGHT]));
+}
