@@ -104,6 +104,7 @@ impl Field {
         ensures removed { IfOk result (λ field. field.board.removed ≡ []) }
         ensures kinds { IfOk result (λ field. field.kinds ≡ self.now.kinds) }
         ensures marks { IfOk result (λ field. field.changed ≡ self.now.changed) }
+        ensures board { IfOk result (λ field. IsBoard field.board) }
     {
         let board = self.board.copied(alloc)?;
         let kept = self.kept.copied(alloc)?;
