@@ -102,7 +102,8 @@ fn gate_two_at_once_over_a_table(rt: HostRuntime) -> Result<(), Fail> {
     let alloc = rt.alloc();
     let bytes = collection(alloc, 5)?;
     let capacity = capacity_of(&rt, 2);
-    for workers in CREWS {
+    // One worker alone has all of so few games: the queue has room for them.
+    for workers in [2, 7, 64] {
         let gate = two_at_once();
         let text = text_over_new(&rt, alloc, OddStep { capacity }, workers, &bytes, &gate)?;
         assert!(rt; text.as_slice() == OF_10.as_bytes(), "{workers} workers");

@@ -254,18 +254,23 @@ fn a_worker_draws_to_the_first_end(rt: HostRuntime) -> Result<(), Fail> {
     Ok(())
 }
 
+/// Whether the fault is F1 with the third pattern of a collection, which is first in game 1.
+fn is_third(fault: &HarvestFault) -> bool {
+    match fault {
+        HarvestFault::Full { game, word } => *game == 1 && word.bits() == TAKEN,
+        _ => false,
+    }
+}
+
 #[test]
 fn a_table_too_small_by_one_pattern(rt: HostRuntime) -> Result<(), Fail> {
     let alloc = rt.alloc();
-    let full = HarvestFault::Full {
-        game: 1,
-        word: word_of(&rt, TAKEN),
-    };
     for (workers, pairs) in [(1, 1), (2, 5), (3, 5), (4, 5), (7, 150), (64, 150)] {
         let bytes = collection(alloc, pairs)?;
         let settings = Settings::new(workers, 1)?;
         let counted = harvest(&rt, alloc, settings, &bytes, &FreeGate);
-        assert!(rt; counted.err() == Some(full), "{workers} workers");
+        let fault = counted.err().ok_or("three patterns of two numbers")?;
+        assert!(rt; is_third(&fault), "{workers} workers");
     }
     Ok(())
 }
