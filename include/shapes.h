@@ -99,8 +99,8 @@ uint32_t shapes_square(const uint8_t codes[25], uint64_t *word);
 uint32_t shapes_diamond(const uint8_t codes[25], uint64_t *word);
 
 /* Writes the codes of the square round a point of a board, as shapes_square takes them: those of its points, and
- * SHAPES_OFF_BOARD off the board. The board is the codes of all its points, row by row from the top, with so many
- * columns; the point's column and row are counted from 0.
+ * SHAPES_OFF_BOARD off the board. The board is the codes of all its points, row by row from the top, each of
+ * `columns` codes; the point's column and row are counted from 0.
  * SHAPES_BAD_POINT exactly where the column is not below `columns`, or row * columns + column not below `points`. */
 uint32_t shapes_around(const uint8_t *board, size_t points, uint32_t columns, uint32_t column, uint32_t row,
                        uint8_t codes[25]);

@@ -14,7 +14,7 @@ use Rattle.harvest_core.specs.Harvest.{IsCountedWithin, IsHarvestRefused}
 use Rattle.engine_core.specs.declared.faults.RunFault.{RunFault}
 use Rattle.engine_core.specs.declared.faults.RunFault.TheVariants as fault
 
--- the input was counted, with this report, and has at most so many patterns; and what was printed is this text of its dictionary
+-- the input was counted, with this report, and has at most `slots` patterns; and what was printed is this text of its dictionary
 pub record IsCountText (slots : ℕ) (kinds : Kinds) (kind : Text) (report : Report) (input text : List ℕ) : Type 0 where
   pub counted : Counted
   pub of_input : IsCountedWithin slots kinds input counted
@@ -29,11 +29,11 @@ abbrev pub ComesFirst : List ℕ → HarvestFault → Type 0
 ComesFirst input found =
     (length input ≤ most_bytes) ⊎ (found ≡ harvest_fault.Sgf sgf.TooLarge) ⊎ (found ≡ harvest_fault.Memory)
 
--- the input was counted, and has at most so many patterns
+-- the input was counted, and has at most `slots` patterns
 abbrev pub HasCounted : ℕ → Kinds → List ℕ → Type 0
 HasCounted slots kinds input = (counted : Counted) × IsCountedWithin slots kinds input counted
 
--- the collection was not counted with at most so many patterns; or it was, and memory was wanting for the text
+-- the collection was not counted with at most `slots` patterns; or it was, and memory was wanting for the text
 abbrev pub IsCountRunFault : ℕ → Kinds → List ℕ → RunFault → Type 0
 IsCountRunFault slots kinds input (fault.Harvest found) = IsHarvestRefused slots input kinds found × ComesFirst input found
 IsCountRunFault slots kinds input (fault.Dict n dict_fault.Memory) = (n ≡ 1) × HasCounted slots kinds input

@@ -1,4 +1,4 @@
--- What is counted of an input with at most so many patterns, and why it may not be.
+-- What is counted of an input with at most n patterns, and why it may not be.
 use Rattle.std.specs.Prelude.{ℕ, ◌≤◌, List, length}
 use Rattle.shape_core.specs.declared.words.Kinds.{Kinds}
 use Rattle.tally_core.specs.Beyond.{IsFirstBeyond}

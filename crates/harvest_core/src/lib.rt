@@ -1,4 +1,4 @@
-//! A whole collection counted by one worker or several, with at most so many patterns.
+//! A whole collection counted by one worker or several, with at most 2^k patterns.
 #![tactic(auto)]
 
 mod by_words;

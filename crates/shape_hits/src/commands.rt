@@ -18,7 +18,7 @@ pattern was played, or was there:
   3 17 dp black 2051    in game 3, at move 17, at the point dp, with Black to move; the game is at byte 2051
 
 Games count from 0 as `shapes count` numbers them, moves from 1 with passes among them, and a point is
-spelled as SGF spells it; with --coordinates it is the D4 of a board of 19 rows. With --words each line
+spelled as SGF spells it; with --coordinates as boards are labelled, as Q16. With --words each line
 begins with the pattern's word.
 
 The glyphs are: . an empty point, X a black stone, O a white one, # off the board. Those of a square

@@ -55,7 +55,7 @@ fn around(board: &[u8], columns: usize, column: usize, row: usize) -> [u8; 25]
 
 /// The codes of the square round a point of a board, row by row from the top, each row from the
 /// left: those of its points, and 3 off the board. The board is the list of its points' codes, row
-/// by row, with so many columns; the point's column and row are counted from 0. Takes no memory.
+/// by row, each of `columns` codes; the point's column and row are counted from 0. Takes no memory.
 ///
 /// Returns `Done` and writes the codes. Returns `BadPoint` exactly where the board has no such
 /// point; what was there stays then.

@@ -41,8 +41,8 @@ has-same : (word : ℕ) (xs ys : List ℕ) → once_each xs ≡ once_each ys →
 has-same word xs ys same =
     has-is word xs ∙ sym (in_once word xs) ∙ ap (is_in word) same ∙ in_once word ys ∙ sym (has-is word ys)
 
-once-behind : (words xs ys : List ℕ) → once_each xs ≡ once_each ys → once_each (words ++ xs) ≡ once_each (words ++ ys)
-once-behind words xs ys same =
+once-after : (words xs ys : List ℕ) → once_each xs ≡ once_each ys → once_each (words ++ xs) ≡ once_each (words ++ ys)
+once-after words xs ys same =
     once_append words xs
     ∙ ap (λ os. once_each words ++ filter (λ y. not (is_in y words)) os) same
     ∙ sym (once_append words ys)
@@ -129,7 +129,7 @@ walk-met : (kinds : Kinds) (actions : Actions) (meetings : List Meeting) (moves 
     once_each (patterns_in kinds games ++ shapes_of meetings) ≡ once_each (patterns_in kinds (games ++ record { size = actions.size; occasions = walk.occasions } ∷ []))
 walk-met kinds actions meetings moves games walk =
     let one : Replayed = record { size = actions.size; occasions = walk.occasions } in
-    once-behind (patterns_in kinds games) (shapes_of meetings) (patterns_of_game kinds one) walk.order
+    once-after (patterns_in kinds games) (shapes_of meetings) (patterns_of_game kinds one) walk.order
     ∙ ap once_each (sym (patterns-push kinds games one))
 
 -- one game more was met
