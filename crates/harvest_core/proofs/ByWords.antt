@@ -28,7 +28,14 @@ use Rattle.share_core.proofs.Added.{share_of_more}
 use Rattle.harvest_core.specs.Working.{IsGame, IsPatternIn, IsWorked}
 use Rattle.harvest_core.specs.Inner.Counting.{IsCountedByWords}
 
--- a game was added, whose number is above those of the others
+-- a game was added, whose number is above those of the others: so all their numbers rise
+pub rises_more : (game : ℕ) (actions : Actions) (old new : Held) → IsAdded game actions old new → past old.games ≤ game → Rising 0 old.games (past old.games) →
+    Rising 0 new.games (past new.games)
+rises_more game actions old new added above rises =
+    subst (λ games. Rising 0 games (past games)) (sym added.games)
+    (subst (Rising 0 (old.games ++ game ∷ [])) (sym (past_on old.games game)) (rising_on 0 old.games (past old.games) game above rises))
+
+-- a game was added, and what was counted is still of games of the input
 pub counted_more : (bytes : List ℕ) (kinds : Kinds) (game : ℕ) (actions : Actions) (old new : Held) → IsGame bytes game actions →
     IsAdded game actions old new → IsCountedByWords bytes kinds old → past old.games ≤ game → All (λ (one : ℕ). one < most_bytes) new.games → IsCountedByWords bytes kinds new
 counted_more bytes kinds game actions old new is added h above small =
@@ -38,8 +45,7 @@ counted_more bytes kinds game actions old new is added h above small =
       added = h.added ++ one ∷ [];
       is_of = share_of_more h.added game actions old new added h.is_of;
       games = All-push (λ (a : Added). IsGame bytes a.game a.actions) h.added one h.games is;
-      rises = subst (λ games. Rising 0 games (past games)) (sym added.games)
-          (subst (Rising 0 (old.games ++ game ∷ [])) (sym (past_on old.games game)) (rising_on 0 old.games (past old.games) game above h.rises));
+      rises = rises_more game actions old new added above h.rises;
       small = small;
     }
 

@@ -1,2 +1,2 @@
 pub mod Harvested
-mod ByWords
+pub mod ByWords

@@ -48,7 +48,7 @@ use Rattle.hits_core.specs.Agreement.{times_hit, times_counted}
 use Rattle.hits_core.proofs.Moving.{KindsStay}
 use Rattle.hits_core.proofs.Trees.{games-are-of-trees}
 use Rattle.go_record.proofs.OnBoard.{is_on_board}
-use Rattle.hits_core.proofs.Sameness.{HaveOneResult, does-same, patterns-same, empties-same}
+use Rattle.tally_core.proofs.SamePositions.{HaveOneResult, does-same, patterns-same, empties-same}
 
 -- how often a word is in a list
 abbrev pub times_in : ℕ → List ℕ → ℕ

@@ -6,6 +6,5 @@ pub mod Moving
 pub mod Trees
 pub mod Joining
 pub mod Lines
-pub mod Sameness
 pub mod Agreed
 pub mod Ending

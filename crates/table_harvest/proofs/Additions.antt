@@ -17,11 +17,11 @@ use Rattle.share_core.specs.Entering.{CallsOnly}
 use Rattle.probe_core.specs.declared.calls.Answer.{Answer}
 use Rattle.slot_table.specs.Passes.{Known}
 use Rattle.job_core.specs.Rising.{Rising, past}
-use Rattle.job_core.proofs.Orders.{past_on, rising_on}
 use Rattle.share_core.proofs.Raised.{same_shape, same_length}
 use Rattle.share_core.proofs.Added.{still_of, share_of_more}
 use Rattle.share_core.proofs.Entered.{calls_weaker}
 use Rattle.harvest_core.specs.Working.{IsGame, IsPatternOfGame, IsPatternIn, IsWorked}
+use Rattle.harvest_core.proofs.ByWords.{rises_more}
 use Rattle.table_harvest.specs.Working.{IsMarkIn, CallsOfGame, IsRefusal, AreOfGame}
 
 -- a pattern of a game's record is one of the game
@@ -101,8 +101,7 @@ worked_added bytes n seen kinds game actions old new is added grown h above =
       added = h.added ++ one ∷ [];
       is_of = share_of_more h.added game actions old new added h.is_of;
       games = All-push (λ (a : Added). IsGame bytes a.game a.actions) h.added one h.games is;
-      rises = subst (λ games. Rising 0 games (past games)) (sym added.games)
-          (subst (Rising 0 (old.games ++ game ∷ [])) (sym (past_on old.games game)) (rising_on 0 old.games (past old.games) game above h.rises));
+      rises = rises_more game actions old new added above h.rises;
       known = known_more bytes kinds game old new h.known (rows_added bytes n seen kinds game actions old new is h.kinds_are grown);
     }
 

@@ -30,7 +30,7 @@ use Rattle.tally_core.specs.Inner.Meets.{IsSetOf, AreMet, IsBeyond, AreFirstGame
 use Rattle.tally_core.specs.Inner.Walkers.{IsNextWalked}
 use Rattle.tally_core.specs.declared.meetings.Meeting.{Meeting}
 use Rattle.tally_core.proofs.Games.{first_of, first-new}
-use Rattle.tally_core.proofs.NextGame.{replayed-length, replayed-push}
+use Rattle.tally_core.proofs.NextGame.{replayed-length, game_more}
 use Rattle.tally_core.proofs.Once.{is_in, in_once, once_append}
 use Rattle.tally_core.proofs.Walked.{some-times}
 use Rattle.tally_core.proofs.WordSets.{has, has-is}
@@ -104,25 +104,6 @@ none_met kinds bytes set none = record {
   first = record { trees = []; end = 0; written = refl; numbered = refl; replayed = tt };
   met = record { many = ap length none; has = λ word. ap (list_any (is_at (nat_cmp word))) none };
 }
-
--- one game more was replayed
-game_more : (bytes : List ℕ) (game at stop : ℕ) (actions : Actions) (games : List Replayed) (occasions : List Occasion) → IsGameOf bytes game at stop actions →
-    AreOccasions actions occasions → AreFirstGames bytes game games → AreFirstGames bytes (game + 1) (games ++ record { size = actions.size; occasions = occasions } ∷ [])
-game_more bytes game at stop actions games occasions is replayed first =
-    let one : Replayed = record { size = actions.size; occasions = occasions } in
-    let same : games_of first.trees ≡ games_of is.before =
-    same_games bytes 0 first.trees is.before first.end is.from first.written is.written (sym first.numbered ∙ is.numbered) in
-    let rs = map record_of_tree is.before in
-    let all : games_of (is.before ++ is.tree ∷ []) ≡ games_of is.before ++ actions ∷ [] =
-    ap games_among (map-append record_of_tree is.before (is.tree ∷ []) ∙ ap (λ r. rs ++ r ∷ []) is.is_go) ∙ games_push rs (Ok (kind.Go actions)) in
-    record {
-      trees = is.before ++ is.tree ∷ [];
-      end = stop;
-      written = trees_push bytes 0 is.from is.before at stop is.tree is.written is.next;
-      numbered = ap (λ n. n + 1) is.numbered ∙ sym (length-append (games_of is.before) (actions ∷ [])) ∙ ap length (sym all);
-      replayed = subst (λ gs. AreReplayed gs (games ++ one ∷ [])) (sym all)
-          (replayed-push (games_of is.before) games actions one (subst (λ gs. AreReplayed gs games) same first.replayed) refl replayed);
-    }
 
 -- what a walk met are the patterns of the game
 walk-met : (kinds : Kinds) (actions : Actions) (meetings : List Meeting) (moves : ℕ) (games : List Replayed) (walk : IsWalk kinds actions meetings moves) →
