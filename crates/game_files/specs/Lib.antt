@@ -1,0 +1,4 @@
+pub mod Causes
+pub mod Flaws
+pub mod Names
+pub mod Shown

@@ -1,0 +1,140 @@
+//! What an input without a tree may be, by its first bytes.
+ghost use Rattle.std.specs.Prelude.{◌≡◌};
+ghost use Rattle.game_files.specs.Causes.{packed_cause, is_wide, cause_of};
+
+use std::fmt;
+use std::io::{self, Read};
+
+/// What an input is that has no tree.
+#[derive(Clone, Copy, Debug, PartialEq, Eq)]
+pub enum Cause {
+    /// It has no byte.
+    Empty,
+    /// It is packed by gzip.
+    Gzip,
+    /// It is a zip archive.
+    Zip,
+    /// It is packed by bzip2.
+    Bzip2,
+    /// It is packed by xz.
+    Xz,
+    /// It is packed by zstd.
+    Zstd,
+    /// It is a text in UTF-16.
+    Utf16,
+    /// It is a dictionary of patterns.
+    Dictionary,
+    /// It is something else.
+    NoSgf,
+}
+
+impl fmt::Display for Cause {
+    fn fmt<W: fmt::Write>(&self, f: &mut fmt::Formatter<W>) -> fmt::Result {
+        f.write_str(match self {
+            Cause::Empty => "empty",
+            Cause::Gzip => "packed by gzip",
+            Cause::Zip => "a zip archive",
+            Cause::Bzip2 => "packed by bzip2",
+            Cause::Xz => "packed by xz",
+            Cause::Zstd => "packed by zstd",
+            Cause::Utf16 => "UTF-16",
+            Cause::Dictionary => "a dictionary",
+            Cause::NoSgf => "no SGF",
+        })
+    }
+}
+
+/// What packed an input with these first bytes, where something did.
+fn packed_cause(front: &[u8]) -> Option<Cause>
+    ensures { result ≡ packed_cause front.now }
+{
+    if front.starts_with(b"\x1f\x8b") {
+        Some(Cause::Gzip)
+    } else if front.starts_with(b"PK\x03\x04") {
+        Some(Cause::Zip)
+    } else if front.starts_with(b"BZh") {
+        Some(Cause::Bzip2)
+    } else if front.starts_with(b"\xfd7zXZ\x00") {
+        Some(Cause::Xz)
+    } else if front.starts_with(b"\x28\xb5\x2f\xfd") {
+        Some(Cause::Zstd)
+    } else {
+        None
+    }
+}
+
+/// Whether these are the first bytes of a text in UTF-16: a mark of the order of bytes, or a
+/// parenthesis in two bytes.
+fn is_wide(front: &[u8]) -> bool
+    ensures { result ≡ is_wide front.now }
+{
+    front.starts_with(b"\xff\xfe")
+        || front.starts_with(b"\xfe\xff")
+        || front.starts_with(b"(\x00")
+        || front.starts_with(b"\x00(")
+}
+
+/// What an input may be that has no tree, by its first eight bytes, or all where it has fewer. It
+/// takes no memory.
+pub fn cause_of(front: &[u8]) -> Cause
+    ensures { result ≡ cause_of front.now }
+{
+    if front.is_empty() {
+        return Cause::Empty;
+    }
+    if let Some(cause) = packed_cause(front) {
+        return cause;
+    }
+    if is_wide(front) {
+        Cause::Utf16
+    } else if front.starts_with(b"shapes ") {
+        Cause::Dictionary
+    } else {
+        Cause::NoSgf
+    }
+}
+
+/// How many first bytes are kept.
+const KEPT: usize = 8;
+
+/// A reader that keeps the first bytes that it gives. No contract says which they are.
+#[derive(Drop)]
+pub struct Fronted<'a, R> {
+    reader: &'a mut R,
+    front: [u8; 8],
+    kept: usize,
+}
+
+impl<'a, R: Read> Fronted<'a, R> {
+    /// A reader that gives what this one gives.
+    pub fn new(reader: &'a mut R) -> Fronted<'a, R> {
+        Fronted {
+            reader,
+            front: [0; KEPT],
+            kept: 0,
+        }
+    }
+
+    /// Keeps bytes, as long as there are fewer than eight.
+    fn keep(&mut self, bytes: &[u8]) {
+        for byte in bytes.iter().take(KEPT) {
+            if self.kept < KEPT {
+                self.front[self.kept] = *byte;
+                self.kept += 1;
+            }
+        }
+    }
+
+    /// What the input may be, where it has no tree.
+    pub fn cause(&self) -> Cause {
+        cause_of(&self.front[..self.kept.min(KEPT)])
+    }
+}
+
+impl<R: Read> Read for Fronted<'_, R> {
+    fn read(&mut self, buf: &mut [u8]) -> io::Result<usize> {
+        let count = self.reader.read(buf)?;
+        self.keep(&buf[..count]);
+        Ok(count)
+    }
+}

@@ -1,0 +1,22 @@
+//! Which files of games the words of a command line mean, and how a file's name is shown.
+#![tactic(auto)]
+
+// what is known of names
+mod flaws;
+mod names;
+mod showing;
+
+// what an input without a tree may be
+mod causes;
+
+// what the system tells of them
+mod looks;
+mod walks;
+mod words;
+
+pub use causes::{Cause, Fronted, cause_of};
+pub use flaws::{Flaw, Why, status_of};
+pub use looks::open_file;
+pub use names::{is_game_name, sort_names};
+pub use showing::{Shown, push_name};
+pub use words::{Source, sources};

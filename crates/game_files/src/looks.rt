@@ -1,0 +1,70 @@
+//! What the system tells of a name, links followed.
+use crate::flaws::Why;
+use std::alloc::AllocError;
+use std::fs::File;
+use std::io::ErrorKind;
+use std::os::unix::fs::MetadataExt;
+use std::{fs, io};
+
+/// A folder, by its device and its number there.
+#[derive(Clone, Copy, PartialEq, Eq)]
+pub(crate) struct Place {
+    device: u64,
+    number: u64,
+}
+
+/// What a name stands for.
+#[derive(Clone, Copy)]
+pub(crate) enum Seen {
+    Folder(Place),
+    /// A regular file.
+    File,
+    /// Something else that may be read, as a pipe.
+    Other,
+    /// Nothing that can be looked at.
+    Unseen(Why),
+}
+
+/// Why the system failed.
+///
+/// # Errors
+///
+/// `AllocError` where memory was refused.
+pub(crate) fn why_of(error: &io::Error) -> Result<Why, AllocError> {
+    match error.kind() {
+        ErrorKind::OutOfMemory => Err(AllocError),
+        ErrorKind::NotFound => Ok(Why::Missing),
+        ErrorKind::PermissionDenied => Ok(Why::Denied),
+        ErrorKind::FilesystemLoop => Ok(Why::Circle),
+        _ => Ok(Why::Unopened),
+    }
+}
+
+/// What a name stands for, where links lead.
+///
+/// # Errors
+///
+/// `AllocError` where memory was refused.
+pub(crate) fn look(rt: &HostRuntime, name: &str) -> Result<Seen, AllocError> {
+    match fs::metadata(rt, name) {
+        Ok(found) if found.is_dir() => Ok(Seen::Folder(Place {
+            device: found.dev(),
+            number: found.ino(),
+        })),
+        Ok(found) if found.is_file() => Ok(Seen::File),
+        Ok(_) => Ok(Seen::Other),
+        Err(error) => Ok(Seen::Unseen(why_of(&error)?)),
+    }
+}
+
+/// Opens the file of this name, to be read from its beginning; or why it can't be.
+///
+/// # Errors
+///
+/// `AllocError` where memory was refused.
+pub fn open_file(rt: &HostRuntime, name: &str) -> Result<Result<File, Why>, AllocError> {
+    match File::open(rt, name) {
+        Ok(file) => Ok(Ok(file)),
+        Err(error) => Ok(Err(why_of(&error)?)),
+    }
+}

@@ -1,0 +1,135 @@
+//! The files of games below a folder, links followed.
+use crate::flaws::{Flaw, Why};
+use crate::looks::{Place, Seen, look, why_of};
+use crate::names::{is_game_name, sort_names};
+use std::alloc::AllocError;
+use std::fs;
+use std::io::ErrorKind;
+
+/// A name that is still to be looked at, and how many folders it stands in.
+#[derive(Drop)]
+struct Waiting {
+    path: String,
+    depth: usize,
+}
+
+/// What was found below a folder.
+#[derive(Drop)]
+pub(crate) struct Below {
+    /// The files whose names end in `.sgf`, by their whole names.
+    pub(crate) files: Vec<String>,
+    /// What could not be looked at.
+    pub(crate) flaws: Vec<Flaw>,
+    /// How many names are not UTF-8.
+    pub(crate) passed_over: u64,
+}
+
+/// A walk below a folder.
+#[derive(Drop)]
+struct Walk<'a> {
+    rt: &'a HostRuntime,
+    waiting: Vec<Waiting>,
+    /// The folders that the next name stands in.
+    inside: Vec<Place>,
+    below: Below,
+}
+
+impl Walk<'_> {
+    /// The names in a folder wait. A folder that it stands in has been walked, so a link to it ends
+    /// the walk there.
+    fn enter(&mut self, path: String, place: Place) -> Result<(), AllocError> {
+        if self.inside.contains(&place) {
+            return Ok(());
+        }
+        self.inside.push(place)?;
+        match fs::read_dir(self.rt, path.as_str()) {
+            Ok(entries) => self.wait_for(entries, path),
+            Err(error) => self.fail(path, why_of(&error)?),
+        }
+    }
+
+    /// The names of a folder wait.
+    fn wait_for(&mut self, entries: fs::ReadDir, folder: String) -> Result<(), AllocError> {
+        let depth = self.inside.len();
+        for entry in entries {
+            match entry {
+                Ok(entry) => {
+                    let path = String::from_str(self.rt.alloc(), entry.path().as_str())?;
+                    self.waiting.push(Waiting { path, depth })?;
+                }
+                Err(error) if error.kind() == ErrorKind::InvalidFilename => {
+                    self.below.passed_over = self.below.passed_over.saturating_add(1);
+                }
+                Err(error) => return self.fail(folder, why_of(&error)?),
+            }
+        }
+        Ok(())
+    }
+
+    /// A name could not be looked at. One that leads nowhere and is not that of a file of games is
+    /// no fault.
+    fn fail(&mut self, name: String, why: Why) -> Result<(), AllocError> {
+        let leads_nowhere = matches!(why, Why::Missing | Why::Circle);
+        if !leads_nowhere || is_game_name(name.as_str()) {
+            self.below.flaws.push(Flaw { name, why })?;
+        }
+        Ok(())
+    }
+
+    /// Looks at one name that waits. The answer is whether one did.
+    fn step(&mut self) -> Result<bool, AllocError> {
+        let Some(Waiting { path, depth }) = self.waiting.pop() else {
+            return Ok(false);
+        };
+        self.inside.truncate(depth);
+        match look(self.rt, path.as_str())? {
+            Seen::Folder(place) => self.enter(path, place)?,
+            Seen::File => {
+                if is_game_name(path.as_str()) {
+                    self.below.files.push(path)?;
+                }
+            }
+            Seen::Other => {}
+            Seen::Unseen(why) => self.fail(path, why)?,
+        }
+        Ok(true)
+    }
+}
+
+/// A walk at the folder of this name.
+fn walk_at<'a>(rt: &'a HostRuntime, folder: &str) -> Result<Walk<'a>, AllocError> {
+    let mut waiting = Vec::new(rt.alloc());
+    waiting.push(Waiting {
+        path: String::from_str(rt.alloc(), folder)?,
+        depth: 0,
+    })?;
+    Ok(Walk {
+        rt,
+        waiting,
+        inside: Vec::new(rt.alloc()),
+        below: Below {
+            files: Vec::new(rt.alloc()),
+            flaws: Vec::new(rt.alloc()),
+            passed_over: 0,
+        },
+    })
+}
+
+/// What is below the folder of this name: its files in the order of their whole names, each once.
+pub(crate) fn walk_below(rt: &HostRuntime, folder: &str) -> Result<Below, AllocError> {
+    let mut walk = walk_at(rt, folder)?;
+    for _ in 0..u64::MAX {
+        if !walk.step()? {
+            break;
+        }
+    }
+    let Walk {
+        rt: _,
+        waiting: _,
+        inside: _,
+        mut below,
+    } = walk;
+    sort_names(&mut below.files);
+    below.flaws.sort_unstable_by(|a, b| a.name.cmp(&b.name));
+    Ok(below)
+}
