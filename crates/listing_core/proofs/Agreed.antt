@@ -79,12 +79,12 @@ counts bytes number place (tree ∷ trees) end (line ∷ lines) h =
           ∙ sym (sum_by-cons (λ (l : Line). cond (is_refused l.what) 1 0) line lines);
     }
 
-pub agrees : (kinds : Kinds) (input : List ℕ) (end : ℕ) (trees : List GameTree) (lines : List Line) (counted : Counted) → AreLines input 0 0 trees end lines →
+pub agrees : (kinds : Kinds) (input : List ℕ) (first end : ℕ) (trees : List GameTree) (lines : List Line) (counted : Counted) → AreLines input first 0 trees end lines →
     HasNoTree input end → IsCounted kinds input counted → Agrees lines counted.report
-agrees kinds input end trees lines counted h none is =
-    let same = same_trees input 0 trees is.trees end is.end (lines_are_of_trees input 0 0 end trees lines h) is.written none is.no_more in
+agrees kinds input first end trees lines counted h none is =
+    let same = same_trees input 0 trees is.trees end is.end (lines_are_of_trees input first 0 end trees lines h) is.written none is.no_more in
     let reported = subst (λ ts. IsReport ts counted.report) (sym same) is.reported in
-    let all = counts input 0 0 trees end lines h in
+    let all = counts input first 0 trees end lines h in
     record {
       games = sym all.games ∙ sym reported.games;
       others = sym all.others ∙ sym reported.others;
@@ -126,9 +126,9 @@ module _ (one_result : HaveOneResult) where
       ∙ sums_first (record_of_tree tree) (map record_of_tree trees) line.what (sum_by (λ line. occasions_in line.what) lines) games
       (is_on_board (main_line_of tree)) h.1 k (λ others more. sums bytes next line.to trees end lines others h.3 more)
 
-  pub adds_up : (kinds : Kinds) (input : List ℕ) (end : ℕ) (trees : List GameTree) (lines : List Line) (counted : Counted) → AreLines input 0 0 trees end lines →
+  pub adds_up : (kinds : Kinds) (input : List ℕ) (first end : ℕ) (trees : List GameTree) (lines : List Line) (counted : Counted) → AreLines input first 0 trees end lines →
       HasNoTree input end → IsCounted kinds input counted → sum_by (λ line. occasions_in line.what) lines ≡ counted.dictionary.moves
-  adds_up kinds input end trees lines counted h none is =
-      let same = same_trees input 0 trees is.trees end is.end (lines_are_of_trees input 0 0 end trees lines h) is.written none is.no_more in
+  adds_up kinds input first end trees lines counted h none is =
+      let same = same_trees input 0 trees is.trees end is.end (lines_are_of_trees input first 0 end trees lines h) is.written none is.no_more in
       let replayed = subst (λ ts. AreReplayed (games_among (map record_of_tree ts)) is.games) (sym same) is.replayed in
-      sums input 0 0 trees end lines is.games h replayed ∙ sym is.dictionary.moves
+      sums input first 0 trees end lines is.games h replayed ∙ sym is.dictionary.moves

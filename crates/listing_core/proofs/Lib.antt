@@ -1,5 +1,9 @@
 pub mod Agreed
+pub mod CutTexts
 pub mod Endings
 pub mod Fronts
 pub mod LineLists
+pub mod Moved
+pub mod MovedRecords
 pub mod OneNumber
+pub mod Spellings

@@ -1,4 +1,9 @@
 pub mod Games
+pub mod Simple
+pub mod Columns
+pub mod Conditions
+pub mod Choice
+pub mod Cuts
 pub mod Lines
 pub mod Listing
 pub mod Agreement

@@ -1,6 +1,8 @@
 -- The lines of a listing, and their texts.
 use Rattle.std.specs.Prelude.{ℕ, List, ◌++◌, Option, Some, None, codes}
 use Rattle.std.specs.Fmt.{decimal}
+use Rattle.game_files.specs.Shown.{shown_name}
+use Rattle.go_board.specs.Extent.{Extent}
 use Rattle.go_record.specs.declared.faults.RecordFault.{RecordFault}
 use Rattle.go_record.specs.declared.faults.RecordFault.TheVariants as record_fault
 use Rattle.sgf_core.specs.declared.faults.SgfFault.{SgfFault}
@@ -34,18 +36,30 @@ number_text (Some number) = decimal number
 abbrev pub bounds_text : ℕ → ℕ → List ℕ
 bounds_text from to = codes " " ++ decimal from ++ codes " " ++ decimal to ++ codes " "
 
+-- a board's size
+abbrev pub size_text : Extent → List ℕ
+size_text size = decimal size.columns ++ codes "x" ++ decimal size.rows
+
 -- what the tree is
 abbrev pub what_text : What → List ℕ
 what_text (what.Game size moves occasions) =
-    codes "game " ++ decimal size.columns ++ codes "x" ++ decimal size.rows ++ codes " moves " ++ decimal moves
-    ++ codes " occasions " ++ decimal occasions
+    codes "game " ++ size_text size ++ codes " moves " ++ decimal moves ++ codes " occasions " ++ decimal occasions
 what_text what.Other = codes "other"
 what_text (what.Refused fault) = codes "refused " ++ record_fault_text fault
 
--- the line of a tree
-abbrev pub line_text : Line → List ℕ
-line_text line = number_text line.number ++ bounds_text line.from line.to ++ what_text line.what ++ line_feed
+-- the end of a line: the name of the file, where there is one, after this
+abbrev pub ending : List ℕ → Option (List ℕ) → List ℕ
+ending before None = line_feed
+ending before (Some name) = before ++ shown_name name ++ line_feed
+
+abbrev pub space : List ℕ
+space = codes " "
+
+-- the line of a tree, in a file of this name
+abbrev pub line_text : Option (List ℕ) → Line → List ℕ
+line_text name line = number_text line.number ++ bounds_text line.from line.to ++ what_text line.what ++ ending space name
 
 -- the last line of an input with a fault of syntax, which is looked for from `from` on
-abbrev pub fault_text : ℕ → ℕ → SgfFault → List ℕ
-fault_text from to fault = codes "-" ++ bounds_text from to ++ codes "fault " ++ sgf_fault_text fault ++ line_feed
+abbrev pub fault_text : Option (List ℕ) → ℕ → ℕ → SgfFault → List ℕ
+fault_text name from to fault =
+    codes "-" ++ bounds_text from to ++ codes "fault " ++ sgf_fault_text fault ++ ending space name

@@ -1,6 +1,5 @@
 -- The listing of a collection: the lines of its trees in order, and a last line where it has a fault of syntax.
-use Rattle.std.specs.Prelude.{◌≡◌, ◌≢◌, ℕ, ◌+◌, ◌<◌, ◌≤◌, List, [], ◌∷◌, ◌++◌, length, Option, Some, None, Result, Ok, Err}
-use Rattle.std.specs.List.{flat_map}
+use Rattle.std.specs.Prelude.{◌≡◌, ◌≢◌, ℕ, ◌+◌, ◌<◌, ◌≤◌, ◌^◌, ◌==◌, ◌&&◌, Bool, List, [], ◌∷◌, ◌++◌, length, Option, Some, None, Result, Ok, Err, if◌then◌else◌}
 use Rattle.sgf_core.specs.Tree.{GameTree, main_line_of}
 use Rattle.sgf_core.specs.Next.{IsNextTree, HasNoTree}
 use Rattle.sgf_core.specs.Reading.{IsFaultAt}
@@ -11,17 +10,22 @@ use Rattle.go_record.specs.declared.records.Kind.{Kind}
 use Rattle.go_record.specs.declared.records.Kind.TheVariants as kind
 use Rattle.go_record.specs.declared.faults.RecordFault.{RecordFault}
 use Rattle.go_record.specs.declared.faults.RecordFault.TheVariants as record_fault
+use Rattle.sgf_core.specs.declared.faults.SgfFault.{SgfFault}
 use Rattle.sgf_core.specs.declared.faults.SgfFault.TheVariants as sgf
 use Rattle.engine_core.specs.declared.faults.RunFault.{RunFault}
 use Rattle.engine_core.specs.declared.faults.RunFault.TheVariants as fault
 use Rattle.game_core.specs.Collection.{AreTrees, record_of_tree, games_among}
+use Rattle.game_core.specs.Reports.{IsReport}
+use Rattle.game_core.specs.declared.reports.Report.{Report}
+use Rattle.listing_core.specs.declared.asked.Asked.{Asked}
 use Rattle.listing_core.specs.declared.lines.Line.{Line}
 use Rattle.listing_core.specs.declared.lines.What.{What}
 use Rattle.listing_core.specs.declared.lines.What.TheVariants as what
 use Rattle.listing_core.specs.declared.listings.Listed.{Listed}
 use Rattle.listing_core.specs.declared.listings.Listed.TheVariants as listed
+use Rattle.listing_core.specs.declared.listings.Summary.{Summary}
 use Rattle.listing_core.specs.Games.{moves_in, HasOccasionNumber}
-use Rattle.listing_core.specs.Lines.{line_text, fault_text}
+use Rattle.listing_core.specs.Choice.{pieces, fault_piece}
 
 -- this is what a tree of this record is
 abbrev pub IsWhat : Result Kind RecordFault → What → Type 0
@@ -54,24 +58,38 @@ Stops listed.Done input trees end = HasNoTree input end × (trees ≢ [])
 Stops listed.NoTree input trees end = HasNoTree input end × (trees ≡ [])
 Stops (listed.Fault found) input trees end = IsFaultAt input end found
 
--- what follows the lines of the trees
-abbrev pub last_text : Listed → ℕ → ℕ → List ℕ
-last_text listed.Done end size = []
-last_text listed.NoTree end size = []
-last_text (listed.Fault found) end size = fault_text end size found
+-- a report on no tree
+abbrev pub is_none : Report → Bool
+is_none report = report.games == 0 && report.others == 0 && report.refused == 0
 
--- the text is the listing of this input, which has at most 2 ^ 28 bytes
-pub record IsListing (found : Listed) (input text : List ℕ) : Type 0 where
+-- how a listing ended, by the fault of syntax that ended it, if one did, and the report on its trees
+abbrev pub listed_of : Option SgfFault → Report → Listed
+listed_of (Some found) report = listed.Fault found
+listed_of None report = if is_none report then listed.NoTree else listed.Done
+
+-- what follows that of the trees
+abbrev pub last_piece : Asked → Listed → ℕ → ℕ → List ℕ
+last_piece asked listed.Done end size = []
+last_piece asked listed.NoTree end size = []
+last_piece asked (listed.Fault found) end size = fault_piece asked end size found
+
+-- the greatest number of an input's first game
+abbrev pub most_first : ℕ
+most_first = 2 ^ 63
+
+-- the text is what is asked for of this input, which has at most 2 ^ 28 bytes, and these are its trees
+pub record IsListing (asked : Asked) (found : Summary) (input text : List ℕ) : Type 0 where
   pub trees : List GameTree
   pub end : ℕ
   pub lines : List Line
   pub few : length input ≤ most_bytes
-  pub of_trees : AreLines input 0 0 trees end lines
-  pub stops : Stops found input trees end
-  pub printed : text ≡ flat_map line_text lines ++ last_text found end (length input)
+  pub of_trees : AreLines input asked.first 0 trees end lines
+  pub stops : Stops found.listed input trees end
+  pub reported : IsReport trees found.report
+  pub printed : text ≡ pieces asked input trees lines ++ last_piece asked found.listed end (length input)
 
-abbrev pub HasListing : List ℕ → List ℕ → Type 0
-HasListing input text = (found : Listed) × IsListing found input text
+abbrev pub HasListing : Asked → List ℕ → List ℕ → Type 0
+HasListing asked input text = (found : Summary) × IsListing asked found input text
 
 -- after trees that can be read, a whole one is next, and this holds of it
 pub record HasTree (Holds : GameTree → Type 0) (input : List ℕ) : Type 0 where

@@ -1,12 +1,18 @@
-//! A law of listings, the contract of a function that does nothing.
-ghost use Rattle.std.specs.Prelude.{◌≡◌, ℕ, List, sum_by};
+//! Laws of listings, the contracts of functions that do nothing.
+ghost use Rattle.std.specs.Prelude.{◌≡◌, ℕ, List, Ok, sum_by};
 ghost use Rattle.sgf_core.specs.Tree.{GameTree};
 ghost use Rattle.sgf_core.specs.Next.{HasNoTree};
 ghost use Rattle.shape_core.specs.declared.words.Kinds.{Kinds};
-ghost use Rattle.game_core.specs.Collection.{AreTrees};
+ghost use Rattle.go_record.specs.Actions.{Actions};
+ghost use Rattle.go_record.specs.declared.records.Kind.TheVariants as kind;
+ghost use Rattle.game_core.specs.Collection.{AreTrees, record_of_tree};
 ghost use Rattle.tally_core.specs.Counted.{IsCounted};
 ghost use Rattle.tally_core.specs.declared.collections.Counted.{Counted};
+ghost use Rattle.listing_core.specs.declared.asked.Asked.{Asked};
+ghost use Rattle.listing_core.specs.declared.asked.Form.TheVariants as form;
 ghost use Rattle.listing_core.specs.declared.lines.Line.{Line};
+ghost use Rattle.listing_core.specs.Choice.{pieces};
+ghost use Rattle.listing_core.specs.Cuts.{chosen_trees, moved, tree_at, IsReadFrom};
 ghost use Rattle.listing_core.specs.Listing.{AreLines};
 ghost use Rattle.listing_core.specs.Agreement.{Agrees, occasions_in};
 
@@ -19,13 +25,26 @@ pub fn listings_agree_with_counts()
     ensures trees { (input : List ℕ) (number place end : ℕ) (trees : List GameTree)
         (lines : List Line) → AreLines input number place trees end lines
         → AreTrees input place trees end }
-    ensures report { (kinds : Kinds) (input : List ℕ) (end : ℕ) (trees : List GameTree)
-        (lines : List Line) (counted : Counted) → AreLines input 0 0 trees end lines
+    ensures report { (kinds : Kinds) (input : List ℕ) (first end : ℕ) (trees : List GameTree)
+        (lines : List Line) (counted : Counted) → AreLines input first 0 trees end lines
         → HasNoTree input end → IsCounted kinds input counted → Agrees lines counted.report }
-    ensures occasions { (kinds : Kinds) (input : List ℕ) (end : ℕ) (trees : List GameTree)
-        (lines : List Line) (counted : Counted) → AreLines input 0 0 trees end lines
+    ensures occasions { (kinds : Kinds) (input : List ℕ) (first end : ℕ) (trees : List GameTree)
+        (lines : List Line) (counted : Counted) → AreLines input first 0 trees end lines
         → HasNoTree input end → IsCounted kinds input counted
         → sum_by (λ line. occasions_in line.what) lines ≡ counted.dictionary.moves }
 {
     replays_have_one_result();
 }
+
+/// The text of trees that are cut out is read back as just those trees, in their order, and nothing
+/// else: each is the one that is chosen, with its values at other places, and a game among them is
+/// the game that it was.
+pub fn cuts_are_read_back()
+    ensures trees { (asked : Asked) (input : List ℕ) (number place end : ℕ)
+        (trees : List GameTree) (lines : List Line) → asked.form ≡ form.Trees
+        → AreLines input number place trees end lines
+        → IsReadFrom (pieces asked input trees lines) 0 (chosen_trees asked trees lines) }
+    ensures games { (from to : ℕ) (tree : GameTree) (game : Actions)
+        → record_of_tree tree ≡ Ok (kind.Go game)
+        → record_of_tree (tree_at (moved from to) tree) ≡ Ok (kind.Go game) }
+{}

@@ -1,14 +1,17 @@
 //! The listing of an input.
-ghost use Rattle.std.specs.Prelude.{◌≡◌, ◌≤◌, [], length, IfOk, IfErr};
+ghost use Rattle.std.specs.Prelude.{◌≡◌, ◌≤◌, ◌<◌, ◌+◌, ◌^◌, [], length, IfOk, IfErr};
 ghost use Rattle.sgf_core.specs.Limit.{most_bytes};
-ghost use Rattle.listing_core.specs.Listing.{IsListing, IsListingFault};
-ghost use Rattle.listing_core.specs.Inner.Reading.{IsEnding};
+ghost use Rattle.listing_core.specs.Listing.{most_first, listed_of, IsListing, IsListingFault};
+ghost use Rattle.listing_core.specs.Inner.Reading.{counted, IsEnding};
 ghost use Rattle.listing_core.specs.Inner.Wants.{IsWanted};
 
+use crate::asked::Asked;
+use crate::choosing::push_fault_piece;
+use crate::lines::What;
 use crate::trees::{Step, push_next};
 use crate::wants::Want;
-use crate::writing::push_fault;
 use engine_core::RunFault;
+use game_core::Report;
 use sgf_core::{SgfFault, Trees};
 use std::alloc::Global;
 
@@ -23,51 +26,108 @@ pub enum Listed {
     Fault(SgfFault),
 }
 
-/// Where the last tree ends, 0 where there is none, and why no further one was read.
+/// How a listing ended, and what the trees are that are listed.
+#[derive(Clone, Copy, Debug, PartialEq, Eq)]
+pub struct Summary {
+    /// How it ended.
+    pub listed: Listed,
+    /// How many of its trees are games, of other games, and refused.
+    pub report: Report,
+}
+
+/// Where the last tree ends, 0 where there is none, what the trees are, and why no further one was
+/// read.
 #[derive(Clone, Copy)]
 pub(crate) struct Ending {
     pub(crate) end: usize,
+    pub(crate) report: Report,
     pub(crate) fault: Option<SgfFault>,
 }
 
-/// Appends the lines of all trees.
-fn push_lines(alloc: Global, trees: &mut Trees<'_>, text: &mut Vec<u8>) -> Result<Ending, Want>
-    requires small { length trees.old.bytes ≤ most_bytes }
+/// The report on a tree more, which is this.
+fn counted(report: Report, what: What) -> Report
+    requires { report.games + report.others + report.refused < 2 ^ 63 }
+    ensures { result ≡ counted report what }
+{
+    let mut report = report;
+    match what {
+        What::Game { .. } => report.games += 1,
+        What::Other => report.others += 1,
+        What::Refused(_) => report.refused += 1,
+    }
+    report
+}
+
+/// Appends what is written of all trees of this input.
+fn push_lines(
+    alloc: Global,
+    asked: &Asked<'_>,
+    input: &[u8],
+    trees: &mut Trees<'_>,
+    text: &mut Vec<u8>,
+) -> Result<Ending, Want>
+    requires small { length input.now ≤ most_bytes }
+    requires first { asked.now.first ≤ most_first }
+    requires bytes { trees.old.bytes ≡ input.now }
     requires begins { trees.old.from ≡ 0 }
     requires none { text.old.items ≡ [] }
-    ensures ending { IfOk result (IsEnding trees.old.bytes text.new.items) }
-    ensures wanted { IfErr result (IsWanted trees.old.bytes) }
+    ensures ending { IfOk result (IsEnding asked.now input.now text.new.items) }
+    ensures wanted { IfErr result (IsWanted input.now) }
 {
-    let mut next = 0;
-    let mut last = 0;
-    loop {
-        let fault = match push_next(alloc, trees, next, text)? {
-            Step::Tree { end, games } => {
-                next += games;
-                last = end;
-                continue;
+    let mut report = Report {
+        games: 0,
+        others: 0,
+        refused: 0,
+    };
+    let mut end = 0;
+    'tree: loop {
+        let next = asked.first + report.games;
+        let fault = match push_next(alloc, asked, input, trees, next, text)? {
+            Step::Tree(line) => {
+                report = counted(report, line.what);
+                end = line.to;
+                continue 'tree;
             }
             Step::End => None,
             Step::Fault(fault) => Some(fault),
         };
-        return Ok(Ending { end: last, fault });
+        return Ok(Ending { end, report, fault });
     }
 }
 
+/// How a listing ended, by the fault of syntax that ended it, if one did, and what its trees are. It
+/// takes no memory.
+pub fn listed_by(fault: Option<SgfFault>, report: Report) -> Listed
+    ensures { result ≡ listed_of fault report }
+{
+    if let Some(fault) = fault {
+        return Listed::Fault(fault);
+    }
+    if report.games == 0 && report.others == 0 && report.refused == 0 {
+        return Listed::NoTree;
+    }
+    Listed::Done
+}
+
 /// The listing of an input.
-pub(crate) fn listing_of(alloc: Global, input: &[u8]) -> Result<(Vec<u8>, Listed), RunFault>
-    ensures listing { IfOk result (λ p. IsListing p.1 input.now p.0.items) }
+pub(crate) fn listing_of(
+    alloc: Global,
+    asked: &Asked<'_>,
+    input: &[u8],
+) -> Result<(Vec<u8>, Summary), RunFault>
+    requires { asked.now.first ≤ most_first }
+    ensures listing { IfOk result (λ p. IsListing asked.now p.1 input.now p.0.items) }
     ensures fault { IfErr result (IsListingFault input.now) }
 {
     let mut trees = Trees::new(input)?;
     let mut text = Vec::new(alloc);
-    let ending = push_lines(alloc, &mut trees, &mut text)?;
+    let ending = push_lines(alloc, asked, input, &mut trees, &mut text)?;
     if let Some(fault) = ending.fault {
-        push_fault(&mut text, ending.end, input.len(), fault)?;
-        return Ok((text, Listed::Fault(fault)));
+        push_fault_piece(asked, ending.end, input.len(), fault, &mut text)?;
     }
-    if text.is_empty() {
-        return Ok((text, Listed::NoTree));
-    }
-    Ok((text, Listed::Done))
+    let summary = Summary {
+        listed: listed_by(ending.fault, ending.report),
+        report: ending.report,
+    };
+    Ok((text, summary))
 }

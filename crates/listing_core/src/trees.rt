@@ -1,5 +1,5 @@
 //! The trees of an input, one line after another.
-ghost use Rattle.std.specs.Prelude.{◌≡◌, ◌≤◌, ◌∷◌, [], ℕ, List, length, IfOk, IfErr, Result, Ok};
+ghost use Rattle.std.specs.Prelude.{◌≡◌, ◌≤◌, List, length, IfOk, IfErr, Result, Ok};
 ghost use Rattle.sgf_core.specs.Tree.{GameTree, Node, main_line_of};
 ghost use Rattle.sgf_core.specs.Marks.{marks_of};
 ghost use Rattle.go_record.specs.Adding.{IsRecordOrMemory};
@@ -7,16 +7,16 @@ ghost use Rattle.go_record.specs.Record.{record_of};
 ghost use Rattle.go_record.specs.declared.records.Kind.{Kind};
 ghost use Rattle.go_record.specs.declared.records.Kind.TheVariants as kind;
 ghost use Rattle.go_record.specs.declared.faults.RecordFault.{RecordFault};
-ghost use Rattle.game_core.specs.Collection.{record_of_tree, games_among};
 ghost use Rattle.listing_core.specs.Listing.{IsWhat, number_of};
 ghost use Rattle.listing_core.specs.Inner.Reading.{IsLineOf, IsTreeStep, IsStep};
 ghost use Rattle.listing_core.specs.Inner.Wants.{Wants, NextWants};
 ghost use Rattle.listing_core.specs.declared.wants.Want.TheVariants as want;
 
+use crate::asked::Asked;
+use crate::choosing::push_piece;
 use crate::lines::{Line, What};
 use crate::occasions::{count_occasions, moves_in};
 use crate::wants::Want;
-use crate::writing::push_line;
 use go_board::Board;
 use go_record::{Kind, Record, RecordFault, read_record};
 use sgf_core::{SgfFault, Tree, Trees};
@@ -25,8 +25,8 @@ use std::alloc::Global;
 /// What one step of a listing met.
 #[derive(Clone, Copy)]
 pub(crate) enum Step {
-    /// A tree that ends at this place, and how many games it is.
-    Tree { end: usize, games: u64 },
+    /// A tree with this line.
+    Tree(Line),
     /// No tree was left.
     End,
     /// The next tree has this fault of syntax.
@@ -88,50 +88,46 @@ fn line_of(tree: &Tree<'_>, next: u64, what: What) -> Line
     }
 }
 
-/// How many games a line is of.
-fn games_in(line: &Line) -> u64
-    ensures games { (recorded : Result Kind RecordFault) (next : ℕ)
-        → line.now.number ≡ number_of recorded next
-        → result ≡ length (games_among (recorded ∷ [])) }
-    ensures few { result ≤ 1 }
-{
-    match line.number {
-        Some(_) => 1,
-        None => 0,
-    }
-}
-
-/// Appends the line of a tree, where `next` is the number of the next game.
-fn push_tree(alloc: Global, tree: &Tree<'_>, next: u64, text: &mut Vec<u8>) -> Result<Step, Want>
-    ensures step { (game : GameTree) → tree.now.marks ≡ marks_of game
-        → IfOk result (IsTreeStep tree.now (record_of_tree game) next text.old.items
+/// Appends what is written of a tree, where `next` is the number of the next game. The answer is
+/// its line.
+fn push_tree(
+    alloc: Global,
+    asked: &Asked<'_>,
+    input: &[u8],
+    tree: &Tree<'_>,
+    next: u64,
+    text: &mut Vec<u8>,
+) -> Result<Line, Want>
+    requires { tree.now.end ≤ length input.now }
+    ensures tree { (game : GameTree) → tree.now.marks ≡ marks_of game
+        → IfOk result (IsTreeStep asked.now input.now tree.now game next text.old.items
         text.new.items) }
     ensures wanted { (game : GameTree) → tree.now.marks ≡ marks_of game
         → IfErr result (Wants (main_line_of game)) }
 {
     let what = what_of(alloc, read_record(alloc, tree))?;
     let line = line_of(tree, next, what);
-    let step = Step::Tree {
-        end: line.to,
-        games: games_in(&line),
-    };
-    push_line(text, &line)?;
-    Ok(step)
+    push_piece(alloc, asked, input, tree, &line, text)?;
+    Ok(line)
 }
 
-/// Appends the line of the next tree, where `next` is the number of the next game.
+/// Appends what is written of the next tree of this input, where `next` is the number of the next
+/// game.
 pub(crate) fn push_next(
     alloc: Global,
+    asked: &Asked<'_>,
+    input: &[u8],
     trees: &mut Trees<'_>,
     next: u64,
     text: &mut Vec<u8>,
 ) -> Result<Step, Want>
+    requires { trees.old.bytes ≡ input.now }
     ensures step { IfOk result
-        (IsStep trees.old trees.new next text.old.items text.new.items) }
+        (IsStep asked.now trees.old trees.new next text.old.items text.new.items) }
     ensures wanted { IfErr result (NextWants trees.old.bytes trees.old.from) }
 {
     match trees.next_tree(alloc) {
-        Ok(Some(tree)) => push_tree(alloc, &tree, next, text),
+        Ok(Some(tree)) => Ok(Step::Tree(push_tree(alloc, asked, input, &tree, next, text)?)),
         Ok(None) => Ok(Step::End),
         Err(SgfFault::Memory) => Err(Want::Tree),
         Err(fault) => Ok(Step::Fault(fault)),

@@ -1,10 +1,12 @@
 //! The texts of lines, appended to bytes.
-ghost use Rattle.std.specs.Prelude.{◌≡◌, ◌++◌, OnOk, codes};
+ghost use Rattle.std.specs.Prelude.{◌≡◌, ◌++◌, OnOk, option_map};
 ghost use Rattle.std.specs.Fmt.{decimal};
 ghost use Rattle.listing_core.specs.Lines.{record_fault_text, sgf_fault_text, number_text};
-ghost use Rattle.listing_core.specs.Lines.{bounds_text, what_text, line_text, fault_text};
+ghost use Rattle.listing_core.specs.Lines.{size_text, bounds_text, what_text, ending, line_text};
+ghost use Rattle.listing_core.specs.Lines.{fault_text};
 
 use crate::lines::{Line, What};
+use game_files::push_name;
 use go_board::Size;
 use go_record::RecordFault;
 use sgf_core::SgfFault;
@@ -12,7 +14,7 @@ use shape_dict::push_number;
 use std::alloc::AllocError;
 
 /// Appends a number of bytes, a place or a count.
-fn push_count(text: &mut Vec<u8>, count: usize) -> Result<(), AllocError>
+pub(crate) fn push_count(text: &mut Vec<u8>, count: usize) -> Result<(), AllocError>
     ensures { OnOk result (text.new.items ≡ text.old.items ++ decimal count) }
 {
     push_number(text, count as u64)
@@ -27,7 +29,7 @@ fn push_placed(text: &mut Vec<u8>, name: &[u8], at: usize) -> Result<(), AllocEr
 }
 
 /// Appends the fault of a record.
-fn push_record_fault(text: &mut Vec<u8>, fault: RecordFault) -> Result<(), AllocError>
+pub(crate) fn push_record_fault(text: &mut Vec<u8>, fault: RecordFault) -> Result<(), AllocError>
     ensures { OnOk result (text.new.items ≡ text.old.items ++ record_fault_text fault) }
 {
     match fault {
@@ -39,7 +41,7 @@ fn push_record_fault(text: &mut Vec<u8>, fault: RecordFault) -> Result<(), Alloc
 }
 
 /// Appends the fault of a collection.
-fn push_sgf_fault(text: &mut Vec<u8>, fault: SgfFault) -> Result<(), AllocError>
+pub(crate) fn push_sgf_fault(text: &mut Vec<u8>, fault: SgfFault) -> Result<(), AllocError>
     ensures { OnOk result (text.new.items ≡ text.old.items ++ sgf_fault_text fault) }
 {
     match fault {
@@ -52,7 +54,7 @@ fn push_sgf_fault(text: &mut Vec<u8>, fault: SgfFault) -> Result<(), AllocError>
 }
 
 /// Appends the number of a game, or that there is none.
-fn push_game_number(text: &mut Vec<u8>, number: Option<u64>) -> Result<(), AllocError>
+pub(crate) fn push_game_number(text: &mut Vec<u8>, number: Option<u64>) -> Result<(), AllocError>
     ensures { OnOk result (text.new.items ≡ text.old.items ++ number_text number) }
 {
     match number {
@@ -73,9 +75,8 @@ fn push_bounds(text: &mut Vec<u8>, from: usize, to: usize) -> Result<(), AllocEr
 }
 
 /// Appends the size of a board.
-fn push_size(text: &mut Vec<u8>, size: Size) -> Result<(), AllocError>
-    ensures { OnOk result (text.new.items
-        ≡ text.old.items ++ (decimal size.columns ++ codes "x" ++ decimal size.rows)) }
+pub(crate) fn push_size(text: &mut Vec<u8>, size: Size) -> Result<(), AllocError>
+    ensures { OnOk result (text.new.items ≡ text.old.items ++ size_text size) }
 {
     push_count(text, usize::from(size.columns()))?;
     text.extend_from_slice(b"x")?;
@@ -107,30 +108,52 @@ fn push_what(text: &mut Vec<u8>, what: What) -> Result<(), AllocError>
     }
 }
 
-/// Appends the line of a tree.
-pub(crate) fn push_line(text: &mut Vec<u8>, line: &Line) -> Result<(), AllocError>
-    ensures { OnOk result (text.new.items ≡ text.old.items ++ line_text line.now) }
+/// Appends the end of a line: the name of the file, where there is one, after this.
+pub(crate) fn push_ending(
+    text: &mut Vec<u8>,
+    before: &[u8],
+    name: Option<&str>,
+) -> Result<(), AllocError>
+    ensures { OnOk result (text.new.items ≡ text.old.items
+        ++ ending before.now (option_map (λ n. n.now) name.entry)) }
 {
-    push_game_number(text, line.number)?;
-    push_bounds(text, line.from, line.to)?;
-    push_what(text, line.what)?;
+    if let Some(name) = name {
+        text.extend_from_slice(before)?;
+        push_name(text, name)?;
+    }
     text.push(b'\n')?;
     Ok(())
 }
 
-/// Appends the last line of an input with a fault of syntax.
+/// Appends the line of a tree, in a file of this name.
+pub(crate) fn push_line(
+    text: &mut Vec<u8>,
+    name: Option<&str>,
+    line: &Line,
+) -> Result<(), AllocError>
+    ensures { OnOk result (text.new.items ≡ text.old.items
+        ++ line_text (option_map (λ n. n.now) name.entry) line.now) }
+{
+    push_game_number(text, line.number)?;
+    push_bounds(text, line.from, line.to)?;
+    push_what(text, line.what)?;
+    push_ending(text, b" ", name)
+}
+
+/// Appends the last line of an input with a fault of syntax, in a file of this name.
 pub(crate) fn push_fault(
     text: &mut Vec<u8>,
+    name: Option<&str>,
     from: usize,
     to: usize,
     fault: SgfFault,
 ) -> Result<(), AllocError>
-    ensures { OnOk result (text.new.items ≡ text.old.items ++ fault_text from to fault) }
+    ensures { OnOk result (text.new.items ≡ text.old.items
+        ++ fault_text (option_map (λ n. n.now) name.entry) from to fault) }
 {
     text.extend_from_slice(b"-")?;
     push_bounds(text, from, to)?;
     text.extend_from_slice(b"fault ")?;
     push_sgf_fault(text, fault)?;
-    text.push(b'\n')?;
-    Ok(())
+    push_ending(text, b" ", name)
 }

@@ -3,7 +3,7 @@ use crate::sheets::{Bytes, Full};
 use engine_core::RunFault;
 use go_board::BoardFault;
 use go_record::RecordFault;
-use listing_core::{Listed, run_listing};
+use listing_core::{Asked, Form, Listed, run_listing};
 use sgf_core::SgfFault;
 use std::alloc::Global;
 use std::process::Abort;
@@ -14,6 +14,14 @@ const GAMES: &[u8] = b"(;SZ[2]B[aa][bb];W[aa])(;GM[2])";
 
 /// The listing of `GAMES`.
 const LINES: &[u8] = b"0 0 23 game 2x2 moves 3 occasions 2\n- 23 31 other\n";
+
+/// Lines of standard input.
+const ASKED: Asked<'static> = Asked {
+    form: Form::Lines,
+    conditions: &[],
+    first: 0,
+    name: None,
+};
 
 /// A run over these bytes answers so, and what a writer of at most this many bytes got is this
 /// text.
@@ -28,8 +36,8 @@ fn assert_listing(
         got: Vec::new(alloc),
         most,
     };
-    let found = run_listing(alloc, &mut Bytes { left: input }, &mut writer);
-    assert!(rt; found == wanted);
+    let found = run_listing(alloc, &ASKED, &mut Bytes { left: input }, &mut writer);
+    assert!(rt; found.map(|summary| summary.listed) == wanted);
     assert!(rt; writer.got.as_slice() == text);
     Ok(())
 }
@@ -63,7 +71,7 @@ fn memory_is_found_or_named(rt: HostRuntime) -> Result<(), Fail> {
         got: Vec::new(rt.alloc()),
         most: 0,
     };
-    match run_listing(rt.alloc(), &mut Bytes { left: GAMES }, &mut writer) {
+    match run_listing(rt.alloc(), &ASKED, &mut Bytes { left: GAMES }, &mut writer) {
         Ok(_) => assert!(rt; false),
         Err(RunFault::Sgf(fault)) => assert!(rt; fault == SgfFault::Memory),
         Err(RunFault::Record(fault)) => assert!(rt; fault == RecordFault::Memory),

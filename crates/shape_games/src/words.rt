@@ -1,62 +1,125 @@
 //! The words of the command line, and what they ask for.
-ghost use Rattle.std.specs.Prelude.{◌≡◌, IfErr, IfOk, map, string_bytes};
-ghost use Rattle.clap.specs.Words.{app_of};
-ghost use Rattle.command_lines.specs.Lines.{IsLineFault};
-ghost use Rattle.shape_games.specs.Words.{program_app, IsAnswered};
+ghost use Rattle.std.specs.Prelude.{◌≡◌, ◌⊎◌, true, false, map, string_bytes, IfOk, IfErr};
+ghost use Rattle.command_lines.specs.Values.{IsChoiceOf, rows_in};
+ghost use Rattle.engine_core.specs.declared.faults.RunFault.TheVariants as fault;
+ghost use Rattle.shape_games.specs.Words.{values_of, AreConditions, HasBadCondition, form_of};
+ghost use Rattle.shape_games.specs.Words.{AreAsked, IsValueFault};
+ghost use Rattle.shape_games.specs.Words.{IsAnswered, IsWordsFault};
 
-use clap::Command;
-use command_lines::{Line, program_named, read_line};
+use crate::commands::program;
+use clap::ArgMatches;
+use command_lines::{Line, choice, read_line};
 use engine_core::RunFault;
-use std::alloc::Global;
+use listing_core::{Condition, Form, condition_of};
+use std::alloc::{AllocError, Global};
 
-/// The end of the program's help.
-const NOTES: &str =
-    "The collection is read from standard input, up to 268,435,456 bytes. A line for each tree, in order:
-
-  0 0 812 game 19x19 moves 212 occasions 212    game 0, from byte 0 to byte 812
-  - 812 840 other                               a tree of another game
-  - 840 901 refused G2 bad point at 877         a game whose record has a fault
-  - 901 999 fault S2 bad byte at 950            the last line: no tree can be read from here on
-
-An occasion is a move onto an empty point.
-
-Exit status: 0 done, 1 no tree, 2 wrong words, 3 input refused, 5 no memory, 6 a read or a write failed";
+/// What is asked for.
+#[derive(Debug, Drop)]
+pub struct Asked<'a> {
+    /// What is written of each tree that is chosen.
+    pub form: Form,
+    /// What a game has to meet to be chosen.
+    pub conditions: Vec<Condition<'a>>,
+    /// The words that name collections and folders.
+    pub files: Vec<&'a str>,
+}
 
 /// What the program is to do.
 #[derive(Debug, Drop)]
-pub enum Task {
-    /// List the collection.
-    List,
+pub enum Task<'a> {
+    /// Do this.
+    Do(Asked<'a>),
     /// Print this text, which was asked for by help or version.
     Help(String),
 }
 
-/// All that the program knows: no word but those for help and version. Its name is not among its
-/// words.
-fn program<'a>(alloc: Global) -> Command<'a>
-    ensures { app_of result ≡ program_app }
+/// The values of the option or words of this name: none where it is not given.
+fn values_of<'a>(
+    alloc: Global,
+    matches: &ArgMatches<'a>,
+    id: &str,
+) -> Result<Vec<&'a str>, AllocError>
+    ensures { IfOk result (λ found. map (λ value. value.now) found.items
+        ≡ values_of id.now (rows_in matches.now)) }
 {
-    program_named(
-        alloc,
-        "shape_games",
-        "Lists the trees of a collection: where each is, and what",
-        "shape_games < GAMES.sgf",
-        NOTES,
-    )
+    let Some(found) = matches.get_strs(id) else {
+        return Ok(Vec::new(alloc));
+    };
+    let values = found.to_vec(alloc)?;
+    Ok(values)
 }
 
-/// What the words after the program's name ask for; no word at all asks for the listing. It takes
-/// memory.
+/// The conditions that these texts spell.
+fn conditions_of<'a>(alloc: Global, texts: &[&'a str]) -> Result<Vec<Condition<'a>>, RunFault>
+    ensures conditions { IfOk result (λ found.
+        AreConditions (map (λ text. text.now) texts.now) found.items) }
+    ensures fault { IfErr result (λ found. (found ≡ fault.Memory) ⊎ ((found ≡ fault.Usage)
+        × HasBadCondition (map (λ text. text.now) texts.now))) }
+{
+    let mut conditions = Vec::new(alloc);
+    for text in texts {
+        let Some(condition) = condition_of(*text) else {
+            return Err(RunFault::Usage);
+        };
+        conditions.push(condition)?;
+    }
+    Ok(conditions)
+}
+
+/// What is written of each tree that is chosen, by the flags that are given.
+fn form_for(info: bool, cut: bool) -> Option<Form>
+    ensures { result ≡ form_of info cut }
+{
+    match (info, cut) {
+        (false, false) => Some(Form::Lines),
+        (true, false) => Some(Form::Columns),
+        (false, true) => Some(Form::Trees),
+        (true, true) => None,
+    }
+}
+
+/// Whether a flag is given.
+fn has_flag(matches: &ArgMatches<'_>, flag: &str) -> bool
+    ensures { IsChoiceOf flag.now true false (rows_in matches.now) result }
+{
+    choice(matches, flag, true, false)
+}
+
+/// What values that `clap` takes ask for.
+fn accepted<'a>(alloc: Global, matches: &ArgMatches<'a>) -> Result<Task<'a>, RunFault>
+    ensures asked { IfOk result (AreAsked (rows_in matches.now)) }
+    ensures fault { IfErr result (IsValueFault (rows_in matches.now)) }
+{
+    let files = values_of(alloc, matches, "files")?;
+    let texts = values_of(alloc, matches, "where")?;
+    let conditions = conditions_of(alloc, &texts)?;
+    let info = has_flag(matches, "info");
+    let cut = has_flag(matches, "cut");
+    let Some(form) = form_for(info, cut) else {
+        return Err(RunFault::Usage);
+    };
+    Ok(Task::Do(Asked {
+        form,
+        conditions,
+        files,
+    }))
+}
+
+/// What the words after the program's name ask for; no word at all asks for the lines of standard
+/// input. It takes memory.
 ///
 /// # Errors
 ///
-/// `Usage` where the words are none that the program knows; `Memory` where memory was refused.
-pub fn read_words(alloc: Global, words: &[String]) -> Result<Task, RunFault>
+/// `Usage` where the words are none that the program knows, a condition is none, or both columns
+/// and trees are asked for. `Memory` where memory was refused.
+pub fn read_words<'a>(alloc: Global, words: &'a [String]) -> Result<Task<'a>, RunFault>
     ensures task { IfOk result (IsAnswered (map string_bytes words.now)) }
-    ensures fault { IfErr result (IsLineFault program_app (map string_bytes words.now)) }
+    ensures fault { IfErr result (IsWordsFault (map string_bytes words.now)) }
 {
-    match read_line(alloc, program(alloc), words)? {
-        Line::Asked(_) => Ok(Task::List),
+    let command = program(alloc)?;
+    let line = read_line(alloc, command, words)?;
+    match line {
+        Line::Asked(matches) => accepted(alloc, &matches),
         Line::Told(text) => Ok(Task::Help(text)),
     }
 }

@@ -1,9 +1,8 @@
-//! The examples of the pages of `harvest_core`, `engine_core`, `listing_core`, `hits_core`,
+//! The examples of the pages of `harvest_core`, `engine_core`, `hits_core`,
 //! `sheet_core` and `stream_core`.
 use engine_core::{Outcome, run_board};
 use harvest_core::{FreeGate, harvest};
 use hits_core::{Search, Shown, Sought, Spelling, Wanted, run_hits};
-use listing_core::{Listed, run_listing};
 use shape_core::{Kind, Kinds, Shape, Word};
 use sheet_core::{Asked, Form, Order, run_sheet};
 use std::io::Cursor;
@@ -30,18 +29,6 @@ fn engine_core(rt: HostRuntime) -> Result<(), Fail> {
     let outcome = run_board(alloc, &mut games, &mut text);
     assert!(rt; outcome == Ok(Outcome::Done));
     assert!(rt; text.as_slice() == b"X.\n.O\n".as_slice());
-    Ok(())
-}
-
-#[test]
-fn listing_core(rt: HostRuntime) -> Result<(), Fail> {
-    let alloc = rt.alloc();
-    let mut games = Cursor::new(b"(;SZ[1];B[aa])(;GM[2])");
-    let mut lines = Vec::new(alloc);
-    let listed = run_listing(alloc, &mut games, &mut lines);
-    assert!(rt; listed == Ok(Listed::Done));
-    let wanted = b"0 0 14 game 1x1 moves 1 occasions 1\n- 14 22 other\n";
-    assert!(rt; lines.as_slice() == wanted.as_slice());
     Ok(())
 }
 

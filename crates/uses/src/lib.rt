@@ -8,6 +8,8 @@ mod engines;
 #[cfg(test)]
 mod games;
 #[cfg(test)]
+mod listings;
+#[cfg(test)]
 mod patterns;
 #[cfg(test)]
 mod shares;

@@ -1,14 +1,15 @@
 use Rattle.std.proofs.Common.{◌≡◌, ◌≤◌, ◌-◌, length}
-use Rattle.listing_core.specs.Inner.Reading.{ListsUpTo}
+use Rattle.listing_core.specs.Inner.Reading.{ListsUpTo, all_in}
 use Rattle.listing_core.proofs.listings.push_lines.Given as goal
 
-abbrev pub invariant-loop-end : goal.invariant-loop-end
-invariant-loop-end l = record {
+abbrev pub invariant-tree : goal.invariant-tree
+invariant-tree l = record {
   bytes : l.trees.bytes ≡ l.fn.trees.bytes;
-  end : l.last ≡ l.trees.from;
-  in_input : l.last ≤ length l.trees.bytes;
-  lists : ListsUpTo l.fn.trees.bytes l.last l.next l.text.items;
+  end : l.end ≡ l.trees.from;
+  in_input : l.end ≤ length l.input;
+  few : all_in l.report ≤ l.end;
+  lists : ListsUpTo l.asked l.input l.end l.report l.text.items;
 }
 
-abbrev pub decreases-loop-end : goal.decreases-loop-end
-decreases-loop-end l = length l.trees.bytes - l.trees.from
+abbrev pub decreases-tree : goal.decreases-tree
+decreases-tree l = length l.input - l.trees.from

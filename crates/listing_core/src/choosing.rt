@@ -1,0 +1,112 @@
+//! Which trees are chosen, and what is written of them.
+ghost use Rattle.std.specs.Prelude.{◌≡◌, ◌++◌, ◌≤◌, length, slice_range, OnOk, IfOk};
+ghost use Rattle.shape_dict.specs.Text.{line_feed};
+ghost use Rattle.sgf_core.specs.Marks.{marks_of};
+ghost use Rattle.sgf_core.specs.Tree.{GameTree, main_line_of};
+ghost use Rattle.listing_core.specs.Choice.{lists_all, is_chosen, name_in, form_text, piece};
+ghost use Rattle.listing_core.specs.Choice.{fault_piece};
+
+use crate::asked::{Asked, Form};
+use crate::columns::{push_columns, push_fault_columns};
+use crate::conditions::meets_all;
+use crate::lines::{Line, What};
+use crate::writing::{push_fault, push_line};
+use sgf_core::{SgfFault, Tree};
+use std::alloc::{AllocError, Global};
+
+/// Whether what is no game has a line.
+fn lists_all(asked: &Asked<'_>) -> bool
+    ensures { result ≡ lists_all asked.now.form asked.now.conditions.now }
+{
+    match asked.form {
+        Form::Lines | Form::Columns => asked.conditions.is_empty(),
+        Form::Trees => false,
+    }
+}
+
+/// Whether a tree that is this is chosen.
+fn is_chosen(
+    alloc: Global,
+    asked: &Asked<'_>,
+    tree: &Tree<'_>,
+    what: What,
+) -> Result<bool, AllocError>
+    ensures { (game : GameTree) → tree.now.marks ≡ marks_of game → IfOk result (λ found. found
+        ≡ is_chosen asked.now.form asked.now.conditions.now (main_line_of game) what) }
+{
+    match what {
+        What::Game { size, .. } => meets_all(alloc, asked.conditions, tree, size),
+        What::Other | What::Refused(_) => Ok(lists_all(asked)),
+    }
+}
+
+/// Appends the bytes of a tree, and a line feed.
+fn push_cut(text: &mut Vec<u8>, input: &[u8], from: usize, to: usize) -> Result<(), AllocError>
+    requires { (from ≤ to) × (to ≤ length input.now) }
+    ensures { OnOk result (text.new.items
+        ≡ text.old.items ++ (slice_range input.now from to ++ line_feed)) }
+{
+    text.extend_from_slice(&input[from..to])?;
+    text.push(b'\n')?;
+    Ok(())
+}
+
+/// Appends what is written of a tree that is chosen.
+fn push_form(
+    asked: &Asked<'_>,
+    input: &[u8],
+    tree: &Tree<'_>,
+    line: &Line,
+    text: &mut Vec<u8>,
+) -> Result<(), AllocError>
+    requires { (line.now.from ≤ line.now.to) × (line.now.to ≤ length input.now) }
+    ensures { (game : GameTree) → tree.now.marks ≡ marks_of game → OnOk result (text.new.items
+        ≡ text.old.items ++ form_text asked.now.form (name_in asked.now) input.now
+        (main_line_of game) line.now) }
+{
+    match asked.form {
+        Form::Lines => push_line(text, asked.name, line),
+        Form::Columns => push_columns(text, asked.name, tree, line),
+        Form::Trees => push_cut(text, input, line.from, line.to),
+    }
+}
+
+/// Appends what is written of a tree.
+pub(crate) fn push_piece(
+    alloc: Global,
+    asked: &Asked<'_>,
+    input: &[u8],
+    tree: &Tree<'_>,
+    line: &Line,
+    text: &mut Vec<u8>,
+) -> Result<(), AllocError>
+    requires { (line.now.from ≤ line.now.to) × (line.now.to ≤ length input.now) }
+    ensures { (game : GameTree) → tree.now.marks ≡ marks_of game → OnOk result (text.new.items
+        ≡ text.old.items ++ piece asked.now input.now (main_line_of game) line.now) }
+{
+    if is_chosen(alloc, asked, tree, line.what)? {
+        push_form(asked, input, tree, line, text)?;
+    }
+    Ok(())
+}
+
+/// Appends the last line of an input with a fault of syntax, where all trees have lines.
+pub(crate) fn push_fault_piece(
+    asked: &Asked<'_>,
+    from: usize,
+    to: usize,
+    fault: SgfFault,
+    text: &mut Vec<u8>,
+) -> Result<(), AllocError>
+    ensures { OnOk result (text.new.items
+        ≡ text.old.items ++ fault_piece asked.now from to fault) }
+{
+    if !lists_all(asked) {
+        return Ok(());
+    }
+    match asked.form {
+        Form::Lines => push_fault(text, asked.name, from, to, fault),
+        Form::Columns => push_fault_columns(text, asked.name, from, to, fault),
+        Form::Trees => Ok(()),
+    }
+}

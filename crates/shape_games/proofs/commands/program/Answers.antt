@@ -1,0 +1,17 @@
+use Rattle.std.proofs.Common.{codes}
+use Rattle.std.proofs.lemmas.Result.{IfOk-weaker}
+use Rattle.clap.specs.Words.{with_rule}
+use Rattle.command_lines.proofs.Added.{one_argument}
+use Rattle.command_lines.specs.Arguments.{flag_rule}
+use Rattle.shape_games.specs.Commands.{choosing_app, files_rule}
+use Rattle.shape_games.proofs.commands.program.Goals as goal
+
+pub returns : goal.returns
+returns c =
+    let none = choosing_app in
+    let with_one = with_rule none (flag_rule (codes "cut")) in
+    let one = c.in_ok-arg.field-0 in
+    let told_one = one_argument c.in_ok-program_of_choosing.field-0 c.flag_argument.result one none (flag_rule (codes "cut")) c.in_ok-arg.ensures c.in_ok-program_of_choosing.ensures c.flag_argument.ensures.rule c.flag_argument.ensures.local in
+    IfOk-weaker c.arg-2.result _ _
+    (λ new adds. one_argument one c.files_argument.result new with_one files_rule adds told_one c.files_argument.ensures.rule c.files_argument.ensures.local)
+    c.arg-2.ensures

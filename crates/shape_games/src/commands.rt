@@ -1,0 +1,88 @@
+//! The command line as it is told to `clap`.
+ghost use Rattle.std.specs.Prelude.{◌≡◌, false, IfOk};
+ghost use Rattle.clap.specs.Words.{app_of, rule_of};
+ghost use Rattle.shape_games.specs.Commands.{files_rule, where_rule, choosing_app, program_app};
+
+use clap::{Arg, ArgAction, Command};
+use command_lines::{flag_argument, option_argument, program_named};
+use std::alloc::{AllocError, Global};
+
+/// The end of the program's help.
+const NOTES: &str =
+    "FILE is a collection of up to 268,435,456 bytes; a folder stands for all files below it whose names
+end in .sgf, and - for standard input, which is read where no file is named. A line for each tree:
+
+  0 0 812 game 19x19 moves 212 occasions 212    game 0, from byte 0 to byte 812
+  - 812 840 other                               a tree of another game
+  - 840 901 refused G2 bad point at 877         a game whose record has a fault
+  - 901 999 fault S2 bad byte at 950            the last line: no tree can be read from here on
+
+An occasion is a move onto an empty point. The lines of a named file end with its name. Games are
+numbered through all files. With --info a line has columns with tabs between them: number, from, to,
+what, size, moves, occasions, PB, PW, BR, WR, DT, RE, HA, KM and the file's name.
+
+KEY is SZ, PB, PW, BR, WR, DT, RE, HA or KM; a * at the end of VALUE stands for any rest:
+
+  shape_games --where SZ=19 --where 'DT=1990*' --cut games > some.sgf
+
+Exit status: 0 done, 1 no tree, 2 wrong words, 3 input refused, 5 no memory, 6 a read or a write failed;
+of several files that of the first fault";
+
+fn where_argument<'a>(alloc: Global) -> Arg<'a>
+    ensures rule { rule_of result ≡ where_rule }
+    ensures local { result.global ≡ false }
+{
+    option_argument(
+        alloc,
+        "where",
+        "KEY=VALUE",
+        "Only games of which this holds; may be given several times, and then all have to hold",
+    )
+    .action(ArgAction::Append)
+}
+
+fn files_argument<'a>(alloc: Global) -> Arg<'a>
+    ensures rule { rule_of result ≡ files_rule }
+    ensures local { result.global ≡ false }
+{
+    Arg::new(alloc, "files")
+        .value_name("FILE")
+        .num_args(1..)
+        .help("Collections of games, and folders of such, in their order")
+}
+
+/// The program with what says which games are chosen.
+fn program_of_choosing<'a>(alloc: Global) -> Result<Command<'a>, AllocError>
+    ensures { IfOk result (λ command. app_of command ≡ choosing_app) }
+{
+    program_named(
+        alloc,
+        "shape_games",
+        "Lists the trees of collections: where each is, and what",
+        "shape_games [OPTIONS] [FILE|FOLDER]..",
+        NOTES,
+    )
+    .arg(flag_argument(
+        alloc,
+        "info",
+        "Columns, and among them who played, when, and how the game ended",
+    ))?
+    .arg(where_argument(alloc))
+}
+
+/// All that the program knows.
+///
+/// # Errors
+///
+/// `AllocError` where memory was refused.
+pub fn program<'a>(alloc: Global) -> Result<Command<'a>, AllocError>
+    ensures { IfOk result (λ command. app_of command ≡ program_app) }
+{
+    program_of_choosing(alloc)?
+        .arg(flag_argument(
+            alloc,
+            "cut",
+            "The games themselves, each as it stands in its file",
+        ))?
+        .arg(files_argument(alloc))
+}

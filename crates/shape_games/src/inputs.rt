@@ -1,0 +1,183 @@
+//! The inputs of a run, one after another, and what they have come to.
+ghost use Rattle.std.specs.Prelude.{◌≡◌, ◌≤◌, IfSome};
+ghost use Rattle.listing_core.specs.Listing.{most_first};
+ghost use Rattle.shape_games.specs.Inputs.{first_status};
+
+use crate::telling::{Named, tell_flaw, tell_no_tree};
+use crate::words::Asked;
+use engine_core::{RunFault, status_of};
+use game_core::Report;
+use game_files::{Fronted, Source, open_file, sources, status_of as flaw_status};
+use listing_core::{Asked as Listing, Listed, MOST_FIRST, Summary, run_listing};
+use sgf_core::SgfFault;
+use std::io::{self, Read};
+
+/// What the inputs have come to so far.
+#[derive(Clone, Copy)]
+struct Sum {
+    report: Report,
+    /// The exit status: that of the first fault, 0 where there is none.
+    status: u8,
+}
+
+/// The status after one more, which counts where none was before it.
+fn first_status(before: u8, status: u8) -> u8
+    ensures { result ≡ first_status before status }
+{
+    if before == 0 { status } else { before }
+}
+
+/// The number of the next input's first game, where it may have that number.
+fn next_first(sum: &Sum) -> Option<u64>
+    ensures { IfSome result (λ first. first ≤ most_first) }
+{
+    if sum.report.games > MOST_FIRST {
+        return None;
+    }
+    Some(sum.report.games)
+}
+
+/// Both reports together.
+fn joined(before: Report, more: Report) -> Report {
+    Report {
+        games: before.games.saturating_add(more.games),
+        others: before.others.saturating_add(more.others),
+        refused: before.refused.saturating_add(more.refused),
+    }
+}
+
+/// Whether a run ends with this, and reads no further input.
+fn ends_run(fault: &RunFault) -> bool {
+    match fault {
+        RunFault::Write { .. } => true,
+        _ => status_of(fault) == 5,
+    }
+}
+
+/// What was asked for is written of an input.
+fn write_listing<R: Read>(
+    rt: &HostRuntime,
+    asked: &Asked<'_>,
+    sum: &Sum,
+    name: Option<&str>,
+    reader: &mut R,
+) -> Result<Summary, RunFault> {
+    let Some(first) = next_first(sum) else {
+        return Err(RunFault::Sgf(SgfFault::TooLarge));
+    };
+    let listing = Listing {
+        form: asked.form,
+        conditions: &asked.conditions,
+        first,
+        name,
+    };
+    run_listing(rt.alloc(), &listing, reader, &mut rt.stdout())
+}
+
+/// Says what went wrong with an input. Where standard error takes nothing, the status still says
+/// it.
+fn tell(rt: &HostRuntime, sum: &mut Sum, name: Option<&str>, fault: &RunFault) {
+    let _ = eprintln!(rt; "shape_games: {}{fault}", Named(name));
+    sum.status = first_status(sum.status, status_of(fault));
+}
+
+/// Does what is asked for with one input.
+fn take_input<R: Read>(
+    rt: &HostRuntime,
+    asked: &Asked<'_>,
+    sum: &mut Sum,
+    name: Option<&str>,
+    reader: &mut R,
+) -> Result<(), RunFault> {
+    let mut input = Fronted::new(reader);
+    let summary = match write_listing(rt, asked, sum, name, &mut input) {
+        Ok(summary) => summary,
+        Err(fault) if ends_run(&fault) => return Err(fault),
+        Err(fault) => {
+            tell(rt, sum, name, &fault);
+            return Ok(());
+        }
+    };
+    sum.report = joined(sum.report, summary.report);
+    match summary.listed {
+        Listed::Done => {}
+        Listed::NoTree => {
+            tell_no_tree(rt, name, input.cause());
+            sum.status = first_status(sum.status, 1);
+        }
+        Listed::Fault(fault) => tell(rt, sum, name, &RunFault::Sgf(fault)),
+    }
+    Ok(())
+}
+
+/// Does what is asked for with what a word means.
+fn take(
+    rt: &HostRuntime,
+    asked: &Asked<'_>,
+    sum: &mut Sum,
+    source: &Source,
+) -> Result<(), RunFault> {
+    match source {
+        Source::Input => take_input(rt, asked, sum, None, &mut rt.stdin()),
+        Source::File(name) => match open_file(rt, name.as_str())? {
+            Ok(mut file) => take_input(rt, asked, sum, Some(name.as_str()), &mut file),
+            Err(why) => {
+                tell_flaw(rt, name.as_str(), why);
+                sum.status = first_status(sum.status, flaw_status(why));
+                Ok(())
+            }
+        },
+        Source::Flaw(flaw) => {
+            tell_flaw(rt, flaw.name.as_str(), flaw.why);
+            sum.status = first_status(sum.status, flaw_status(flaw.why));
+            Ok(())
+        }
+    }
+}
+
+/// Does what is asked for with these, one after another. The answer is the fault that ended the
+/// run, if one did.
+fn take_all(
+    rt: &HostRuntime,
+    asked: &Asked<'_>,
+    sum: &mut Sum,
+    inputs: &[Source],
+) -> Option<RunFault> {
+    for source in inputs {
+        if let Err(fault) = take(rt, asked, sum, source) {
+            return Some(fault);
+        }
+    }
+    None
+}
+
+/// Says how many trees of each sort there were.
+fn sum_up(rt: &HostRuntime, report: Report) {
+    let _ = eprintln!(rt;
+        "shape_games: games {} other {} refused {}",
+        report.games, report.others, report.refused
+    );
+}
+
+/// Does what is asked for with all inputs that the words name, and says on standard error what went
+/// wrong and, at the end, how many trees of each sort there were. The answer is the exit status.
+///
+/// # Errors
+///
+/// Where a write failed or memory was refused; no further input is read then.
+pub fn list_all(rt: &HostRuntime, asked: &Asked<'_>) -> Result<u8, RunFault> {
+    let mut sum = Sum {
+        report: Report {
+            games: 0,
+            others: 0,
+            refused: 0,
+        },
+        status: 0,
+    };
+    let inputs = sources(rt, &asked.files)?;
+    if let Some(fault) = take_all(rt, asked, &mut sum, &inputs) {
+        return Err(fault);
+    }
+    sum_up(rt, sum.report);
+    Ok(sum.status)
+}
