@@ -11,7 +11,6 @@ use Rattle.shape_dict.specs.Join.{joined_entry}
 use Rattle.shape_dict.specs.Reading.{counts_of}
 use Rattle.shape_dict.proofs.Climbing.{climbs_from_rises, climbs_lower}
 use Rattle.stream_core.specs.Streams.{contents_of}
-use Rattle.merge_core.specs.declared.counting.Counts.{Counts}
 use Rattle.merge_core.specs.declared.cuts.Cut.{Cut}
 use Rattle.merge_core.specs.declared.cuts.Plan.{Plan}
 use Rattle.merge_core.specs.declared.judged.Totals.{Totals}
@@ -138,10 +137,10 @@ same_some : {X : Type 0} (a b : X) (x : Option X) → x ≡ Some a → x ≡ Som
 same_some {X} a b x h k = let e : Some a ≡ Some b = sym h ∙ k in cc
 
 -- all that was judged
-pub surveyed : (bytes : ℕ → Option (List ℕ)) (plan : Plan) (last : ℕ) (ranged : Ranged) (low high : Cut) (totals : Totals) (counts : Counts) → IsRanged bytes plan 0 last ranged → last + 1 ≡ length plan.cuts.items → IsCut plan.cuts.items 0 low →
+pub surveyed : (bytes : ℕ → Option (List ℕ)) (plan : Plan) (last : ℕ) (ranged : Ranged) (low high : Cut) (totals : Totals) → IsRanged bytes plan 0 last ranged → last + 1 ≡ length plan.cuts.items → IsCut plan.cuts.items 0 low →
     IsCut plan.cuts.items last high → ((n : ℕ) (t : Tally) → slice_get ranged.each.items n ≡ Some t → IsWhole bytes plan.headers.items low high n t) → IsTotalsOf plan.headers.items totals →
-    counts.squares ≡ ranged.joined.squares → counts.diamonds ≡ ranged.joined.diamonds → IsSurveyed bytes plan totals counts
-surveyed bytes plan last ranged low high totals counts h is_last is_low is_high wholes t squares diamonds =
+    IsSurveyed bytes plan totals ranged.joined
+surveyed bytes plan last ranged low high totals h is_last is_low is_high wholes t =
     let headers = plan.headers.items in
     let one : low ≡ h.low = same_some low h.low (slice_get plan.cuts.items 0) is_low h.is_low in
     let two : high ≡ h.high = same_some high h.high (slice_get plan.cuts.items last) is_high h.is_high in
@@ -160,7 +159,7 @@ surveyed bytes plan last ranged low high totals counts h is_last is_low is_high 
               (are_good bytes headers h.low h.high totals.counts_diamonds 0 ps ranged.each.items inputs h.has.are h.each whole (subst (λ (hs : List Header). AllByRecursion (λ x. counts_of x ≡ totals.counts_diamonds) hs) (sym same) t.kinds) known
               (omega (arith, number, h.has.number)))
               (t.games ∙ (ap (sum_by (λ (x : Header). x.games)) (sym same) ∙ sym (games_are ps))) (t.moves ∙ (ap (sum_by (λ (x : Header). x.moves)) (sym same) ∙ sym (moves_are ps))) t.few_games t.few_moves;
-          counted = record { squares_are = squares ∙ h.joined.squares; diamonds_are = diamonds ∙ h.joined.diamonds; small = h.joined.small };
+          counted = h.joined;
         },
         h.all,
       );

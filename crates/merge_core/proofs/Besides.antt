@@ -15,12 +15,13 @@ use Rattle.merge_core.specs.declared.cuts.Cut.{Cut}
 use Rattle.merge_core.specs.declared.cuts.Plan.{Plan}
 use Rattle.merge_core.specs.declared.tallies.Tally.{Tally}
 use Rattle.merge_core.specs.declared.measuring.Ranged.{Ranged}
-use Rattle.merge_core.specs.Inner.Ranges.{IsWithin, Piece, Each, IsPiece, AreJoined, IsTally, AreTallies, HasRange, AreParts, IsRanged, all_of, beside, found}
+use Rattle.merge_core.specs.Inner.Ranges.{IsWithin, Piece, Each, IsPiece, AreJoined, IsCountOf, AreTallies, HasRange, AreParts, IsRanged, all_of, beside, found}
 use Rattle.merge_core.specs.Inner.Tallies.{sum_of, sums}
 use Rattle.merge_core.specs.Inner.Blocks.{AreBlocks}
 use Rattle.merge_core.specs.declared.entries.NextFault.{NextFault}
 use Rattle.merge_core.proofs.Rising.{rises_append, all_append, found_before, found_after}
-use Rattle.merge_core.proofs.Tallied.{tally_both, tallies_beside}
+use Rattle.merge_core.proofs.Counted.{both_counted}
+use Rattle.merge_core.proofs.Tallied.{tallies_beside}
 
 -- bytes from a place to another, and from there on
 pub within_both : (text : List ℕ) (from middle to : ℕ) (xs ys : List ℕ) → IsWithin text from middle xs → IsWithin text middle to ys → IsWithin text from to (xs ++ ys)
@@ -115,8 +116,8 @@ range_both bytes headers low middle high h k =
     }
 
 -- what is in a range, and how much that is
-abbrev HasMuch : (ℕ → Option (List ℕ)) → List Header → Cut → Cut → Tally → List Tally → List Entry → Type 0
-HasMuch bytes headers low high joined each all = (has : HasRange bytes headers low high) × IsTally has.joined joined × AreTallies has.pieces each × (has.joined ≡ all)
+abbrev HasMuch : (ℕ → Option (List ℕ)) → Option ℕ → List Header → Cut → Cut → Tally → List Tally → List Entry → Type 0
+HasMuch bytes least headers low high joined each all = (has : HasRange bytes headers low high) × IsCountOf least has.joined joined × AreTallies has.pieces each × (has.joined ≡ all)
 
 parts_append : (bytes : ℕ → Option (List ℕ)) (plan : Plan) (from middle : ℕ) (xs ys : List (List Entry)) → from + length xs ≡ middle → AreParts bytes plan from xs → AreParts bytes plan middle ys → AreParts bytes plan from (xs ++ ys)
 parts_append bytes plan from middle [] ys at h k = let same : middle ≡ from = omega (arith, at) in subst (λ (n : ℕ). AreParts bytes plan n ys) same k
@@ -132,14 +133,14 @@ pub ranged_both : (bytes : ℕ → Option (List ℕ)) (plan : Plan) (from middle
 unfolding range_both
 ranged_both bytes plan from middle to a b both h k joined each =
     let cut : k.low ≡ h.high = same_some k.low h.high (slice_get plan.cuts.items middle) k.is_low h.is_high in
-    let next = subst (λ (c : Cut). HasMuch bytes plan.headers.items c k.high b.joined b.each.items (all_of k.parts)) cut (k.has, k.joined, k.each, k.all) in
+    let next = subst (λ (c : Cut). HasMuch bytes plan.least plan.headers.items c k.high b.joined b.each.items (all_of k.parts)) cut (k.has, k.joined, k.each, k.all) in
     record {
       low = h.low;
       high = k.high;
       is_low = h.is_low;
       is_high = k.is_high;
       has = range_both bytes plan.headers.items h.low h.high k.high h.has next.0;
-      joined = subst (λ (t : Tally). IsTally (h.has.joined ++ next.0.joined) t) (sym joined) (tally_both h.has.joined next.0.joined a.joined b.joined h.joined next.1);
+      joined = subst (λ (t : Tally). IsCountOf plan.least (h.has.joined ++ next.0.joined) t) (sym joined) (both_counted plan.least h.has.joined next.0.joined a.joined b.joined h.joined next.1);
       each = subst (λ (ts : List Tally). AreTallies (beside h.has.pieces next.0.pieces) ts) (sym each)
           (tallies_beside h.has.pieces next.0.pieces a.each.items b.each.items h.each next.2 (h.has.number ∙ sym next.0.number));
       parts = h.parts ++ k.parts;
@@ -156,7 +157,7 @@ ranged_copy bytes plan from to a b h joined each = record {
   is_low = h.is_low;
   is_high = h.is_high;
   has = h.has;
-  joined = subst (λ (t : Tally). IsTally h.has.joined t) (sym joined) h.joined;
+  joined = subst (λ (t : Tally). IsCountOf plan.least h.has.joined t) (sym joined) h.joined;
   each = subst (λ (ts : List Tally). AreTallies h.has.pieces ts) (sym each) h.each;
   parts = h.parts;
   number = h.number;

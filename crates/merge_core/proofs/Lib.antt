@@ -4,6 +4,7 @@ pub mod Counted
 pub mod Finished
 pub mod Folded
 pub mod Grown
+pub mod Kept
 pub mod Prefixed
 pub mod Large
 pub mod Left

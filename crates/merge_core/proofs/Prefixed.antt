@@ -1,5 +1,5 @@
 -- Dictionaries that are judged one after another.
-use Rattle.std.proofs.Common.{◌≡◌, ℕ, zero, suc, take, ◌+◌, ◌-◌, ◌≤◌, ◌<◌, ◌^◌, inl, inr, List, [], ◌∷◌, ◌++◌, length, Bool, Option, Some, ap, sym, refl, subst, ◌∙◌, arith, length-append}
+use Rattle.std.proofs.Common.{◌≡◌, ℕ, zero, suc, take, ◌+◌, ◌-◌, ◌≤◌, ◌<◌, ◌^◌, inl, inr, List, [], ◌∷◌, ◌++◌, length, Bool, Option, Some, ap, sym, refl, subst, ◌∙◌, arith, length-append, None}
 use Rattle.std.specs.List.{AllByRecursion}
 use Rattle.std.proofs.lemmas.List.Elements.{recursion_from_All}
 use Rattle.shape_dict.specs.declared.entries.Entry.{Entry}
@@ -14,10 +14,10 @@ use Rattle.merge_core.specs.declared.entries.NextFault.TheVariants as next_fault
 use Rattle.merge_core.specs.declared.faults.MergeFault.{MergeFault}
 use Rattle.merge_core.specs.declared.faults.MergeFault.TheVariants as fault
 use Rattle.merge_core.specs.declared.judged.Judged.{Judged}
-use Rattle.merge_core.specs.declared.counting.Counts.{Counts}
+use Rattle.merge_core.specs.declared.tallies.Tally.{Tally}
 use Rattle.merge_core.specs.Entries.{IsSmallUse, IsNextFault}
 use Rattle.merge_core.specs.Merge.{AreTexts, AreInputs, IsMerged, IsBadInput, IsNotAdded, IsDictFault}
-use Rattle.merge_core.specs.Inner.Counting.{IsCountOf}
+use Rattle.merge_core.specs.Inner.Ranges.{IsCountOf}
 use Rattle.merge_core.specs.Inner.Folds.{both_of, Folds, FoldsAll}
 use Rattle.merge_core.specs.Inner.Leaves.{IsOffered, Offers}
 use Rattle.merge_core.specs.Inner.Judging.{IsJudged, IsOwnFault, HasJudged, IsJudgeFault, IsFaultAt, IsBoth, IsBothFault}
@@ -199,11 +199,11 @@ made bytes n inputs input first others sum d P k h =
     let s = h first.counts_diamonds (first ∷ (others ++ d ∷ [])) k.offers k.number in
     subst P (folds_same first (others ++ d ∷ []) s.0 (both_of sum d) s.1 k.folds) s.2
 
-pub judged_counted : (bytes : ℕ → Option (List ℕ)) (n : ℕ) (before next both : Judged) (counts : Counts) (inputs : List (List ℕ)) (input : List ℕ) → HasJudged bytes n before inputs → IsJudged input next → IsBoth before next both → bytes n ≡ Some input →
-    Joins bytes (n + 1) (λ sum. IsCountOf sum.entries counts) → HasJudged bytes (n + 1) both (inputs ++ input ∷ [])
+pub judged_counted : (bytes : ℕ → Option (List ℕ)) (n : ℕ) (before next both : Judged) (counts : Tally) (inputs : List (List ℕ)) (input : List ℕ) → HasJudged bytes n before inputs → IsJudged input next → IsBoth before next both → bytes n ≡ Some input →
+    Joins bytes (n + 1) (λ sum. IsCountOf None sum.entries counts) → HasJudged bytes (n + 1) both (inputs ++ input ∷ [])
 judged_counted bytes n before next both counts inputs input h j b known joins =
     let k = joined bytes n before next inputs input h j b.same_kinds known in
-    let counted = made bytes n inputs input h.first h.others h.sum j.0 (λ (sum : Contents). IsCountOf sum.entries counts) k joins in
+    let counted = made bytes n inputs input h.first h.others h.sum j.0 (λ (sum : Contents). IsCountOf None sum.entries counts) k joins in
     new_judged bytes n before next both inputs input h j b known counted.small
 
 pub large_fault : (bytes : ℕ → Option (List ℕ)) (n : ℕ) (before next both : Judged) (inputs : List (List ℕ)) (input : List ℕ) → HasJudged bytes n before inputs → IsJudged input next → IsBoth before next both →

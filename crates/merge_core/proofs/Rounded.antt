@@ -4,17 +4,16 @@ use Rattle.std.proofs.lemmas.List.{take_at, append-nil, take_all}
 use Rattle.std.proofs.Math.Seq.{take-suc}
 use Rattle.std.specs.Io.KnownBytes.{Appends}
 use Rattle.shape_dict.specs.declared.entries.Entry.{Entry}
-use Rattle.shape_dict.specs.declared.entries.Text.{Text}
-use Rattle.shape_dict.specs.Inner.Parts.{lines_of}
 use Rattle.merge_core.specs.declared.cuts.Plan.{Plan}
 use Rattle.merge_core.specs.declared.faults.MergeFault.{MergeFault}
+use Rattle.merge_core.specs.declared.forms.Form.{Form}
 use Rattle.merge_core.specs.declared.entries.NextFault.{NextFault}
 use Rattle.merge_core.specs.Merge.{AreInputs, Took, written_of}
 use Rattle.merge_core.specs.Inner.Ranges.{HasRangeAt, AreParts, all_of}
 use Rattle.merge_core.specs.Inner.Printing.{IsPrinted, ArePrinted}
 use Rattle.merge_core.specs.declared.printing.Round.{Round}
 use Rattle.std.specs.Global.{Global}
-use Rattle.merge_core.specs.Inner.Writing.{IsOutSoFar, IsCutIn, IsStopped, stopped}
+use Rattle.merge_core.specs.Inner.Writing.{IsOutSoFar, IsCutIn, IsStopped, lines_of, stopped}
 use Rattle.merge_core.proofs.Written.{lines_append, no_lines, appended_more, none_appended, cut_text, cut_length, stopped_known, IsFront}
 use Rattle.merge_core.proofs.Same.{at_same}
 use Rattle.merge_core.proofs.Besides.{all_append_all}
@@ -26,12 +25,12 @@ part_at bytes plan from zero (x ∷ parts) h few = let same : from ≡ from + 0 
 part_at bytes plan from (suc k) (x ∷ parts) h few = let same : from + 1 + k ≡ from + suc k = omega arith in subst (λ (n : ℕ). HasRangeAt bytes plan n (get_or parts k [])) same (part_at bytes plan (from + 1) k parts h.1 (omega (arith, few)))
 
 -- of known texts, the header and the lines of the first ranges are out
-abbrev pub IsOutTo : (ℕ → Option (List ℕ)) → Plan → Text → List ℕ → ℕ → List ℕ → Type 0
+abbrev pub IsOutTo : (ℕ → Option (List ℕ)) → Plan → Form → List ℕ → ℕ → List ℕ → Type 0
 IsOutTo bytes plan text header n done =
     (parts : List (List Entry)) → AreParts bytes plan 0 parts → length parts + 1 ≡ length plan.cuts.items → (inputs : List (List ℕ)) → AreInputs bytes 0 inputs → length inputs ≡ length plan.headers.items
     → done ≡ header ++ lines_of text (all_of (take n parts))
 
-pub header_out : (bytes : ℕ → Option (List ℕ)) (plan : Plan) (text : Text) (header : List ℕ) (a b : Option (List ℕ)) (count : ℕ) → count ≡ 0 + length header → Appends a b header → IsOutSoFar a b count (IsOutTo bytes plan text header 0)
+pub header_out : (bytes : ℕ → Option (List ℕ)) (plan : Plan) (text : Form) (header : List ℕ) (a b : Option (List ℕ)) (count : ℕ) → count ≡ 0 + length header → Appends a b header → IsOutSoFar a b count (IsOutTo bytes plan text header 0)
 header_out bytes plan text header a b count is h = record {
   done = header;
   appends = h;
@@ -39,7 +38,7 @@ header_out bytes plan text header a b count is h = record {
   known = λ parts are number inputs known all. sym (ap (λ (xs : List ℕ). header ++ xs) (no_lines text) ∙ append-nil header);
 }
 
-lines_more : (bytes : ℕ → Option (List ℕ)) (plan : Plan) (text : Text) (n : ℕ) (lines : List ℕ) (parts : List (List Entry)) (inputs : List (List ℕ)) → IsPrinted bytes plan text n lines → AreParts bytes plan 0 parts → n < length parts →
+lines_more : (bytes : ℕ → Option (List ℕ)) (plan : Plan) (text : Form) (n : ℕ) (lines : List ℕ) (parts : List (List Entry)) (inputs : List (List ℕ)) → IsPrinted bytes plan text n lines → AreParts bytes plan 0 parts → n < length parts →
     AreInputs bytes 0 inputs → length inputs ≡ length plan.headers.items → lines_of text (all_of (take (n + 1) parts)) ≡ lines_of text (all_of (take n parts)) ++ lines
 lines_more bytes plan text n lines parts inputs h are few known all =
     let here = subst (λ (m : ℕ). HasRangeAt bytes plan m (get_or parts n [])) (let same : 0 + n ≡ n = omega arith in same) (part_at bytes plan 0 n parts are few) in
@@ -50,7 +49,7 @@ lines_more bytes plan text n lines parts inputs h are few known all =
     ∙ (lines_append text (all_of (take n parts)) h.0 ∙ ap (λ (xs : List ℕ). lines_of text (all_of (take n parts)) ++ xs) (sym h.2)))
 
 -- the lines of one range more are out
-pub range_out : (bytes : ℕ → Option (List ℕ)) (plan : Plan) (text : Text) (header lines : List ℕ) (a b c : Option (List ℕ)) (written count n : ℕ) → n + 1 < length plan.cuts.items → IsOutSoFar a b written (IsOutTo bytes plan text header n) →
+pub range_out : (bytes : ℕ → Option (List ℕ)) (plan : Plan) (text : Form) (header lines : List ℕ) (a b c : Option (List ℕ)) (written count n : ℕ) → n + 1 < length plan.cuts.items → IsOutSoFar a b written (IsOutTo bytes plan text header n) →
     IsPrinted bytes plan text n lines → count ≡ written + length lines → Appends b c lines → IsOutSoFar a c count (IsOutTo bytes plan text header (n + 1))
 range_out bytes plan text header lines a b c written count n few h printed is out = record {
   done = h.done ++ lines;
@@ -63,7 +62,7 @@ range_out bytes plan text header lines a b c written count n few h printed is ou
 }
 
 -- the text as far as it is out, and what follows
-whole_of : (text : Text) (header done : List ℕ) (n : ℕ) (parts : List (List Entry)) → done ≡ header ++ lines_of text (all_of (take n parts)) → header ++ lines_of text (all_of parts) ≡ done ++ lines_of text (all_of (drop n parts))
+whole_of : (text : Form) (header done : List ℕ) (n : ℕ) (parts : List (List Entry)) → done ≡ header ++ lines_of text (all_of (take n parts)) → header ++ lines_of text (all_of parts) ≡ done ++ lines_of text (all_of (drop n parts))
 whole_of text header done n parts h =
     ap (λ (xs : List (List Entry)). header ++ lines_of text (all_of xs)) (sym (take-append-drop n parts))
     ∙ (ap (λ (es : List Entry). header ++ lines_of text es) (all_append_all (take n parts) (drop n parts))
@@ -71,7 +70,7 @@ whole_of text header done n parts h =
     ∙ (sym (append_assoc header (lines_of text (all_of (take n parts))) (lines_of text (all_of (drop n parts)))) ∙ ap (λ (xs : List ℕ). xs ++ lines_of text (all_of (drop n parts))) (sym h))))
 
 -- a front is out where a range could not be made
-pub range_stopped : (bytes : ℕ → Option (List ℕ)) (plan : Plan) (text : Text) (header : List ℕ) (a b : Option (List ℕ)) (written n : ℕ) (found : NextFault) → IsOutSoFar a b written (IsOutTo bytes plan text header n) →
+pub range_stopped : (bytes : ℕ → Option (List ℕ)) (plan : Plan) (text : Form) (header : List ℕ) (a b : Option (List ℕ)) (written n : ℕ) (found : NextFault) → IsOutSoFar a b written (IsOutTo bytes plan text header n) →
     (parts : List (List Entry)) → AreParts bytes plan 0 parts → length parts + 1 ≡ length plan.cuts.items → (inputs : List (List ℕ)) → AreInputs bytes 0 inputs → length inputs ≡ length plan.headers.items →
     IsStopped a b (header ++ lines_of text (all_of parts)) (stopped written found)
 range_stopped bytes plan text header a b written n found h parts are number inputs known all =
@@ -95,10 +94,10 @@ cut_in a b c written done pending rest whole found is h count w =
       subst (λ (xs : List ℕ). Appends a c xs) (sym (ap (take (written + w.count)) parts ∙ take_at (done ++ take w.count pending) (drop w.count pending ++ rest) (written + w.count) long)) out,
     )
 
-pub header_cut : (text : Text) (header : List ℕ) (a c : Option (List ℕ)) (found : MergeFault) (parts : List (List Entry)) → IsCutIn 0 header a c found → IsStopped a c (header ++ lines_of text (all_of parts)) found
+pub header_cut : (text : Form) (header : List ℕ) (a c : Option (List ℕ)) (found : MergeFault) (parts : List (List Entry)) → IsCutIn 0 header a c found → IsStopped a c (header ++ lines_of text (all_of parts)) found
 header_cut text header a c found parts w = cut_in a a c 0 [] header (lines_of text (all_of parts)) (header ++ lines_of text (all_of parts)) found refl (none_appended a) refl w
 
-pub range_cut : (bytes : ℕ → Option (List ℕ)) (plan : Plan) (text : Text) (header lines : List ℕ) (a b c : Option (List ℕ)) (written n : ℕ) (found : MergeFault) → n + 1 < length plan.cuts.items → IsOutSoFar a b written (IsOutTo bytes plan text header n) →
+pub range_cut : (bytes : ℕ → Option (List ℕ)) (plan : Plan) (text : Form) (header lines : List ℕ) (a b c : Option (List ℕ)) (written n : ℕ) (found : MergeFault) → n + 1 < length plan.cuts.items → IsOutSoFar a b written (IsOutTo bytes plan text header n) →
     IsPrinted bytes plan text n lines → IsCutIn written lines b c found → (parts : List (List Entry)) → AreParts bytes plan 0 parts → length parts + 1 ≡ length plan.cuts.items → (inputs : List (List ℕ)) → AreInputs bytes 0 inputs →
     length inputs ≡ length plan.headers.items → IsStopped a c (header ++ lines_of text (all_of parts)) found
 range_cut bytes plan text header lines a b c written n found few h printed w parts are number inputs known all =
@@ -114,7 +113,7 @@ took_header header a c found w =
     subst (λ (f : MergeFault). Took a c (written_of f)) (sym w.is_write) (take w.count header, w.out, cut_length [] header 0 w.count refl w.short)
 
 -- all is out
-pub all_out : (bytes : ℕ → Option (List ℕ)) (plan : Plan) (text : Text) (header : List ℕ) (a b : Option (List ℕ)) (written n : ℕ) → length plan.cuts.items ≤ n + 1 → IsOutSoFar a b written (IsOutTo bytes plan text header n) →
+pub all_out : (bytes : ℕ → Option (List ℕ)) (plan : Plan) (text : Form) (header : List ℕ) (a b : Option (List ℕ)) (written n : ℕ) → length plan.cuts.items ≤ n + 1 → IsOutSoFar a b written (IsOutTo bytes plan text header n) →
     (parts : List (List Entry)) → AreParts bytes plan 0 parts → length parts + 1 ≡ length plan.cuts.items → (inputs : List (List ℕ)) → AreInputs bytes 0 inputs → length inputs ≡ length plan.headers.items →
     Appends a b (header ++ lines_of text (all_of parts))
 all_out bytes plan text header a b written n few h parts are number inputs known all =
@@ -122,7 +121,7 @@ all_out bytes plan text header a b written n few h parts are number inputs known
     subst (λ (xs : List ℕ). Appends a b xs) (h.known parts are number inputs known all ∙ ap (λ (xs : List (List Entry)). header ++ lines_of text (all_of xs)) every) h.appends
 
 -- what was made of one range
-pub printed_at : (bytes : ℕ → Option (List ℕ)) (plan : Plan) (text : Text) (round : Round) (n : ℕ) (x : Result (Vec ℕ Global) NextFault) (lines : Vec ℕ Global) (out : List ℕ) → ArePrinted bytes plan text round → round.from ≤ n →
+pub printed_at : (bytes : ℕ → Option (List ℕ)) (plan : Plan) (text : Form) (round : Round) (n : ℕ) (x : Result (Vec ℕ Global) NextFault) (lines : Vec ℕ Global) (out : List ℕ) → ArePrinted bytes plan text round → round.from ≤ n →
     n - round.from < length round.made.items → x ≡ get_or round.made.items (n - round.from) x → x ≡ Ok lines → out ≡ lines.items → IsPrinted bytes plan text n out
 printed_at bytes plan text round n x lines out h low few is ok same =
     let k : IfOk x (λ v. IsPrinted bytes plan text (round.from + (n - round.from)) v.items) =

@@ -7,26 +7,35 @@ use Rattle.std.proofs.lemmas.List.Elements.{filter-append}
 use Rattle.std.specs.Io.KnownBytes.{Appends}
 use Rattle.shape_dict.specs.declared.entries.Entry.{Entry}
 use Rattle.shape_dict.specs.declared.entries.Text.{Text}
-use Rattle.shape_dict.specs.Inner.Parts.{lines_of}
+use Rattle.shape_dict.specs.Inner.Parts.{lines_of as text_lines}
 use Rattle.shape_dict.specs.declared.entries.Text.TheVariants as kind
 use Rattle.shape_dict.specs.Contents.{is_square, squares_of}
 use Rattle.shape_dict.specs.Text.{line_text}
 use Rattle.merge_core.specs.declared.faults.MergeFault.{MergeFault}
 use Rattle.merge_core.specs.declared.entries.NextFault.{NextFault}
 use Rattle.merge_core.specs.declared.entries.NextFault.TheVariants as next_fault
+use Rattle.merge_core.specs.declared.forms.Form.{Form}
 use Rattle.merge_core.specs.Entries.{IsNext}
 use Rattle.merge_core.specs.Merge.{Took, written_of}
-use Rattle.merge_core.specs.Inner.Writing.{stopped, IsCutIn, WroteSome, HasPushed, IsOutSoFar, IsStopped}
+use Rattle.merge_core.specs.Least.{kept}
+use Rattle.merge_core.specs.Inner.Writing.{lines_of, stopped, IsCutIn, WroteSome, HasPushed, IsOutSoFar, IsStopped}
+use Rattle.merge_core.proofs.Kept.{kept_append}
 
-pub no_lines : (t : Text) → lines_of t [] ≡ []
-no_lines kind.One = refl
-no_lines kind.Two = refl
-no_lines kind.Three = refl
+no_text : (t : Text) → text_lines t [] ≡ []
+no_text kind.One = refl
+no_text kind.Two = refl
+no_text kind.Three = refl
 
-pub lines_append : (t : Text) (xs ys : List Entry) → lines_of t (xs ++ ys) ≡ lines_of t xs ++ lines_of t ys
-lines_append kind.One xs ys = ap (flat_map (line_text kind.One)) (filter-append is_square xs ys) ∙ flat_map-append (line_text kind.One) (squares_of xs) (squares_of ys)
-lines_append kind.Two xs ys = flat_map-append (line_text kind.Two) xs ys
-lines_append kind.Three xs ys = flat_map-append (line_text kind.Three) xs ys
+pub no_lines : (text : Form) → lines_of text [] ≡ []
+no_lines text = no_text text.text
+
+text_append : (t : Text) (xs ys : List Entry) → text_lines t (xs ++ ys) ≡ text_lines t xs ++ text_lines t ys
+text_append kind.One xs ys = ap (flat_map (line_text kind.One)) (filter-append is_square xs ys) ∙ flat_map-append (line_text kind.One) (squares_of xs) (squares_of ys)
+text_append kind.Two xs ys = flat_map-append (line_text kind.Two) xs ys
+text_append kind.Three xs ys = flat_map-append (line_text kind.Three) xs ys
+
+pub lines_append : (text : Form) (xs ys : List Entry) → lines_of text (xs ++ ys) ≡ lines_of text xs ++ lines_of text ys
+lines_append text xs ys = ap (text_lines text.text) (kept_append text.least xs ys) ∙ text_append text.text (kept text.least xs) (kept text.least ys)
 
 pub appended_more : (a b c : Option (List ℕ)) (xs ys : List ℕ) → Appends a b xs → Appends b c ys → Appends a c (xs ++ ys)
 appended_more None b c xs ys h k = tt
@@ -56,11 +65,11 @@ wrote_none old a written = record { out = []; parts = refl; count_is = omega ari
 pub nothing_out : (a : Option (List ℕ)) (P : List ℕ → Type 0) → P [] → IsOutSoFar a a 0 P
 nothing_out a P h = record { done = []; appends = none_appended a; count = refl; known = h }
 
-pub nothing_pushed : (text : Text) (header : List ℕ) (Rest : List Entry → Type 0) (all : List Entry) → Rest all → HasPushed text header [] header Rest all
+pub nothing_pushed : (text : Form) (header : List ℕ) (Rest : List Entry → Type 0) (all : List Entry) → Rest all → HasPushed text header [] header Rest all
 nothing_pushed text header Rest all h = record { given = []; others = all; parts = refl; same = ap (λ (xs : List ℕ). header ++ xs) (no_lines text) ∙ append-nil header; rest = h }
 
 -- one entry more is pushed
-pub pushed_more : (text : Text) (header done pending : List ℕ) (Rest After : List Entry → Type 0) (all : List Entry) (e : Entry) → HasPushed text header done pending Rest all → ((es : List Entry) → Rest es → IsNext After es (Some e)) →
+pub pushed_more : (text : Form) (header done pending : List ℕ) (Rest After : List Entry → Type 0) (all : List Entry) (e : Entry) → HasPushed text header done pending Rest all → ((es : List Entry) → Rest es → IsNext After es (Some e)) →
     HasPushed text header done (pending ++ lines_of text (e ∷ [])) After all
 pushed_more text header done pending Rest After all e h next =
     let n = next h.others h.rest in
@@ -74,7 +83,7 @@ pushed_more text header done pending Rest After all e h next =
     }
 
 -- some of what is pending is out
-pub out_more : (text : Text) (header done out old new : List ℕ) (Rest : List Entry → Type 0) (all : List Entry) → HasPushed text header done old Rest all → old ≡ out ++ new → HasPushed text header (done ++ out) new Rest all
+pub out_more : (text : Form) (header done out old new : List ℕ) (Rest : List Entry → Type 0) (all : List Entry) → HasPushed text header done old Rest all → old ≡ out ++ new → HasPushed text header (done ++ out) new Rest all
 out_more text header done out old new Rest all h is = record {
   given = h.given;
   others = h.others;
@@ -84,10 +93,10 @@ out_more text header done out old new Rest all h is = record {
 }
 
 -- known of each list that may be given
-abbrev pub Known : Text → List ℕ → (List Entry → Type 0) → (List Entry → Type 0) → List ℕ → List ℕ → Type 0
+abbrev pub Known : Form → List ℕ → (List Entry → Type 0) → (List Entry → Type 0) → List ℕ → List ℕ → Type 0
 Known text header All Rest pending done = (all : List Entry) → All all → HasPushed text header done pending Rest all
 
-pub push_known : (a b : Option (List ℕ)) (written : ℕ) (text : Text) (header : List ℕ) (All Rest After : List Entry → Type 0) (old new : List ℕ) (e : Entry) → IsOutSoFar a b written (Known text header All Rest old) →
+pub push_known : (a b : Option (List ℕ)) (written : ℕ) (text : Form) (header : List ℕ) (All Rest After : List Entry → Type 0) (old new : List ℕ) (e : Entry) → IsOutSoFar a b written (Known text header All Rest old) →
     ((es : List Entry) → Rest es → IsNext After es (Some e)) → new ≡ old ++ lines_of text (e ∷ []) → IsOutSoFar a b written (Known text header All After new)
 push_known a b written text header All Rest After old new e h next is = record {
   done = h.done;
@@ -96,7 +105,7 @@ push_known a b written text header All Rest After old new e h next is = record {
   known = λ all y. subst (λ (xs : List ℕ). HasPushed text header h.done xs After all) (sym is) (pushed_more text header h.done old Rest After all e (h.known all y) next);
 }
 
-pub block_known : (a b c : Option (List ℕ)) (written count : ℕ) (text : Text) (header : List ℕ) (All Rest : List Entry → Type 0) (old new : List ℕ) → IsOutSoFar a b written (Known text header All Rest old) →
+pub block_known : (a b c : Option (List ℕ)) (written count : ℕ) (text : Form) (header : List ℕ) (All Rest : List Entry → Type 0) (old new : List ℕ) → IsOutSoFar a b written (Known text header All Rest old) →
     WroteSome old new b c written count → IsOutSoFar a c count (Known text header All Rest new)
 block_known a b c written count text header All Rest old new h w = record {
   done = h.done ++ w.out;
@@ -106,7 +115,7 @@ block_known a b c written count text header All Rest old new h w = record {
 }
 
 -- the text as far as it was pushed, and what follows
-whole_text : (text : Text) (header done pending : List ℕ) (Rest : List Entry → Type 0) (all : List Entry) (h : HasPushed text header done pending Rest all) → header ++ lines_of text all ≡ done ++ (pending ++ lines_of text h.others)
+whole_text : (text : Form) (header done pending : List ℕ) (Rest : List Entry → Type 0) (all : List Entry) (h : HasPushed text header done pending Rest all) → header ++ lines_of text all ≡ done ++ (pending ++ lines_of text h.others)
 whole_text text header done pending Rest all h =
     ap (λ (xs : List Entry). header ++ lines_of text xs) h.parts ∙ (ap (λ (xs : List ℕ). header ++ xs) (lines_append text h.given h.others)
     ∙ (sym (append_assoc header (lines_of text h.given) (lines_of text h.others)) ∙ (ap (λ (xs : List ℕ). xs ++ lines_of text h.others) h.same ∙ append_assoc done pending (lines_of text h.others))))
@@ -114,7 +123,7 @@ whole_text text header done pending Rest all h =
 abbrev pub IsFront : Option (List ℕ) → Option (List ℕ) → List ℕ → ℕ → Type 0
 IsFront a b text written = (written ≤ length text) × Appends a b (take written text)
 
-pub front_known : (a b : Option (List ℕ)) (written : ℕ) (text : Text) (header : List ℕ) (All Rest : List Entry → Type 0) (pending : List ℕ) → IsOutSoFar a b written (Known text header All Rest pending) → (all : List Entry) → All all →
+pub front_known : (a b : Option (List ℕ)) (written : ℕ) (text : Form) (header : List ℕ) (All Rest : List Entry → Type 0) (pending : List ℕ) → IsOutSoFar a b written (Known text header All Rest pending) → (all : List Entry) → All all →
     IsFront a b (header ++ lines_of text all) written
 front_known a b written text header All Rest pending h all y =
     let k = h.known all y in
@@ -145,7 +154,7 @@ cut_text done pending rest count =
     ap (λ (xs : List ℕ). done ++ (xs ++ rest)) (sym (take-append-drop count pending)) ∙ (ap (λ (xs : List ℕ). done ++ xs) (append_assoc (take count pending) (drop count pending) rest)
     ∙ sym (append_assoc done (take count pending) (drop count pending ++ rest)))
 
-pub cut_known : (a b c : Option (List ℕ)) (written : ℕ) (text : Text) (header : List ℕ) (All Rest : List Entry → Type 0) (pending : List ℕ) (found : MergeFault) → IsOutSoFar a b written (Known text header All Rest pending) →
+pub cut_known : (a b c : Option (List ℕ)) (written : ℕ) (text : Form) (header : List ℕ) (All Rest : List Entry → Type 0) (pending : List ℕ) (found : MergeFault) → IsOutSoFar a b written (Known text header All Rest pending) →
     IsCutIn written pending b c found → (all : List Entry) → All all → IsStopped a c (header ++ lines_of text all) found
 cut_known a b c written text header All Rest pending found h w all y =
     let k = h.known all y in
@@ -168,7 +177,7 @@ took_cut a b c written P pending found h w =
     (h.done ++ take w.count pending, appended_more a b c h.done (take w.count pending) h.appends w.out, cut_length h.done pending written w.count h.count w.short)
 
 -- all is out
-pub whole_known : (a b c : Option (List ℕ)) (written count : ℕ) (text : Text) (header : List ℕ) (All Rest : List Entry → Type 0) (old new : List ℕ) → IsOutSoFar a b written (Known text header All Rest old) → WroteSome old new b c written count →
+pub whole_known : (a b c : Option (List ℕ)) (written count : ℕ) (text : Form) (header : List ℕ) (All Rest : List Entry → Type 0) (old new : List ℕ) → IsOutSoFar a b written (Known text header All Rest old) → WroteSome old new b c written count →
     new ≡ [] → ((es : List Entry) → Rest es → es ≡ []) → (all : List Entry) → All all → Appends a c (header ++ lines_of text all)
 whole_known a b c written count text header All Rest old new h w none end all y =
     let k = h.known all y in

@@ -1,16 +1,17 @@
 -- The join of dictionaries, each of which is a text of its own: what is written of it, and which fault comes first.
 use Rattle.std.specs.Prelude.{◌≡◌, ℕ, ◌+◌, ◌<◌, ◌≤◌, ◌⊎◌, List, [], ◌∷◌, ◌++◌, length, take, Option, Some}
 use Rattle.std.specs.Io.KnownBytes.{Appends, Keeps}
-use Rattle.shape_dict.specs.declared.entries.Text.{Text}
 use Rattle.shape_dict.specs.declared.faults.DictFault.{DictFault}
 use Rattle.shape_dict.specs.declared.faults.DictFault.TheVariants as dict_fault
-use Rattle.shape_dict.specs.Contents.{Contents}
+use Rattle.shape_dict.specs.Contents.{Contents, IsDictionary}
 use Rattle.shape_dict.specs.Text.{text_of}
 use Rattle.shape_dict.specs.Reading.{IsTextOf}
 use Rattle.shape_dict.specs.Join.{IsJoinOf, IsJoinFault}
 use Rattle.stream_core.specs.Faults.{IsWholeFault}
 use Rattle.merge_core.specs.declared.faults.MergeFault.{MergeFault}
 use Rattle.merge_core.specs.declared.faults.MergeFault.TheVariants as fault
+use Rattle.merge_core.specs.declared.forms.Form.{Form}
+use Rattle.merge_core.specs.Least.{kept_of}
 
 -- each of the inputs is a text of its dictionary
 abbrev pub AreTexts : List Contents → List (List ℕ) → Type 0
@@ -25,11 +26,12 @@ pub record IsMerged (inputs : List (List ℕ)) (sum : Contents) : Type 0 where
   pub texts : AreTexts (first ∷ others) inputs
   pub joined : IsJoinOf first others sum
 
--- a text of the join
-pub record IsMergeText (kind : Text) (inputs : List (List ℕ)) (text : List ℕ) : Type 0 where
+-- a text of what stays of the join, which is a dictionary again
+pub record IsMergeText (form : Form) (inputs : List (List ℕ)) (text : List ℕ) : Type 0 where
   pub sum : Contents
   pub merged : IsMerged inputs sum
-  pub printed : text ≡ text_of kind sum
+  pub dictionary : IsDictionary (kept_of form.least sum)
+  pub printed : text ≡ text_of form.text (kept_of form.least sum)
 
 -- the inputs before the one of number `n` are none, or can be joined, and this fault is the first in it as one text
 pub record IsBadInput (inputs : List (List ℕ)) (n : ℕ) (found : DictFault) : Type 0 where
@@ -62,22 +64,22 @@ IsDictFault inputs n dict_fault.Memory = ⊥
 IsDictFault inputs n found = IsBadInput inputs n found
 
 -- this number of bytes of a text of the join is out, and nothing else
-pub record IsFrontOut (kind : Text) (inputs : List (List ℕ)) (before after : Option (List ℕ)) (written : ℕ) : Type 0 where
+pub record IsFrontOut (form : Form) (inputs : List (List ℕ)) (before after : Option (List ℕ)) (written : ℕ) : Type 0 where
   pub text : List ℕ
-  pub is_text : IsMergeText kind inputs text
+  pub is_text : IsMergeText form inputs text
   pub few : written ≤ length text
   pub out : Appends before after (take written text)
 
 -- the same, where some of the text is missing
-pub record IsCutOut (kind : Text) (inputs : List (List ℕ)) (before after : Option (List ℕ)) (written : ℕ) : Type 0 where
+pub record IsCutOut (form : Form) (inputs : List (List ℕ)) (before after : Option (List ℕ)) (written : ℕ) : Type 0 where
   pub text : List ℕ
-  pub is_text : IsMergeText kind inputs text
+  pub is_text : IsMergeText form inputs text
   pub short : written < length text
   pub out : Appends before after (take written text)
 
 -- nothing is out, or a front of a text of the join
-abbrev pub IsOut : Text → List (List ℕ) → Option (List ℕ) → Option (List ℕ) → ℕ → Type 0
-IsOut kind inputs before after written = ((written ≡ 0) × Keeps before after) ⊎ IsFrontOut kind inputs before after written
+abbrev pub IsOut : Form → List (List ℕ) → Option (List ℕ) → Option (List ℕ) → ℕ → Type 0
+IsOut form inputs before after written = ((written ≡ 0) × Keeps before after) ⊎ IsFrontOut form inputs before after written
 
 -- how many bytes a fault says are out
 abbrev pub written_of : MergeFault → ℕ
@@ -93,13 +95,13 @@ abbrev pub Took : Option (List ℕ) → Option (List ℕ) → ℕ → Type 0
 Took before after written = (out : List ℕ) × Appends before after out × (length out ≡ written)
 
 -- what a fault says of known inputs, and of what is out
-abbrev pub IsMergeFault : Text → List (List ℕ) → Option (List ℕ) → Option (List ℕ) → MergeFault → Type 0
-IsMergeFault kind inputs before after fault.Empty = inputs ≡ []
-IsMergeFault kind inputs before after (fault.Dict n found) = IsDictFault inputs n found
-IsMergeFault kind inputs before after (fault.Read n written) = IsOut kind inputs before after written
-IsMergeFault kind inputs before after (fault.Changed written) = IsOut kind inputs before after written
-IsMergeFault kind inputs before after (fault.Write written) = IsCutOut kind inputs before after written
-IsMergeFault kind inputs before after (fault.Memory written) = IsOut kind inputs before after written
+abbrev pub IsMergeFault : Form → List (List ℕ) → Option (List ℕ) → Option (List ℕ) → MergeFault → Type 0
+IsMergeFault form inputs before after fault.Empty = inputs ≡ []
+IsMergeFault form inputs before after (fault.Dict n found) = IsDictFault inputs n found
+IsMergeFault form inputs before after (fault.Read n written) = IsOut form inputs before after written
+IsMergeFault form inputs before after (fault.Changed written) = IsOut form inputs before after written
+IsMergeFault form inputs before after (fault.Write written) = IsCutOut form inputs before after written
+IsMergeFault form inputs before after (fault.Memory written) = IsOut form inputs before after written
 
 -- sources give these bytes, from this number on
 abbrev pub AreInputs : (ℕ → Option (List ℕ)) → ℕ → List (List ℕ) → Type 0

@@ -10,12 +10,13 @@ pub(crate) struct Cut {
     pub(crate) places: Vec<usize>,
 }
 
-/// The headers of dictionaries, and the cuts of their lines: the first is where the lines begin,
-/// and the last is their end.
+/// The headers of dictionaries, the cuts of their lines, of which the first is where the lines
+/// begin and the last is their end, and which patterns of the join stay.
 #[derive(Drop)]
 pub(crate) struct Plan {
     pub(crate) headers: Vec<Header>,
     pub(crate) cuts: Vec<Cut>,
+    pub(crate) least: Option<u64>,
 }
 
 /// The place that a cut has in the dictionary of this number, from 0, where it has one.

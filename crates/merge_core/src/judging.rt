@@ -12,11 +12,12 @@ ghost use Rattle.merge_core.specs.Inner.Judging.{capped, numbered, IsJudged, IsO
 ghost use Rattle.merge_core.specs.Inner.Judging.{HasJoined};
 ghost use Rattle.merge_core.specs.Inner.Judging.{IsJudgeFault, IsFaultAt};
 
-use crate::counting::{Counts, count_join};
+use crate::counting::count_join;
 use crate::entries::NextFault;
 use crate::faults::MergeFault;
 use crate::judged::{Judged, Totals, both_of};
 use crate::sources::Sources;
+use crate::tallies::Tally;
 use crate::writing::stopped;
 use shape_dict::DictFault;
 use std::alloc::Global;
@@ -115,7 +116,7 @@ fn judge_next<S: Sources>(
     if both.there < u64::MAX {
         return Ok(both);
     }
-    match count_join(alloc, sources, n + 1) {
+    match count_join(alloc, sources, n + 1, None) {
         Ok(_) => Ok(both),
         Err(NextFault::Overflow) => Err(MergeFault::Dict {
             n: n + 1,
@@ -150,23 +151,25 @@ fn judge_each<S: Sources>(alloc: Global, sources: &S, count: usize) -> Result<Ju
     Ok(judged)
 }
 
-/// Judges all dictionaries: the totals and counts of their join. Where one pass over all of them
-/// tells no join, they are judged one after another, so that the first fault is told.
+/// Judges all dictionaries: the totals of their join, and the tally of what stays of it. Where one
+/// pass over all of them tells no join, they are judged one after another, so that the first fault
+/// is told.
 pub(crate) fn judge_all<S: Sources>(
     alloc: Global,
     sources: &S,
-) -> Result<(Totals, Counts), MergeFault>
+    least: Option<u64>,
+) -> Result<(Totals, Tally), MergeFault>
     ensures some { OnOk result (1 ≤ S.number sources.now) }
     ensures quiet { IfErr result (λ found. written_of found ≡ 0) }
     ensures first { (inputs : List (List ℕ)) → AreInputs (S.bytes sources.now) 0 inputs
         → length inputs ≡ S.number sources.now → MatchResult result
-        (λ p. HasJoined (S.bytes sources.now) p.0 p.1 inputs) (IsJudgeFault inputs) }
+        (λ p. HasJoined (S.bytes sources.now) least p.0 p.1 inputs) (IsJudgeFault inputs) }
 {
     let count = sources.count();
     if count == 0 {
         return Err(MergeFault::Empty);
     }
-    let fault = match count_join(alloc, sources, count) {
+    let fault = match count_join(alloc, sources, count, least) {
         Ok(joined) => return Ok(joined),
         Err(fault) => fault,
     };

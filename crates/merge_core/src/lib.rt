@@ -5,6 +5,7 @@ mod counting;
 mod cuts;
 mod entries;
 mod faults;
+mod forms;
 mod growing;
 mod heads;
 mod judged;
@@ -27,5 +28,6 @@ mod writing;
 
 pub use entries::{Entries, NextFault};
 pub use faults::{MergeFault, status_of};
+pub use forms::Form;
 pub use runs::run_merge;
 pub use sources::Sources;

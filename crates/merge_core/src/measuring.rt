@@ -11,11 +11,11 @@ use crate::cuts::Plan;
 use crate::entries::NextFault;
 use crate::ranges::join_at;
 use crate::sources::Sources;
-use crate::tallies::{Tally, both_tallies, each_tally, tally_of};
+use crate::tallies::{Tally, both_tallies, count_of, each_tally};
 use std::alloc::{AllocError, Global};
 use std::thread::{Threads, map_indices};
 
-/// How much is in a range: in the join, and in each dictionary by itself.
+/// How much is in a range: in what stays of the join, and in each dictionary by itself.
 #[derive(Drop)]
 pub(crate) struct Ranged {
     pub(crate) joined: Tally,
@@ -38,7 +38,7 @@ fn count_one<S: Sources>(
         Ok(joined) => joined,
         Err(fault) => return Err(fault),
     };
-    let Some(tally) = tally_of(&joined.entries) else {
+    let Some(tally) = count_of(plan.least, &joined.entries) else {
         return Err(NextFault::Overflow);
     };
     Ok(Ranged {

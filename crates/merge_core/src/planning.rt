@@ -1,6 +1,6 @@
 //! Where dictionaries are cut, so that ranges are about even. Nothing rests on it: what is between
 //! the cuts is judged.
-ghost use Rattle.std.specs.Prelude.{◌≤◌, ◌<◌, ◌+◌, ◌^◌, IfSome, length};
+ghost use Rattle.std.specs.Prelude.{◌≡◌, ◌≤◌, ◌<◌, ◌+◌, ◌^◌, IfSome, length};
 
 use crate::cuts::{Cut, Plan};
 use crate::pieces::read_bytes;
@@ -303,8 +303,11 @@ pub(crate) fn plan_for<T: Threads + Sync, S: Sources + Sync>(
     rt: &T,
     alloc: Global,
     sources: &S,
+    least: Option<u64>,
     threads: usize,
-) -> Option<Plan> {
+) -> Option<Plan>
+    ensures { IfSome result (λ plan. plan.least ≡ least) }
+{
     let fronts = fronts_of(alloc, sources)?;
     let mut total: usize = 0;
     for end in &fronts.ends {
@@ -337,5 +340,9 @@ pub(crate) fn plan_for<T: Threads + Sync, S: Sources + Sync>(
         places: ends,
     })
     .ok()?;
-    Some(Plan { headers, cuts })
+    Some(Plan {
+        headers,
+        cuts,
+        least,
+    })
 }

@@ -1,31 +1,32 @@
 //! The lines of the join of dictionaries, made range by range in threads.
 ghost use Rattle.std.specs.Prelude.{◌≡◌, ◌<◌, ◌+◌, ◌^◌, IfOk, vec_len};
 ghost use Rattle.std.specs.Thread.{IsSend, IsSync};
-ghost use Rattle.shape_dict.specs.Inner.Parts.{lines_of};
 ghost use Rattle.merge_core.specs.Inner.Printing.{ArePrinted, IsPrinted};
+ghost use Rattle.merge_core.specs.Inner.Writing.{lines_of};
 
 use crate::cuts::Plan;
 use crate::entries::NextFault;
+use crate::forms::Form;
 use crate::ranges::join_at;
 use crate::sources::Sources;
 use crate::writing::push_entry;
-use shape_dict::{Entry, Text};
+use shape_dict::Entry;
 use std::alloc::Global;
 use std::thread::{Threads, map_indices};
 
 /// About how many bytes a line has.
 const LINE: usize = 24;
 
-/// The lines that a text has of entries.
-fn lines_of(alloc: Global, text: Text, entries: &[Entry]) -> Result<Vec<u8>, NextFault>
-    ensures { IfOk result (λ lines. lines.items ≡ lines_of text entries.now) }
+/// The lines that a text has of what stays of entries.
+fn lines_of(alloc: Global, form: Form, entries: &[Entry]) -> Result<Vec<u8>, NextFault>
+    ensures { IfOk result (λ lines. lines.items ≡ lines_of form entries.now) }
 {
     let Ok(mut lines) = Vec::with_capacity(alloc, entries.len().saturating_mul(LINE)) else {
         return Err(NextFault::Memory);
     };
     for entry in entries {
-        match push_entry(&mut lines, text, *entry) {
-            Ok(_) => {}
+        match push_entry(&mut lines, form, entry) {
+            Ok(()) => {}
             Err(_) => return Err(NextFault::Memory),
         }
     }
@@ -37,16 +38,16 @@ fn print_one<S: Sources>(
     alloc: Global,
     sources: &S,
     plan: &Plan,
-    text: Text,
+    form: Form,
     n: usize,
 ) -> Result<Vec<u8>, NextFault>
     requires all { vec_len plan.now.headers ≡ S.number sources.now }
     requires few { n + 1 < 2 ^ 64 }
-    ensures { IfOk result (λ lines. IsPrinted (S.bytes sources.now) plan.now text n lines.items) }
+    ensures { IfOk result (λ lines. IsPrinted (S.bytes sources.now) plan.now form n lines.items) }
 {
     let mut each = Vec::new(alloc);
     match join_at(alloc, sources, plan, n, &mut each) {
-        Ok(joined) => lines_of(alloc, text, &joined.entries),
+        Ok(joined) => lines_of(alloc, form, &joined.entries),
         Err(fault) => Err(fault),
     }
 }
@@ -65,13 +66,13 @@ pub(crate) fn print_round<T: Threads + Sync, S: Sources + Sync>(
     alloc: Global,
     sources: &S,
     plan: &Plan,
-    text: Text,
+    form: Form,
     from: usize,
     count: usize,
 ) -> Result<Round, NextFault>
     requires all { vec_len plan.now.headers ≡ S.number sources.now }
     requires few { from + count < 2 ^ 64 }
-    ensures { IfOk result (ArePrinted (S.bytes sources.now) plan.now text) }
+    ensures { IfOk result (ArePrinted (S.bytes sources.now) plan.now form) }
 {
     let made = map_indices(
         rt,
@@ -82,8 +83,8 @@ pub(crate) fn print_round<T: Threads + Sync, S: Sources + Sync>(
                 × (vec_len plan.now.headers ≡ S.number sources.now)
                 × (from + place + 1 < 2 ^ 64) }
             ensures { IfOk result (λ lines. IsPrinted (S.bytes sources.entry.now) plan.entry.now
-                text (from + place) lines.items) }
-        { print_one(alloc, sources, plan, text, from + place) },
+                form (from + place) lines.items) }
+        { print_one(alloc, sources, plan, form, from + place) },
     );
     match made {
         Ok(made) => Ok(Round { from, made }),
@@ -93,15 +94,15 @@ pub(crate) fn print_round<T: Threads + Sync, S: Sources + Sync>(
 
 impl Round {
     ghost use Rattle.std.specs.Prelude.{ℕ, List, Option, IfOk};
-    ghost use Rattle.shape_dict.specs.declared.entries.Text.{Text as Kind};
+    ghost use Rattle.merge_core.specs.declared.forms.Form.{Form as Shown};
     ghost use Rattle.merge_core.specs.declared.cuts.Plan.{Plan as Cuts};
     ghost use Rattle.merge_core.specs.Inner.Printing.{ArePrinted, IsPrinted};
 
     /// The lines of the range of this number, from 0.
     pub(crate) fn lines_at(&self, n: usize) -> Result<&[u8], NextFault>
-        ensures { (bytes : ℕ → Option (List ℕ)) → (plan : Cuts) → (text : Kind)
-            → ArePrinted bytes plan text self.now
-            → IfOk result (λ lines. IsPrinted bytes plan text n lines.now) }
+        ensures { (bytes : ℕ → Option (List ℕ)) → (plan : Cuts) → (form : Shown)
+            → ArePrinted bytes plan form self.now
+            → IfOk result (λ lines. IsPrinted bytes plan form n lines.now) }
     {
         if n < self.from || n - self.from >= self.made.len() {
             return Err(NextFault::Changed);

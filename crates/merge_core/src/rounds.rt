@@ -2,19 +2,18 @@
 ghost use Rattle.std.specs.Prelude.{◌≡◌, ◌≤◌, ◌+◌, ◌++◌, ℕ, List, length, vec_len, IfErr, MatchResult};
 ghost use Rattle.std.specs.Io.KnownBytes.{Appends};
 ghost use Rattle.shape_dict.specs.declared.entries.Entry.{Entry as One};
-ghost use Rattle.shape_dict.specs.Inner.Parts.{lines_of};
 ghost use Rattle.merge_core.specs.Merge.{AreInputs, Took, written_of};
 ghost use Rattle.merge_core.specs.Inner.Ranges.{AreParts, all_of};
-ghost use Rattle.merge_core.specs.Inner.Writing.{IsStopped};
+ghost use Rattle.merge_core.specs.Inner.Writing.{IsStopped, lines_of};
 
 use crate::cuts::Plan;
 use crate::entries::NextFault;
 use crate::faults::MergeFault;
+use crate::forms::Form;
 use crate::output::write_more;
 use crate::printing::{Round, print_round};
 use crate::sources::Sources;
 use crate::writing::stopped;
-use shape_dict::Text;
 use std::alloc::Global;
 use std::io::Write;
 use std::thread::{Threads, available_parallelism};
@@ -52,7 +51,7 @@ fn count_lines(lines: &[u8]) -> u64 {
 pub(crate) fn write_ranges<T: Threads + Sync, S: Sources + Sync, W: Write>(
     rt: &T,
     alloc: Global,
-    text: Text,
+    form: Form,
     sources: &S,
     plan: &Plan,
     front: &Front,
@@ -66,9 +65,9 @@ pub(crate) fn write_ranges<T: Threads + Sync, S: Sources + Sync, W: Write>(
         → AreInputs (S.bytes sources.now) 0 inputs → length inputs ≡ length plan.now.headers.items
         → MatchResult result
         (λ _. Appends (W.contents writer.old) (W.contents writer.new)
-        (front.now.header.items ++ lines_of text (all_of parts)))
+        (front.now.header.items ++ lines_of form (all_of parts)))
         (IsStopped (W.contents writer.old) (W.contents writer.new)
-        (front.now.header.items ++ lines_of text (all_of parts))) }
+        (front.now.header.items ++ lines_of form (all_of parts))) }
 {
     let threads = ranges_at_once(rt);
     let cuts = plan.cuts.as_slice();
@@ -85,7 +84,7 @@ pub(crate) fn write_ranges<T: Threads + Sync, S: Sources + Sync, W: Write>(
     for n in 0..last {
         if n % threads == 0 {
             let count = threads.min(last - n);
-            round = match print_round(rt, alloc, sources, plan, text, n, count) {
+            round = match print_round(rt, alloc, sources, plan, form, n, count) {
                 Ok(next) => next,
                 Err(fault) => return Err(stopped(fault, written)),
             };

@@ -4,9 +4,9 @@ ghost use Rattle.std.specs.Io.KnownBytes.{Appends};
 ghost use Rattle.merge_core.specs.Merge.{AreInputs, IsMergeText, IsMergeFault, Took, written_of};
 ghost use Rattle.merge_core.specs.Inner.Surveys.{IsSurveyed};
 
-use crate::counting::Counts;
 use crate::cuts::Plan;
 use crate::faults::MergeFault;
+use crate::forms::Form;
 use crate::growing::grow;
 use crate::judged::Totals;
 use crate::judging::judge_all;
@@ -14,6 +14,7 @@ use crate::planning::plan_for;
 use crate::rounds::{Front, ranges_at_once, write_ranges};
 use crate::sources::Sources;
 use crate::surveying::survey;
+use crate::tallies::Tally;
 use crate::writing::{header_of, stopped, write_lines};
 use shape_dict::Text;
 use std::alloc::Global;
@@ -24,21 +25,21 @@ use std::thread::Threads;
 /// takes to tell the first fault, and then written.
 fn merge_lines<S: Sources, W: Write>(
     alloc: Global,
-    text: Text,
+    form: Form,
     sources: &S,
     writer: &mut W,
 ) -> Result<(), MergeFault>
     ensures done { (inputs : List (List ℕ)) → AreInputs (S.bytes sources.now) 0 inputs
         → length inputs ≡ S.number sources.now → OnOk result ((written : List ℕ)
-        × IsMergeText text inputs written
+        × IsMergeText form inputs written
         × Appends (W.contents writer.old) (W.contents writer.new) written) }
     ensures fault { (inputs : List (List ℕ)) → AreInputs (S.bytes sources.now) 0 inputs
         → length inputs ≡ S.number sources.now → IfErr result
-        (IsMergeFault text inputs (W.contents writer.old) (W.contents writer.new)) }
+        (IsMergeFault form inputs (W.contents writer.old) (W.contents writer.new)) }
     ensures took { IfErr result (λ found.
         Took (W.contents writer.old) (W.contents writer.new) (written_of found)) }
 {
-    let (totals, counts) = match judge_all(alloc, sources) {
+    let (totals, counts) = match judge_all(alloc, sources, form.least) {
         Ok(joined) => joined,
         Err(fault) => return Err(fault),
     };
@@ -46,54 +47,58 @@ fn merge_lines<S: Sources, W: Write>(
         Ok(grown) => grown.tree,
         Err(fault) => return Err(stopped(fault, 0)),
     };
-    let Ok(header) = header_of(alloc, text, totals, counts) else {
+    let Ok(header) = header_of(alloc, form, totals, counts) else {
         return Err(MergeFault::Memory { written: 0 });
     };
-    write_lines(tree, text, counts, header, writer)
+    write_lines(tree, form, counts, header, writer)
 }
 
 /// Writes the join of dictionaries that were judged range by range.
 fn merge_ranges<T: Threads + Sync, S: Sources + Sync, W: Write>(
     rt: &T,
     alloc: Global,
-    text: Text,
+    form: Form,
     sources: &S,
     plan: &Plan,
-    joined: (Totals, Counts),
+    joined: (Totals, Tally),
     writer: &mut W,
 ) -> Result<(), MergeFault>
     requires all { vec_len plan.now.headers ≡ S.number sources.now }
     requires many { length plan.now.headers.items ≡ S.number sources.now }
+    requires least { plan.now.least ≡ form.least }
     requires surveyed { IsSurveyed (S.bytes sources.now) plan.now joined.0 joined.1 }
     ensures done { (inputs : List (List ℕ)) → AreInputs (S.bytes sources.now) 0 inputs
         → length inputs ≡ S.number sources.now → OnOk result ((written : List ℕ)
-        × IsMergeText text inputs written
+        × IsMergeText form inputs written
         × Appends (W.contents writer.old) (W.contents writer.new) written) }
     ensures fault { (inputs : List (List ℕ)) → AreInputs (S.bytes sources.now) 0 inputs
         → length inputs ≡ S.number sources.now → IfErr result
-        (IsMergeFault text inputs (W.contents writer.old) (W.contents writer.new)) }
+        (IsMergeFault form inputs (W.contents writer.old) (W.contents writer.new)) }
     ensures took { IfErr result (λ found.
         Took (W.contents writer.old) (W.contents writer.new) (written_of found)) }
 {
     let (totals, counts) = joined;
-    let Ok(header) = header_of(alloc, text, totals, counts) else {
+    let Ok(header) = header_of(alloc, form, totals, counts) else {
         return Err(MergeFault::Memory { written: 0 });
     };
-    let patterns = match text {
+    let patterns = match form.text {
         Text::One => counts.squares,
         Text::Two | Text::Three => counts.squares.saturating_add(counts.diamonds),
     };
     let front = Front { header, patterns };
-    write_ranges(rt, alloc, text, sources, plan, &front, writer)
+    write_ranges(rt, alloc, form, sources, plan, &front, writer)
 }
 
 /// Reads dictionaries, each a text of its own in any of the three texts and of any size, and writes
-/// a text of their join: the earlier ones are the left of each join. Each is read twice: to be
-/// judged while what the join has is counted, and to be written. Where they are large, twice as
-/// many threads as there are processors, 16 at most, do that side by side, each with a range of
-/// the words; it takes memory for a range of about half a megabyte for each. Where they are small,
-/// or something is odd, this thread reads them line by line, with a block of 65,536 bytes of each
-/// in memory, and one more; where there is a fault, they are judged again, one after another.
+/// a text of their join: the earlier ones are the left of each join. Where the form has a least
+/// number, the text is that of another dictionary: its games are those of the join, its patterns
+/// are the squares of the join that were there as often or oftener, and its moves are those at
+/// which one of them was played. Each input is read twice: to be judged while what the join has is
+/// counted, and to be written. Where they are large, twice as many threads as there are processors,
+/// 16 at most, do that side by side, each with a range of the words; it takes memory for a range of
+/// about half a megabyte for each. Where they are small, or something is odd, this thread reads
+/// them line by line, with a block of 65,536 bytes of each in memory, and one more; where there is
+/// a fault, they are judged again, one after another.
 ///
 /// # Errors
 ///
@@ -101,33 +106,33 @@ fn merge_ranges<T: Threads + Sync, S: Sources + Sync, W: Write>(
 /// that cannot be read (X1 to X5) or added to those before it (X7, X9), and its fault: nothing is
 /// written then. `Read` where a dictionary could not be opened or read, or what it gave in the
 /// second reading is no text, or has a word outside of the range that is read; `Changed` where the
-/// join of the second reading can't be made, or has another number of patterns than that of the
-/// first; `Memory` where memory was refused; `Write` where the writer failed. Each of these has the
+/// join of the second reading can't be made, or what stays of it has another number of patterns
+/// than in the first; `Memory` where memory was refused; `Write` where the writer failed. Each of these has the
 /// number of bytes that are out. Any other change between the readings goes unseen, and what is
 /// written is then the join of neither.
 pub fn run_merge<T: Threads + Sync, S: Sources + Sync, W: Write>(
     rt: &T,
     alloc: Global,
-    text: Text,
+    form: Form,
     sources: &S,
     writer: &mut W,
 ) -> Result<(), MergeFault>
     ensures done { (inputs : List (List ℕ)) → AreInputs (S.bytes sources.now) 0 inputs
         → length inputs ≡ S.number sources.now → OnOk result ((written : List ℕ)
-        × IsMergeText text inputs written
+        × IsMergeText form inputs written
         × Appends (W.contents writer.old) (W.contents writer.new) written) }
     ensures fault { (inputs : List (List ℕ)) → AreInputs (S.bytes sources.now) 0 inputs
         → length inputs ≡ S.number sources.now → IfErr result
-        (IsMergeFault text inputs (W.contents writer.old) (W.contents writer.new)) }
+        (IsMergeFault form inputs (W.contents writer.old) (W.contents writer.new)) }
     ensures took { IfErr result (λ found.
         Took (W.contents writer.old) (W.contents writer.new) (written_of found)) }
 {
     let threads = ranges_at_once(rt);
-    let Some(plan) = plan_for(rt, alloc, sources, threads) else {
-        return merge_lines(alloc, text, sources, writer);
+    let Some(plan) = plan_for(rt, alloc, sources, form.least, threads) else {
+        return merge_lines(alloc, form, sources, writer);
     };
     match survey(rt, alloc, sources, &plan, threads) {
-        Some(joined) => merge_ranges(rt, alloc, text, sources, &plan, joined, writer),
-        None => merge_lines(alloc, text, sources, writer),
+        Some(joined) => merge_ranges(rt, alloc, form, sources, &plan, joined, writer),
+        None => merge_lines(alloc, form, sources, writer),
     }
 }

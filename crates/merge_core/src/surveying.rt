@@ -4,7 +4,6 @@ ghost use Rattle.std.specs.Prelude.{length, vec_len, slice_get};
 ghost use Rattle.merge_core.specs.declared.tallies.Tally.{Tally as Sums};
 ghost use Rattle.merge_core.specs.Inner.Surveys.{Fits, IsFront, IsWhole, IsTotalsOf, IsSurveyed};
 
-use crate::counting::Counts;
 use crate::cuts::{Cut, Plan, cut_at, header_at, place_at};
 use crate::entries::NextFault;
 use crate::judged::Totals;
@@ -148,15 +147,16 @@ fn totals_of(headers: &[Header]) -> Option<Totals>
     })
 }
 
-/// The totals and counts of the join of dictionaries that are cut by this plan, counted by about
-/// this many threads, where they can be made. None says nothing of the dictionaries.
+/// The totals of the join of dictionaries that are cut by this plan, and the tally of what stays of
+/// it, counted by about this many threads, where they can be made. None says nothing of the
+/// dictionaries.
 pub(crate) fn survey<T: Threads + Sync, S: Sources + Sync>(
     rt: &T,
     alloc: Global,
     sources: &S,
     plan: &Plan,
     threads: usize,
-) -> Option<(Totals, Counts)>
+) -> Option<(Totals, Tally)>
     ensures all { IfSome result (λ p. vec_len plan.now.headers ≡ S.number sources.now) }
     ensures many { IfSome result (λ p. length plan.now.headers.items ≡ S.number sources.now) }
     ensures surveyed { IfSome result (λ p. IsSurveyed (S.bytes sources.now) plan.now p.0 p.1) }
@@ -189,9 +189,5 @@ pub(crate) fn survey<T: Threads + Sync, S: Sources + Sync>(
     let Some(totals) = totals_of(headers) else {
         return None;
     };
-    let counts = Counts {
-        squares: ranged.joined.squares,
-        diamonds: ranged.joined.diamonds,
-    };
-    Some((totals, counts))
+    Some((totals, ranged.joined))
 }

@@ -1,21 +1,33 @@
 //! How many patterns there are, and how often they were played.
-ghost use Rattle.std.specs.Prelude.{◌≡◌, ◌+◌, ◌++◌, ◌∷◌, [], IfOk, IfSome, List, length};
+ghost use Rattle.std.specs.Prelude.{◌≡◌, ◌+◌, ◌++◌, ◌∷◌, [], ℕ, IfOk, IfSome, List, Option, length};
 ghost use Rattle.shape_dict.specs.declared.entries.Entry.{Entry as One};
-ghost use Rattle.merge_core.specs.Inner.Ranges.{IsTally};
+ghost use Rattle.merge_core.specs.Inner.Ranges.{IsCountOf, IsTally};
 ghost use Rattle.merge_core.specs.Inner.Tallies.{IsSum, sums};
 
-use crate::counting::is_square;
 use crate::entries::NextFault;
+use crate::forms::{is_kept, is_square};
 use shape_dict::Entry;
 use std::alloc::Global;
 
 /// How many squares and diamonds there are, and how often they were played.
-#[derive(Clone, Copy)]
+#[derive(Clone, Copy, PartialEq, Eq)]
 pub(crate) struct Tally {
     pub(crate) squares: u64,
     pub(crate) diamonds: u64,
     pub(crate) squares_played: u64,
     pub(crate) diamonds_played: u64,
+}
+
+/// The tally of no entry.
+pub(crate) fn no_tally() -> Tally
+    ensures { (least : Option ℕ) → IsCountOf least [] result }
+{
+    Tally {
+        squares: 0,
+        diamonds: 0,
+        squares_played: 0,
+        diamonds_played: 0,
+    }
 }
 
 /// The tally of one entry more; None where a sum is over 2^64 - 1.
@@ -50,6 +62,32 @@ pub(crate) fn tally_of(entries: &[Entry]) -> Option<Tally>
     };
     for entry in entries {
         tally = match with(tally, *entry) {
+            Some(next) => next,
+            None => return None,
+        };
+    }
+    Some(tally)
+}
+
+/// The tally of what stays of entries, with one entry more; None where a sum is over 2^64 - 1.
+pub(crate) fn with_kept(least: Option<u64>, tally: Tally, entry: &Entry) -> Option<Tally>
+    ensures { IfSome result (λ next. (before : List One) → IsCountOf least before tally
+        → IsCountOf least (before ++ entry.now ∷ []) next) }
+{
+    if is_kept(least, entry) {
+        with(tally, *entry)
+    } else {
+        Some(tally)
+    }
+}
+
+/// The tally of what stays of entries; None where a sum is over 2^64 - 1.
+pub(crate) fn count_of(least: Option<u64>, entries: &[Entry]) -> Option<Tally>
+    ensures { IfSome result (IsCountOf least entries.now) }
+{
+    let mut tally = no_tally();
+    for entry in entries {
+        tally = match with_kept(least, tally, entry) {
             Some(next) => next,
             None => return None,
         };

@@ -2,69 +2,100 @@
 ghost use Rattle.std.specs.Prelude.{◌≡◌, ◌++◌, ◌∷◌, [], List, OnOk, IfOk, IfErr, MatchResult};
 ghost use Rattle.std.specs.Io.KnownBytes.{Appends};
 ghost use Rattle.shape_dict.specs.declared.entries.Entry.{Entry as One};
-ghost use Rattle.shape_dict.specs.Inner.Parts.{lines_of};
-ghost use Rattle.shape_dict.specs.Contents.{is_square};
+ghost use Rattle.shape_dict.specs.Inner.Parts.{lines_of as text_lines};
 ghost use Rattle.shape_dict.specs.Text.{header_text};
 ghost use Rattle.merge_core.specs.Merge.{Took, written_of};
 ghost use Rattle.merge_core.specs.Inner.Trees.{Yields};
-ghost use Rattle.merge_core.specs.Inner.Writing.{IsStopped, stopped, header_for};
+ghost use Rattle.merge_core.specs.Inner.Writing.{IsStopped, stopped, header_for, lines_of};
+ghost use Rattle.merge_core.specs.Inner.Writing.{diamonds_for, moves_for};
 
-use crate::counting::{Counts, is_square};
 use crate::entries::{Entries, NextFault};
 use crate::faults::MergeFault;
+use crate::forms::{Form, is_kept, is_square};
 use crate::judged::Totals;
 use crate::output::{write_block, write_pending};
+use crate::tallies::{Tally, no_tally, with_kept};
 use crate::trees::{Tree, next_of};
 use shape_dict::{Entry, Text, push_header, push_line};
 use std::alloc::{AllocError, Global};
 use std::io::Write;
 
-/// The header of a join.
+/// How many moves a header names.
+fn moves_for(least: Option<u64>, totals: Totals, counts: Tally) -> u64
+    ensures { result ≡ moves_for least totals counts }
+{
+    match least {
+        Some(_) => counts.squares_played,
+        None => totals.moves,
+    }
+}
+
+/// How many diamonds a header names.
+fn diamonds_for(least: Option<u64>, totals: Totals, counts: Tally) -> Option<u64>
+    ensures { result ≡ diamonds_for least totals counts }
+{
+    match least {
+        Some(_) => None,
+        None => {
+            if totals.counts_diamonds {
+                Some(counts.diamonds)
+            } else {
+                None
+            }
+        }
+    }
+}
+
+/// The header of what stays of a join.
 pub(crate) fn header_of(
     alloc: Global,
-    text: Text,
+    form: Form,
     totals: Totals,
-    counts: Counts,
+    counts: Tally,
 ) -> Result<Vec<u8>, AllocError>
     ensures { IfOk result (λ header. header.items
-        ≡ header_text (header_for text totals counts)) }
+        ≡ header_text (header_for form totals counts)) }
 {
     let mut header = Vec::new(alloc);
-    let diamonds = if totals.counts_diamonds {
-        Some(counts.diamonds)
-    } else {
-        None
-    };
+    let moves = moves_for(form.least, totals, counts);
+    let diamonds = diamonds_for(form.least, totals, counts);
     push_header(
         &mut header,
-        text,
+        form.text,
         totals.games,
-        totals.moves,
+        moves,
         counts.squares,
         diamonds,
     )?;
     Ok(header)
 }
 
-/// Appends the line that a text has of an entry, or none, and says whether it is a square.
-pub(crate) fn push_entry(out: &mut Vec<u8>, text: Text, entry: Entry) -> Result<bool, AllocError>
-    ensures line { OnOk result (out.new.items ≡ out.old.items ++ lines_of text (entry ∷ [])) }
-    ensures square { IfOk result (λ square. square ≡ is_square entry) }
+/// Appends the line that a text has of an entry, or none.
+fn push_one(out: &mut Vec<u8>, text: Text, entry: &Entry) -> Result<(), AllocError>
+    ensures line { OnOk result (out.new.items
+        ≡ out.old.items ++ text_lines text (entry.now ∷ [])) }
 {
-    let square = is_square(entry);
+    let square = is_square(*entry);
     match text {
         Text::One => {
             if !square {
-                return Ok(square);
+                return Ok(());
             }
-            push_line(out, text, &entry)?;
-            Ok(square)
+            push_line(out, text, entry)
         }
-        Text::Two | Text::Three => {
-            push_line(out, text, &entry)?;
-            Ok(square)
-        }
+        Text::Two | Text::Three => push_line(out, text, entry),
     }
+}
+
+/// Appends the line that a text has of an entry that stays, or none.
+pub(crate) fn push_entry(out: &mut Vec<u8>, form: Form, entry: &Entry) -> Result<(), AllocError>
+    ensures line { OnOk result (out.new.items
+        ≡ out.old.items ++ lines_of form (entry.now ∷ [])) }
+{
+    if !is_kept(form.least, entry) {
+        return Ok(());
+    }
+    push_one(out, form.text, entry)
 }
 
 /// A fault of a tree, after this number of bytes.
@@ -78,12 +109,13 @@ pub(crate) fn stopped(fault: NextFault, written: usize) -> MergeFault
     }
 }
 
-/// Writes the header, which is pending, and a line for each entry of the join that the text has.
-/// The counts are compared with those of the header before the last block is written.
+/// Writes the header, which is pending, and a line for each entry of the join that stays and that
+/// the text has. Their tally is compared with that of the first reading before the last block is
+/// written.
 pub(crate) fn write_lines<E: Entries, W: Write>(
     mut tree: Tree<E>,
-    text: Text,
-    counts: Counts,
+    form: Form,
+    counts: Tally,
     mut pending: Vec<u8>,
     writer: &mut W,
 ) -> Result<(), MergeFault>
@@ -91,17 +123,21 @@ pub(crate) fn write_lines<E: Entries, W: Write>(
         Took (W.contents writer.old) (W.contents writer.new) (written_of found)) }
     ensures known { (all : List One) → Yields E.yields tree all → MatchResult result
         (λ _. Appends (W.contents writer.old) (W.contents writer.new)
-        (pending.items ++ lines_of text all))
+        (pending.items ++ lines_of form all))
         (IsStopped (W.contents writer.old) (W.contents writer.new)
-        (pending.items ++ lines_of text all)) }
+        (pending.items ++ lines_of form all)) }
 {
     let mut written = 0;
-    let mut squares: u64 = 0;
-    for place in 0..u64::MAX {
+    let mut seen = no_tally();
+    for _place in 0..u64::MAX {
         match next_of(&mut tree) {
             Ok(Some(entry)) => {
-                match push_entry(&mut pending, text, entry) {
-                    Ok(square) => squares = squares.saturating_add(u64::from(square)),
+                seen = match with_kept(form.least, seen, &entry) {
+                    Some(next) => next,
+                    None => return Err(MergeFault::Changed { written }),
+                };
+                match push_entry(&mut pending, form, &entry) {
+                    Ok(()) => {}
                     Err(_) => return Err(MergeFault::Memory { written }),
                 }
                 written = match write_block(writer, &mut pending, written) {
@@ -110,7 +146,7 @@ pub(crate) fn write_lines<E: Entries, W: Write>(
                 };
             }
             Ok(None) => {
-                if squares != counts.squares || place.saturating_sub(squares) != counts.diamonds {
+                if seen != counts {
                     return Err(MergeFault::Changed { written });
                 }
                 match write_pending(writer, &mut pending, written) {

@@ -1,6 +1,6 @@
 //! Texts that change between the two readings of a join.
 use crate::readers::Drip;
-use merge_core::{MergeFault, Sources, run_merge};
+use merge_core::{Form, MergeFault, Sources, run_merge};
 use shape_dict::Text;
 use std::alloc::Global;
 use std::io;
@@ -74,7 +74,11 @@ fn rejoined<T: Threads + Sync>(
         opened: AtomicU64::new(0),
     };
     let mut out = Vec::new(alloc);
-    let done = run_merge(rt, alloc, Text::One, &sources, &mut out);
+    let form = Form {
+        text: Text::One,
+        least: None,
+    };
+    let done = run_merge(rt, alloc, form, &sources, &mut out);
     (done, out.len())
 }
 

@@ -2,7 +2,7 @@
 ghost use Rattle.std.specs.Prelude.{ℕ, List, [], map, Some, IfOk, IfErr};
 ghost use Rattle.merge_core.specs.Merge.{IsMergeText, IsMergeFault};
 
-use merge_core::{MergeFault, Sources, run_merge};
+use merge_core::{Form, MergeFault, Sources, run_merge};
 use shape_dict::Text;
 use std::alloc::Global;
 use std::io;
@@ -44,21 +44,21 @@ impl<'a> Sources for Known<'a> {
     }
 }
 
-/// A text of the join of the dictionaries of these texts.
+/// A text of what stays of the join of the dictionaries of these texts.
 fn join_of<T: Threads + Sync>(
     rt: &T,
     alloc: Global,
-    text: Text,
+    form: Form,
     texts: &[&[u8]],
 ) -> Result<Vec<u8>, MergeFault>
     ensures joined { IfOk result (λ joined.
-        IsMergeText text (map (λ input. input.now) texts.now) joined.items) }
+        IsMergeText form (map (λ input. input.now) texts.now) joined.items) }
     ensures fault { IfErr result (λ found. (out : List ℕ)
-        × IsMergeFault text (map (λ input. input.now) texts.now) (Some []) (Some out) found) }
+        × IsMergeFault form (map (λ input. input.now) texts.now) (Some []) (Some out) found) }
 {
     let sources = Known { texts };
     let mut out = Vec::new(alloc);
-    match run_merge(rt, alloc, text, &sources, &mut out) {
+    match run_merge(rt, alloc, form, &sources, &mut out) {
         Ok(()) => Ok(out),
         Err(fault) => Err(fault),
     }
@@ -71,15 +71,28 @@ const RIGHT: &[u8] = b"shapes 3 games 3 moves 1 squares 1 diamonds -\n3fff3fcfff
 const JOINED: &[u8] =
     b"shapes 3 games 4 moves 3 squares 2 diamonds -\n3fff3fcffffff 7 2 -\n3fffbfcffffff 1 1 -\n";
 
-/// Whether the join of the texts is the one by hand.
-fn is_joined<T: Threads + Sync>(rt: &T, alloc: Global, texts: &[&[u8]]) -> bool {
-    match join_of(rt, alloc, Text::Three, texts) {
-        Ok(joined) => joined.as_slice() == JOINED,
+const OFTEN: &[u8] = b"shapes 3 games 4 moves 2 squares 1 diamonds -\n3fff3fcffffff 7 2 -\n";
+
+/// Whether this is what stays of the join of the two texts.
+fn is_joined<T: Threads + Sync>(
+    rt: &T,
+    alloc: Global,
+    least: Option<u64>,
+    wanted: &[u8],
+) -> bool {
+    let form = Form {
+        text: Text::Three,
+        least,
+    };
+    match join_of(rt, alloc, form, &[LEFT, RIGHT]) {
+        Ok(joined) => joined.as_slice() == wanted,
         Err(_) => false,
     }
 }
 
 #[test]
 fn known_texts_are_joined(rt: HostRuntime) {
-    assert!(rt; is_joined(&rt, rt.alloc(), &[LEFT, RIGHT]));
+    assert!(rt; is_joined(&rt, rt.alloc(), None, JOINED));
+    assert!(rt; is_joined(&rt, rt.alloc(), Some(1), JOINED));
+    assert!(rt; is_joined(&rt, rt.alloc(), Some(2), OFTEN));
 }

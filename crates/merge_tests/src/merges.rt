@@ -1,7 +1,7 @@
 //! Dictionaries joined line by line: against joins by hand, and with readers, writers and memory
 //! that fail.
 use crate::readers::Drip;
-use merge_core::{MergeFault, Sources, run_merge};
+use merge_core::{Form, MergeFault, Sources, run_merge};
 use shape_dict::{DictFault, Text};
 use std::alloc::Global;
 use std::io;
@@ -102,7 +102,8 @@ fn joined<T: Threads + Sync>(
         got: Vec::new(alloc),
         most: written,
     };
-    let done = run_merge(rt, alloc, text, &sources, &mut out);
+    let form = Form { text, least: None };
+    let done = run_merge(rt, alloc, form, &sources, &mut out);
     (done, out.got)
 }
 

@@ -2,7 +2,12 @@
 use Rattle.std.specs.Prelude.{Some, true, codes}
 use Rattle.clap.specs.Lexer.{usize_max}
 use Rattle.clap.specs.Words.{App, Rule, new_rule, with_rule}
+use Rattle.clap.specs.declared.builder.value_parser.ValueParser.TheVariants as parser
 use Rattle.command_lines.specs.Arguments.{bare_app, option_rule, text_rule}
+
+-- the option takes a number, from 1 on
+abbrev pub least_rule : Rule
+least_rule = record (option_rule (codes "least")) { parser = Some (parser.Unsigned 1 18446744073709551615) }
 
 -- the option takes a name; its short form is `-o`
 abbrev pub out_rule : Rule
@@ -17,4 +22,5 @@ dictionaries_rule = record (new_rule (codes "dictionaries")) {
 }
 
 abbrev pub program_app : App
-program_app = with_rule (with_rule (with_rule (bare_app (codes "shape_merge")) text_rule) out_rule) dictionaries_rule
+program_app =
+    with_rule (with_rule (with_rule (with_rule (bare_app (codes "shape_merge")) text_rule) least_rule) out_rule) dictionaries_rule

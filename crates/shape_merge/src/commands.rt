@@ -1,9 +1,9 @@
 //! The command line as it is told to `clap`.
 ghost use Rattle.std.specs.Prelude.{◌≡◌, false, IfOk};
 ghost use Rattle.clap.specs.Words.{app_of, rule_of};
-ghost use Rattle.shape_merge.specs.Commands.{out_rule, dictionaries_rule, program_app};
+ghost use Rattle.shape_merge.specs.Commands.{least_rule, out_rule, dictionaries_rule, program_app};
 
-use clap::{Arg, Command};
+use clap::{Arg, Command, value_parser};
 use command_lines::{option_argument, program_named, text_argument};
 use std::alloc::{AllocError, Global};
 
@@ -13,11 +13,28 @@ const NOTES: &str =
 are numbered after those of the files before it. Each is read more than once, so it has to be a
 regular file.
 
+With --least N the dictionary has the squares alone that were there N times or oftener in the join: its
+games are those of the join, and its moves are those at which one of them was played.
+
 Examples:
   shape_merge a.dict b.dict > all.dict
   shape_merge --text 3 -o all.dict parts/*.dict
+  shape_merge --least 10 all.dict > often.dict
 
 Exit status: 0 done, 2 wrong words, 3 input refused, 5 no memory, 6 a read or a write failed";
+
+fn least_argument<'a>(alloc: Global) -> Arg<'a>
+    ensures rule { rule_of result ≡ least_rule }
+    ensures local { result.global ≡ false }
+{
+    option_argument(
+        alloc,
+        "least",
+        "N",
+        "Only squares that were there at least N times in the join",
+    )
+    .value_parser(value_parser!(u64).range(1..))
+}
 
 fn out_argument<'a>(alloc: Global) -> Arg<'a>
     ensures rule { rule_of result ≡ out_rule }
@@ -62,6 +79,7 @@ pub fn program<'a>(alloc: Global) -> Result<Command<'a>, AllocError>
         alloc,
         "Which text is written: 1 squares, 2 diamonds too, 3 first games besides",
     ))?
+    .arg(least_argument(alloc))?
     .arg(out_argument(alloc))?
     .arg(dictionaries_argument(alloc))
 }

@@ -31,9 +31,9 @@ fn join<T: Threads + Sync>(
     match asked.out {
         Some(name) => {
             let mut target = new_target(Named { rt, name });
-            run_merge(threads, alloc, asked.text, &sources, &mut target)
+            run_merge(threads, alloc, asked.form, &sources, &mut target)
         }
-        None => run_merge(threads, alloc, asked.text, &sources, &mut rt.stdout()),
+        None => run_merge(threads, alloc, asked.form, &sources, &mut rt.stdout()),
     }
 }
 

@@ -1,21 +1,22 @@
 //! The words of the command line, and what they ask for.
-ghost use Rattle.std.specs.Prelude.{◌≡◌, ◌⊎◌, map, string_bytes, IfOk, IfErr};
+ghost use Rattle.std.specs.Prelude.{◌≡◌, ◌⊎◌, map, string_bytes, IfOk, IfErr, IfSome, IfNone};
 ghost use Rattle.command_lines.specs.Values.{rows_in};
 ghost use Rattle.engine_core.specs.declared.faults.RunFault.TheVariants as fault;
-ghost use Rattle.shape_merge.specs.Words.{HasNoJoin, IsAnswered, IsJoinOf, IsWordsFault};
+ghost use Rattle.shape_merge.specs.Words.{HasNoJoin, HasNoLeast, IsAnswered, IsJoinOf, IsLeastOf};
+ghost use Rattle.shape_merge.specs.Words.{IsWordsFault};
 
 use crate::commands::program;
 use clap::ArgMatches;
-use command_lines::{Line, read_line, text_of, word_of};
+use command_lines::{Line, number, read_line, text_of, word_of};
 use engine_core::RunFault;
-use shape_dict::Text;
+use merge_core::Form;
 use std::alloc::Global;
 
 /// The join that is asked for.
 #[derive(Debug, Drop)]
 pub struct Asked<'a> {
-    /// Which text of it is written.
-    pub text: Text,
+    /// How it is written.
+    pub form: Form,
     /// The name of the file that is written, where it isn't standard output.
     pub out: Option<&'a str>,
     /// The names of the dictionaries' files.
@@ -31,6 +32,21 @@ pub enum Task<'a> {
     Help(String),
 }
 
+/// How often a pattern has to have been there to stay: None where the words give no number, and
+/// none at all where what they give is none.
+fn least_of(matches: &ArgMatches<'_>) -> Option<Option<u64>>
+    ensures least { IfSome result (IsLeastOf (rows_in matches.now)) }
+    ensures none { IfNone result (HasNoLeast (rows_in matches.now)) }
+{
+    match word_of(matches, "least") {
+        Some(_) => match number(matches, "least") {
+            Some(least) => Some(Some(least)),
+            None => None,
+        },
+        None => Some(None),
+    }
+}
+
 /// What values that `clap` takes ask for.
 fn accepted<'a>(alloc: Global, matches: &ArgMatches<'a>) -> Result<Task<'a>, RunFault>
     ensures join { IfOk result (IsJoinOf (rows_in matches.now)) }
@@ -40,12 +56,15 @@ fn accepted<'a>(alloc: Global, matches: &ArgMatches<'a>) -> Result<Task<'a>, Run
     let Some(text) = text_of(matches) else {
         return Err(RunFault::Usage);
     };
+    let Some(least) = least_of(matches) else {
+        return Err(RunFault::Usage);
+    };
     let Some(names) = matches.get_strs("dictionaries") else {
         return Err(RunFault::Usage);
     };
     let names = names.to_vec(alloc)?;
     Ok(Task::Join(Asked {
-        text,
+        form: Form { text, least },
         out: word_of(matches, "out"),
         names,
     }))

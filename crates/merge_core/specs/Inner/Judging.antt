@@ -13,14 +13,14 @@ use Rattle.merge_core.specs.declared.faults.MergeFault.TheVariants as fault
 use Rattle.shape_dict.specs.declared.headers.Header.{Header}
 use Rattle.shape_dict.specs.declared.entries.Entry.{Entry}
 use Rattle.shape_dict.specs.Reading.{counts_of}
-use Rattle.merge_core.specs.declared.counting.Counts.{Counts}
 use Rattle.merge_core.specs.declared.judged.Judged.{Judged}
 use Rattle.merge_core.specs.declared.judged.Totals.{Totals}
+use Rattle.merge_core.specs.declared.tallies.Tally.{Tally}
 use Rattle.merge_core.specs.Entries.{IsSmallUse}
 use Rattle.merge_core.specs.Merge.{AreTexts, IsDictFault}
-use Rattle.merge_core.specs.Inner.Counting.{IsCountOf}
 use Rattle.merge_core.specs.Inner.Folds.{Folds, FoldsAll, there_in}
 use Rattle.merge_core.specs.Inner.Leaves.{Offers}
+use Rattle.merge_core.specs.Inner.Ranges.{IsCountOf}
 
 -- a number, or 2 ^ 64 - 1 where it is more
 abbrev pub capped : ℕ → ℕ
@@ -103,11 +103,11 @@ pub record HasSummed (bytes : ℕ → Option (List ℕ)) (from : ℕ) (totals : 
   pub few_games : totals.games < 2 ^ 64
   pub few_moves : totals.moves < 2 ^ 64
 
--- all inputs are texts of dictionaries that can be joined, and their join has these totals and counts
-pub record HasJoined (bytes : ℕ → Option (List ℕ)) (totals : Totals) (counts : Counts) (inputs : List (List ℕ)) : Type 0 where
+-- all inputs are texts of dictionaries that can be joined; their join has these totals, and what stays of it this tally
+pub record HasJoined (bytes : ℕ → Option (List ℕ)) (least : Option ℕ) (totals : Totals) (counts : Tally) (inputs : List (List ℕ)) : Type 0 where
   pub entries : List Entry
   pub summed : HasSummed bytes 0 totals inputs entries
-  pub counted : IsCountOf entries counts
+  pub counted : IsCountOf least entries counts
 
 -- the totals of two that follow one another
 pub record IsTotal (before next both : Totals) : Type 0 where

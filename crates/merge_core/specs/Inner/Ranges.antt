@@ -8,6 +8,7 @@ use Rattle.shape_dict.specs.Text.{line_text}
 use Rattle.shape_dict.specs.Join.{joined_entry}
 use Rattle.stream_core.specs.Rows.{AreRows, Rises}
 use Rattle.merge_core.specs.Entries.{IsSmallUse}
+use Rattle.merge_core.specs.Least.{kept}
 use Rattle.merge_core.specs.declared.cuts.Cut.{Cut}
 use Rattle.merge_core.specs.declared.cuts.Plan.{Plan}
 use Rattle.merge_core.specs.declared.tallies.Tally.{Tally}
@@ -66,6 +67,11 @@ pub record IsTally (entries : List Entry) (tally : Tally) : Type 0 where
   pub diamonds_played : tally.diamonds_played ≡ played_in (diamonds_of entries)
   pub small : AllByRecursion IsSmallUse entries
 
+-- the tally of those entries that stay, and the counts of all are small
+pub record IsCountOf (least : Option ℕ) (entries : List Entry) (tally : Tally) : Type 0 where
+  pub tallied : IsTally (kept least entries) tally
+  pub small : AllByRecursion IsSmallUse entries
+
 -- of each dictionary by itself
 abbrev pub AreTallies : List Piece → List Tally → Type 0
 AreTallies [] [] = Unit {0}
@@ -110,7 +116,7 @@ pub record IsRanged (bytes : ℕ → Option (List ℕ)) (plan : Plan) (from to :
   pub is_low : IsCut plan.cuts.items from low
   pub is_high : IsCut plan.cuts.items to high
   pub has : HasRange bytes plan.headers.items low high
-  pub joined : IsTally has.joined ranged.joined
+  pub joined : IsCountOf plan.least has.joined ranged.joined
   pub each : AreTallies has.pieces ranged.each.items
   pub parts : List (List Entry)
   pub number : from + length parts ≡ to

@@ -5,7 +5,6 @@ use Rattle.shape_dict.specs.declared.entries.Entry.{Entry}
 use Rattle.shape_dict.specs.declared.headers.Header.{Header}
 use Rattle.shape_dict.specs.Text.{header_text}
 use Rattle.shape_dict.specs.Reading.{IsHeader, counts_of}
-use Rattle.merge_core.specs.declared.counting.Counts.{Counts}
 use Rattle.merge_core.specs.declared.cuts.Cut.{Cut}
 use Rattle.merge_core.specs.declared.cuts.Plan.{Plan}
 use Rattle.merge_core.specs.declared.judged.Totals.{Totals}
@@ -49,9 +48,9 @@ pub record IsTotalsOf (headers : List Header) (totals : Totals) : Type 0 where
   pub few_moves : totals.moves < 2 ^ 64
 
 -- range by range the plan has the join of all dictionaries, whose texts are good
-pub record IsSurveyed (bytes : ℕ → Option (List ℕ)) (plan : Plan) (totals : Totals) (counts : Counts) : Type 0 where
+pub record IsSurveyed (bytes : ℕ → Option (List ℕ)) (plan : Plan) (totals : Totals) (counts : Tally) : Type 0 where
   pub parts : List (List Entry)
   pub number : length parts + 1 ≡ length plan.cuts.items
   pub are_parts : AreParts bytes plan 0 parts
   pub joined : (inputs : List (List ℕ)) → AreInputs bytes 0 inputs → length inputs ≡ length plan.headers.items →
-      (h : HasJoined bytes totals counts inputs) × (h.entries ≡ all_of parts)
+      (h : HasJoined bytes plan.least totals counts inputs) × (h.entries ≡ all_of parts)

@@ -2,15 +2,20 @@
 use Rattle.std.specs.Prelude.{◌≡◌, ℕ, ◌+◌, ◌<◌, ◌≤◌, List, ◌++◌, length, take, Option, Some, None, if◌then◌else◌}
 use Rattle.std.specs.Io.KnownBytes.{Appends}
 use Rattle.shape_dict.specs.declared.entries.Entry.{Entry}
-use Rattle.shape_dict.specs.declared.entries.Text.{Text}
 use Rattle.shape_dict.specs.declared.headers.Header.{Header}
-use Rattle.shape_dict.specs.Inner.Parts.{lines_of}
+use Rattle.shape_dict.specs.Inner.Parts.{lines_of as text_lines}
 use Rattle.merge_core.specs.declared.faults.MergeFault.{MergeFault}
 use Rattle.merge_core.specs.declared.faults.MergeFault.TheVariants as fault
 use Rattle.merge_core.specs.declared.entries.NextFault.{NextFault}
 use Rattle.merge_core.specs.declared.entries.NextFault.TheVariants as next_fault
+use Rattle.merge_core.specs.declared.forms.Form.{Form}
 use Rattle.merge_core.specs.declared.judged.Totals.{Totals}
-use Rattle.merge_core.specs.declared.counting.Counts.{Counts}
+use Rattle.merge_core.specs.declared.tallies.Tally.{Tally}
+use Rattle.merge_core.specs.Least.{kept}
+
+-- the lines that a text has of what stays of entries
+abbrev pub lines_of : Form → List Entry → List ℕ
+lines_of form entries = text_lines form.text (kept form.least entries)
 
 -- a fault of a tree, after this number of bytes
 abbrev pub stopped : ℕ → NextFault → MergeFault
@@ -34,11 +39,11 @@ pub record WroteSome (old new : List ℕ) (before after : Option (List ℕ)) (wr
   pub appends : Appends before after out
 
 -- some of the entries were pushed, and what was pushed is out or pending
-pub record HasPushed (text : Text) (header done pending : List ℕ) (Rest : List Entry → Type 0) (all : List Entry) : Type 0 where
+pub record HasPushed (form : Form) (header done pending : List ℕ) (Rest : List Entry → Type 0) (all : List Entry) : Type 0 where
   pub given : List Entry
   pub others : List Entry
   pub parts : all ≡ given ++ others
-  pub same : header ++ lines_of text given ≡ done ++ pending
+  pub same : header ++ lines_of form given ≡ done ++ pending
   pub rest : Rest others
 
 -- what is out, where some are
@@ -57,12 +62,22 @@ IsStopped before after text (fault.Changed written) = (written ≤ length text) 
 IsStopped before after text (fault.Write written) = (written < length text) × Appends before after (take written text)
 IsStopped before after text (fault.Memory written) = (written ≤ length text) × Appends before after (take written text)
 
--- the header of a join
-abbrev pub header_for : Text → Totals → Counts → Header
-header_for text totals counts = record {
-  text = text;
+-- how many moves a header names
+abbrev pub moves_for : Option ℕ → Totals → Tally → ℕ
+moves_for None totals counts = totals.moves
+moves_for (Some least) totals counts = counts.squares_played
+
+-- and how many diamonds
+abbrev pub diamonds_for : Option ℕ → Totals → Tally → Option ℕ
+diamonds_for None totals counts = if totals.counts_diamonds then Some counts.diamonds else None
+diamonds_for (Some least) totals counts = None
+
+-- the header of what stays of a join
+abbrev pub header_for : Form → Totals → Tally → Header
+header_for form totals counts = record {
+  text = form.text;
   games = totals.games;
-  moves = totals.moves;
+  moves = moves_for form.least totals counts;
   squares = counts.squares;
-  diamonds = (if totals.counts_diamonds then Some counts.diamonds else None);
+  diamonds = diamonds_for form.least totals counts;
 }

@@ -1,11 +1,16 @@
-use Rattle.std.proofs.Common.{arith, List, [], ◌∷◌, ◌++◌, ◌∙◌, sym, subst, append_assoc, ◌+◌}
+use Rattle.std.proofs.Common.{List, [], ◌∷◌, ◌++◌, sym, subst, append_assoc}
 use Rattle.std.proofs.lemmas.List.{append-nil}
 use Rattle.shape_dict.specs.declared.entries.Entry.{Entry}
 use Rattle.merge_core.specs.Inner.Trees.{Yields}
-use Rattle.merge_core.proofs.Counted.{counted_more, square_more, diamond_more}
+use Rattle.merge_core.proofs.Counted.{counted_more, none_counted}
 use Rattle.merge_core.proofs.Unmerged.{fault_after}
 use Rattle.merge_core.proofs.counting.count_entries.Goals as goal
-use Rattle.merge_core.proofs.counting.count_entries.Goals.{then-is_square, else-is_square}
+
+pub loop-place-init : goal.loop-place-init
+loop-place-init g c = record {
+  counted = λ all y. none_counted c.args.least c.no_tally-counts.result (Yields g.E.Entries.yields c.args.tree) all (c.no_tally-counts.ensures c.args.least) y;
+  came = ([], c.no_tally-counts.ensures c.args.least, λ others y. y);
+}
 
 pub returns-in-Err-clause-all : goal.returns-in-Err-clause-all
 returns-in-Err-clause-all g c = λ all y.
@@ -25,19 +30,7 @@ loop-place-preserved g c =
     let h = c.loop-place.invariant.came in
     let follow : (others : List Entry) → Yields g.E.Entries.came c.next_of.new.tree others → Yields g.E.Entries.came c.args.tree ((h.0 ++ entry ∷ []) ++ others) = λ others y.
     subst (λ (xs : List Entry). Yields g.E.Entries.came c.args.tree xs) (sym (append_assoc h.0 (entry ∷ []) others)) (h.2 (entry ∷ others) (next.came others y)) in
-    elim c.if-is_square.branch [
-      | then-is_square w ↦ rw (w.squares-is, w.diamonds-is) (record {
-        few = omega arith;
-        counted = λ all y. counted_more c.loop-place.squares c.loop-place.diamonds (c.loop-place.squares + 1) c.loop-place.diamonds (Yields g.E.Entries.yields c.loop-place.tree) (Yields g.E.Entries.yields c.next_of.new.tree)
-            all entry (c.loop-place.invariant.counted all y) next.next
-            (λ given h. square_more c.loop-place.squares c.loop-place.diamonds given entry (sym c.is_square.ensures.square ∙ w.if-is_square.true) c.is_square.ensures.small h);
-        came = (h.0 ++ entry ∷ [], square_more c.loop-place.squares c.loop-place.diamonds h.0 entry (sym c.is_square.ensures.square ∙ w.if-is_square.true) c.is_square.ensures.small h.1, follow);
-      })
-      | else-is_square w ↦ rw (w.squares-is, w.diamonds-is) (record {
-        few = omega arith;
-        counted = λ all y. counted_more c.loop-place.squares c.loop-place.diamonds c.loop-place.squares (c.loop-place.diamonds + 1) (Yields g.E.Entries.yields c.loop-place.tree) (Yields g.E.Entries.yields c.next_of.new.tree)
-            all entry (c.loop-place.invariant.counted all y) next.next
-            (λ given h. diamond_more c.loop-place.squares c.loop-place.diamonds given entry (sym c.is_square.ensures.square ∙ w.if-is_square.false) c.is_square.ensures.small h);
-        came = (h.0 ++ entry ∷ [], diamond_more c.loop-place.squares c.loop-place.diamonds h.0 entry (sym c.is_square.ensures.square ∙ w.if-is_square.false) c.is_square.ensures.small h.1, follow);
-      })
-    ]
+    record {
+      counted = λ all y. counted_more c.args.least c.loop-place.counts c.in-Some.next (Yields g.E.Entries.yields c.loop-place.tree) (Yields g.E.Entries.yields c.next_of.new.tree) all entry (c.loop-place.invariant.counted all y) next.next c.in-Some.ensures;
+      came = (h.0 ++ entry ∷ [], c.in-Some.ensures h.0 h.1, follow);
+    }

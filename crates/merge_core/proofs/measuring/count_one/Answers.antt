@@ -2,7 +2,7 @@ use Rattle.std.proofs.Common.{◌++◌, ◌∷◌, [], ap, sym, subst, ◌∙◌
 use Rattle.std.proofs.lemmas.List.{append-nil}
 use Rattle.shape_dict.specs.declared.entries.Entry.{Entry}
 use Rattle.merge_core.specs.declared.tallies.Tally.{Tally}
-use Rattle.merge_core.specs.Inner.Ranges.{IsTally, AreTallies}
+use Rattle.merge_core.specs.Inner.Ranges.{IsCountOf, AreTallies}
 use Rattle.merge_core.proofs.measuring.count_one.Goals as goal
 
 pub returns : goal.returns
@@ -15,7 +15,7 @@ returns g c =
       is_low = h.is_low;
       is_high = h.is_high;
       has = h.has;
-      joined = subst (λ (es : List Entry). IsTally es c.in-Some.tally) (c.deref.ensures.value ∙ sym h.same) c.in-Some.ensures;
+      joined = subst (λ (es : List Entry). IsCountOf c.args.plan.now.least es c.in-Some.tally) (c.deref.ensures.value ∙ sym h.same) c.in-Some.ensures;
       each = subst (λ (xs : List Tally). AreTallies h.has.pieces xs) (sym (ts.1 ∙ ap (λ (xs : List Tally). xs ++ ts.0) c.new-each.ensures.items)) ts.2;
       parts = c.in-Ok.joined.entries.items ∷ [];
       number = omega arith;

@@ -1,4 +1,4 @@
-use Rattle.std.proofs.Common.{rules, ◌≡◌, ◌-◌, length, Some, ℕ, List, arith, ap, sym, subst, ◌∙◌, refl}
+use Rattle.std.proofs.Common.{rules, ◌≡◌, ◌-◌, length, Some, ℕ, List, arith, ap, sym, subst, ◌∙◌}
 use Rattle.std.specs.List.{slice_get}
 use Rattle.shape_dict.specs.declared.headers.Header.{Header}
 use Rattle.merge_core.specs.declared.cuts.Cut.{Cut}
@@ -22,5 +22,5 @@ returns-clause-surveyed g c =
     let moved : (n : ℕ) → (t : Tally) → slice_get c.in-Ok.ranged.each.items n ≡ Some t → IsWhole bytes plan.headers.items low high n t =
     λ n t at. subst (λ (hs : List Header). IsWhole bytes hs low high n t) same (wholes n t (ap (λ (ts : List Tally). slice_get ts n) listed ∙ at)) in
     let totals = subst (λ (hs : List Header). IsTotalsOf hs c.in-Some-totals_of.totals) same c.in-Some-totals_of.ensures in
-    surveyed bytes plan (length c.as_slice-cuts.result.now - 1) c.in-Ok.ranged low high c.in-Some-totals_of.totals (record { squares = c.in-Ok.ranged.joined.squares; diamonds = c.in-Ok.ranged.joined.diamonds }) c.in-Ok.ensures (omega (arith, ap length cuts))
-    (ap (λ (cs : List Cut). slice_get cs 0) (sym cuts) ∙ c.in-Some.ensures) (ap (λ (cs : List Cut). slice_get cs (length c.as_slice-cuts.result.now - 1)) (sym cuts) ∙ c.in-Some-cut_at.ensures) moved totals refl refl
+    surveyed bytes plan (length c.as_slice-cuts.result.now - 1) c.in-Ok.ranged low high c.in-Some-totals_of.totals c.in-Ok.ensures (omega (arith, ap length cuts))
+    (ap (λ (cs : List Cut). slice_get cs 0) (sym cuts) ∙ c.in-Some.ensures) (ap (λ (cs : List Cut). slice_get cs (length c.as_slice-cuts.result.now - 1)) (sym cuts) ∙ c.in-Some-cut_at.ensures) moved totals

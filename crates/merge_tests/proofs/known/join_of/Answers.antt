@@ -11,7 +11,7 @@ returns-in-Ok-clause-joined g c =
     let texts = c.args.texts.now in
     let inputs = map (λ (text : Bor (List ℕ)). text.now) texts in
     let done = c.in-Ok.ensures.done inputs (are_inputs texts) (length-map texts (λ (text : Bor (List ℕ)). text.now)) in
-    subst (IsMergeText c.args.text inputs) (sym (done.2 ∙ ap (λ (out : List ℕ). out ++ done.0) c.new-out.ensures.items)) done.1
+    subst (IsMergeText c.args.form inputs) (sym (done.2 ∙ ap (λ (out : List ℕ). out ++ done.0) c.new-out.ensures.items)) done.1
 
 pub returns-in-Err-clause-fault : goal.returns-in-Err-clause-fault
 returns-in-Err-clause-fault g c =
@@ -19,6 +19,6 @@ returns-in-Err-clause-fault g c =
     let inputs = map (λ (text : Bor (List ℕ)). text.now) texts in
     let out = c.run_merge.new.writer.items in (
       out,
-      subst (λ (none : List ℕ). IsMergeFault c.args.text inputs (Some none) (Some out) c.in-Err.fault) c.new-out.ensures.items
+      subst (λ (none : List ℕ). IsMergeFault c.args.form inputs (Some none) (Some out) c.in-Err.fault) c.new-out.ensures.items
           (c.in-Err.ensures.fault inputs (are_inputs texts) (length-map texts (λ (text : Bor (List ℕ)). text.now))),
     )

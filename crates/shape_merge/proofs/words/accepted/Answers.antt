@@ -3,8 +3,11 @@ use Rattle.std.specs.Borrow.{Bor}
 use Rattle.clap.specs.Words.{found_of}
 use Rattle.clap.proofs.WalkLemmas.{raw_values-rows}
 use Rattle.command_lines.specs.Values.{rows_in}
-use Rattle.shape_merge.proofs.Asked.{no_join_names}
+use Rattle.shape_merge.proofs.Asked.{no_join_least, no_join_names}
 use Rattle.shape_merge.proofs.words.accepted.Goals as goal
+
+pub returns-in_default-least_of-clause-fault : goal.returns-in_default-least_of-clause-fault
+returns-in_default-least_of-clause-fault c = inr (refl, no_join_least (rows_in c.args.matches.now) c.in_default-least_of.ensures.none)
 
 pub returns-in_default-get_strs-clause-fault : goal.returns-in_default-get_strs-clause-fault
 returns-in_default-get_strs-clause-fault c =
@@ -17,6 +20,7 @@ returns-clause-join c =
     let same = c.in_ok-names.ensures.items_if_clones_equal (λ x y is. is) in
     record {
       text = c.in-Some.ensures.text;
+      least = c.in-Some-least_of.ensures.least;
       out = c.word_of.ensures;
       names = sym (raw_values-rows found (codes "dictionaries")) ∙ sym c.in-Some-get_strs.ensures
           ∙ ap (λ (names : List (Bor (List ℕ))). Some (map (λ name. name.now) names)) (sym same);

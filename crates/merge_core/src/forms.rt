@@ -1,0 +1,40 @@
+//! How a join is written: which text of it, and which of its patterns.
+ghost use Rattle.std.specs.Prelude.{◌≡◌};
+ghost use Rattle.shape_dict.specs.Contents.{is_square};
+ghost use Rattle.merge_core.specs.Entries.{IsSmallUse};
+ghost use Rattle.merge_core.specs.Least.{is_kept};
+
+use shape_core::Kind;
+use shape_dict::{Entry, Text};
+
+/// How a join is written.
+#[derive(Clone, Copy, Debug, PartialEq, Eq)]
+pub struct Form {
+    /// Which text of it is written.
+    pub text: Text,
+    /// Where there is a number, only the squares are written that were there as often or oftener,
+    /// and the header's moves are those at which one of them was played. Else all that the text
+    /// has is written.
+    pub least: Option<u64>,
+}
+
+/// Whether a pattern is a square.
+pub(crate) fn is_square(entry: Entry) -> bool
+    ensures square { result ≡ is_square entry }
+    ensures small { IsSmallUse entry }
+{
+    entry.shape.word().kind() == Kind::Square
+}
+
+/// Whether a pattern stays.
+pub(crate) fn is_kept(least: Option<u64>, entry: &Entry) -> bool
+    ensures kept { result ≡ is_kept least entry.now }
+    ensures small { IsSmallUse entry.now }
+{
+    let there = entry.there;
+    let square = is_square(*entry);
+    match least {
+        Some(least) => square && least <= there,
+        None => true,
+    }
+}
