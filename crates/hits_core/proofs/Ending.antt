@@ -1,14 +1,16 @@
 -- What a run comes to.
 use Rattle.std.proofs.Common.{◌≡◌, ◌≢◌, ℕ, zero, suc, ◌<◌, ◌≤◌, max, inl, inr, ⊎_elim, List, [], ◌∷◌, length, take, Option, Some, None, refl, ap, sym, subst, ◌∙◌, arith}
-use Rattle.std.specs.List.{flat_map}
 use Rattle.std.proofs.lemmas.List.{take-take}
 use Rattle.engine_core.specs.declared.boards.Outcome.{Outcome}
+use Rattle.game_core.specs.Games.{HasReadAll}
+use Rattle.game_core.specs.declared.reports.Report.{Report}
 use Rattle.engine_core.specs.declared.boards.Outcome.TheVariants as outcome
 use Rattle.hits_core.specs.declared.hits.Hit.{Hit}
 use Rattle.hits_core.specs.declared.searches.Search.{Search}
-use Rattle.hits_core.specs.Hits.{first_of, AreEnough}
-use Rattle.hits_core.specs.Lines.{line_text}
-use Rattle.hits_core.specs.Runs.{IsAnswer, IsHitsText}
+use Rattle.hits_core.specs.declared.games.Game.{Game}
+use Rattle.hits_core.specs.declared.results.Results.{Results}
+use Rattle.hits_core.specs.Hits.{first_of, AreEnough, AreFirstHits, AreGames}
+use Rattle.hits_core.specs.Runs.{AreResults, IsAnswer}
 use Rattle.hits_core.specs.Inner.Finding.{IsFull}
 use Rattle.hits_core.specs.Inner.Runs.{limit_of, AreHitsIn}
 
@@ -40,26 +42,26 @@ answered None found hits all cut is = subst (IsAnswer found) cut is
 answered (Some n) outcome.NotFound hits all cut is = none-found (max n 1) all (omega arith) (sym cut ∙ is)
 answered (Some n) outcome.Done hits all cut is = λ none. is (cut ∙ ap (take (max n 1)) none ∙ take-none (max n 1))
 
-pub is-text : (search : Search) (words input text : List ℕ) (found : Outcome) (hits : List Hit) → AreHitsIn search words input hits →
-    text ≡ flat_map (line_text search) (first_of search.most hits) → IsAnswer found hits → IsHitsText search words found input text
-is-text search words input text found hits are printed is =
+pub are-results : (search : Search) (words input : List ℕ) (games : List Game) (report : Report) (hits : List Hit) (results : Results) → AreHitsIn search words input games report hits →
+    results.games.items ≡ games → results.report ≡ report → results.hits.items ≡ first_of search.most hits → IsAnswer results.outcome hits → AreResults search words input results
+are-results search words input games report hits results are games_are report_is listed is =
     let read = are.read in
     let part = are.part in
     record {
       few = read.few;
       trees = read.read.trees;
       end = read.end;
-      games = are.games;
-      of_trees = read.read.of_trees;
+      of_trees = subst (λ (gs : List Game). AreGames input search.first 0 read.read.trees read.end gs) (sym games_are) read.read.of_trees;
       no_more = read.no_more;
+      reported = subst (HasReadAll input) (sym report_is) read.reported;
       hits = part.found;
-      of_games = record {
+      of_games = subst (λ (gs : List Game). AreFirstHits search.sought words search.most gs part.found) (sym games_are) (record {
         front = part.front;
         rest = part.rest;
         all = part.all;
         of_front = part.of_front;
         enough = ⊎_elim (λ (none : part.rest ≡ []). inl none) (λ (full : IsFull (limit_of search.most) part.found). inr (enough-full search.most part.found full)) part.enough;
-      };
-      answered = answered search.most found hits part.found part.cut is;
-      printed = printed ∙ ap (flat_map (line_text search)) (ap (first_of search.most) part.cut ∙ first-limit search.most part.found);
+      });
+      answered = answered search.most results.outcome hits part.found part.cut is;
+      listed = listed ∙ ap (first_of search.most) part.cut ∙ first-limit search.most part.found;
     }

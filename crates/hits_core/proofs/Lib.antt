@@ -8,3 +8,4 @@ pub mod Joining
 pub mod Lines
 pub mod Agreed
 pub mod Ending
+pub mod Cutting

@@ -114,35 +114,36 @@ games-push bytes number from (first ∷ trees) end games at next tree h is =
           ∙ append_assoc (game_of recorded number h.0) h.2 (game_of (record_of_tree tree) (number + one + length h.2) at),
     )
 
-pub reads-none : (bytes : List ℕ) → ReadsUpTo bytes 0 []
-reads-none bytes = record { trees = []; of_trees = (refl, refl) }
+pub reads-none : (bytes : List ℕ) (first : ℕ) → ReadsUpTo bytes first 0 []
+reads-none bytes first = record { trees = []; of_trees = (refl, refl) }
 
 -- a game more was read
-pub reads-on : (bytes : List ℕ) (from : ℕ) (games new : List Game) (game at stop : ℕ) (actions : Actions) → ReadsUpTo bytes from games → IsGameOf bytes game at stop actions →
-    game ≡ length games → new ≡ games ++ record { number = game; place = at; recorded = actions } ∷ [] → ReadsUpTo bytes stop new
-reads-on bytes from games new game at stop actions reads is number grown =
-    let many = number-of-games bytes 0 0 reads.trees from games reads.of_trees in
-    let before = other-trees bytes 0 0 reads.trees is.before from is.from games reads.of_trees is.written (sym many ∙ sym number ∙ is.numbered) in
-    let same : game ≡ 0 + length games = omega (arith, number) in
+pub reads-on : (bytes : List ℕ) (first from : ℕ) (games new : List Game) (game number at stop : ℕ) (actions : Actions) → ReadsUpTo bytes first from games → IsGameOf bytes game at stop actions →
+    game ≡ length games → number ≡ first + game → new ≡ games ++ record { number = number; place = at; recorded = actions } ∷ [] → ReadsUpTo bytes first stop new
+reads-on bytes first from games new game number at stop actions reads is counted numbered grown =
+    let many = number-of-games bytes first 0 reads.trees from games reads.of_trees in
+    let before = other-trees bytes first 0 reads.trees is.before from is.from games reads.of_trees is.written (sym many ∙ sym counted ∙ is.numbered) in
+    let same : number ≡ first + length games = omega (arith, numbered, counted) in
     record {
       trees = is.before ++ is.tree ∷ [];
-      of_trees = subst (AreGames bytes 0 0 (is.before ++ is.tree ∷ []) stop)
-          (sym (grown ∙ ap (λ n. games ++ record { number = n; place = at; recorded = actions } ∷ []) same ∙ ap (λ r. games ++ game_of r (0 + length games) at) (sym is.is_go)))
-          (games-push bytes 0 0 is.before is.from games at stop is.tree before is.next);
+      of_trees = subst (AreGames bytes first 0 (is.before ++ is.tree ∷ []) stop)
+          (sym (grown ∙ ap (λ n. games ++ record { number = n; place = at; recorded = actions } ∷ []) same ∙ ap (λ r. games ++ game_of r (first + length games) at) (sym is.is_go)))
+          (games-push bytes first 0 is.before is.from games at stop is.tree before is.next);
     }
 
 -- no game is left
-pub reads-all : (bytes : List ℕ) (from : ℕ) (games : List Game) (report : Report) → ReadsUpTo bytes from games → of_core.HasReadAll bytes report → report.games ≡ length games → HasReadAll bytes games
-reads-all bytes from games report reads all number =
-    let many = number-of-games bytes 0 0 reads.trees from games reads.of_trees in
+pub reads-all : (bytes : List ℕ) (first from : ℕ) (games : List Game) (report : Report) → ReadsUpTo bytes first from games → of_core.HasReadAll bytes report → report.games ≡ length games → HasReadAll bytes first games report
+reads-all bytes first from games report reads all number =
+    let many = number-of-games bytes first 0 reads.trees from games reads.of_trees in
     record {
       few = all.small;
       end = all.end;
       read = record {
         trees = all.trees;
-        of_trees = other-trees bytes 0 0 reads.trees all.trees from all.end games reads.of_trees all.written (sym many ∙ sym number ∙ all.reported.games);
+        of_trees = other-trees bytes first 0 reads.trees all.trees from all.end games reads.of_trees all.written (sym many ∙ sym number ∙ all.reported.games);
       };
       no_more = all.no_more;
+      reported = all;
     }
 
 -- why no next game comes is why the input was not read

@@ -2,6 +2,7 @@ pub mod Turns
 pub mod Wanted
 pub mod Hits
 pub mod Lines
+pub mod Sgf
 pub mod WordLists
 pub mod Agreement
 pub mod Runs

@@ -1,6 +1,7 @@
 -- The lines of hits.
-use Rattle.std.specs.Prelude.{ℕ, ◌+◌, ◌-◌, ◌/◌, ◌%◌, List, [], ◌∷◌, ◌++◌, nat_lt, min, codes, if◌then◌else◌}
+use Rattle.std.specs.Prelude.{ℕ, ◌+◌, ◌-◌, ◌/◌, ◌%◌, List, [], ◌∷◌, ◌++◌, Option, None, Some, option_map, nat_lt, min, codes, if◌then◌else◌}
 use Rattle.std.specs.Fmt.{decimal}
+use Rattle.game_files.specs.Shown.{shown_name}
 use Rattle.go_board.specs.declared.points.Point.{Point}
 use Rattle.go_board.specs.declared.points.Colour.{Colour}
 use Rattle.go_board.specs.declared.points.Colour.TheVariants as colour
@@ -54,8 +55,14 @@ turn_text hit = decimal hit.game ++ codes " " ++ decimal hit.number ++ codes " "
 
 -- the point, who was to move, and the place of the game's tree
 abbrev pub where_text : Spelling → Hit → List ℕ
-where_text how hit = spelled how hit.rows hit.at ++ codes " " ++ colour_text hit.mover ++ codes " " ++ decimal hit.place ++ line_feed
+where_text how hit = spelled how hit.rows hit.at ++ codes " " ++ colour_text hit.mover ++ codes " " ++ decimal hit.place
+
+-- the end of a line: the name of the file, where there is one
+abbrev pub ending : Option (List ℕ) → List ℕ
+ending None = line_feed
+ending (Some name) = codes " " ++ shown_name name ++ line_feed
 
 -- the line of a hit
 abbrev pub line_text : Search → Hit → List ℕ
-line_text search hit = front_text search.shown hit.word ++ turn_text hit ++ where_text search.spelling hit
+line_text search hit =
+    front_text search.shown hit.word ++ turn_text hit ++ where_text search.spelling hit ++ ending (option_map (λ name. name.now) search.name)

@@ -6,12 +6,13 @@ use Rattle.sgf_core.specs.Next.{HasNoTree}
 use Rattle.sgf_core.specs.Limit.{most_bytes}
 use Rattle.sgf_core.specs.declared.faults.SgfFault.TheVariants as sgf
 use Rattle.game_core.specs.Faults.{HasFault}
+use Rattle.game_core.specs.Games.{HasReadAll}
 use Rattle.engine_core.specs.declared.boards.Outcome.{Outcome}
 use Rattle.engine_core.specs.declared.boards.Outcome.TheVariants as outcome
 use Rattle.engine_core.specs.declared.faults.RunFault.{RunFault}
 use Rattle.engine_core.specs.declared.faults.RunFault.TheVariants as fault
-use Rattle.hits_core.specs.declared.games.Game.{Game}
 use Rattle.hits_core.specs.declared.hits.Hit.{Hit}
+use Rattle.hits_core.specs.declared.results.Results.{Results}
 use Rattle.hits_core.specs.declared.searches.Search.{Search}
 use Rattle.hits_core.specs.Hits.{AreGames, AreFirstHits, first_of}
 use Rattle.hits_core.specs.Lines.{line_text}
@@ -21,22 +22,27 @@ abbrev pub IsAnswer : Outcome → List Hit → Type 0
 IsAnswer outcome.Done hits = hits ≢ []
 IsAnswer outcome.NotFound hits = hits ≡ []
 
--- the text has the lines of the hits of these words in the input, of at most 2 ^ 28 bytes: the first of them, as many as are
--- asked for. Once that number is found, the games after them do not matter.
-pub record IsHitsText (search : Search) (words : List ℕ) (found : Outcome) (input text : List ℕ) : Type 0 where
+-- these are the games of the input, of at most 2 ^ 28 bytes, what its trees are, and the hits of these words: the first of
+-- them, as many as are asked for. Once that number is found, the games after them do not matter.
+pub record AreResults (search : Search) (words input : List ℕ) (results : Results) : Type 0 where
   pub few : length input ≤ most_bytes
   pub trees : List GameTree
   pub end : ℕ
-  pub games : List Game
-  pub of_trees : AreGames input 0 0 trees end games
+  pub of_trees : AreGames input search.first 0 trees end results.games.items
   pub no_more : HasNoTree input end
+  pub reported : HasReadAll input results.report
   pub hits : List Hit
-  pub of_games : AreFirstHits search.sought words search.most games hits
-  pub answered : IsAnswer found hits
-  pub printed : text ≡ flat_map (line_text search) (first_of search.most hits)
+  pub of_games : AreFirstHits search.sought words search.most results.games.items hits
+  pub answered : IsAnswer results.outcome hits
+  pub listed : results.hits.items ≡ first_of search.most hits
+
+-- the text has the lines of the hits that are listed
+pub record IsHitsText (search : Search) (words : List ℕ) (results : Results) (input text : List ℕ) : Type 0 where
+  pub found : AreResults search words input results
+  pub printed : text ≡ flat_map (line_text search) results.hits.items
 
 abbrev pub HasHitsText : Search → List ℕ → List ℕ → List ℕ → Type 0
-HasHitsText search words input text = (found : Outcome) × IsHitsText search words found input text
+HasHitsText search words input text = (results : Results) × IsHitsText search words results input text
 
 -- the input is too large, which comes first, or has this fault of syntax, or memory was wanting: for the input itself, or later
 abbrev pub IsHitsFault : List ℕ → RunFault → Type 0

@@ -1,13 +1,15 @@
 //! From a reader to a writer: the hits of patterns in a collection.
 ghost use Rattle.std.specs.Prelude.{◌≡◌, ℕ, List, IfOk, IfErr};
 ghost use Rattle.engine_core.specs.Runs.{HasRead, Wrote, IsRunFault};
-ghost use Rattle.hits_core.specs.Runs.{IsHitsText, HasHitsText, IsHitsFault, IsAnswer};
+ghost use Rattle.hits_core.specs.Hits.{first_of};
+ghost use Rattle.hits_core.specs.Runs.{AreResults, IsHitsText, HasHitsText, IsHitsFault, IsAnswer};
 ghost use Rattle.hits_core.specs.Inner.Reading.{IsReadFault};
-ghost use Rattle.hits_core.specs.Inner.Runs.{limit_of, AreHitsIn};
+ghost use Rattle.hits_core.specs.Inner.Runs.{limit_of};
 
 use crate::hits::Hit;
 use crate::parts::find_all;
 use crate::reading::read_games;
+use crate::results::Results;
 use crate::searches::Search;
 use crate::wanted::Wanted;
 use crate::writing::text_of;
@@ -49,48 +51,68 @@ fn outcome_of(hits: &[Hit]) -> Outcome
     }
 }
 
-/// The first hits of an input.
-fn first_hits<T: Threads + Sync>(
+/// No more hits than are asked for: the first of all.
+fn cut(hits: &mut Vec<Hit>, most: Option<u64>)
+    ensures { hits.new.items ≡ first_of most hits.old.items }
+{
+    match most {
+        Some(most) if most < hits.len() as u64 => hits.truncate(most as usize),
+        _ => {}
+    }
+}
+
+/// The games of an input, what its trees are, and the first hits.
+fn find<T: Threads + Sync>(
     rt: &T,
     alloc: Global,
     wanted: &Wanted,
-    search: Search,
+    search: Search<'_>,
     workers: usize,
     input: &[u8],
-) -> Result<Vec<Hit>, TallyFault>
-    ensures hits { IfOk result (λ hits. AreHitsIn search wanted.now input.now hits.items) }
+) -> Result<Results, TallyFault>
+    ensures results { IfOk result (AreResults search.entry wanted.now input.now) }
     ensures fault { IfErr result (IsReadFault input.now) }
 {
-    let games = read_games(alloc, input)?;
+    let (games, report) = read_games(alloc, input, search.first)?;
     let limit = limit_of(search.most);
-    find_all(rt, alloc, wanted, search.sought, limit, &games, workers)
+    let mut hits = find_all(rt, alloc, wanted, search.sought, limit, &games, workers)?;
+    let outcome = outcome_of(&hits);
+    cut(&mut hits, search.most);
+    Ok(Results {
+        outcome,
+        report,
+        games,
+        hits,
+    })
 }
 
-/// The lines of the first hits of an input, and whether there is any.
+/// The lines of the first hits of an input, and what was found.
 fn hits_text<T: Threads + Sync>(
     rt: &T,
     alloc: Global,
     wanted: &Wanted,
-    search: Search,
+    search: Search<'_>,
     workers: usize,
     input: &[u8],
-) -> Result<(Vec<u8>, Outcome), RunFault>
-    ensures text { IfOk result (λ p. IsHitsText search wanted.now p.1 input.now p.0.items) }
+) -> Result<(Vec<u8>, Results), RunFault>
+    ensures text { IfOk result (λ p. IsHitsText search.entry wanted.now p.1 input.now p.0.items) }
     ensures fault { IfErr result (IsHitsFault input.now) }
 {
-    let hits = match first_hits(rt, alloc, wanted, search, workers, input) {
-        Ok(hits) => hits,
+    let results = match find(rt, alloc, wanted, search, workers, input) {
+        Ok(results) => results,
         Err(fault) => return Err(run_fault(fault)),
     };
-    let text = text_of(alloc, search, &hits)?;
-    Ok((text, outcome_of(&hits)))
+    let text = text_of(alloc, search, &results.hits)?;
+    Ok((text, results))
 }
 
 /// Reads a collection and writes a line for each hit of the patterns that are looked for, in the
 /// order of games, moves and points (row by row from the top, each row from the left), at one point
 /// the square before the diamond: the game's number, the number of the move, the point, who was to
-/// move, and the place of the game's tree. The answer is `Done` where there is a hit, and
-/// `NotFound` where there is none; nothing is written then.
+/// move, the place of the game's tree, and the name of the file where it has one. The games'
+/// numbers begin with that of the search. The answer has the games, what the trees of the input
+/// are, the hits that are written, and whether there is any; where there is none, nothing is
+/// written.
 ///
 /// Where no more than some number of hits is asked for, the first of all are written. The whole
 /// input is judged all the same; once that number is found, and one at least, a thread replays no
@@ -110,19 +132,19 @@ pub fn run_hits<T: Threads + Sync, R: Read, W: Write>(
     rt: &T,
     alloc: Global,
     wanted: &Wanted,
-    search: Search,
+    search: Search<'_>,
     workers: usize,
     reader: &mut R,
     writer: &mut W,
-) -> Result<Outcome, RunFault>
+) -> Result<Results, RunFault>
     ensures read { HasRead result (R.remaining reader.old) (R.remaining reader.new) }
-    ensures done { IfOk result (λ found. Wrote (IsHitsText search wanted.now found)
+    ensures done { IfOk result (λ results. Wrote (IsHitsText search.entry wanted.now results)
         (R.remaining reader.old) (W.contents writer.old) (W.contents writer.new)) }
-    ensures fault { IfErr result (IsRunFault (HasHitsText search wanted.now) IsHitsFault
+    ensures fault { IfErr result (IsRunFault (HasHitsText search.entry wanted.now) IsHitsFault
         (R.remaining reader.old) (W.contents writer.old) (W.contents writer.new)) }
 {
     let input = read_input(alloc, reader)?;
-    let (text, outcome) = hits_text(rt, alloc, wanted, search, workers, &input)?;
+    let (text, results) = hits_text(rt, alloc, wanted, search, workers, &input)?;
     write_output(writer, &text)?;
-    Ok(outcome)
+    Ok(results)
 }

@@ -28,9 +28,9 @@ pub enum Spelling {
     Coordinates,
 }
 
-/// What is asked for, beside the patterns.
+/// What is asked for of an input, beside the patterns.
 #[derive(Clone, Copy, Debug, PartialEq, Eq)]
-pub struct Search {
+pub struct Search<'a> {
     /// Which times a pattern is listed.
     pub sought: Sought,
     /// How many hits are listed at most, the first of all; None for all.
@@ -39,4 +39,8 @@ pub struct Search {
     pub shown: Shown,
     /// How their points are written.
     pub spelling: Spelling,
+    /// The number of the input's first game: those of inputs before it are counted through.
+    pub first: u64,
+    /// The name of the input's file, in which each line ends; None for none.
+    pub name: Option<&'a str>,
 }

@@ -1,13 +1,13 @@
 //! The lines of hits.
-ghost use Rattle.std.specs.Prelude.{◌≡◌, ◌++◌, OnOk, IfOk};
+ghost use Rattle.std.specs.Prelude.{◌≡◌, ◌++◌, OnOk, IfOk, option_map};
 ghost use Rattle.std.specs.List.{flat_map};
-ghost use Rattle.hits_core.specs.Hits.{first_of};
 ghost use Rattle.hits_core.specs.Lines.{letter_of, point_text, colour_text, front_text};
 ghost use Rattle.hits_core.specs.Lines.{column_letter, column_text, coordinates_text, spelled};
-ghost use Rattle.hits_core.specs.Lines.{turn_text, where_text, line_text};
+ghost use Rattle.hits_core.specs.Lines.{turn_text, where_text, ending, line_text};
 
 use crate::hits::Hit;
 use crate::searches::{Search, Shown, Spelling};
+use game_files::push_name;
 use go_board::{Colour, Point};
 use shape_core::Shape;
 use shape_dict::{push_number, push_word};
@@ -25,7 +25,7 @@ fn letter(side: u8) -> u8
 }
 
 /// Appends a point as SGF has it: the letter of its column, then that of its row.
-fn push_point(text: &mut Vec<u8>, point: Point) -> Result<(), AllocError>
+pub(crate) fn push_point(text: &mut Vec<u8>, point: Point) -> Result<(), AllocError>
     ensures { OnOk result (text.new.items ≡ text.old.items ++ point_text point) }
 {
     text.extend_from_slice(&[letter(point.column), letter(point.row)])
@@ -116,36 +116,41 @@ fn push_where(text: &mut Vec<u8>, spelling: Spelling, hit: &Hit) -> Result<(), A
     text.extend_from_slice(b" ")?;
     push_colour(text, hit.mover)?;
     text.extend_from_slice(b" ")?;
-    push_number(text, hit.place as u64)?;
+    push_number(text, hit.place as u64)
+}
+
+/// Appends the end of a line: the name of the file, where there is one.
+fn push_ending(text: &mut Vec<u8>, name: Option<&str>) -> Result<(), AllocError>
+    ensures { OnOk result (text.new.items ≡ text.old.items
+        ++ ending (option_map (λ n. n.now) name.entry)) }
+{
+    if let Some(name) = name {
+        text.extend_from_slice(b" ")?;
+        push_name(text, name)?;
+    }
     text.extend_from_slice(b"\n")
 }
 
 /// Appends the line of a hit.
-fn push_line(text: &mut Vec<u8>, search: Search, hit: &Hit) -> Result<(), AllocError>
-    ensures { OnOk result (text.new.items ≡ text.old.items ++ line_text search hit.now) }
+fn push_line(text: &mut Vec<u8>, search: Search<'_>, hit: &Hit) -> Result<(), AllocError>
+    ensures { OnOk result (text.new.items ≡ text.old.items ++ line_text search.entry hit.now) }
 {
     push_front(text, search.shown, hit.word)?;
     push_turn(text, hit)?;
-    push_where(text, search.spelling, hit)
+    push_where(text, search.spelling, hit)?;
+    push_ending(text, search.name)
 }
 
-/// The first hits, as many as are asked for.
-fn first(hits: &[Hit], most: Option<u64>) -> &[Hit]
-    ensures { result.now ≡ first_of most hits.now }
-{
-    match most {
-        Some(most) if most < hits.len() as u64 => &hits[..most as usize],
-        _ => hits,
-    }
-}
-
-/// The lines of the first hits, as many as are asked for.
-pub(crate) fn text_of(alloc: Global, search: Search, hits: &[Hit]) -> Result<Vec<u8>, AllocError>
-    ensures { IfOk result (λ text. text.items
-        ≡ flat_map (line_text search) (first_of search.most hits.now)) }
+/// The lines of hits.
+pub(crate) fn text_of(
+    alloc: Global,
+    search: Search<'_>,
+    hits: &[Hit],
+) -> Result<Vec<u8>, AllocError>
+    ensures { IfOk result (λ text. text.items ≡ flat_map (line_text search.entry) hits.now) }
 {
     let mut text = Vec::new(alloc);
-    for hit in first(hits, search.most) {
+    for hit in hits {
         push_line(&mut text, search, hit)?;
     }
     Ok(text)

@@ -41,7 +41,7 @@ no_search_patterns rows (fault.Harvest found) bad = absurd bad
 no_search_patterns rows (fault.Dict n found) bad = absurd bad
 no_search_patterns rows fault.Read bad = absurd bad
 no_search_patterns rows (fault.Write written) bad = absurd bad
-no_search_patterns rows fault.Memory bad = absurd bad
+no_search_patterns rows fault.Memory bad = tt
 
 -- what is asked for by values that `clap` takes
 pub search_answered : (words : List (List ℕ)) (matches : ArgMatches) (result : Result Task RunFault) → AreTaken program_app words matches →

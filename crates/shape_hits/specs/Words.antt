@@ -1,6 +1,6 @@
 -- What the words of the command line ask for.
-use Rattle.std.specs.Prelude.{◌≡◌, ◌≢◌, ◌⊎◌, ◌<◌, ◌^◌, ℕ, List, [], Option, Some, None, IfSome, codes, option_map}
-use Rattle.clap.specs.Words.{Row, first_of, matches_of}
+use Rattle.std.specs.Prelude.{◌≡◌, ◌≢◌, ◌⊎◌, ◌<◌, ◌^◌, ℕ, List, [], ◌++◌, map, Option, Some, None, IfSome, codes, option_map, option_to_list, unwrap_or}
+use Rattle.clap.specs.Words.{Row, all_of, first_of, matches_of}
 use Rattle.command_lines.specs.Lines.{AsksForHelp, IsAskingFault, refusals_of}
 use Rattle.command_lines.specs.Patterns.{HasNoColour, IsBadSpelling, IsKindOf, IsSpelled}
 use Rattle.command_lines.specs.Values.{HasNoNumber, IsChoiceOf, IsNumberOf}
@@ -36,16 +36,19 @@ IsSoughtOf rows found = IsChoiceOf (codes "there") sought.There sought.Played ro
 abbrev pub IsSpellingOf : List Row → Spelling → Type 0
 IsSpellingOf rows found = IsChoiceOf (codes "coordinates") spelling.Coordinates spelling.Letters rows found
 
--- no part of a pattern is spelled
-pub record IsAlone (rows : List Row) : Type 0 where
-  pub no_glyphs : first_of (codes "glyphs") rows ≡ None
-  pub no_mover : first_of (codes "colour") rows ≡ None
-  pub no_diamond : IsKindOf rows kind.Square
-
--- the values ask for this pattern; or a file of words is named, and no pattern spelled beside it
+-- the values ask for this pattern; or a file of words is named, and it is not said that a pattern is a diamond
 abbrev pub ArePatterns : List Row → Option ℕ → Type 0
 ArePatterns rows (Some shape) = (first_of (codes "words") rows ≡ None) × IsSpelled rows shape
-ArePatterns rows None = (first_of (codes "words") rows ≢ None) × IsAlone rows
+ArePatterns rows None = (first_of (codes "words") rows ≢ None) × IsKindOf rows kind.Square
+
+-- the first word or two, where a file of words is named and no pattern is spelled by them
+abbrev pub first_names : Option (List ℕ) → List Row → List (List ℕ)
+first_names None rows = []
+first_names (Some words) rows = option_to_list (first_of (codes "glyphs") rows) ++ option_to_list (first_of (codes "colour") rows)
+
+-- the names of collections and folders: the words after those of a pattern, and where a file of words is named all words
+abbrev pub names_of : List Row → List (List ℕ)
+names_of rows = first_names (first_of (codes "words") rows) rows ++ unwrap_or (all_of (codes "files") rows) []
 
 -- the words of a list are shown
 abbrev pub shown_for : Option ℕ → Shown
@@ -60,7 +63,11 @@ pub record IsAsked (rows : List Row) (asked : Asked) : Type 0 where
   pub most : IsMostOf rows asked.search.most
   pub shown : asked.search.shown ≡ shown_for asked.shape
   pub spelling : IsSpellingOf rows asked.search.spelling
+  pub first : asked.search.first ≡ 0
+  pub no_name : asked.search.name ≡ None
   pub workers : IsNumberOf (codes "workers") rows asked.workers
+  pub folder : option_map (λ name. name.now) asked.folder ≡ first_of (codes "sgf") rows
+  pub names : map (λ name. name.now) asked.names.items ≡ names_of rows
 
 -- `--most` has a value that is no number below 2 ^ 64
 abbrev pub HasNoMost : List Row → Type 0
@@ -70,11 +77,9 @@ HasNoMost rows = (most : Option ℕ) → IsMostOf rows most → IfSome most (λ 
 abbrev pub HasNoPattern : List Row → Type 0
 HasNoPattern rows = (first_of (codes "words") rows ≡ None) × HasNoColour rows
 
--- a file of words is named, and a part of a pattern is spelled beside it
+-- a file of words is named, and it is said that a pattern is a diamond
 abbrev pub HasPatternBeside : List Row → Type 0
-HasPatternBeside rows =
-    (first_of (codes "words") rows ≢ None)
-    × ((first_of (codes "glyphs") rows ≢ None) ⊎ (first_of (codes "colour") rows ≢ None) ⊎ IsKindOf rows kind.Diamond)
+HasPatternBeside rows = (first_of (codes "words") rows ≢ None) × IsKindOf rows kind.Diamond
 
 -- no file of words is named, and the glyphs spell no pattern
 abbrev pub IsBadPattern : List Row → GlyphFault → Type 0
@@ -86,10 +91,11 @@ IsPatternsFault rows fault.Usage = HasNoPattern rows ⊎ HasPatternBeside rows
 IsPatternsFault rows (fault.Glyph found) = IsBadPattern rows found
 IsPatternsFault rows found = ⊥
 
--- why there is nothing to do: there are no patterns to look for, or a number is missing or too large
+-- why there is nothing to do: there are no patterns to look for, or a number is missing or too large, or memory was wanting
 abbrev pub IsSearchFault : List Row → RunFault → Type 0
 IsSearchFault rows fault.Usage = IsPatternsFault rows fault.Usage ⊎ HasNoMost rows ⊎ HasNoNumber (2 ^ 8) (codes "workers") rows
 IsSearchFault rows (fault.Glyph found) = IsBadPattern rows found
+IsSearchFault rows fault.Memory = Unit {0}
 IsSearchFault rows found = ⊥
 
 -- the task is that of the words: help only where it was asked for, and a search only where `clap` refuses nothing

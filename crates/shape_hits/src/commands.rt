@@ -1,7 +1,8 @@
 //! The command line as it is told to `clap`.
 ghost use Rattle.std.specs.Prelude.{◌≡◌, false, IfOk};
 ghost use Rattle.clap.specs.Words.{app_of, rule_of};
-ghost use Rattle.shape_hits.specs.Commands.{most_rule, patterns_app, program_app};
+ghost use Rattle.shape_hits.specs.Commands.{most_rule, files_rule, patterns_app, listing_app};
+ghost use Rattle.shape_hits.specs.Commands.{program_app};
 
 use clap::{Arg, Command, value_parser};
 use command_lines::{
@@ -12,20 +13,28 @@ use std::alloc::{AllocError, Global};
 
 /// The end of the program's help.
 const NOTES: &str =
-    "The collection is read from standard input, up to 268,435,456 bytes. A line for each time that the
-pattern was played, or was there:
+    "FILE is a collection of up to 268,435,456 bytes; a folder stands for all files below it whose names
+end in .sgf, and - for standard input, which is read where no file is named. A line for each time that
+the pattern was played, or was there:
 
   3 17 dp black 2051    in game 3, at move 17, at the point dp, with Black to move; the game is at byte 2051
 
-Games count from 0 as `shapes count` numbers them, moves from 1 with passes among them, and a point is
-spelled as SGF spells it; with --coordinates as boards are labelled, as Q16. With --words each line
-begins with the pattern's word.
+Games count from 0 as `shapes count` numbers them, through all files, moves from 1 with passes among
+them, and a point is spelled as SGF spells it; with --coordinates as boards are labelled, as Q16. With
+--words each line begins with the pattern's word, and the lines of a named file end with its name.
 
 The glyphs are: . an empty point, X a black stone, O a white one, # off the board. Those of a square
 come in five rows of 5 from the top, those of a diamond in rows of 1, 3, 5, 7, 5, 3 and 1. The point
 itself is the 13th. Turned, mirrored and with the colours exchanged it is the same pattern.
 
-Exit status: 0 found, 1 not found, 2 wrong words, 3 input refused, 5 no memory, 6 a read or a write failed";
+  shape_hits '......XO.................' black games
+  shape_hits --words list --most 20 --sgf hits games
+
+The files in FOLDER are named as game-000003-move-017-dp.sgf, for the hit of the line above: the position
+before the move with a mark on the point, and the move as a branch. None is written over.
+
+Exit status: 0 found, 1 not found, 2 wrong words, 3 input refused, 5 no memory, 6 a read or a write failed,
+7 no tree in an input; of several inputs that of the first fault";
 
 fn most_argument<'a>(alloc: Global) -> Arg<'a>
     ensures rule { rule_of result ≡ most_rule }
@@ -36,6 +45,16 @@ fn most_argument<'a>(alloc: Global) -> Arg<'a>
     ))
 }
 
+fn files_argument<'a>(alloc: Global) -> Arg<'a>
+    ensures rule { rule_of result ≡ files_rule }
+    ensures local { result.global ≡ false }
+{
+    Arg::new(alloc, "files")
+        .value_name("FILE")
+        .num_args(1..)
+        .help("Collections of games, and folders of such, in their order")
+}
+
 /// The program with what says which patterns are looked for.
 fn program_of_patterns<'a>(alloc: Global) -> Result<Command<'a>, AllocError>
     ensures { IfOk result (λ command. app_of command ≡ patterns_app) }
@@ -44,7 +63,7 @@ fn program_of_patterns<'a>(alloc: Global) -> Result<Command<'a>, AllocError>
         alloc,
         "shape_hits",
         "Lists in which games of a collection a pattern is, and where",
-        "shape_hits [OPTIONS] GLYPHS COLOUR < GAMES.sgf\n       shape_hits [OPTIONS] --words FILE < GAMES.sgf",
+        "shape_hits [OPTIONS] GLYPHS COLOUR [FILE|FOLDER]..\n       shape_hits [OPTIONS] --words LIST [FILE|FOLDER]..",
         NOTES,
     )
     .arg(glyphs_argument(alloc))?
@@ -53,18 +72,14 @@ fn program_of_patterns<'a>(alloc: Global) -> Result<Command<'a>, AllocError>
     .arg(option_argument(
         alloc,
         "words",
-        "FILE",
+        "LIST",
         "Look for the patterns whose words stand first in the lines of this file, as in a dictionary",
     ))
 }
 
-/// All that the program knows.
-///
-/// # Errors
-///
-/// `AllocError` where memory was refused.
-pub fn program<'a>(alloc: Global) -> Result<Command<'a>, AllocError>
-    ensures { IfOk result (λ command. app_of command ≡ program_app) }
+/// The program with what says which hits are listed, and how.
+fn program_of_listing<'a>(alloc: Global) -> Result<Command<'a>, AllocError>
+    ensures { IfOk result (λ command. app_of command ≡ listing_app) }
 {
     program_of_patterns(alloc)?
         .arg(flag_argument(
@@ -82,4 +97,22 @@ pub fn program<'a>(alloc: Global) -> Result<Command<'a>, AllocError>
             alloc,
             "How many threads search, from 1 to 64; the lines are the same for any number",
         ))
+}
+
+/// All that the program knows.
+///
+/// # Errors
+///
+/// `AllocError` where memory was refused.
+pub fn program<'a>(alloc: Global) -> Result<Command<'a>, AllocError>
+    ensures { IfOk result (λ command. app_of command ≡ program_app) }
+{
+    program_of_listing(alloc)?
+        .arg(option_argument(
+            alloc,
+            "sgf",
+            "FOLDER",
+            "Write an SGF file for each hit into this folder, for 1000 at most unless --most says how many",
+        ))?
+        .arg(files_argument(alloc))
 }

@@ -2,11 +2,15 @@
 #![tactic(auto)]
 
 mod commands;
+mod files;
+mod inputs;
 mod words;
 
 use command_lines::why_unread;
-use engine_core::{Outcome, RunFault, own_words, status_of, write_output};
-use hits_core::{Wanted, WordsFault, read_wanted, run_hits, status_of as words_status};
+use engine_core::{RunFault, own_words, status_of, write_output};
+use files::make_folder;
+use hits_core::{Wanted, WordsFault, read_wanted, status_of as words_status};
+use inputs::list_all;
 use std::fs::File;
 use std::io;
 use std::process::ExitCode;
@@ -40,53 +44,43 @@ fn tell(rt: &HostRuntime, asked: &Asked<'_>, fault: &WordsFault) {
     };
 }
 
-/// The status of a search.
-fn ended(outcome: Outcome) -> ExitCode {
-    match outcome {
-        Outcome::Done => ExitCode::SUCCESS,
-        Outcome::NotFound => ExitCode::from(1),
-    }
-}
-
-/// Writes the hits. The threads that find them are started through `threads`.
+/// Writes the hits, and their files where a folder is named. The threads that find them are started
+/// through `threads`. The answer is the exit status.
 fn find<T: Threads + Sync>(
     rt: &HostRuntime,
     threads: &T,
     asked: &Asked<'_>,
-) -> Result<ExitCode, RunFault> {
+) -> Result<u8, RunFault> {
     let wanted = match wanted_of(rt, asked) {
         Ok(wanted) => wanted,
         Err(fault) => {
             tell(rt, asked, &fault);
-            return Ok(ExitCode::from(words_status(&fault)));
+            return Ok(words_status(&fault));
         }
     };
-    Ok(ended(run_hits(
-        threads,
-        rt.alloc(),
-        &wanted,
-        asked.search,
-        usize::from(asked.workers),
-        &mut rt.stdin(),
-        &mut rt.stdout(),
-    )?))
+    if let Some(folder) = asked.folder {
+        if let Err(fault) = make_folder(rt, folder) {
+            return Ok(status_of(&fault));
+        }
+    }
+    list_all(rt, threads, asked, &wanted)
 }
 
 /// Does what the words say.
-fn run<T: Threads + Sync>(rt: &HostRuntime, threads: &T) -> Result<ExitCode, RunFault> {
+fn run<T: Threads + Sync>(rt: &HostRuntime, threads: &T) -> Result<u8, RunFault> {
     let words = own_words(rt)?;
     match read_words(rt.alloc(), &words)? {
         Task::Find(asked) => find(rt, threads, &asked),
         Task::Help(text) => {
             write_output(&mut rt.stdout(), text.as_bytes())?;
-            Ok(ExitCode::SUCCESS)
+            Ok(0)
         }
     }
 }
 
 fn main(rt: HostRuntime) -> ExitCode {
     match run(&rt, &rt) {
-        Ok(status) => status,
+        Ok(status) => ExitCode::from(status),
         Err(fault) => {
             // Where standard error takes nothing, the status still says what went wrong.
             let _ = eprintln!(rt; "shape_hits: {fault}");

@@ -1,11 +1,12 @@
 //! The words of the command line, and what they ask for.
 ghost use Rattle.std.specs.Prelude.{◌≡◌, ◌≢◌, codes, map, string_bytes, IfOk, IfErr};
-ghost use Rattle.std.specs.Prelude.{IfSome, IfNone, None, MatchBool};
-ghost use Rattle.clap.specs.Words.{first_of};
+ghost use Rattle.std.specs.Prelude.{IfSome, IfNone, None, MatchBool, OnOk, ◌++◌, [], option_to_list};
+ghost use Rattle.std.specs.Prelude.{unwrap_or};
+ghost use Rattle.clap.specs.Words.{all_of, first_of};
 ghost use Rattle.command_lines.specs.Values.{rows_in};
 ghost use Rattle.shape_hits.specs.Words.{ArePatterns, HasNoMost, IsAnswered, IsMostOf};
 ghost use Rattle.shape_hits.specs.Words.{IsPatternsFault, IsSearchFault, IsSearchOf, IsSoughtOf, IsSpellingOf};
-ghost use Rattle.shape_hits.specs.Words.{IsWordsFault, shown_for};
+ghost use Rattle.shape_hits.specs.Words.{IsWordsFault, first_names, names_of, shown_for};
 
 use crate::commands::program;
 use clap::ArgMatches;
@@ -15,7 +16,7 @@ use command_lines::{
 use engine_core::RunFault;
 use hits_core::{Search, Shown, Sought, Spelling};
 use shape_core::{Kind, Shape};
-use std::alloc::Global;
+use std::alloc::{AllocError, Global};
 
 /// The search that is asked for.
 #[derive(Debug, Drop)]
@@ -25,9 +26,13 @@ pub struct Asked<'a> {
     /// Else the name of the file whose words are.
     pub words: Option<&'a str>,
     /// What of them is listed, and how.
-    pub search: Search,
+    pub search: Search<'static>,
     /// How many threads search.
     pub workers: u8,
+    /// The folder in which a file for each hit is written, where one is named.
+    pub folder: Option<&'a str>,
+    /// The words that name collections and folders of such.
+    pub names: Vec<&'a str>,
 }
 
 /// What the program is to do.
@@ -87,18 +92,12 @@ fn is_given(matches: &ArgMatches<'_>, id: &str) -> bool
     }
 }
 
-/// No pattern, where a file of words is named and nothing is spelled beside it.
+/// No pattern, where a file of words is named and it is not said that one is a diamond.
 fn listed(matches: &ArgMatches<'_>) -> Result<Option<Shape>, RunFault>
     requires { first_of (codes "words") (rows_in matches.now) ≢ None }
     ensures patterns { IfOk result (ArePatterns (rows_in matches.now)) }
     ensures fault { IfErr result (IsPatternsFault (rows_in matches.now)) }
 {
-    if is_given(matches, "glyphs") {
-        return Err(RunFault::Usage);
-    }
-    if is_given(matches, "colour") {
-        return Err(RunFault::Usage);
-    }
     match kind_of(matches) {
         Kind::Square => Ok(None),
         Kind::Diamond => Err(RunFault::Usage),
@@ -116,12 +115,75 @@ fn shape_of(matches: &ArgMatches<'_>) -> Result<Option<Shape>, RunFault>
     spelled(matches)
 }
 
+/// Appends the word of this name, where there is one.
+fn push_word<'a>(
+    names: &mut Vec<&'a str>,
+    matches: &ArgMatches<'a>,
+    id: &str,
+) -> Result<(), AllocError>
+    ensures { OnOk result (map (λ name. name.now) names.new.items
+        ≡ map (λ name. name.now) names.old.items
+        ++ option_to_list (first_of id.now (rows_in matches.now))) }
+{
+    if let Some(word) = word_of(matches, id) {
+        names.push(word)?;
+    }
+    Ok(())
+}
+
+/// The first word or two, where a file of words is named and they spell no pattern.
+fn first_names<'a>(alloc: Global, matches: &ArgMatches<'a>) -> Result<Vec<&'a str>, AllocError>
+    ensures { IfOk result (λ names. map (λ name. name.now) names.items
+        ≡ first_names (first_of (codes "words") (rows_in matches.now)) (rows_in matches.now)) }
+{
+    let mut names = Vec::new(alloc);
+    if is_given(matches, "words") {
+        push_word(&mut names, matches, "glyphs")?;
+        push_word(&mut names, matches, "colour")?;
+    }
+    Ok(names)
+}
+
+/// The words after those of a pattern.
+fn last_names<'a>(alloc: Global, matches: &ArgMatches<'a>) -> Result<Vec<&'a str>, AllocError>
+    ensures { IfOk result (λ names. map (λ name. name.now) names.items
+        ≡ unwrap_or (all_of (codes "files") (rows_in matches.now)) []) }
+{
+    match matches.get_strs("files") {
+        Some(names) => names.to_vec(alloc),
+        None => Ok(Vec::new(alloc)),
+    }
+}
+
+/// Appends words.
+fn push_all<'a>(names: &mut Vec<&'a str>, others: &[&'a str]) -> Result<(), AllocError>
+    ensures { OnOk result (names.new.items ≡ names.old.items ++ others.now) }
+{
+    for other in others {
+        names.push(*other)?;
+    }
+    Ok(())
+}
+
+/// The words that name collections and folders of such.
+fn names_of<'a>(alloc: Global, matches: &ArgMatches<'a>) -> Result<Vec<&'a str>, AllocError>
+    ensures { IfOk result (λ names. map (λ name. name.now) names.items
+        ≡ names_of (rows_in matches.now)) }
+{
+    let mut names = first_names(alloc, matches)?;
+    let others = last_names(alloc, matches)?;
+    push_all(&mut names, &others)?;
+    Ok(names)
+}
+
 /// What of the patterns is listed, and how.
-fn search_of(matches: &ArgMatches<'_>, most: Option<u64>, shape: &Option<Shape>) -> Search
+fn search_of(matches: &ArgMatches<'_>, most: Option<u64>, shape: &Option<Shape>) -> Search<'static>
     ensures sought { IsSoughtOf (rows_in matches.now) result.sought }
     ensures most { result.most ≡ most }
     ensures shown { result.shown ≡ shown_for shape.now }
     ensures spelling { IsSpellingOf (rows_in matches.now) result.spelling }
+    ensures first { result.first ≡ 0 }
+    ensures name { result.name ≡ None }
 {
     Search {
         sought: choice(matches, "there", Sought::There, Sought::Played),
@@ -133,11 +195,13 @@ fn search_of(matches: &ArgMatches<'_>, most: Option<u64>, shape: &Option<Shape>)
             Spelling::Coordinates,
             Spelling::Letters,
         ),
+        first: 0,
+        name: None,
     }
 }
 
 /// What values that `clap` takes ask for.
-fn accepted<'a>(matches: &ArgMatches<'a>) -> Result<Task<'a>, RunFault>
+fn accepted<'a>(alloc: Global, matches: &ArgMatches<'a>) -> Result<Task<'a>, RunFault>
     ensures search { IfOk result (IsSearchOf (rows_in matches.now)) }
     ensures fault { IfErr result (IsSearchFault (rows_in matches.now)) }
 {
@@ -149,11 +213,14 @@ fn accepted<'a>(matches: &ArgMatches<'a>) -> Result<Task<'a>, RunFault>
         return Err(RunFault::Usage);
     };
     let search = search_of(matches, most, &shape);
+    let names = names_of(alloc, matches)?;
     Ok(Task::Find(Asked {
         shape,
         words: word_of(matches, "words"),
         search,
         workers,
+        folder: word_of(matches, "sgf"),
+        names,
     }))
 }
 
@@ -162,7 +229,7 @@ fn accepted<'a>(matches: &ArgMatches<'a>) -> Result<Task<'a>, RunFault>
 /// # Errors
 ///
 /// `Usage` where the words are none that the program knows, a colour that is none among them, or
-/// they name a file of words and spell a pattern besides, or neither; else `Glyph` where the glyphs
+/// they name no file of words and spell no pattern, or name one with `--diamond`; else `Glyph` where the glyphs
 /// are not those of a pattern; `Memory` where memory was refused.
 pub fn read_words<'a>(alloc: Global, words: &'a [String]) -> Result<Task<'a>, RunFault>
     ensures task { IfOk result (IsAnswered (map string_bytes words.now)) }
@@ -171,7 +238,7 @@ pub fn read_words<'a>(alloc: Global, words: &'a [String]) -> Result<Task<'a>, Ru
     let command = program(alloc)?;
     let line = read_line(alloc, command, words)?;
     match line {
-        Line::Asked(matches) => accepted(&matches),
+        Line::Asked(matches) => accepted(alloc, &matches),
         Line::Told(text) => Ok(Task::Help(text)),
     }
 }

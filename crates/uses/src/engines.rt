@@ -43,11 +43,13 @@ fn hits_core(rt: HostRuntime) -> Result<(), Fail> {
         most: None,
         shown: Shown::Places,
         spelling: Spelling::Letters,
+        first: 0,
+        name: None,
     };
     let mut games = Cursor::new(b"(;SZ[1];B[aa])");
     let mut lines = Vec::new(alloc);
-    let outcome = run_hits(&rt, alloc, &wanted, search, 4, &mut games, &mut lines);
-    assert!(rt; outcome == Ok(Outcome::Done));
+    let results = run_hits(&rt, alloc, &wanted, search, 4, &mut games, &mut lines)?;
+    assert!(rt; results.outcome == Outcome::Done);
     assert!(rt; lines.as_slice() == b"0 1 aa black 0\n".as_slice());
     Ok(())
 }

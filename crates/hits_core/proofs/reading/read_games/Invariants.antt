@@ -6,7 +6,7 @@ abbrev pub invariant-loop-games : goal.invariant-loop-games
 invariant-loop-games l = record {
   bytes : l.reader.bytes ≡ l.input;
   number : l.reader.report.games ≡ length l.games.items;
-  reads : ReadsUpTo l.input l.reader.from l.games.items;
+  reads : ReadsUpTo l.input l.first l.reader.from l.games.items;
 }
 
 -- each turn reads a game, and an input has at most 2 ^ 28 of them

@@ -25,5 +25,9 @@ returns-clause-search c =
       most = subst (IsMostOf (rows_in c.args.matches.now)) (sym c.search_of-search.ensures.most) c.in-Some.ensures.most;
       shown = c.search_of-search.ensures.shown;
       spelling = c.search_of-search.ensures.spelling;
+      first = c.search_of-search.ensures.first;
+      no_name = c.search_of-search.ensures.name;
       workers = c.in-Some-small_number.ensures.number;
+      folder = c.word_of-2.ensures;
+      names = c.in_ok-names.ensures;
     }

@@ -1,7 +1,9 @@
-use Rattle.std.proofs.Common.{inl, map}
+use Rattle.std.proofs.Common.{inl, map, subst}
 use Rattle.std.specs.Prelude.{string_bytes}
 use Rattle.std.proofs.lemmas.Result.{err_from_is_err_and}
-use Rattle.clap.specs.Words.{app_of}
+use Rattle.clap.specs.Words.{App, app_of}
+use Rattle.command_lines.specs.declared.lines.Line.{Line}
+use Rattle.command_lines.specs.Lines.{AsksForHelp, IsLineOf}
 use Rattle.command_lines.proofs.Taken.{taken_by, refused_by}
 use Rattle.shape_hits.specs.Commands.{program_app}
 use Rattle.shape_hits.proofs.Asked.{search_answered, search_refused}
@@ -26,3 +28,9 @@ returns-in_err-line-clause-fault c =
     let words = map string_bytes c.args.words.now in
     let p = err_from_is_err_and c.from_residual-in_err-line.result c.from_residual-in_err-line.ensures.1 in
     rw (p.1, p.2) (inl (refused_by (app_of c.in_ok-command.command) program_app words c.in_err-line.field-0.0 c.in_ok-command.ensures c.in_err-line.ensures.fault))
+
+pub returns-in-Told-clause-task : goal.returns-in-Told-clause-task
+returns-in-Told-clause-task c =
+    let words = map string_bytes c.args.words.now in
+    subst (λ (app : App). AsksForHelp app words) c.in_ok-command.ensures
+    (subst (λ (line : Line). IsLineOf (app_of c.in_ok-command.command) words line) c.in-Told.is c.in_ok-line.ensures.line)

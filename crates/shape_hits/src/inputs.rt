@@ -1,0 +1,246 @@
+//! The inputs of a run, one after another, and what they have come to.
+ghost use Rattle.std.specs.Prelude.{◌≡◌};
+ghost use Rattle.shape_hits.specs.Inputs.{first_status, left_after};
+
+use crate::files::write_files;
+use crate::words::Asked;
+use engine_core::{Outcome, RunFault, status_of};
+use game_core::Report;
+use game_files::{Fronted, Shown, Source, Why, open_file, sources, status_of as flaw_status};
+use hits_core::{Results, Search, Wanted, run_hits};
+use std::io::{self, Read};
+use std::thread::Threads;
+
+/// The exit status where an input has no tree.
+const NO_TREE: u8 = 7;
+
+/// No more files are written where the words don't say how many.
+const MOST_FILES: u64 = 1000;
+
+/// What the inputs have come to so far.
+#[derive(Clone, Copy)]
+struct Sum {
+    /// What their trees are.
+    report: Report,
+    /// Whether there is a hit.
+    is_found: bool,
+    /// How many hits are still asked for; None for all.
+    left: Option<u64>,
+    /// How many files may still be written.
+    files: u64,
+    /// The exit status: that of the first fault, 0 where there is none.
+    status: u8,
+}
+
+/// What a run goes by.
+#[derive(Drop)]
+struct Given<'a, T> {
+    rt: &'a HostRuntime,
+    threads: &'a T,
+    asked: &'a Asked<'a>,
+    wanted: &'a Wanted,
+}
+
+/// The status after one more, which counts where none was before it.
+fn first_status(before: u8, status: u8) -> u8
+    ensures { result ≡ first_status before status }
+{
+    if before == 0 { status } else { before }
+}
+
+/// How many hits are still asked for after so many were listed.
+fn left_after(left: Option<u64>, listed: u64) -> Option<u64>
+    ensures { result ≡ left_after left listed }
+{
+    match left {
+        Some(left) => Some(left.saturating_sub(listed)),
+        None => None,
+    }
+}
+
+/// A name before what is said of it: nothing of standard input.
+#[derive(Clone, Copy)]
+struct Named<'a>(Option<&'a str>);
+
+impl std::fmt::Display for Named<'_> {
+    fn fmt<W: std::fmt::Write>(&self, f: &mut std::fmt::Formatter<W>) -> std::fmt::Result {
+        match self.0 {
+            Some(name) => write!(f, "{}: ", Shown(name)),
+            None => Ok(()),
+        }
+    }
+}
+
+/// What the trees of two inputs are together.
+fn both_reports(one: Report, other: Report) -> Report {
+    Report {
+        games: one.games.saturating_add(other.games),
+        others: one.others.saturating_add(other.others),
+        refused: one.refused.saturating_add(other.refused),
+    }
+}
+
+/// Says what went wrong with an input. Where standard error takes nothing, the status still says
+/// it.
+fn tell(rt: &HostRuntime, sum: &mut Sum, name: Option<&str>, fault: &RunFault) {
+    let _ = eprintln!(rt; "shape_hits: {}{fault}", Named(name));
+    sum.status = first_status(sum.status, status_of(fault));
+}
+
+/// Says what is wrong with a name.
+fn tell_flaw(rt: &HostRuntime, sum: &mut Sum, name: &str, why: Why) {
+    let _ = eprintln!(rt; "shape_hits: {}: {why}", Shown(name));
+    sum.status = first_status(sum.status, flaw_status(why));
+}
+
+/// Whether an input has no tree.
+fn has_no_tree(report: Report) -> bool {
+    report.games == 0 && report.others == 0 && report.refused == 0
+}
+
+/// Takes up what was found in an input, and writes a file for each hit where that is asked for.
+fn take_up<T>(given: &Given<'_, T>, sum: &mut Sum, results: &Results) -> Result<(), RunFault> {
+    let listed = results.hits.len() as u64;
+    if results.outcome == Outcome::Done {
+        sum.is_found = true;
+    }
+    sum.left = left_after(sum.left, listed);
+    if let Some(folder) = given.asked.folder {
+        let written = write_files(given.rt, folder, sum.report.games, results, sum.files)?;
+        sum.files = sum.files.saturating_sub(written);
+    }
+    sum.report = both_reports(sum.report, results.report);
+    Ok(())
+}
+
+/// The same. A fault that was not said is said, and the status is that of the fault.
+fn taken_up<T>(given: &Given<'_, T>, sum: &mut Sum, results: &Results) -> Result<(), RunFault> {
+    let Err(fault) = take_up(given, sum, results) else {
+        return Ok(());
+    };
+    match fault {
+        RunFault::Write { .. } => sum.status = first_status(sum.status, status_of(&fault)),
+        _ => tell(given.rt, sum, None, &fault),
+    }
+    Err(fault)
+}
+
+/// Lists the hits of an input, which has this name or is standard input. The fault is one with
+/// which the run ends.
+fn list_one<T: Threads + Sync, R: Read>(
+    given: &Given<'_, T>,
+    sum: &mut Sum,
+    name: Option<&str>,
+    reader: &mut R,
+) -> Result<(), RunFault> {
+    let rt = given.rt;
+    let search = Search {
+        first: sum.report.games,
+        most: sum.left,
+        name,
+        ..given.asked.search
+    };
+    let mut fronted = Fronted::new(reader);
+    let found = run_hits(
+        given.threads,
+        rt.alloc(),
+        given.wanted,
+        search,
+        usize::from(given.asked.workers),
+        &mut fronted,
+        &mut rt.stdout(),
+    );
+    match found {
+        Ok(results) => {
+            if has_no_tree(results.report) {
+                let cause = fronted.cause();
+                let _ = eprintln!(rt; "shape_hits: {}no tree: {cause}", Named(name));
+                sum.status = first_status(sum.status, NO_TREE);
+            }
+            taken_up(given, sum, &results)
+        }
+        Err(fault) => {
+            tell(rt, sum, name, &fault);
+            match fault {
+                RunFault::Write { .. } | RunFault::Memory => Err(fault),
+                _ => Ok(()),
+            }
+        }
+    }
+}
+
+/// Lists the hits of what one word means.
+fn list_source<T: Threads + Sync>(
+    given: &Given<'_, T>,
+    sum: &mut Sum,
+    source: &Source,
+) -> Result<(), RunFault> {
+    let rt = given.rt;
+    match source {
+        Source::Input => list_one(given, sum, None, &mut rt.stdin()),
+        Source::File(name) => match open_file(rt, name)? {
+            Ok(mut file) => list_one(given, sum, Some(name), &mut file),
+            Err(why) => {
+                tell_flaw(rt, sum, name, why);
+                Ok(())
+            }
+        },
+        Source::Flaw(flaw) => {
+            tell_flaw(rt, sum, &flaw.name, flaw.why);
+            Ok(())
+        }
+    }
+}
+
+/// The exit status of a run that went to its end: that of the first fault, and where there is none
+/// 0 where a hit was found, and else 1.
+fn ended(sum: &Sum) -> u8 {
+    match (sum.status, sum.is_found) {
+        (0, true) => 0,
+        (0, false) => 1,
+        (status, _) => status,
+    }
+}
+
+/// Lists the hits of all inputs, one after another. The answer is the exit status.
+///
+/// # Errors
+///
+/// `Memory` where memory for the names was refused; what else goes wrong was said.
+pub fn list_all<T: Threads + Sync>(
+    rt: &HostRuntime,
+    threads: &T,
+    asked: &Asked<'_>,
+    wanted: &Wanted,
+) -> Result<u8, RunFault> {
+    let given = Given {
+        rt,
+        threads,
+        asked,
+        wanted,
+    };
+    let mut sum = Sum {
+        report: Report {
+            games: 0,
+            others: 0,
+            refused: 0,
+        },
+        is_found: false,
+        left: asked.search.most,
+        files: asked.search.most.unwrap_or(MOST_FILES),
+        status: 0,
+    };
+    let all = sources(rt, &asked.names)?;
+    for source in &all {
+        if list_source(&given, &mut sum, source).is_err() {
+            return Ok(sum.status);
+        }
+    }
+    let Report {
+        games,
+        others,
+        refused,
+    } = sum.report;
+    let _ = eprintln!(rt; "shape_hits: games {games} other {others} refused {refused}");
+    Ok(ended(&sum))
+}
