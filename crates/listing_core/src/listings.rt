@@ -95,8 +95,8 @@ fn push_lines(
     }
 }
 
-/// How a listing ended, by the fault of syntax that ended it, if one did, and what its trees are. It
-/// takes no memory.
+/// How a listing ended, by the fault of syntax that ended it, if one did, and what its trees are.
+/// It takes no memory.
 pub fn listed_by(fault: Option<SgfFault>, report: Report) -> Listed
     ensures { result ≡ listed_of fault report }
 {

@@ -107,9 +107,9 @@ fn merge_ranges<T: Threads + Sync, S: Sources + Sync, W: Write>(
 /// written then. `Read` where a dictionary could not be opened or read, or what it gave in the
 /// second reading is no text, or has a word outside of the range that is read; `Changed` where the
 /// join of the second reading can't be made, or what stays of it has another number of patterns
-/// than in the first; `Memory` where memory was refused; `Write` where the writer failed. Each of these has the
-/// number of bytes that are out. Any other change between the readings goes unseen, and what is
-/// written is then the join of neither.
+/// than in the first; `Memory` where memory was refused; `Write` where the writer failed. Each of
+/// these has the number of bytes that are out. Any other change between the readings goes unseen,
+/// and what is written is then the join of neither.
 pub fn run_merge<T: Threads + Sync, S: Sources + Sync, W: Write>(
     rt: &T,
     alloc: Global,

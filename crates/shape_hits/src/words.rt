@@ -229,8 +229,8 @@ fn accepted<'a>(alloc: Global, matches: &ArgMatches<'a>) -> Result<Task<'a>, Run
 /// # Errors
 ///
 /// `Usage` where the words are none that the program knows, a colour that is none among them, or
-/// they name no file of words and spell no pattern, or name one with `--diamond`; else `Glyph` where the glyphs
-/// are not those of a pattern; `Memory` where memory was refused.
+/// they name no file of words and spell no pattern, or name one with `--diamond`; else `Glyph`
+/// where the glyphs are not those of a pattern; `Memory` where memory was refused.
 pub fn read_words<'a>(alloc: Global, words: &'a [String]) -> Result<Task<'a>, RunFault>
     ensures task { IfOk result (IsAnswered (map string_bytes words.now)) }
     ensures fault { IfErr result (IsWordsFault (map string_bytes words.now)) }
