@@ -20,4 +20,4 @@ abbrev pub choosing_app : App
 choosing_app = with_rule (with_rule (bare_app (codes "shape_games")) (flag_rule (codes "info"))) where_rule
 
 abbrev pub program_app : App
-program_app = with_rule (with_rule choosing_app (flag_rule (codes "cut"))) files_rule
+program_app = with_rule (with_rule (with_rule choosing_app (flag_rule (codes "cut"))) (flag_rule (codes "twice"))) files_rule

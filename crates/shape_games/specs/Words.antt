@@ -1,18 +1,19 @@
 -- What the words of the command line ask for.
-use Rattle.std.specs.Prelude.{◌≡◌, ◌⊎◌, ℕ, Bool, true, false, List, [], ◌∷◌, Option, Some, None, unwrap_or, map, codes}
+use Rattle.std.specs.Prelude.{◌≡◌, ◌⊎◌, ℕ, Bool, true, false, List, [], ◌∷◌, Option, Some, None, unwrap_or, map, codes, if◌then◌else◌}
 use Rattle.clap.specs.Words.{Row, all_of, matches_of}
 use Rattle.command_lines.specs.Lines.{AsksForHelp, IsAskingFault, refusals_of}
 use Rattle.command_lines.specs.Values.{IsChoiceOf}
 use Rattle.engine_core.specs.declared.faults.RunFault.{RunFault}
 use Rattle.engine_core.specs.declared.faults.RunFault.TheVariants as fault
 use Rattle.listing_core.specs.Conditions.{IsSpelled, SpellsNone}
-use Rattle.listing_core.specs.declared.asked.Form.{Form}
 use Rattle.listing_core.specs.declared.asked.Form.TheVariants as form
 use Rattle.listing_core.specs.declared.conditions.Condition.{Condition}
 use Rattle.shape_games.specs.Commands.{program_app}
 use Rattle.shape_games.specs.declared.words.Asked.{Asked}
 use Rattle.shape_games.specs.declared.words.Task.{Task}
 use Rattle.shape_games.specs.declared.words.Task.TheVariants as task
+use Rattle.shape_games.specs.declared.words.Work.{Work}
+use Rattle.shape_games.specs.declared.words.Work.TheVariants as work
 
 -- what `clap` finds in the words: the values of each option, and the names of files
 abbrev pub rows_for : List (List ℕ) → List Row
@@ -34,33 +35,43 @@ abbrev pub HasBadCondition : List (List ℕ) → Type 0
 HasBadCondition [] = ⊥
 HasBadCondition (text ∷ texts) = SpellsNone text ⊎ HasBadCondition texts
 
--- what is written of each tree that is chosen, by the flags that are given; both ask for nothing
-abbrev pub form_of : Bool → Bool → Option Form
-form_of false false = Some form.Lines
-form_of true false = Some form.Columns
-form_of false true = Some form.Trees
-form_of true true = None
+abbrev pub is_some_text : List (List ℕ) → Bool
+is_some_text [] = false
+is_some_text (text ∷ texts) = true
+
+-- what is done, by the flags that are given, and whether a condition is; what does not go together asks for nothing
+abbrev pub work_of : Bool → Bool → Bool → Bool → Option Work
+work_of false false false has_condition = Some (work.List form.Lines)
+work_of true false false has_condition = Some (work.List form.Columns)
+work_of false true false has_condition = Some (work.List form.Trees)
+work_of false false true has_condition = if has_condition then None else Some work.Twins
+work_of true true twice has_condition = None
+work_of true false true has_condition = None
+work_of false true true has_condition = None
 
 -- which flags are given
-pub record HasFlags (rows : List Row) (info cut : Bool) : Type 0 where
+pub record HasFlags (rows : List Row) (info cut twice : Bool) : Type 0 where
   pub is_info : IsChoiceOf (codes "info") true false rows info
   pub is_cut : IsChoiceOf (codes "cut") true false rows cut
+  pub is_twice : IsChoiceOf (codes "twice") true false rows twice
 
 -- the values ask for this
 pub record IsAsked (rows : List Row) (asked : Asked) : Type 0 where
   pub info : Bool
   pub cut : Bool
-  pub flags : HasFlags rows info cut
-  pub is_form : form_of info cut ≡ Some asked.form
+  pub twice : Bool
+  pub flags : HasFlags rows info cut twice
+  pub is_work : work_of info cut twice (is_some_text (values_of (codes "where") rows)) ≡ Some asked.work
   pub conditions : AreConditions (values_of (codes "where") rows) asked.conditions.items
   pub files : map (λ name. name.now) asked.files.items ≡ values_of (codes "files") rows
 
 -- the flags don't go together
-pub record HasNoForm (rows : List Row) : Type 0 where
+pub record HasNoWork (rows : List Row) : Type 0 where
   pub info : Bool
   pub cut : Bool
-  pub flags : HasFlags rows info cut
-  pub no_form : form_of info cut ≡ None
+  pub twice : Bool
+  pub flags : HasFlags rows info cut twice
+  pub no_work : work_of info cut twice (is_some_text (values_of (codes "where") rows)) ≡ None
 
 -- the task is what these values ask for
 abbrev pub AreAsked : List Row → Task → Type 0
@@ -69,7 +80,7 @@ AreAsked rows (task.Do asked) = IsAsked rows asked
 
 -- what is wrong with values that `clap` takes: a condition is none, or they don't go together
 abbrev pub IsUsage : List Row → Type 0
-IsUsage rows = HasBadCondition (values_of (codes "where") rows) ⊎ HasNoForm rows
+IsUsage rows = HasBadCondition (values_of (codes "where") rows) ⊎ HasNoWork rows
 
 abbrev pub IsValueFault : List Row → RunFault → Type 0
 IsValueFault rows found = (found ≡ fault.Memory) ⊎ ((found ≡ fault.Usage) × IsUsage rows)

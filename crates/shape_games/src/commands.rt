@@ -25,6 +25,9 @@ KEY is SZ, PB, PW, BR, WR, DT, RE, HA or KM; a * at the end of VALUE stands for 
 
   shape_games --where SZ=19 --where 'DT=1990*' --cut games > some.sgf
 
+With --twice a line has columns: the number of the game, that of the first that is like it, where each
+begins and ends, and the names of both files.
+
 Exit status: 0 done, 1 no tree, 2 wrong words, 3 input refused, 5 no memory, 6 a read or a write failed;
 of several files that of the first fault";
 
@@ -83,6 +86,11 @@ pub fn program<'a>(alloc: Global) -> Result<Command<'a>, AllocError>
             alloc,
             "cut",
             "The games themselves, each as it stands in its file",
+        ))?
+        .arg(flag_argument(
+            alloc,
+            "twice",
+            "A line for each game whose board, setup and moves an earlier one has",
         ))?
         .arg(files_argument(alloc))
 }

@@ -4,18 +4,21 @@ ghost use Rattle.listing_core.specs.Listing.{most_first};
 ghost use Rattle.shape_games.specs.Inputs.{first_status};
 
 use crate::telling::{Named, tell_flaw, tell_no_tree};
-use crate::words::Asked;
+use crate::words::{Asked, Work};
 use engine_core::{RunFault, status_of};
 use game_core::Report;
 use game_files::{Fronted, Source, open_file, sources, status_of as flaw_status};
 use listing_core::{Asked as Listing, Listed, MOST_FIRST, Summary, run_listing};
 use sgf_core::SgfFault;
 use std::io::{self, Read};
+use twins_core::{Twins, run_twins};
 
 /// What the inputs have come to so far.
-#[derive(Clone, Copy)]
+#[derive(Drop)]
 struct Sum {
     report: Report,
+    /// The games that were met, where twins are asked for.
+    twins: Twins,
     /// The exit status: that of the first fault, 0 where there is none.
     status: u8,
 }
@@ -55,23 +58,29 @@ fn ends_run(fault: &RunFault) -> bool {
 }
 
 /// What was asked for is written of an input.
-fn write_listing<R: Read>(
+fn write_of<R: Read>(
     rt: &HostRuntime,
     asked: &Asked<'_>,
-    sum: &Sum,
+    sum: &mut Sum,
     name: Option<&str>,
     reader: &mut R,
 ) -> Result<Summary, RunFault> {
     let Some(first) = next_first(sum) else {
         return Err(RunFault::Sgf(SgfFault::TooLarge));
     };
-    let listing = Listing {
-        form: asked.form,
-        conditions: &asked.conditions,
-        first,
-        name,
-    };
-    run_listing(rt.alloc(), &listing, reader, &mut rt.stdout())
+    let alloc = rt.alloc();
+    match asked.work {
+        Work::List(form) => {
+            let listing = Listing {
+                form,
+                conditions: &asked.conditions,
+                first,
+                name,
+            };
+            run_listing(alloc, &listing, reader, &mut rt.stdout())
+        }
+        Work::Twins => run_twins(alloc, &mut sum.twins, first, name, reader, &mut rt.stdout()),
+    }
 }
 
 /// Says what went wrong with an input. Where standard error takes nothing, the status still says
@@ -90,7 +99,7 @@ fn take_input<R: Read>(
     reader: &mut R,
 ) -> Result<(), RunFault> {
     let mut input = Fronted::new(reader);
-    let summary = match write_listing(rt, asked, sum, name, &mut input) {
+    let summary = match write_of(rt, asked, sum, name, &mut input) {
         Ok(summary) => summary,
         Err(fault) if ends_run(&fault) => return Err(fault),
         Err(fault) => {
@@ -172,6 +181,7 @@ pub fn list_all(rt: &HostRuntime, asked: &Asked<'_>) -> Result<u8, RunFault> {
             others: 0,
             refused: 0,
         },
+        twins: Twins::new(rt.alloc()),
         status: 0,
     };
     let inputs = sources(rt, &asked.files)?;

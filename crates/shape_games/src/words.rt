@@ -2,7 +2,8 @@
 ghost use Rattle.std.specs.Prelude.{◌≡◌, ◌⊎◌, true, false, map, string_bytes, IfOk, IfErr};
 ghost use Rattle.command_lines.specs.Values.{IsChoiceOf, rows_in};
 ghost use Rattle.engine_core.specs.declared.faults.RunFault.TheVariants as fault;
-ghost use Rattle.shape_games.specs.Words.{values_of, AreConditions, HasBadCondition, form_of};
+ghost use Rattle.shape_games.specs.Words.{values_of, AreConditions, HasBadCondition, is_some_text};
+ghost use Rattle.shape_games.specs.Words.{work_of};
 ghost use Rattle.shape_games.specs.Words.{AreAsked, IsValueFault};
 ghost use Rattle.shape_games.specs.Words.{IsAnswered, IsWordsFault};
 
@@ -13,11 +14,20 @@ use engine_core::RunFault;
 use listing_core::{Condition, Form, condition_of};
 use std::alloc::{AllocError, Global};
 
+/// What is done with the collections.
+#[derive(Clone, Copy, Debug, PartialEq, Eq)]
+pub enum Work {
+    /// This is written of each tree that is chosen.
+    List(Form),
+    /// Games that an earlier one is like are named.
+    Twins,
+}
+
 /// What is asked for.
 #[derive(Debug, Drop)]
 pub struct Asked<'a> {
-    /// What is written of each tree that is chosen.
-    pub form: Form,
+    /// What is done.
+    pub work: Work,
     /// What a game has to meet to be chosen.
     pub conditions: Vec<Condition<'a>>,
     /// The words that name collections and folders.
@@ -66,15 +76,32 @@ fn conditions_of<'a>(alloc: Global, texts: &[&'a str]) -> Result<Vec<Condition<'
     Ok(conditions)
 }
 
-/// What is written of each tree that is chosen, by the flags that are given.
-fn form_for(info: bool, cut: bool) -> Option<Form>
-    ensures { result ≡ form_of info cut }
+/// What is done, by the flags that are given, and whether a condition is.
+fn work_for(info: bool, cut: bool, twice: bool, has_condition: bool) -> Option<Work>
+    ensures { result ≡ work_of info cut twice has_condition }
 {
-    match (info, cut) {
-        (false, false) => Some(Form::Lines),
-        (true, false) => Some(Form::Columns),
-        (false, true) => Some(Form::Trees),
-        (true, true) => None,
+    match (info, cut, twice) {
+        (false, false, false) => Some(Work::List(Form::Lines)),
+        (true, false, false) => Some(Work::List(Form::Columns)),
+        (false, true, false) => Some(Work::List(Form::Trees)),
+        (false, false, true) => {
+            if has_condition {
+                None
+            } else {
+                Some(Work::Twins)
+            }
+        }
+        _ => None,
+    }
+}
+
+/// Whether there is a text.
+fn is_some_text(texts: &[&str]) -> bool
+    ensures { result ≡ is_some_text (map (λ text. text.now) texts.now) }
+{
+    match texts {
+        [] => false,
+        _ => true,
     }
 }
 
@@ -95,11 +122,12 @@ fn accepted<'a>(alloc: Global, matches: &ArgMatches<'a>) -> Result<Task<'a>, Run
     let conditions = conditions_of(alloc, &texts)?;
     let info = has_flag(matches, "info");
     let cut = has_flag(matches, "cut");
-    let Some(form) = form_for(info, cut) else {
+    let twice = has_flag(matches, "twice");
+    let Some(work) = work_for(info, cut, twice, is_some_text(&texts)) else {
         return Err(RunFault::Usage);
     };
     Ok(Task::Do(Asked {
-        form,
+        work,
         conditions,
         files,
     }))
@@ -110,8 +138,9 @@ fn accepted<'a>(alloc: Global, matches: &ArgMatches<'a>) -> Result<Task<'a>, Run
 ///
 /// # Errors
 ///
-/// `Usage` where the words are none that the program knows, a condition is none, or both columns
-/// and trees are asked for. `Memory` where memory was refused.
+/// `Usage` where the words are none that the program knows, a condition is none, or what is asked
+/// for does not go together: two of `--info`, `--cut` and `--twice`, or `--twice` and a condition.
+/// `Memory` where memory was refused.
 pub fn read_words<'a>(alloc: Global, words: &'a [String]) -> Result<Task<'a>, RunFault>
     ensures task { IfOk result (IsAnswered (map string_bytes words.now)) }
     ensures fault { IfErr result (IsWordsFault (map string_bytes words.now)) }

@@ -12,6 +12,9 @@ returns c =
     let with_one = with_rule none (flag_rule (codes "cut")) in
     let one = c.in_ok-arg.field-0 in
     let told_one = one_argument c.in_ok-program_of_choosing.field-0 c.flag_argument.result one none (flag_rule (codes "cut")) c.in_ok-arg.ensures c.in_ok-program_of_choosing.ensures c.flag_argument.ensures.rule c.flag_argument.ensures.local in
-    IfOk-weaker c.arg-2.result _ _
-    (λ new adds. one_argument one c.files_argument.result new with_one files_rule adds told_one c.files_argument.ensures.rule c.files_argument.ensures.local)
-    c.arg-2.ensures
+    let with_two = with_rule with_one (flag_rule (codes "twice")) in
+    let two = c.in_ok-arg-2.field-0 in
+    let told_two = one_argument one c.flag_argument-2.result two with_one (flag_rule (codes "twice")) c.in_ok-arg-2.ensures told_one c.flag_argument-2.ensures.rule c.flag_argument-2.ensures.local in
+    IfOk-weaker c.arg-3.result _ _
+    (λ new adds. one_argument two c.files_argument.result new with_two files_rule adds told_two c.files_argument.ensures.rule c.files_argument.ensures.local)
+    c.arg-3.ensures

@@ -1,0 +1,4 @@
+pub mod SameCodes
+pub mod Firsts
+pub mod Meetings
+pub mod Tables

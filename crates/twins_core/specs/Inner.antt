@@ -1,0 +1,5 @@
+-- What serves the contracts of private functions, and invariants: nothing here has to be believed.
+pub mod Seats
+pub mod Finds
+pub mod Meets
+pub mod Reading

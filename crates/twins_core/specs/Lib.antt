@@ -1,0 +1,4 @@
+pub mod Codes
+pub mod Twins
+pub mod Runs
+pub mod Inner

@@ -1,0 +1,196 @@
+//! The trees of an input, one after another, whose games are met.
+ghost use Rattle.std.specs.Prelude.{◌≡◌, ◌≤◌, ◌<◌, ◌+◌, ◌^◌, [], List, length, option_map, IfOk, IfErr};
+ghost use Rattle.sgf_core.specs.Limit.{most_bytes};
+ghost use Rattle.sgf_core.specs.Tree.{GameTree, main_line_of};
+ghost use Rattle.sgf_core.specs.Marks.{marks_of};
+ghost use Rattle.game_core.specs.Collection.{record_of_tree};
+ghost use Rattle.listing_core.specs.Listing.{most_first};
+ghost use Rattle.twins_core.specs.Twins.{Met, Knows};
+ghost use Rattle.twins_core.specs.Runs.{met_of};
+ghost use Rattle.twins_core.specs.Inner.Reading.{fault_of, Wants, NextWants, IsWanted, sort_of};
+ghost use Rattle.twins_core.specs.Inner.Reading.{counted, MeetsAll, IsRead, IsStep, IsEnding};
+ghost use Rattle.twins_core.specs.declared.reading.Want.TheVariants.{Text};
+
+use crate::seats::Place;
+use crate::twins::Twins;
+use engine_core::RunFault;
+use game_core::Report;
+use go_record::{Kind, RecordFault, read_record};
+use sgf_core::{SgfFault, Tree, Trees};
+use std::alloc::{AllocError, Global};
+
+/// What wanted memory.
+#[derive(Clone, Copy, Debug, PartialEq, Eq)]
+pub(crate) enum Want {
+    Tree,
+    Record,
+    Text,
+}
+
+impl From<AllocError> for Want {
+    ghost from_gives = { λ _ want. want ≡ Text };
+
+    fn from(_: AllocError) -> Want {
+        Want::Text
+    }
+}
+
+impl From<Want> for RunFault {
+    ghost from_gives = { λ want fault. fault ≡ fault_of want };
+
+    fn from(want: Want) -> RunFault {
+        match want {
+            Want::Tree => RunFault::Sgf(SgfFault::Memory),
+            Want::Record => RunFault::Record(RecordFault::Memory),
+            Want::Text => RunFault::Memory,
+        }
+    }
+}
+
+/// What sort of tree one is.
+#[derive(Clone, Copy)]
+pub(crate) enum Sort {
+    Game,
+    Other,
+    Refused,
+}
+
+/// What one step met.
+#[derive(Clone, Copy)]
+pub(crate) enum Step {
+    /// A tree of this sort, which ends at this place.
+    Tree { sort: Sort, end: usize },
+    /// No tree was left.
+    End,
+    /// The next tree has this fault of syntax.
+    Fault(SgfFault),
+}
+
+/// Where the last tree ends, 0 where there is none, what the trees are, and why no further one was
+/// read.
+#[derive(Clone, Copy)]
+pub(crate) struct Ending {
+    pub(crate) end: usize,
+    pub(crate) report: Report,
+    pub(crate) fault: Option<SgfFault>,
+}
+
+/// Meets the game that a tree is, if it is one, where `number` is the number of the next game.
+fn meet_tree(
+    alloc: Global,
+    twins: &mut Twins,
+    tree: &Tree<'_>,
+    number: u64,
+    name: Option<&str>,
+    text: &mut Vec<u8>,
+) -> Result<Sort, Want>
+    ensures sort { (game : GameTree) → tree.now.marks ≡ marks_of game
+        → IfOk result (λ found. found ≡ sort_of (record_of_tree game)) }
+    ensures meets { (game : GameTree) → tree.now.marks ≡ marks_of game → (before : List Met)
+        → Knows twins.old before → IfOk result (λ _. MeetsAll twins.new before
+        (met_of (option_map (λ n. n.now) name.entry) (record_of_tree game) number tree.now.at
+        tree.now.end) text.old.items text.new.items) }
+    ensures wanted { (game : GameTree) → tree.now.marks ≡ marks_of game
+        → IfErr result (Wants (main_line_of game)) }
+{
+    match read_record(alloc, tree) {
+        Ok(Kind::Go(game)) => {
+            let place = Place {
+                number,
+                from: tree.at(),
+                to: tree.end(),
+            };
+            twins.meet(alloc, &game, place, name, text)?;
+            Ok(Sort::Game)
+        }
+        Ok(Kind::Other) => Ok(Sort::Other),
+        Err(RecordFault::Memory) => Err(Want::Record),
+        Err(_) => Ok(Sort::Refused),
+    }
+}
+
+/// Meets the next tree, where `number` is the number of the next game.
+fn meet_next(
+    alloc: Global,
+    twins: &mut Twins,
+    trees: &mut Trees<'_>,
+    number: u64,
+    name: Option<&str>,
+    text: &mut Vec<u8>,
+) -> Result<Step, Want>
+    ensures read { IfOk result (IsRead trees.old trees.new) }
+    ensures step { (before : List Met) → Knows twins.old before
+        → IfOk result (IsStep (option_map (λ n. n.now) name.entry) twins.new trees.old trees.new
+        number before text.old.items text.new.items) }
+    ensures wanted { IfErr result (NextWants trees.old.bytes trees.old.from) }
+{
+    match trees.next_tree(alloc) {
+        Ok(Some(tree)) => {
+            let sort = meet_tree(alloc, twins, &tree, number, name, text)?;
+            Ok(Step::Tree {
+                sort,
+                end: tree.end(),
+            })
+        }
+        Ok(None) => Ok(Step::End),
+        Err(SgfFault::Memory) => Err(Want::Tree),
+        Err(fault) => Ok(Step::Fault(fault)),
+    }
+}
+
+/// The report on a tree more, of this sort.
+fn counted(report: Report, sort: Sort) -> Report
+    requires { report.games + report.others + report.refused < 2 ^ 63 }
+    ensures { result ≡ counted report sort }
+{
+    let mut report = report;
+    match sort {
+        Sort::Game => report.games += 1,
+        Sort::Other => report.others += 1,
+        Sort::Refused => report.refused += 1,
+    }
+    report
+}
+
+/// Meets all trees of an input, whose first game has the number `first`.
+pub(crate) fn meet_all(
+    alloc: Global,
+    twins: &mut Twins,
+    trees: &mut Trees<'_>,
+    first: u64,
+    name: Option<&str>,
+    text: &mut Vec<u8>,
+) -> Result<Ending, Want>
+    requires small { length trees.old.bytes ≤ most_bytes }
+    requires first { first ≤ most_first }
+    requires begins { trees.old.from ≡ 0 }
+    requires none { text.old.items ≡ [] }
+    ensures ending { (before : List Met) → Knows twins.old before
+        → IfOk result (IsEnding first (option_map (λ n. n.now) name.entry) before twins.new
+        trees.old.bytes text.new.items) }
+    ensures wanted { IfErr result (IsWanted trees.old.bytes) }
+{
+    let mut report = Report {
+        games: 0,
+        others: 0,
+        refused: 0,
+    };
+    let mut last = 0;
+    'tree: loop {
+        let number = first + report.games;
+        let fault = match meet_next(alloc, twins, trees, number, name, text)? {
+            Step::Tree { sort, end } => {
+                report = counted(report, sort);
+                last = end;
+                continue 'tree;
+            }
+            Step::End => None,
+            Step::Fault(fault) => Some(fault),
+        };
+        return Ok(Ending {
+            end: last,
+            report,
+            fault,
+        });
+    }
+}

@@ -1,0 +1,31 @@
+//! Where a game is: its number, its tree's place, and its file.
+ghost use Rattle.std.specs.Prelude.{◌≡◌, IfOk, option_map, string_bytes};
+
+use std::alloc::{AllocError, Global};
+
+/// Where a game is.
+#[derive(Clone, Copy, Debug)]
+pub(crate) struct Place {
+    pub(crate) number: u64,
+    pub(crate) from: usize,
+    pub(crate) to: usize,
+}
+
+/// Where a game is, with the name of its file.
+#[derive(Debug, Drop)]
+pub(crate) struct Seat {
+    pub(crate) place: Place,
+    pub(crate) name: Option<String>,
+}
+
+/// The seat of a game that is there, in a file of this name.
+pub(crate) fn seat_of(alloc: Global, place: Place, name: Option<&str>) -> Result<Seat, AllocError>
+    ensures { IfOk result (λ seat. (seat.place ≡ place)
+        × (option_map string_bytes seat.name ≡ option_map (λ n. n.now) name.entry)) }
+{
+    let name = match name {
+        Some(name) => Some(String::from_str(alloc, name)?),
+        None => None,
+    };
+    Ok(Seat { place, name })
+}

@@ -1,0 +1,67 @@
+//! The first game of each record.
+ghost use Rattle.std.specs.Prelude.{◌≡◌, ◌∷◌, ◌++◌, [], List, None, OnOk, option_map};
+ghost use Rattle.go_record.specs.Actions.{Actions};
+ghost use Rattle.twins_core.specs.Twins.{Met, Knows};
+ghost use Rattle.twins_core.specs.Inner.Seats.{met_at};
+ghost use Rattle.twins_core.specs.Inner.Meets.{Meets};
+
+use crate::codes::code_of;
+use crate::lines::push_line;
+use crate::seats::{Place, Seat, seat_of};
+use go_record::Record;
+use std::alloc::{AllocError, Global};
+use std::collections::BTreeMap;
+use std::marker::Model;
+
+/// The first game of each record among those that were met.
+///
+/// Contracts see what it keeps: of each record its code, with the number, the place and the file of
+/// the first game that has it. `Knows` says which games were met.
+#[derive(Drop)]
+pub struct Twins {
+    first: BTreeMap<Vec<u8>, Seat>,
+}
+
+impl Model for Twins {
+    ghost use Rattle.std.specs.Prelude.{List};
+    ghost use Rattle.twins_core.specs.Twins.{Kept};
+    ghost use Rattle.twins_core.specs.Inner.Finds.{kept_in};
+
+    ghost Value = { List Kept };
+
+    ghost view = { λ twins. kept_in twins.first };
+}
+
+impl Twins {
+    /// No game was met. It takes no memory.
+    pub fn new(alloc: Global) -> Twins
+        ensures { Knows result [] }
+    {
+        Twins {
+            first: BTreeMap::new(alloc),
+        }
+    }
+
+    /// Meets a game that is there, in a file of this name: where an earlier one has its record, its
+    /// line is appended, and else it is the first that has it.
+    pub(crate) fn meet(
+        &mut self,
+        alloc: Global,
+        game: &Record,
+        place: Place,
+        name: Option<&str>,
+        text: &mut Vec<u8>,
+    ) -> Result<(), AllocError>
+        ensures { (before : List Met) → Knows self.old before → OnOk result
+            (Meets self.new before (met_at game.now place (option_map (λ n. n.now) name.entry))
+            text.old.items text.new.items) }
+    {
+        let code = code_of(alloc, game)?;
+        if let Some(first) = self.first.get(code.as_slice()) {
+            return push_line(text, place, name, first);
+        }
+        let seat = seat_of(alloc, place, name)?;
+        self.first.insert(code, seat)?;
+        Ok(())
+    }
+}
