@@ -1,3 +1,4 @@
 pub mod Commands
 pub mod Files
+pub mod Stamps
 pub mod Words

@@ -4,16 +4,20 @@
 
 mod commands;
 mod files;
+mod stamps;
 mod telling;
 mod words;
+
+ghost use Rattle.std.specs.Prelude.{◌≡◌, length, vec_len};
 
 use engine_core::{RunFault, own_words, status_of, write_output};
 use files::{Dictionaries, Named, look_at, new_target, which_is_barred};
 use merge_core::{MergeFault, run_merge};
+use stamps::{Stamp, first_unlike, stamps_of};
 use std::io;
 use std::process::ExitCode;
 use std::thread::Threads;
-use telling::tell;
+use telling::{tell, tell_changed};
 use words::{Asked, Task, read_words};
 
 /// Writes the join of the files, to standard output or to a file that is made once all is judged.
@@ -37,6 +41,18 @@ fn join<T: Threads + Sync>(
     }
 }
 
+/// Looks at the files again after a join that ended well, and says which one changed meanwhile. The
+/// answer is the exit status.
+fn look_again(rt: &HostRuntime, asked: &Asked<'_>, before: &[Stamp]) -> Result<u8, RunFault>
+    requires { length before.now ≡ vec_len asked.now.names }
+{
+    let after = stamps_of(rt, &asked.names)?;
+    match first_unlike(before, &after) {
+        Some(k) => Ok(tell_changed(rt, k, asked.names[k])),
+        None => Ok(0),
+    }
+}
+
 /// Judges the names, and joins the files. The answer is the exit status.
 fn join_files<T: Threads + Sync>(
     threads: &T,
@@ -50,8 +66,9 @@ fn join_files<T: Threads + Sync>(
         );
         return Ok(2);
     }
+    let before = stamps_of(rt, &asked.names)?;
     match join(threads, rt, asked) {
-        Ok(()) => Ok(0),
+        Ok(()) => look_again(rt, asked, &before),
         Err(fault) => Ok(tell(rt, asked, &fault)),
     }
 }

@@ -33,6 +33,16 @@ fn tell_unread(rt: &HostRuntime, n: usize, name: &str, written: usize) {
     let _ = eprintln!(rt; "shape_merge: dictionary {n}, {name}: I1 {why}, {written} bytes written");
 }
 
+/// Says that the file of this name and number, from 0, changed while it was joined, and answers the
+/// exit status.
+pub fn tell_changed(rt: &HostRuntime, k: usize, name: &str) -> u8
+    ensures { result ≡ 6 }
+{
+    let n = k.saturating_add(1);
+    let _ = eprintln!(rt; "shape_merge: dictionary {n}, {name}: I1 changed while it was joined");
+    6
+}
+
 /// Says in one line what is wrong, with the file that it is about, and answers the exit status.
 /// Where standard error takes nothing, the status still says it.
 pub fn tell(rt: &HostRuntime, asked: &Asked<'_>, fault: &MergeFault) -> u8

@@ -1,0 +1,72 @@
+//! Whether a file changed while it was joined, as far as the system tells it.
+ghost use Rattle.std.specs.Prelude.{◌≡◌, ◌↔◌, IsTrue, IfOk, MatchOption, length, vec_len};
+ghost use Rattle.shape_merge.specs.Stamps.{AreAlike, IsFirstUnlike};
+
+use std::alloc::AllocError;
+use std::fs;
+use std::os::unix::fs::MetadataExt;
+
+/// By what a change of a file shows.
+#[derive(Clone, Copy, PartialEq, Eq)]
+pub enum Stamp {
+    /// The system tells nothing of the file.
+    Unknown,
+    /// Its device, its number there, its size in bytes, and when it was written last.
+    Known {
+        device: u64,
+        number: u64,
+        size: u64,
+        seconds: i64,
+        nanoseconds: i64,
+    },
+}
+
+/// The stamp of the file of this name.
+fn stamp_of(rt: &HostRuntime, name: &str) -> Stamp {
+    match fs::metadata(rt, name) {
+        Ok(found) => Stamp::Known {
+            device: found.dev(),
+            number: found.ino(),
+            size: found.size(),
+            seconds: found.mtime(),
+            nanoseconds: found.mtime_nsec(),
+        },
+        Err(_) => Stamp::Unknown,
+    }
+}
+
+/// The stamps of the files of these names, in their order.
+///
+/// # Errors
+///
+/// `AllocError` where memory was refused.
+pub fn stamps_of(rt: &HostRuntime, names: &[&str]) -> Result<Vec<Stamp>, AllocError>
+    ensures { IfOk result (λ stamps. vec_len stamps ≡ length names.now) }
+{
+    let mut stamps = Vec::new(rt.alloc());
+    for name in names {
+        stamps.push(stamp_of(rt, *name))?;
+    }
+    Ok(stamps)
+}
+
+/// Whether two stamps are the same.
+fn is_same(before: Stamp, after: Stamp) -> bool
+    ensures { IsTrue result ↔ before ≡ after }
+{
+    before == after
+}
+
+/// The number, from 0, of the first file whose two stamps differ; none where all are the same.
+pub fn first_unlike(before: &[Stamp], after: &[Stamp]) -> Option<usize>
+    requires { length before.now ≡ length after.now }
+    ensures { MatchOption result (AreAlike before.now after.now)
+        (IsFirstUnlike before.now after.now) }
+{
+    for (k, stamp) in before.iter().enumerate() {
+        if !is_same(*stamp, after[k]) {
+            return Some(k);
+        }
+    }
+    None
+}
