@@ -87,7 +87,7 @@ fn assert_sheet(
     wanted: &[u8],
 ) -> Result<(), Fail> {
     let dictionary = Dictionary::read(alloc, input)?;
-    let text = sheet_text(alloc, asked, &dictionary)?;
+    let text = sheet_text(alloc, asked, &[], &dictionary)?;
     assert!(rt; text.as_slice() == wanted);
     Ok(())
 }
@@ -103,7 +103,8 @@ fn plain_texts_are_drawn(rt: HostRuntime) -> Result<(), Fail> {
         kind: Kind::Diamond,
         ..USUAL
     };
-    assert_sheet(&rt, alloc, diamonds, square, b"")?;
+    let none = b"The dictionary has no diamonds.\n";
+    assert_sheet(&rt, alloc, diamonds, square, none)?;
     let both =
         b"shapes 2 games 1 moves 1 squares 1 diamonds 1\n3fffffcffffff 1 1\n7fffffcffffff 1 1\n";
     let drawn =
@@ -120,7 +121,7 @@ fn a_page_is_drawn(rt: HostRuntime) -> Result<(), Fail> {
         ..USUAL
     };
     let dictionary = Dictionary::read(rt.alloc(), PAIR)?;
-    let page = sheet_text(rt.alloc(), asked, &dictionary)?;
+    let page = sheet_text(rt.alloc(), asked, &[], &dictionary)?;
     assert!(rt; page.as_slice().starts_with(b"<!DOCTYPE html>"));
     assert!(rt;
         page.as_slice().ends_with(
@@ -177,7 +178,7 @@ fn assert_run(
         got: Vec::new(alloc),
         most,
     };
-    let found = run_sheet(alloc, USUAL, &mut Bytes { left: input }, &mut writer);
+    let found = run_sheet(alloc, USUAL, &[], &mut Bytes { left: input }, &mut writer);
     assert!(rt; found == wanted);
     assert!(rt; writer.got.as_slice() == text);
     Ok(())
@@ -193,7 +194,8 @@ fn runs_write_all_or_say_why(rt: HostRuntime) -> Result<(), Fail> {
     let stopped = Err(RunFault::Write { written: 17 });
     assert_run(&rt, alloc, (square, 17), stopped, b"1 0000000009000 t")?;
     let none = b"shapes 1 games 0 moves 0 patterns 0\n";
-    assert_run(&rt, alloc, (none, 0), Ok(()), b"")?;
+    let why = b"The dictionary has no squares.\n";
+    assert_run(&rt, alloc, (none, 1000), Ok(()), why)?;
     let refused = |fault| Err(RunFault::Dict { n: 1, fault });
     assert_run(&rt, alloc, (b"", 9), refused(DictFault::BadHeader), b"")?;
     let short = b"shapes 1 games 1 moves 2 patterns 1\n";
@@ -212,7 +214,13 @@ fn memory_is_found_or_named(rt: HostRuntime) -> Result<(), Fail> {
         form: Form::Page,
         ..USUAL
     };
-    match run_sheet(rt.alloc(), asked, &mut Bytes { left: PAIR }, &mut writer) {
+    match run_sheet(
+        rt.alloc(),
+        asked,
+        &[],
+        &mut Bytes { left: PAIR },
+        &mut writer,
+    ) {
         Ok(()) => assert!(rt; false),
         Err(RunFault::Dict { n, fault }) => {
             assert!(rt; n == 1);

@@ -9,7 +9,7 @@ use Rattle.engine_core.specs.declared.faults.RunFault.{RunFault}
 use Rattle.engine_core.specs.declared.faults.RunFault.TheVariants as fault
 use Rattle.sheet_core.specs.declared.orders.Order.{Order}
 use Rattle.shape_sheet.specs.Commands.{program_app}
-use Rattle.shape_sheet.specs.Words.{HasNoOrder, HasNoSheet, IsAsked, IsAnswered, IsWordsFault, IsSheetOf, name_of}
+use Rattle.shape_sheet.specs.Words.{HasNoOrder, HasNoSheet, IsAsked, IsAnswered, IsHitsOf, IsWordsFault, IsSheetOf, name_of}
 use Rattle.shape_sheet.specs.declared.words.Task.{Task}
 use Rattle.shape_sheet.specs.declared.words.Task.TheVariants as task
 
@@ -35,7 +35,8 @@ no_sheet_most rows none asked is least most = none asked.most is.most (omega (ar
 -- what is asked for by values that `clap` takes
 pub sheet_answered : (words : List (List ℕ)) (matches : ArgMatches) (result : Result Task RunFault) → AreTaken program_app words matches →
     IfOk result (IsSheetOf (rows_in matches)) → IfOk result (IsAnswered words)
-sheet_answered words matches (Ok (task.Sheet asked)) are is = (are.taken, subst (λ r. IsAsked r asked) are.rows is)
+sheet_answered words matches (Ok (task.Sheet asked hits)) are is =
+    (are.taken, subst (λ r. IsAsked r asked) are.rows is.0, subst (λ r. IsHitsOf r hits) are.rows is.1)
 sheet_answered words matches (Ok (task.Help text)) are is = absurd is
 sheet_answered words matches (Err found) are is = tt
 

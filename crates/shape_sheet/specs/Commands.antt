@@ -18,4 +18,5 @@ abbrev pub values_app : App
 values_app = with_rule (with_rule (with_rule (bare_app (codes "shape_sheet")) by_rule) least_rule) most_rule
 
 abbrev pub program_app : App
-program_app = with_rule (with_rule values_app (flag_rule (codes "diamonds"))) (flag_rule (codes "plain"))
+program_app =
+    with_rule (with_rule (with_rule values_app (flag_rule (codes "diamonds"))) (flag_rule (codes "plain"))) (option_rule (codes "hits"))

@@ -1,5 +1,6 @@
 -- What the words of the command line ask for.
-use Rattle.std.specs.Prelude.{◌≡◌, ◌<◌, ◌^◌, ℕ, List, [], Some, codes}
+use Rattle.std.specs.Prelude.{◌≡◌, ◌<◌, ◌^◌, ℕ, List, [], Option, Some, codes, option_map}
+use Rattle.std.specs.Borrow.{Bor}
 use Rattle.clap.specs.Words.{Row, first_of, matches_of}
 use Rattle.command_lines.specs.Lines.{AsksForHelp, IsAskingFault, refusals_of}
 use Rattle.command_lines.specs.Values.{IsChoiceOf, IsNumberOf}
@@ -23,6 +24,7 @@ abbrev pub name_of : Order → List ℕ
 name_of order.Played = codes "played"
 name_of order.Urgency = codes "urgency"
 name_of order.There = codes "there"
+name_of order.Bound = codes "bound"
 
 abbrev pub IsOrderOf : List Row → Order → Type 0
 IsOrderOf rows found = first_of (codes "by") rows ≡ Some (name_of found)
@@ -35,6 +37,10 @@ pub record IsAsked (rows : List Row) (asked : Asked) : Type 0 where
   pub most : IsNumberOf (codes "most") rows asked.most
   pub form : IsChoiceOf (codes "plain") form.Plain form.Page rows asked.form
 
+-- this is the name of the file with lines of hits, where one is named
+abbrev pub IsHitsOf : List Row → Option (Bor (List ℕ)) → Type 0
+IsHitsOf rows hits = option_map (λ name. name.now) hits ≡ first_of (codes "hits") rows
+
 -- no order has the name that is given
 abbrev pub HasNoOrder : List Row → Type 0
 HasNoOrder rows = (found : Order) → IsOrderOf rows found → ⊥
@@ -46,12 +52,13 @@ HasNoSheet rows = (asked : Asked) → IsAsked rows asked → asked.least < 2 ^ 6
 -- the task is that of the words: help only where it was asked for, and a sheet only where `clap` refuses nothing
 abbrev pub IsAnswered : List (List ℕ) → Task → Type 0
 IsAnswered words (task.Help text) = AsksForHelp program_app words
-IsAnswered words (task.Sheet asked) = (refusals_of program_app words ≡ []) × IsAsked (rows_for words) asked
+IsAnswered words (task.Sheet asked hits) =
+    (refusals_of program_app words ≡ []) × IsAsked (rows_for words) asked × IsHitsOf (rows_for words) hits
 
 -- the task is the sheet that these values ask for
 abbrev pub IsSheetOf : List Row → Task → Type 0
 IsSheetOf rows (task.Help text) = ⊥
-IsSheetOf rows (task.Sheet asked) = IsAsked rows asked
+IsSheetOf rows (task.Sheet asked hits) = IsAsked rows asked × IsHitsOf rows hits
 
 -- what can be wrong with the words: memory was wanting; or `clap` refuses them, or takes them and they ask for no sheet
 abbrev pub IsWordsFault : List (List ℕ) → RunFault → Type 0

@@ -11,11 +11,13 @@ use std::alloc::{AllocError, Global};
 /// The end of the program's help.
 const NOTES: &str =
     "The dictionary is read from standard input, in any of its three texts, up to 268,435,456 bytes. Colours
-are seen from the mover, as Black.
+are seen from the mover, as Black. With --by urgency the ratio of plays decides, and with --by bound what it
+is at least for a chance of 95 %, so that a pattern that was there a few times alone comes late.
 
 Examples:
   shape_sheet < games.dict > page.html
   shape_sheet --by urgency --least 100 --most 20 --plain < games.dict
+  shape_sheet --by bound --hits hits.txt < games.dict > page.html
 
 Exit status: 0 done, 2 wrong words, 3 input refused, 5 no memory, 6 a read or a write failed";
 
@@ -27,7 +29,7 @@ fn by_argument<'a>(alloc: Global) -> Arg<'a>
         alloc,
         "by",
         "ORDER",
-        "What comes first: played, urgency or there",
+        "What comes first: played, urgency, there or bound",
     )
     .default_value("played")
 }
@@ -86,5 +88,11 @@ pub fn program<'a>(alloc: Global) -> Result<Command<'a>, AllocError>
 {
     program_of_values(alloc)?
         .arg(flag_argument(alloc, "diamonds", "Diamonds and not squares"))?
-        .arg(flag_argument(alloc, "plain", "Text for a terminal and not a page"))
+        .arg(flag_argument(alloc, "plain", "Text for a terminal and not a page"))?
+        .arg(option_argument(
+            alloc,
+            "hits",
+            "FILE",
+            "Lines of shape_hits --words: the first places of a pattern stand below it on the page",
+        ))
 }

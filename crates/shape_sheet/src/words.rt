@@ -16,9 +16,9 @@ use std::alloc::Global;
 
 /// What the program is to do.
 #[derive(Debug, Drop)]
-pub enum Task {
-    /// Print this sheet.
-    Sheet(Asked),
+pub enum Task<'a> {
+    /// Print this sheet, with places from the lines of the file of this name, where there is one.
+    Sheet(Asked, Option<&'a str>),
     /// Print this text, which was asked for by help or version.
     Help(String),
 }
@@ -32,6 +32,7 @@ fn order_named(name: &str) -> Option<Order>
         "played" => Some(Order::Played),
         "urgency" => Some(Order::Urgency),
         "there" => Some(Order::There),
+        "bound" => Some(Order::Bound),
         _ => None,
     }
 }
@@ -66,13 +67,13 @@ fn sheet_of(matches: &ArgMatches<'_>) -> Option<Asked>
 }
 
 /// What values that `clap` takes ask for.
-fn accepted(matches: &ArgMatches<'_>) -> Result<Task, RunFault>
+fn accepted<'a>(matches: &ArgMatches<'a>) -> Result<Task<'a>, RunFault>
     ensures sheet { IfOk result (IsSheetOf (rows_in matches.now)) }
     ensures fault { IfErr result (λ found. (found ≡ fault.Usage)
         × HasNoSheet (rows_in matches.now)) }
 {
     match sheet_of(matches) {
-        Some(asked) => Ok(Task::Sheet(asked)),
+        Some(asked) => Ok(Task::Sheet(asked, word_of(matches, "hits"))),
         None => Err(RunFault::Usage),
     }
 }
@@ -84,7 +85,7 @@ fn accepted(matches: &ArgMatches<'_>) -> Result<Task, RunFault>
 ///
 /// `Usage` where the words are none that the program knows, the name of no order among them;
 /// `Memory` where memory was refused.
-pub fn read_words(alloc: Global, words: &[String]) -> Result<Task, RunFault>
+pub fn read_words<'a>(alloc: Global, words: &'a [String]) -> Result<Task<'a>, RunFault>
     ensures task { IfOk result (IsAnswered (map string_bytes words.now)) }
     ensures fault { IfErr result (IsWordsFault (map string_bytes words.now)) }
 {

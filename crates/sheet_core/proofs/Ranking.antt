@@ -19,6 +19,7 @@ scale-positive : (o : Order) (e : Entry) → 0 < scale_of o e
 scale-positive order.Played e = omega arith
 scale-positive order.Urgency e = omega arith
 scale-positive order.There e = omega arith
+scale-positive order.Bound e = omega arith
 
 one_way_by : (a b s t : ℕ) → (nat_lt b a || (a == b && nat_lt s t)) ≡ true → (nat_lt a b || (b == a && nat_lt t s)) ≡ false
 one_way_by a b s t h = grind (arith, nat_tests)

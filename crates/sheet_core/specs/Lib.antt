@@ -1,10 +1,14 @@
+pub mod Occasions
+pub mod Bounds
 pub mod Orders
 pub mod Choice
+pub mod Empty
 pub mod Pieces
 pub mod Plain
 pub mod Cells
 pub mod Sides
 pub mod Drawing
+pub mod Places
 pub mod Page
 pub mod Sheets
 pub mod Runs

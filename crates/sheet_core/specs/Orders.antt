@@ -1,24 +1,24 @@
 -- Which of two patterns goes before the other.
-use Rattle.std.specs.Prelude.{◌≡◌, ℕ, ◌*◌, ◌<◌, ◌⊎◌, max}
+use Rattle.std.specs.Prelude.{◌≡◌, ℕ, ◌*◌, ◌<◌, ◌⊎◌}
 use Rattle.shape_dict.specs.declared.entries.Entry.{Entry}
 use Rattle.sheet_core.specs.declared.orders.Order.{Order}
 use Rattle.sheet_core.specs.declared.orders.Order.TheVariants as order
-
--- how often a pattern was there, in a denominator: each pattern of a dictionary was there once or more
-abbrev pub occasions_of : Entry → ℕ
-occasions_of entry = max entry.there 1
+use Rattle.sheet_core.specs.Occasions.{occasions_of}
+use Rattle.sheet_core.specs.Bounds.{bound_of}
 
 -- What an order compares is a fraction. Its numerator:
 abbrev pub worth_of : Order → Entry → ℕ
 worth_of order.Played entry = entry.played
 worth_of order.Urgency entry = entry.played
 worth_of order.There entry = entry.there
+worth_of order.Bound entry = bound_of entry
 
 -- and its denominator:
 abbrev pub scale_of : Order → Entry → ℕ
 scale_of order.Played entry = 1
 scale_of order.Urgency entry = occasions_of entry
 scale_of order.There entry = 1
+scale_of order.Bound entry = 1
 
 -- the numerator over both denominators
 abbrev pub share_of : Order → Entry → Entry → ℕ

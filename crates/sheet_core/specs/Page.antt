@@ -1,5 +1,5 @@
 -- The page of chosen patterns.
-use Rattle.std.specs.Prelude.{ℕ, List, [], ◌++◌, length, Option, Some, None, codes}
+use Rattle.std.specs.Prelude.{ℕ, List, [], ◌∷◌, ◌++◌, length, Option, Some, None, codes}
 use Rattle.std.specs.Fmt.{decimal}
 use Rattle.shape_core.specs.declared.words.Kind.{Kind}
 use Rattle.shape_core.specs.declared.words.Kind.TheVariants as kind
@@ -12,6 +12,8 @@ use Rattle.sheet_core.specs.declared.orders.Order.{Order}
 use Rattle.sheet_core.specs.declared.orders.Order.TheVariants as order
 use Rattle.sheet_core.specs.Pieces.{hundredths_of, whole_percent_text, ranked}
 use Rattle.sheet_core.specs.Drawing.{drawing_text}
+use Rattle.sheet_core.specs.Empty.{empty_text}
+use Rattle.sheet_core.specs.Places.{lines_after, places_of, places_text}
 
 -- how many times of a hundred it was played, and how often it was there
 unfoldable pub share_text : Entry → List ℕ
@@ -36,10 +38,11 @@ unfoldable pub caption_text : ℕ → Entry → List ℕ
 caption_text rank entry =
     codes "<figcaption>" ++ uses_text entry ++ name_text rank entry ++ game_text entry.first ++ codes "</figcaption>"
 
--- a pattern with its rank
-unfoldable pub figure_text : ℕ → Entry → List ℕ
-figure_text rank entry =
-    codes "<figure>" ++ drawing_text entry.shape ++ caption_text rank entry ++ codes "</figure>\n"
+-- a pattern with its rank, and its places in these lines
+unfoldable pub figure_text : List (List ℕ) → ℕ → Entry → List ℕ
+figure_text lines rank entry =
+    codes "<figure>" ++ drawing_text entry.shape ++ caption_text rank entry ++ places_text (places_of lines entry.shape)
+    ++ codes "</figure>\n"
 
 abbrev pub kind_name : Kind → List ℕ
 kind_name kind.Square = codes "Squares"
@@ -49,6 +52,7 @@ abbrev pub order_name : Order → List ℕ
 order_name order.Played = codes "the most often played"
 order_name order.Urgency = codes "the most urgent"
 order_name order.There = codes "the most often there"
+order_name order.Bound = codes "the most surely urgent"
 
 -- the dictionary's games and moves
 unfoldable pub counted_text : Contents → List ℕ
@@ -81,7 +85,12 @@ end_text = codes "</main>\n</body>\n</html>\n"
 unfoldable pub head_text : List ℕ
 head_text = HEAD.now
 
--- the page: its head with the style sheet, a heading, and the figures of the chosen patterns, the first with rank 1
-unfoldable pub page_text : Asked → Contents → List Entry → List ℕ
-page_text asked contents chosen =
-    head_text ++ heading_text asked contents (length chosen) ++ ranked figure_text 1 chosen ++ end_text
+-- the figures of the chosen patterns, the first with rank 1, or why there is none
+unfoldable pub body_text : Asked → List (List ℕ) → Contents → List Entry → List ℕ
+body_text asked lines contents [] = codes "<p>" ++ empty_text asked contents.entries ++ codes "</p>\n"
+body_text asked lines contents (entry ∷ entries) = ranked (figure_text lines) 1 (entry ∷ entries)
+
+-- the page: its head with the style sheet, a heading, and the figures, with places in the lines of these hits
+unfoldable pub page_text : Asked → List ℕ → Contents → List Entry → List ℕ
+page_text asked hits contents chosen =
+    head_text ++ heading_text asked contents (length chosen) ++ body_text asked (lines_after [] hits) contents chosen ++ end_text

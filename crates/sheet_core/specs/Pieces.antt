@@ -2,7 +2,7 @@
 use Rattle.std.specs.Prelude.{ℕ, ◌+◌, ◌*◌, ◌/◌, ◌%◌, List, [], ◌∷◌, ◌++◌, Option, Some, None, codes}
 use Rattle.std.specs.Fmt.{decimal}
 use Rattle.shape_dict.specs.declared.entries.Entry.{Entry}
-use Rattle.sheet_core.specs.Orders.{occasions_of}
+use Rattle.sheet_core.specs.Occasions.{occasions_of}
 
 -- the plays for ten thousand times that the pattern was there, rounded down
 abbrev pub hundredths_of : Entry → ℕ

@@ -8,7 +8,9 @@ use Rattle.shape_core.specs.declared.words.Kind.{Kind}
 use Rattle.shape_core.specs.declared.words.Kind.TheVariants as kind
 use Rattle.shape_dict.specs.Text.{word_text, line_feed}
 use Rattle.shape_dict.specs.declared.entries.Entry.{Entry}
+use Rattle.sheet_core.specs.declared.asked.Asked.{Asked}
 use Rattle.sheet_core.specs.declared.rows.Row.{Row}
+use Rattle.sheet_core.specs.Empty.{empty_text}
 use Rattle.sheet_core.specs.Pieces.{hundredths_of, percent_text, first_text, ranked}
 
 -- a row of a board: how far it is indented, its first cell, and how many cells it has
@@ -48,6 +50,7 @@ caption_text rank entry =
 abbrev pub figure_text : ℕ → Entry → List ℕ
 figure_text rank entry = caption_text rank entry ++ board_text entry.shape ++ line_feed
 
--- the chosen patterns, the first with rank 1
-abbrev pub plain_text : List Entry → List ℕ
-plain_text chosen = ranked figure_text 1 chosen
+-- the chosen patterns, the first with rank 1, or why there is none among these
+abbrev pub plain_text : Asked → List Entry → List Entry → List ℕ
+plain_text asked entries [] = empty_text asked entries ++ line_feed
+plain_text asked entries (entry ∷ chosen) = ranked figure_text 1 (entry ∷ chosen)

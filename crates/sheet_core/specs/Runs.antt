@@ -7,8 +7,8 @@ use Rattle.sheet_core.specs.Sheets.{IsSheetOf}
 use Rattle.sgf_core.specs.Limit.{most_bytes}
 
 -- the input, of at most 2 ^ 28 bytes, is a text of a dictionary, and this is the dictionary's sheet
-pub record IsSheetText (asked : Asked) (input text : List ℕ) : Type 0 where
+pub record IsSheetText (asked : Asked) (hits input text : List ℕ) : Type 0 where
   pub contents : Contents
   pub read : IsTextOf contents input
   pub few : length input ≤ most_bytes
-  pub sheet : IsSheetOf asked contents text
+  pub sheet : IsSheetOf asked hits contents text

@@ -13,7 +13,7 @@ pub(crate) const HEAD: &str = "<!DOCTYPE html>
 body{margin:0 auto;padding:1.5rem;max-width:75rem;background:var(--page);color:var(--ink);font:.875rem/1.4 system-ui,sans-serif}
 h1{margin:0 0 .5rem;font-size:1.4rem}
 p{margin:.25rem 0;max-width:48rem;color:var(--soft)}
-main{display:grid;grid-template-columns:repeat(auto-fill,minmax(10.5rem,1fr));gap:1.75rem 1.5rem;margin-top:1.5rem}
+main{display:grid;grid-template-columns:repeat(auto-fill,minmax(9.5rem,1fr));gap:1.75rem 1.25rem;margin-top:1.5rem}
 figure{margin:0;break-inside:avoid}
 svg{display:block;width:100%;print-color-adjust:exact;-webkit-print-color-adjust:exact}
 .outside{fill:var(--outside);transform:translate(-.5px,-.5px)}
@@ -25,7 +25,10 @@ svg{display:block;width:100%;print-color-adjust:exact;-webkit-print-color-adjust
 .one{stroke:#fff;stroke-width:.09;stroke-linecap:round;stroke-linejoin:round}
 figcaption{margin-top:.4rem;font-size:.8125rem;font-variant-numeric:tabular-nums;white-space:nowrap}
 b{font-size:.9375rem}
-@media print{:root{--page:#fff;--ink:#000;--soft:#444;--wood:#e9c98d;--grid:#6b5328;--outside:#f1efeb}body{padding:0;max-width:none}main{grid-template-columns:repeat(4,1fr);gap:1rem}}
+code{-webkit-user-select:all;user-select:all}
+ul{margin:.25rem 0 0;padding:0;list-style:none;font-size:.75rem;overflow-wrap:anywhere}
+@media print{:root{--page:#fff;--ink:#000;--soft:#444;--wood:#e9c98d;--grid:#6b5328;--outside:#f1efeb}body{padding:0;max-width:none;font-size:9pt}main{grid-template-columns:repeat(5,1fr);gap:4mm;margin-top:4mm}figcaption,b{font-size:8pt}figure:nth-child(20n){break-after:page}}
+@page{margin:12mm}
 </style>
 </head>
 <body>

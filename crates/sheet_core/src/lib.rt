@@ -2,13 +2,16 @@
 #![tactic(auto)]
 
 mod asked;
+mod bounds;
 mod cells;
 mod choosing;
 mod drawing;
+mod empty;
 mod head;
 mod orders;
 mod page;
 mod pieces;
+mod places;
 mod plain;
 mod rows;
 mod runs;

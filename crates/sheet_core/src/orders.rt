@@ -4,6 +4,7 @@ ghost use Rattle.std.specs.Ordering.{is_lt};
 ghost use Rattle.sheet_core.specs.Orders.{worth_of, scale_of};
 ghost use Rattle.sheet_core.specs.Inner.Orders.{goes_before};
 
+use crate::bounds::bound_of;
 use shape_dict::Entry;
 use std::cmp::Ordering;
 
@@ -16,6 +17,8 @@ pub enum Order {
     Urgency,
     /// Times that the pattern was there.
     There,
+    /// Plays for each time that the pattern was there, as it is at least for a chance of 95 %.
+    Bound,
 }
 
 /// What is compared in an order, as a numerator and a denominator, which is not 0.
@@ -27,6 +30,7 @@ fn fraction(order: Order, entry: &Entry) -> (u64, u64)
         Order::Played => (entry.played, 1),
         Order::Urgency => (entry.played, entry.there.max(1)),
         Order::There => (entry.there, 1),
+        Order::Bound => (bound_of(entry), 1),
     }
 }
 

@@ -1,16 +1,18 @@
 //! The page of chosen patterns.
-ghost use Rattle.std.specs.Prelude.{◌≡◌, ◌++◌, OnOk, IfOk};
+ghost use Rattle.std.specs.Prelude.{◌≡◌, ◌++◌, OnOk, IfOk, map};
 ghost use Rattle.sheet_core.specs.Pieces.{ranked};
 ghost use Rattle.sheet_core.specs.Page.{name_text, share_text, uses_text, game_text, caption_text};
 ghost use Rattle.sheet_core.specs.Page.{figure_text, kind_name, order_name, counted_text, number_text};
-ghost use Rattle.sheet_core.specs.Page.{terms_text, page_text};
+ghost use Rattle.sheet_core.specs.Page.{terms_text, body_text, page_text};
 ghost use Rattle.sheet_core.specs.Page.{legend_text, heading_text, end_text, head_text};
 
 use crate::asked::Asked;
 use crate::drawing::push_drawing;
+use crate::empty::push_empty;
 use crate::head::HEAD;
 use crate::orders::Order;
 use crate::pieces::push_whole_percent;
+use crate::places::{lines_of, push_places};
 use shape_core::Kind;
 use shape_dict::{Dictionary, Entry, FirstGame, push_number, push_word};
 use std::alloc::{AllocError, Global};
@@ -78,25 +80,39 @@ fn push_caption(text: &mut Vec<u8>, rank: u64, entry: &Entry) -> Result<(), Allo
     Ok(())
 }
 
-/// Appends a pattern with its rank.
+/// Appends a pattern with its rank, and its places in these lines.
 #[tactic(auto, unfolding(crate::specs::Page::figure_text))]
-fn push_figure(text: &mut Vec<u8>, rank: u64, entry: &Entry) -> Result<(), AllocError>
-    ensures { OnOk result (text.new.items ≡ text.old.items ++ figure_text rank entry.now) }
+fn push_figure(
+    alloc: Global,
+    text: &mut Vec<u8>,
+    lines: &[&[u8]],
+    rank: u64,
+    entry: &Entry,
+) -> Result<(), AllocError>
+    ensures { OnOk result (text.new.items
+        ≡ text.old.items ++ figure_text (map (λ line. line.now) lines.now) rank entry.now) }
 {
     text.extend_from_slice(b"<figure>")?;
     push_drawing(text, entry.shape.word())?;
     push_caption(text, rank, entry)?;
-    text.extend_from_slice(b"</figure>\n")
+    push_places(alloc, text, lines, entry.shape)?;
+    text.extend_from_slice(b"</figure>\n")?;
+    Ok(())
 }
 
 /// Appends patterns, the first with rank 1.
-fn push_figures(text: &mut Vec<u8>, chosen: &[Entry]) -> Result<(), AllocError>
-    ensures { OnOk result (text.new.items
-        ≡ text.old.items ++ ranked figure_text 1 chosen.now) }
+fn push_figures(
+    alloc: Global,
+    text: &mut Vec<u8>,
+    lines: &[&[u8]],
+    chosen: &[Entry],
+) -> Result<(), AllocError>
+    ensures { OnOk result (text.new.items ≡ text.old.items
+        ++ ranked (figure_text (map (λ line. line.now) lines.now)) 1 chosen.now) }
 {
     let mut rank = 1;
     for entry in chosen {
-        push_figure(text, rank, entry)?;
+        push_figure(alloc, text, lines, rank, entry)?;
         rank += 1;
     }
     Ok(())
@@ -120,6 +136,7 @@ fn order_name(order: Order) -> &'static [u8]
         Order::Played => b"the most often played",
         Order::Urgency => b"the most urgent",
         Order::There => b"the most often there",
+        Order::Bound => b"the most surely urgent",
     }
 }
 
@@ -193,6 +210,29 @@ fn push_heading(
     push_legend(text)
 }
 
+/// Appends the figures of the chosen patterns, or why there is none.
+#[tactic(auto, unfolding(crate::specs::Page::body_text))]
+fn push_body(
+    alloc: Global,
+    text: &mut Vec<u8>,
+    asked: Asked,
+    lines: &[&[u8]],
+    dictionary: &Dictionary,
+    chosen: &[Entry],
+) -> Result<(), AllocError>
+    ensures { OnOk result (text.new.items
+        ≡ text.old.items ++ body_text asked (map (λ line. line.now) lines.now)
+        dictionary.now chosen.now) }
+{
+    if chosen.is_empty() {
+        text.extend_from_slice(b"<p>")?;
+        push_empty(text, asked, dictionary.entries())?;
+        text.extend_from_slice(b"</p>\n")?;
+        return Ok(());
+    }
+    push_figures(alloc, text, lines, chosen)
+}
+
 /// Appends the end of the page.
 #[tactic(auto, unfolding(crate::specs::Page::end_text))]
 fn push_end(text: &mut Vec<u8>) -> Result<(), AllocError>
@@ -201,8 +241,9 @@ fn push_end(text: &mut Vec<u8>) -> Result<(), AllocError>
     text.extend_from_slice(b"</main>\n</body>\n</html>\n")
 }
 
-/// The page of chosen patterns of a dictionary. It is one file: it holds its style sheet, has no
-/// script, and loads nothing. It takes memory for the text.
+/// The page of chosen patterns of a dictionary. Below each stand its first places, three at most,
+/// in the lines of hits: those that begin with its word and a space. It is one file: it holds its
+/// style sheet, has no script, and loads nothing. It takes memory for the text.
 ///
 /// # Errors
 ///
@@ -211,15 +252,18 @@ fn push_end(text: &mut Vec<u8>) -> Result<(), AllocError>
 pub fn page_text(
     alloc: Global,
     asked: Asked,
+    hits: &[u8],
     dictionary: &Dictionary,
     chosen: &[Entry],
 ) -> Result<Vec<u8>, AllocError>
-    ensures { IfOk result (λ text. text.items ≡ page_text asked dictionary.now chosen.now) }
+    ensures { IfOk result (λ text. text.items
+        ≡ page_text asked hits.now dictionary.now chosen.now) }
 {
+    let lines = lines_of(alloc, hits)?;
     let mut text = Vec::new(alloc);
     push_head(&mut text)?;
     push_heading(&mut text, asked, dictionary, chosen.len() as u64)?;
-    push_figures(&mut text, chosen)?;
+    push_body(alloc, &mut text, asked, &lines, dictionary, chosen)?;
     push_end(&mut text)?;
     Ok(text)
 }

@@ -1,8 +1,11 @@
 //! The text for a terminal.
 ghost use Rattle.std.specs.Prelude.{◌≡◌, ◌+◌, ◌≤◌, ◌++◌, length, OnOk, IfOk};
 ghost use Rattle.sheet_core.specs.Plain.{marked_glyphs, row_text, board_text, uses_text};
+ghost use Rattle.sheet_core.specs.Pieces.{ranked};
 ghost use Rattle.sheet_core.specs.Plain.{caption_text, figure_text, plain_text};
 
+use crate::asked::Asked;
+use crate::empty::push_empty;
 use crate::pieces::{push_first, push_percent};
 use crate::rows::{Row, rows_of};
 use shape_core::{Word, glyphs};
@@ -82,19 +85,39 @@ fn push_figure(text: &mut Vec<u8>, rank: u64, entry: &Entry) -> Result<(), Alloc
     Ok(())
 }
 
-/// The text of chosen patterns for a terminal, the first with rank 1. It takes memory for the text.
+/// Appends patterns, the first with rank 1.
+fn push_figures(text: &mut Vec<u8>, chosen: &[Entry]) -> Result<(), AllocError>
+    ensures { OnOk result (text.new.items
+        ≡ text.old.items ++ ranked figure_text 1 chosen.now) }
+{
+    let mut rank = 1;
+    for entry in chosen {
+        push_figure(text, rank, entry)?;
+        rank += 1;
+    }
+    Ok(())
+}
+
+/// The text of patterns that were chosen of others, for a terminal, the first with rank 1; or why
+/// none was chosen. It takes memory for the text.
 ///
 /// # Errors
 ///
 /// `AllocError` where memory was refused.
-pub fn plain_text(alloc: Global, chosen: &[Entry]) -> Result<Vec<u8>, AllocError>
-    ensures { IfOk result (λ text. text.items ≡ plain_text chosen.now) }
+pub fn plain_text(
+    alloc: Global,
+    asked: Asked,
+    entries: &[Entry],
+    chosen: &[Entry],
+) -> Result<Vec<u8>, AllocError>
+    ensures { IfOk result (λ text. text.items ≡ plain_text asked entries.now chosen.now) }
 {
     let mut text = Vec::new(alloc);
-    let mut rank = 1;
-    for entry in chosen {
-        push_figure(&mut text, rank, entry)?;
-        rank += 1;
+    if chosen.is_empty() {
+        push_empty(&mut text, asked, entries)?;
+        text.push(b'\n')?;
+        return Ok(text);
     }
+    push_figures(&mut text, chosen)?;
     Ok(text)
 }

@@ -12,18 +12,20 @@ use std::alloc::Global;
 use std::io::{Read, Write};
 
 /// The sheet of the dictionary whose text the input is.
-fn sheet_of(alloc: Global, asked: Asked, input: &[u8]) -> Result<Vec<u8>, RunFault>
-    ensures text { IfOk result (λ text. IsSheetText asked input.now text.items) }
+fn sheet_of(alloc: Global, asked: Asked, hits: &[u8], input: &[u8]) -> Result<Vec<u8>, RunFault>
+    ensures text { IfOk result (λ text. IsSheetText asked hits.now input.now text.items) }
     ensures fault { IfErr result (IsFindFault input.now) }
 {
     let dictionary = Dictionary::read(alloc, input)?;
-    Ok(sheet_text(alloc, asked, &dictionary)?)
+    Ok(sheet_text(alloc, asked, hits, &dictionary)?)
 }
 
 /// Reads one dictionary, in any of the three texts, and writes its sheet: the patterns that are
-/// asked for, as a page or as text for a terminal. Of the reader it takes the bytes up to its end,
-/// or 2^28 + 1 of them, and no more, unless the reader fails or memory is refused. It takes memory
-/// for the input, the dictionary, the patterns that qualify, and the sheet.
+/// asked for, as a page or as text for a terminal. On a page the first places of each stand below
+/// it, which lines of these hits have, as `shape_hits --words` prints them. Of the reader it takes
+/// the bytes up to its end, or 2^28 + 1 of them, and no more, unless the reader fails or memory is
+/// refused. It takes memory for the input, the dictionary, the patterns that qualify, and the
+/// sheet.
 ///
 /// # Errors
 ///
@@ -33,17 +35,18 @@ fn sheet_of(alloc: Global, asked: Asked, input: &[u8]) -> Result<Vec<u8>, RunFau
 pub fn run_sheet<R: Read, W: Write>(
     alloc: Global,
     asked: Asked,
+    hits: &[u8],
     reader: &mut R,
     writer: &mut W,
 ) -> Result<(), RunFault>
     ensures read { HasRead result (R.remaining reader.old) (R.remaining reader.new) }
-    ensures done { OnOk result (Wrote (IsSheetText asked) (R.remaining reader.old)
+    ensures done { OnOk result (Wrote (IsSheetText asked hits.now) (R.remaining reader.old)
         (W.contents writer.old) (W.contents writer.new)) }
-    ensures fault { IfErr result (IsRunFault (IsSheetText asked) IsFindFault
+    ensures fault { IfErr result (IsRunFault (IsSheetText asked hits.now) IsFindFault
         (R.remaining reader.old) (W.contents writer.old) (W.contents writer.new)) }
 {
     let input = read_input(alloc, reader)?;
-    let sheet = sheet_of(alloc, asked, &input)?;
+    let sheet = sheet_of(alloc, asked, hits, &input)?;
     write_output(writer, &sheet)?;
     Ok(())
 }

@@ -13,19 +13,22 @@ use std::alloc::{AllocError, Global};
 fn written_text(
     alloc: Global,
     asked: Asked,
+    hits: &[u8],
     dictionary: &Dictionary,
     chosen: &[Entry],
 ) -> Result<Vec<u8>, AllocError>
-    ensures { IfOk result (λ text. text.items ≡ written_text asked dictionary.now chosen.now) }
+    ensures { IfOk result (λ text. text.items
+        ≡ written_text asked hits.now dictionary.now chosen.now) }
 {
     match asked.form {
-        Form::Page => page_text(alloc, asked, dictionary, chosen),
-        Form::Plain => plain_text(alloc, chosen),
+        Form::Page => page_text(alloc, asked, hits, dictionary, chosen),
+        Form::Plain => plain_text(alloc, asked, dictionary.entries(), chosen),
     }
 }
 
-/// The sheet of a dictionary: the patterns that are asked for, as a page or as text. It takes
-/// memory for the patterns that qualify, and for the text.
+/// The sheet of a dictionary: the patterns that are asked for, as a page or as text. On a page the
+/// first places of each stand below it, which lines of these hits have. It takes memory for the
+/// patterns that qualify, and for the text.
 ///
 /// # Errors
 ///
@@ -33,9 +36,10 @@ fn written_text(
 pub fn sheet_text(
     alloc: Global,
     asked: Asked,
+    hits: &[u8],
     dictionary: &Dictionary,
 ) -> Result<Vec<u8>, AllocError>
-    ensures { IfOk result (λ text. IsSheetOf asked dictionary.now text.items) }
+    ensures { IfOk result (λ text. IsSheetOf asked hits.now dictionary.now text.items) }
 {
     let chosen = choose(
         alloc,
@@ -45,5 +49,5 @@ pub fn sheet_text(
         asked.most,
         dictionary,
     )?;
-    written_text(alloc, asked, dictionary, &chosen)
+    written_text(alloc, asked, hits, dictionary, &chosen)
 }

@@ -66,7 +66,7 @@ fn sheet_core(rt: HostRuntime) -> Result<(), Fail> {
         most: 20,
         form: Form::Plain,
     };
-    let drawn = run_sheet(alloc, asked, &mut one, &mut sheet);
+    let drawn = run_sheet(alloc, asked, &[], &mut one, &mut sheet);
     assert!(rt; drawn == Ok(()));
     let wanted = b"1 3fffffcffffff there 1 played 1 urgency 100.00%\n";
     assert!(rt; sheet.as_slice().starts_with(wanted));

@@ -1,0 +1,82 @@
+//! The lower bound of a ratio of plays.
+ghost use Rattle.std.specs.Prelude.{◌≡◌, ◌<◌, ◌≤◌, ◌^◌, IsTrue};
+ghost use Rattle.sheet_core.specs.Bounds.{is_enough, is_reached, stepped, bound_from, bound_of};
+
+use shape_dict::Entry;
+
+/// How many parts 1 has.
+const PARTS: u64 = 1 << 20;
+
+/// How many steps lead to a bound: the first is half of 1, and each one half of that before.
+const STEPS: u64 = 20;
+
+/// An excess that is great enough for any ratio.
+const GREAT: u128 = 1 << 57;
+
+/// Whether the square of an excess is great enough for a pattern that was there so many times, and
+/// so many parts.
+fn is_enough(excess: u128, times: u64, bound: u64) -> bool
+    requires bound { bound < 2 ^ 20 }
+    ensures { result ≡ is_enough times bound excess }
+{
+    if excess >= GREAT {
+        return true;
+    }
+    let spread = bound * (PARTS - bound);
+    let needed = u128::from(times) * u128::from(spread);
+    2401 * needed <= 625 * (excess * excess)
+}
+
+/// Whether the interval begins at so many parts or later.
+#[tactic(auto, unfolding(crate::specs::Bounds::is_reached))]
+fn is_reached(times: u64, plays: u64, bound: u64) -> bool
+    ensures value { result ≡ is_reached times plays bound }
+    ensures small { IsTrue result → bound < 2 ^ 20 }
+{
+    if bound >= PARTS {
+        return false;
+    }
+    let least = u128::from(times) * u128::from(bound);
+    let most = u128::from(plays) * u128::from(PARTS);
+    if most < least {
+        return false;
+    }
+    is_enough(most - least, times, bound)
+}
+
+/// So many parts more, where the interval begins there or later.
+fn stepped(times: u64, plays: u64, step: u64, bound: u64) -> u64
+    requires step { step ≤ 2 ^ 19 }
+    requires bound { bound < 2 ^ 20 }
+    ensures value { result ≡ stepped times plays step bound }
+    ensures small { result < 2 ^ 20 }
+{
+    let more = bound + step;
+    if is_reached(times, plays, more) {
+        more
+    } else {
+        bound
+    }
+}
+
+/// The lower bound for so many times and plays, in parts, rounded down.
+fn bound_for(times: u64, plays: u64) -> u64
+    ensures { result ≡ bound_from 20 times plays (2 ^ 19) 0 }
+{
+    let mut step: u64 = PARTS / 2;
+    let mut bound: u64 = 0;
+    for _done in 0..STEPS {
+        bound = stepped(times, plays, step, bound);
+        step /= 2;
+    }
+    bound
+}
+
+/// The lower bound of the ratio of an entry's plays, in parts, rounded down: that of Wilson's
+/// interval for a chance of 95 %. Takes no memory.
+#[tactic(auto, unfolding(crate::specs::Bounds::bound_of))]
+pub(crate) fn bound_of(entry: &Entry) -> u64
+    ensures { result ≡ bound_of entry.now }
+{
+    bound_for(entry.there.max(1), entry.played)
+}

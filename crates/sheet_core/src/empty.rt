@@ -1,0 +1,122 @@
+//! Why no pattern of a dictionary is chosen.
+ghost use Rattle.std.specs.Prelude.{◌≡◌, ◌++◌, ◌∷◌, None, OnOk, List};
+ghost use Rattle.shape_dict.specs.Contents.{is_of, of_kind};
+ghost use Rattle.shape_dict.specs.declared.entries.Entry.{Entry as One};
+ghost use Rattle.sheet_core.specs.Empty.{most_after, plural_name, absent_text, rare_text};
+ghost use Rattle.sheet_core.specs.Empty.{most_text, none_text, empty_text};
+
+use crate::asked::Asked;
+use shape_core::Kind;
+use shape_dict::{Entry, push_number};
+use std::alloc::AllocError;
+
+/// Whether a pattern is of the kind.
+fn is_of(kind: Kind, entry: &Entry) -> bool
+    ensures { result ≡ is_of kind entry.now }
+{
+    entry.shape.word().kind() == kind
+}
+
+/// How often that pattern was there which was there most often, with one pattern more where it is
+/// of the kind.
+#[tactic(auto, using(crate::proofs::Greatest::most_stays, crate::proofs::Greatest::most_grows))]
+fn most_with(kind: Kind, most: Option<u64>, entry: &Entry) -> Option<u64>
+    ensures { (rest : List One) → most_after most (of_kind kind (entry.now ∷ rest))
+        ≡ most_after result (of_kind kind rest) }
+{
+    if !is_of(kind, entry) {
+        return most;
+    }
+    Some(most.unwrap_or(0).max(entry.there))
+}
+
+/// How often that pattern of the kind was there which was there most often.
+fn most_there(kind: Kind, entries: &[Entry]) -> Option<u64>
+    ensures { result ≡ most_after None (of_kind kind entries.now) }
+{
+    let mut most: Option<u64> = None;
+    for entry in entries {
+        most = most_with(kind, most, entry);
+    }
+    most
+}
+
+/// The name of patterns of a kind.
+fn plural_name(kind: Kind) -> &'static [u8]
+    ensures { result.now ≡ plural_name kind }
+{
+    match kind {
+        Kind::Square => b"squares",
+        Kind::Diamond => b"diamonds",
+    }
+}
+
+/// Appends that there is no pattern of the kind.
+#[tactic(auto, unfolding(crate::specs::Empty::absent_text))]
+fn push_absent(text: &mut Vec<u8>, kind: Kind) -> Result<(), AllocError>
+    ensures { OnOk result (text.new.items ≡ text.old.items ++ absent_text kind) }
+{
+    text.extend_from_slice(b"The dictionary has no ")?;
+    text.extend_from_slice(plural_name(kind))?;
+    text.extend_from_slice(b".")?;
+    Ok(())
+}
+
+/// Appends that none of the patterns was there so often.
+#[tactic(auto, unfolding(crate::specs::Empty::rare_text))]
+fn push_rare(text: &mut Vec<u8>, kind: Kind, least: u64) -> Result<(), AllocError>
+    ensures { OnOk result (text.new.items ≡ text.old.items ++ rare_text kind least) }
+{
+    text.extend_from_slice(b"None of the ")?;
+    text.extend_from_slice(plural_name(kind))?;
+    text.extend_from_slice(b" was there as often as ")?;
+    push_number(text, least)?;
+    text.extend_from_slice(b" times: ")?;
+    Ok(())
+}
+
+/// Appends how often one was there at most.
+#[tactic(auto, unfolding(crate::specs::Empty::most_text))]
+fn push_most(text: &mut Vec<u8>, most: u64) -> Result<(), AllocError>
+    ensures { OnOk result (text.new.items ≡ text.old.items ++ most_text most) }
+{
+    text.extend_from_slice(b"at most ")?;
+    push_number(text, most)?;
+    text.extend_from_slice(b" times.")?;
+    Ok(())
+}
+
+/// Appends that there is no pattern of the kind, or none that was there so often.
+fn push_none(
+    text: &mut Vec<u8>,
+    kind: Kind,
+    least: u64,
+    most: Option<u64>,
+) -> Result<(), AllocError>
+    ensures { OnOk result (text.new.items ≡ text.old.items ++ none_text kind least most) }
+{
+    match most {
+        None => push_absent(text, kind),
+        Some(most) => {
+            push_rare(text, kind, least)?;
+            push_most(text, most)
+        }
+    }
+}
+
+/// Appends why no pattern of these is chosen.
+#[tactic(auto, unfolding(crate::specs::Empty::empty_text))]
+pub(crate) fn push_empty(
+    text: &mut Vec<u8>,
+    asked: Asked,
+    entries: &[Entry],
+) -> Result<(), AllocError>
+    ensures { OnOk result (text.new.items ≡ text.old.items ++ empty_text asked entries.now) }
+{
+    push_none(
+        text,
+        asked.kind,
+        asked.least,
+        most_there(asked.kind, entries),
+    )
+}
