@@ -1,6 +1,7 @@
 # Draws the pattern of each line of a dictionary: X is the player to move, O the other one, # off the board, * the point itself. A
 # header has none, and stays as it is.
 /^shapes / { print; next }
+length($1) != 13 || $1 ~ /[^0-9a-f]/ { print "show: no word of 13 digits: " $1 >"/dev/stderr"; wrong = 1; next }
 {
     cells = ""
     for (i = 13; i > 0; i--) {
@@ -16,3 +17,4 @@
         from += width[row]
     }
 }
+END { exit wrong }
