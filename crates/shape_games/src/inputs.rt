@@ -3,6 +3,7 @@ ghost use Rattle.std.specs.Prelude.{◌≡◌, ◌≤◌, IfSome};
 ghost use Rattle.listing_core.specs.Listing.{most_first};
 ghost use Rattle.shape_games.specs.Inputs.{first_status};
 
+use crate::outputs::Output;
 use crate::telling::{Named, tell_flaw, tell_no_tree};
 use crate::words::{Asked, Work};
 use engine_core::{RunFault, status_of};
@@ -19,6 +20,8 @@ struct Sum {
     report: Report,
     /// The games that were met, where twins are asked for.
     twins: Twins,
+    /// Whether anything was written.
+    is_written: bool,
     /// The exit status: that of the first fault, 0 where there is none.
     status: u8,
 }
@@ -69,7 +72,11 @@ fn write_of<R: Read>(
         return Err(RunFault::Sgf(SgfFault::TooLarge));
     };
     let alloc = rt.alloc();
-    match asked.work {
+    let mut output = Output {
+        rt,
+        is_written: sum.is_written,
+    };
+    let result = match asked.work {
         Work::List(form) => {
             let listing = Listing {
                 form,
@@ -77,10 +84,12 @@ fn write_of<R: Read>(
                 first,
                 name,
             };
-            run_listing(alloc, &listing, reader, &mut rt.stdout())
+            run_listing(alloc, &listing, reader, &mut output)
         }
-        Work::Twins => run_twins(alloc, &mut sum.twins, first, name, reader, &mut rt.stdout()),
-    }
+        Work::Twins => run_twins(alloc, &mut sum.twins, first, name, reader, &mut output),
+    };
+    sum.is_written = output.is_written;
+    result
 }
 
 /// Says what went wrong with an input. Where standard error takes nothing, the status still says
@@ -160,8 +169,19 @@ fn take_all(
     None
 }
 
-/// Says how many trees of each sort there were.
-fn sum_up(rt: &HostRuntime, report: Report) {
+/// Whether games were to be chosen, nothing was at fault, and none was chosen.
+fn is_in_vain(asked: &Asked<'_>, sum: &Sum) -> bool {
+    !asked.conditions.is_empty() && !sum.is_written && sum.status == 0
+}
+
+/// Says how many trees of each sort there were, and before that whether no game was chosen of
+/// them, which has the status 1.
+fn sum_up(rt: &HostRuntime, asked: &Asked<'_>, sum: &mut Sum) {
+    if is_in_vain(asked, sum) {
+        let _ = eprintln!(rt; "shape_games: no game is chosen");
+        sum.status = 1;
+    }
+    let report = sum.report;
     let _ = eprintln!(rt;
         "shape_games: games {} other {} refused {}",
         report.games, report.others, report.refused
@@ -182,12 +202,13 @@ pub fn list_all(rt: &HostRuntime, asked: &Asked<'_>) -> Result<u8, RunFault> {
             refused: 0,
         },
         twins: Twins::new(rt.alloc()),
+        is_written: false,
         status: 0,
     };
     let inputs = sources(rt, &asked.files)?;
     if let Some(fault) = take_all(rt, asked, &mut sum, &inputs) {
         return Err(fault);
     }
-    sum_up(rt, sum.report);
+    sum_up(rt, asked, &mut sum);
     Ok(sum.status)
 }

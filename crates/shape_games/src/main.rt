@@ -3,6 +3,7 @@
 
 mod commands;
 mod inputs;
+mod outputs;
 mod telling;
 mod words;
 
