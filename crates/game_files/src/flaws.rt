@@ -17,7 +17,7 @@ pub enum Why {
     Unopened,
     /// It is a folder, and no file below it has a name that ends in `.sgf`.
     NoGames,
-    /// It is a folder, and so many names below it are not UTF-8 and were passed over.
+    /// It is a folder, and this number of names below it are not UTF-8 and were passed over.
     PassedOver(u64),
 }
 

@@ -5,7 +5,7 @@ use Rattle.go_record.specs.declared.actions.Action.{Action}
 use Rattle.go_record.specs.declared.actions.Action.TheVariants as action
 use Rattle.hits_core.specs.Sgf.{actions_before, actions_from, action_text, actions_text}
 
--- the actions before a place, after which so many moves are still to come
+-- the actions before a place, after which this number of moves is still to come
 pub record IsCutAt (moves left place : ℕ) (actions : List Action) : Type 0 where
   pub before : actions_before moves actions ≡ take place actions ++ actions_before left (drop place actions)
   pub from : actions_from moves actions ≡ actions_from left (drop place actions)

@@ -89,9 +89,9 @@ pub fn make_folder(rt: &HostRuntime, folder: &str) -> Result<(), RunFault> {
     }
 }
 
-/// Writes a file for each hit of an input, whose first game has this number, and for so many at
-/// most. Hits at the same point before the same move have one file. The answer is how many files
-/// were written.
+/// Writes a file for each hit of an input, whose first game has this number, and at most the number
+/// of files that is given. Hits at the same point before the same move have one file. The answer is
+/// how many files were written.
 ///
 /// # Errors
 ///

@@ -48,7 +48,7 @@ fn first_status(before: u8, status: u8) -> u8
     if before == 0 { status } else { before }
 }
 
-/// How many hits are still asked for after so many were listed.
+/// How many hits are still asked for after this number was listed.
 fn left_after(left: Option<u64>, listed: u64) -> Option<u64>
     ensures { result ≡ left_after left listed }
 {

@@ -13,8 +13,8 @@ const STEPS: u64 = 20;
 /// An excess that is great enough for any ratio.
 const GREAT: u128 = 1 << 57;
 
-/// Whether the square of an excess is great enough for a pattern that was there so many times, and
-/// so many parts.
+/// Whether the square of an excess is great enough for a pattern that was there `times` times, and
+/// a ratio of `bound` parts.
 fn is_enough(excess: u128, times: u64, bound: u64) -> bool
     requires bound { bound < 2 ^ 20 }
     ensures { result ≡ is_enough times bound excess }
@@ -27,7 +27,7 @@ fn is_enough(excess: u128, times: u64, bound: u64) -> bool
     2401 * needed <= 625 * (excess * excess)
 }
 
-/// Whether the interval begins at so many parts or later.
+/// Whether the interval begins at `bound` parts or later.
 #[tactic(auto, unfolding(crate::specs::Bounds::is_reached))]
 fn is_reached(times: u64, plays: u64, bound: u64) -> bool
     ensures value { result ≡ is_reached times plays bound }
@@ -59,7 +59,7 @@ fn stepped(times: u64, plays: u64, step: u64, bound: u64) -> u64
     }
 }
 
-/// The lower bound for so many times and plays, in parts, rounded down.
+/// The lower bound for `plays` of `times` times, in parts, rounded down.
 fn bound_for(times: u64, plays: u64) -> u64
     ensures { result ≡ bound_from 20 times plays (2 ^ 19) 0 }
 {
