@@ -46,8 +46,8 @@ fn counted_text<T: Threads + Sync, G: Gate>(
 /// threads, as many as there are workers, make the text in parts that are written one after
 /// another. It takes memory for the input, for what `harvest` takes, and for the text.
 ///
-/// The gate is for a test or a display of progress: where several workers count, it is told which
-/// of them is about to count which game. It changes no answer.
+/// The gate is for a test or a display of progress: where several workers count, it learns which of
+/// them is about to count which game. It changes no answer.
 ///
 /// # Errors
 ///

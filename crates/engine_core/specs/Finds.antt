@@ -39,8 +39,8 @@ IsFindText shape input text = IsFoundText shape input text ⊎ IsAbsentText shap
 abbrev pub HasNoDictionary : List ℕ → Type 0
 HasNoDictionary input = (contents : Contents) → IsTextOf contents input → length input ≤ most_bytes → ⊥
 
--- the fault is the first in the input as a text of a dictionary; the run's own want of memory is that for the input or for
--- what is printed, and comes whatever the input is
+-- the fault is the first in the input as a text of a dictionary; the run's own lack of memory is that for the input or
+-- for what is printed, and comes whatever the input is
 abbrev pub IsFindFault : List ℕ → RunFault → Type 0
 IsFindFault input (fault.Dict n dict_fault.Memory) = (n ≡ 1) × IsTextFault input dict_fault.Memory
 IsFindFault input (fault.Dict n found) = (n ≡ 1) × IsTextFault input found × HasNoDictionary input

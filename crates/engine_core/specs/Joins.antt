@@ -84,7 +84,7 @@ IsDictionaryFault input n dict_fault.Overflow = IsNotAdded input n dict_fault.Ov
 IsDictionaryFault input n dict_fault.MixedKinds = IsNotAdded input n dict_fault.MixedKinds
 IsDictionaryFault input n found = IsBadText input n found
 
--- the same of a run; its own want of memory is that for the input, and comes whatever the input is
+-- the same of a run; its own lack of memory is that for the input, and comes whatever the input is
 abbrev pub IsJoinRunFault : List ℕ → RunFault → Type 0
 IsJoinRunFault input (fault.Dict n found) = IsDictionaryFault input n found
 IsJoinRunFault input fault.Memory = Unit {0}

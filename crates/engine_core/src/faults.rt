@@ -107,7 +107,7 @@ impl<T: Drop> From<AllocFailed<T>> for RunFault {
     }
 }
 
-/// The line of a dictionary's fault. Too large an input and want of memory are of no one
+/// The line of a dictionary's fault. Too large an input and a lack of memory concern no one
 /// dictionary, so they are said without a number.
 #[derive(Clone, Copy)]
 struct DictLine {

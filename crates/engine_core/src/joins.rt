@@ -32,7 +32,7 @@ fn add_next(alloc: Global, sum: &Dictionary, bytes: &[u8]) -> Result<(Dictionary
 /// The batch at the front of the input, and the dictionary that follows it.
 ///
 /// `RunFault::Dict` has the number of that dictionary, from 1, and why it cannot be read or added,
-/// or want of memory.
+/// or out of memory.
 fn add_one(alloc: Global, input: &[u8], before: &Batch) -> Result<Batch, RunFault>
     requires few { length input.now ≤ most_bytes }
     requires before { IsBatch input.now before.now }

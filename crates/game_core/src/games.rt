@@ -107,7 +107,7 @@ fn next_tree<'a>(alloc: Global, trees: &mut Trees<'a>) -> Result<Option<Tree<'a>
     }
 }
 
-/// What was read of a tree's record; want of memory, and no other fault, is handed on.
+/// What was read of a tree's record; out of memory, and no other fault, is handed on.
 fn unless_memory(
     recorded: Result<Kind, RecordFault>,
 ) -> Result<Result<Kind, RecordFault>, GamesFault>
@@ -241,9 +241,9 @@ impl<'a> Games<'a> {
     /// # Errors
     ///
     /// `Sgf` where the tree after those that were passed over has a fault of syntax; `Memory` where
-    /// memory was refused, which is asked for only where that tree is whole, so never in place of
-    /// a fault of syntax. The report is then that of the trees before this one. Each later call
-    /// answers the same fault, want of memory too, and changes nothing.
+    /// memory was refused, which is asked for only where that tree is whole, so never in place of a
+    /// fault of syntax. The report is then that of the trees before this one. Each later call
+    /// answers the same fault, out of memory too, and changes nothing.
     pub fn next_job(&mut self, alloc: Global) -> Result<Option<Job<'a>>, GamesFault>
         ensures bytes { self.new.bytes ≡ self.old.bytes }
         ensures job { IfOk result (λ found. IfSome found (IsNextGame self.old self.new)) }

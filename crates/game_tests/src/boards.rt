@@ -270,7 +270,7 @@ fn the_largest_group_is_removed(rt: HostRuntime) {
     assert!(rt; last_of_all(rt.alloc(), Colour::Black) == Some(by_black));
 }
 
-/// Whether want of memory is said so.
+/// Whether out of memory is said so.
 fn says(alloc: Global, wanted: &str) -> Result<bool, Fail> {
     Ok(format!(in alloc; "{}", BoardFault::Memory)?.as_str() == wanted)
 }

@@ -232,7 +232,7 @@ fn patterns(alloc: Global, bytes: &[u8]) -> Result<usize, TallyFault> {
     Ok(counted.dictionary.entries().len())
 }
 
-/// With memory refused at any request it still holds: the tally is the game's, or want of memory is
+/// With memory refused at any request it still holds: the tally is the game's, or out of memory is
 /// answered.
 #[test]
 fn memory_is_found_or_named(rt: HostRuntime) {

@@ -118,7 +118,8 @@ fn in_order<R: Threads + Sync>(
     sorted
 }
 
-/// What all shares have counted, an entry for each pattern, in order. None where it does not go.
+/// What all shares have counted, an entry for each pattern, in order. None where some entry could
+/// not be added.
 fn entries_of<R: Threads + Sync>(
     rt: &R,
     room: Room,

@@ -20,8 +20,8 @@ const LEAST: usize = 4096;
 const MOST_HALVINGS: usize = 3;
 
 /// Adds what was counted of a number's pattern to the number's total, which counts nothing where it
-/// has none yet. The answer is whether it goes: what was never there does not, nor what is of
-/// another pattern, nor what makes a sum pass 2^64 - 1.
+/// has none yet. False where the entry was never there, is of another pattern, or makes a sum pass
+/// 2^64 - 1.
 fn add_entry(total: &mut Entry, entry: Entry) -> bool
     ensures total { OnTrue result ((rows : List Row) (number : ℕ)
         → IsTotalAt rows number (counted total.old)

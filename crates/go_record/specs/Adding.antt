@@ -24,7 +24,7 @@ pub record KeepsAnAction (line : List Node) : Type 0 where
   pub sized : board_of (first_value (codes "SZ") (root_of line)) ≡ Ok size
   pub some : 0 < actions_before_fault (flat_map (node_deeds size) line)
 
--- the result is the record of the main line, or want of memory, which is answered only where an action is kept
+-- the result is the record of the main line, or out of memory, which is answered only where an action is kept
 abbrev pub IsRecordOrMemory : List Node → Result Kind RecordFault → Type 0
 IsRecordOrMemory line (Err fault.Memory) = KeepsAnAction line
 IsRecordOrMemory line result = result ≡ record_of line

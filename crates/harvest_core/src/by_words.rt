@@ -112,7 +112,8 @@ fn number_hand(
     Ok(NumberedHand { share, pass, room })
 }
 
-/// What the hands come to, in their order, each in a thread of its own where one can be started.
+/// Numbers each worker's patterns, in a thread of its own where one can be started. The results are
+/// in the workers' order.
 fn number_hands<R: Threads + Sync>(
     rt: &R,
     alloc: Global,

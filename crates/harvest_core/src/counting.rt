@@ -18,7 +18,7 @@ pub(crate) struct Crowd<'c, 'a, G: Gate> {
     pub alloc: Global,
     /// How many numbers the table has.
     pub capacity: Capacity,
-    /// Who is told before each game.
+    /// What is called before each game.
     pub gate: &'c G,
     /// The kinds of pattern that are counted.
     pub kinds: Kinds,

@@ -1,4 +1,4 @@
-//! Gates: what is told before each game.
+//! Gates: what is called before each game.
 
 /// What whoever counts a game calls before it. A gate changes no answer.
 pub trait Gate: Sync {

@@ -41,7 +41,7 @@ struct Numbering {
     pass: Pass<OddRuns>,
 }
 
-/// What one thread comes to: what a worker has counted, the table, or the next part.
+/// The result of one thread: what a worker has counted, the table, or the next part.
 #[derive(Drop)]
 enum Done<'a> {
     Counted(Counter),
@@ -49,7 +49,7 @@ enum Done<'a> {
     Part(Part<'a>),
 }
 
-/// What all threads of a round come to.
+/// The results of all threads of a round.
 #[derive(Drop)]
 struct Round<'a> {
     numbers: Option<Numbering>,
@@ -58,7 +58,7 @@ struct Round<'a> {
     part: Option<Part<'a>>,
 }
 
-/// What all rounds come to.
+/// The result of all rounds.
 #[derive(Drop)]
 pub(crate) struct Ended {
     pub table: SlotTable<OddRuns>,
@@ -104,8 +104,8 @@ fn done_by<'a, G: Gate>(
     }
 }
 
-/// What the tasks of a round come to, in their order: each in a thread of its own where one can be
-/// started.
+/// The results of a round's tasks, in their order: each is done in a thread of its own where one
+/// can be started.
 fn done_by_all<'a, R: Threads + Sync, G: Gate>(
     rt: &R,
     crowd: &Crowd<'_, 'a, G>,
@@ -204,7 +204,7 @@ fn next_tasks<'a, G: Gate>(
     Ok(tasks)
 }
 
-/// What all rounds come to, where there is a table.
+/// The result of all rounds, where there is a table.
 fn end_with(made: Option<Numbering>, counters: Vec<Counter>, report: Report) -> Option<Ended>
     ensures { (bytes : List ℕ) (kinds : Kinds) (slots : ℕ) → IfSome made (IsMade slots)
         → All (IsCounter bytes kinds) counters.items → HasReadAll bytes report

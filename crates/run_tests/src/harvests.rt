@@ -335,7 +335,7 @@ fn a_table_of_another_input_disagrees(rt: HostRuntime) -> Result<(), Fail> {
     Ok(())
 }
 
-/// With memory refused at any request the answer is the dictionary or want of memory, and all
+/// With memory refused at any request the answer is the dictionary or out of memory, and all
 /// threads end.
 #[test]
 fn memory_is_found_or_named(rt: HostRuntime) -> Result<(), Fail> {

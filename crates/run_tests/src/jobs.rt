@@ -389,8 +389,8 @@ fn next_number(alloc: Global, games: &mut Games<'_>) -> Result<Option<u64>, Tall
     }
 }
 
-/// With memory refused at any request the games come as they do, or want of memory is answered,
-/// then and later.
+/// With memory refused at any request the games come as they do, or out of memory is answered, then
+/// and later.
 #[test]
 fn memory_is_found_or_named(rt: HostRuntime) -> Result<(), TallyFault> {
     let alloc = rt.alloc();

@@ -63,8 +63,8 @@ fn failed_writes_are_said(rt: HostRuntime) -> Result<(), Fail> {
     assert_listing(&rt, rt.alloc(), (GAMES, 8), stopped, b"0 0 23 g")
 }
 
-/// With memory refused at any request the listing is made, or want of memory is answered and
-/// nothing is written.
+/// With memory refused at any request the listing is made, or out of memory is answered and nothing
+/// is written.
 #[test]
 fn memory_is_found_or_named(rt: HostRuntime) -> Result<(), Fail> {
     let mut writer = Full {

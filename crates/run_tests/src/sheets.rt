@@ -202,7 +202,7 @@ fn runs_write_all_or_say_why(rt: HostRuntime) -> Result<(), Fail> {
     assert_run(&rt, alloc, (short, 9), refused(DictFault::BadLine(2)), b"")
 }
 
-/// With memory refused at any request the sheet is made, or want of memory is answered and nothing
+/// With memory refused at any request the sheet is made, or out of memory is answered and nothing
 /// is written.
 #[test]
 fn memory_is_found_or_named(rt: HostRuntime) -> Result<(), Fail> {

@@ -18,7 +18,7 @@ IsFaultAt bytes from (fault.NoValue bad) = (at : ℕ) × IsNoValue bytes from at
 IsFaultAt bytes from fault.TooLarge = ⊥
 IsFaultAt bytes from fault.Memory = ⊥
 
--- want of memory leaves the reader as it was; another fault is kept
+-- a lack of memory leaves the reader as it was; another fault is kept
 abbrev pub IsAfterFault : Reading → Reading → SgfFault → Type 0
 IsAfterFault before after fault.Memory = after ≡ before
 IsAfterFault before after found = after ≡ record before { fault = Some found }

@@ -99,7 +99,7 @@ fn keep_mark<'a>(marks: &mut Vec<Mark<'a>>, mark: Option<Mark<'a>>, kept: bool) 
 }
 
 /// Reads the tree whose first parenthesis is at `at`. Where memory was refused the rest is read all
-/// the same, and no longer kept: so want of memory is answered only where a tree is there.
+/// the same, and no longer kept: so out of memory is answered only where a tree is there.
 pub(crate) fn read_tree<'a>(alloc: Global, bytes: &'a [u8], at: usize) -> Result<Tree<'a>, SgfFault>
     requires small { length bytes.now ≤ most_bytes }
     requires begins { BeginsTree (drop at bytes.now) }

@@ -28,8 +28,8 @@ fn keep_value<'a>(values: &mut SmallVec<Value<'a>, 1>, value: Value<'a>, kept: b
 
 /// The property whose identifier begins at `from`, in the tree that begins at `at`, and the place
 /// after its values and the white bytes after them. Where memory was refused for a value, None
-/// stands for the property: the other values are read all the same, since want of memory comes
-/// after each fault.
+/// stands for the property: the other values are read all the same, since out of memory comes after
+/// each fault.
 pub(crate) fn read_property<'a>(
     alloc: Global,
     bytes: &'a [u8],

@@ -65,7 +65,7 @@ fn first_begin(bytes: &[u8], from: usize) -> Option<usize>
     None
 }
 
-/// The fault that each later call answers: none after want of memory, since memory may come free.
+/// The fault that each later call answers: none after a lack of memory, since memory may come free.
 fn kept(fault: SgfFault) -> Option<SgfFault>
     ensures { result ≡ kept_fault fault }
 {

@@ -58,9 +58,9 @@ fn recode_run(
     }
 }
 
-/// Makes a change of code in the words of the points that have this one in that row of their cells,
-/// of which `first` is the first, and marks them. The further right such a point lies, the earlier
-/// the cell in which it has this one.
+/// Changes a code, by exclusive or, in every word whose row of cells has this point, of which
+/// `first` is the first, and marks the points of these words. The further right such a point lies,
+/// the earlier the cell in which it has this one.
 fn recode_row(
     size: Size,
     words: &mut [ImagedWord],

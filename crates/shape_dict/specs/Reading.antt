@@ -199,7 +199,7 @@ pub record HasMore (bytes : List ℕ) (line : ℕ) : Type 0 where
   pub more : left ≢ []
   pub at : line ≡ lines_after header + 2
 
--- the fault is the first in bytes that are to begin with a text, however many they are; want of memory comes after a
+-- the fault is the first in bytes that are to begin with a text, however many they are; out of memory comes after a
 -- header and a first line without a fault, whatever follows them
 abbrev pub IsFirstFault : List ℕ → DictFault → Type 0
 IsFirstFault bytes fault.BadHeader = HasNoHeader bytes

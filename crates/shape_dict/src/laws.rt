@@ -13,7 +13,7 @@ pub fn texts_are_distinct()
         → (text ≡ other_text) × (one ≡ other) }
 {}
 
-/// Bytes that are to be a text have one first fault, want of memory aside, and so have those that
+/// Bytes that are to be a text have one first fault, a lack of memory aside, and so have those that
 /// are to begin with one.
 pub fn texts_have_one_fault()
     ensures text { (bytes : List ℕ) → (one : DictFault) → (other : DictFault)

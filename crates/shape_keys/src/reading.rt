@@ -65,7 +65,7 @@ pub extern "C" fn shapes_header(text: &[u8], header: &mut ShapesHeader) -> u32
 /// room for them all, and writes how many they are alone; a line has 18 bytes or more, so room for
 /// an entry for each 18 bytes of the text is always enough. Else returns `BadText` of the first
 /// fault of the text, X1 to X6 or X8, and writes alone the line that the fault names, from 1 at the
-/// header, or 0 where it names none. X6, want of memory, comes only after a header and a first line
+/// header, or 0 where it names none. X6, out of memory, comes only after a header and a first line
 /// without a fault.
 #[unsafe(no_mangle)]
 pub extern "C" fn shapes_read(

@@ -20,7 +20,7 @@ use tally_core::Walk;
 
 /// The games of a collection, in their order. It takes memory for their records.
 ///
-/// `BenchFault::Count` comes with the fault of reading: S1 to S5, or want of memory.
+/// `BenchFault::Count` comes with the fault of reading: S1 to S5, or out of memory.
 pub fn read_all<'a>(alloc: Global, input: &'a [u8]) -> Result<Vec<Job<'a>>, BenchFault>
     ensures jobs { IfOk result (λ jobs. AreAllGames input.now jobs.items) }
     ensures fault { IfErr result (IsReadingFault input.now) }
@@ -80,7 +80,7 @@ pub fn walk_all(alloc: Global, kinds: Kinds, jobs: &[Job<'_>]) -> Result<u64, Be
 
 /// Counts all games into one share. It takes memory for the share.
 ///
-/// `BenchFault::Count` comes with the fault of adding: F1, F4, F8, or want of memory. The pass must
+/// `BenchFault::Count` comes with the fault of adding: F1, F4, F8, or out of memory. The pass must
 /// be of the table.
 pub fn share_all<O: ProbeOrder>(
     alloc: Global,

@@ -108,7 +108,7 @@ IsRowed rows key (answer.Number number) = HasRow rows number key
 IsRowed rows key answer.Absent = Unit {0}
 IsRowed rows key answer.Full = Unit {0}
 
--- the same after a fault; where it is want of memory, or a row of another pattern, a number may have got no row
+-- the same after a fault; where it is out of memory, or a row of another pattern, a number may have got no row
 abbrev pub IsRowedAfter : HarvestFault → List Row → ℕ → Answer → Type 0
 IsRowedAfter fault.Memory rows key found = Unit {0}
 IsRowedAfter (fault.Stranger number of_share of_table) rows key found = Unit {0}

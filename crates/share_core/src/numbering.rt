@@ -31,8 +31,8 @@ fn list_keys(keys: &mut Vec<Key>, entries: &[Entry]) -> Result<(), HarvestFault>
     Ok(())
 }
 
-/// No number is free for the pattern of an entry. It is told with its first game, and with 0 where
-/// it has none.
+/// No number is free for the pattern of an entry. It is answered with its first game, and with 0
+/// where it has none.
 fn full(entry: &Entry) -> HarvestFault
     ensures { (game : ℕ) × (result ≡ fault.Full game entry.now.shape)
         × IfSome entry.now.first (λ first. game ≡ first) }

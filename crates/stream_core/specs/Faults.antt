@@ -6,7 +6,7 @@ use Rattle.shape_dict.specs.declared.faults.DictFault.TheVariants as fault
 use Rattle.stream_core.specs.declared.faults.StreamFault.{StreamFault}
 use Rattle.stream_core.specs.declared.faults.StreamFault.TheVariants as stream
 
--- the first fault of bytes that are to be one text, without a limit of their number; want of memory is none of theirs
+-- the first fault of bytes that are to be one text, without a limit of their number; out of memory is none of theirs
 abbrev pub IsWholeFault : List ℕ → DictFault → Type 0
 IsWholeFault bytes (fault.BadLine line) = IsBadLine bytes line ⊎ HasMore bytes line
 IsWholeFault bytes fault.Memory = ⊥

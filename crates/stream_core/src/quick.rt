@@ -174,7 +174,7 @@ fn may_stand(header: &Header, place: u64, last: Option<Shape>, word: Word) -> bo
     is_above && is_square == (place < header.squares)
 }
 
-/// The line at the front of the bytes, or None where that is not said here.
+/// The line at the front of the bytes, or None where this fast way cannot tell.
 #[inline(always)]
 pub(crate) fn quick_entry<'a>(
     header: &Header,

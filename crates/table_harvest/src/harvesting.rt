@@ -95,9 +95,9 @@ fn count_of<R: Threads + Sync, O: ProbeOrder>(
     Ok(Counted { dictionary, report })
 }
 
-/// The dictionary of all shares, or the fault that is told, in this order: want of memory, that of
-/// the input, the one that goes first of the games that were refused, and that of the shares
-/// together. The calls of all threads come to this pass.
+/// The dictionary of all shares, or the fault that is reported, in this order: out of memory, that
+/// of the input, the first one of the games that were refused, and that of the shares together. The
+/// calls of all threads come to this pass.
 fn conclude<R: Threads + Sync, O: ProbeOrder>(
     rt: &R,
     alloc: Global,

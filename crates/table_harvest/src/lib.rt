@@ -1,8 +1,9 @@
 //! A collection counted by several workers, game by game, over a table that is somebody else's.
 //!
-//! Faults are told in this order: want of memory of the thread that reads or of any worker; faults
-//! of the input; of the games that were refused `Full` of the least game, then `Stranger`; and then
-//! those of all shares together. `Overflow` never comes: no count of an input is too large.
+//! Faults are reported in this order: out of memory of the thread that reads or of any worker;
+//! faults of the input; of the games that were refused `Full` of the least game, then `Stranger`;
+//! and then those of all shares together. `Overflow` never comes: no count of an input is too
+//! large.
 #![tactic(auto)]
 
 mod harvesting;

@@ -1,4 +1,4 @@
-//! What all threads came to, parted into shares and what was refused.
+//! The workers' results, split into shares and refusals.
 ghost use Rattle.std.specs.Prelude.{◌≡◌, ◌⊎◌, ◌↔◌, [], Contains, IsTrue, MatchOption, IfOk};
 ghost use Rattle.harvest_faults.specs.declared.faults.HarvestFault.TheVariants as fault;
 ghost use Rattle.table_harvest.specs.Inner.Parted.{shares_of, refusals_of};
@@ -58,8 +58,8 @@ pub(crate) fn want_memory(refusals: &[HarvestFault]) -> bool
     refusals.contains(&HarvestFault::Memory)
 }
 
-/// The place of a fault in the order in which faults of games are told: want of memory, want of a
-/// number, strangers, and then a count that is too large.
+/// The place of a fault in the order in which faults of games are reported: out of memory, lack of
+/// a number, strangers, and then a count that is too large.
 fn place(fault: &HarvestFault) -> u32
     ensures { result ≡ rank fault.now }
 {
@@ -82,8 +82,8 @@ fn game_of(fault: &HarvestFault) -> u64
     }
 }
 
-/// Whether a fault is told rather than another one: it has the lesser place, or the same one and
-/// the lesser game.
+/// Whether a fault is reported rather than another one: it has the lesser place, or the same one
+/// and the lesser game.
 fn goes_first(one: &HarvestFault, other: &HarvestFault) -> bool
     ensures { IsTrue result ↔ GoesFirst one.now other.now }
 {
@@ -91,7 +91,7 @@ fn goes_first(one: &HarvestFault, other: &HarvestFault) -> bool
     first < second || (first == second && game_of(one) < game_of(other))
 }
 
-/// Which of two is told: the one that was found, unless the other goes before it.
+/// The fault to report of two: the one that was found, unless the other precedes it.
 fn told(found: Option<HarvestFault>, one: HarvestFault) -> HarvestFault
     ensures { MatchOption found (result ≡ one) (λ so_far.
         ((result ≡ one) × GoesFirst one so_far)
@@ -109,7 +109,7 @@ fn told(found: Option<HarvestFault>, one: HarvestFault) -> HarvestFault
     }
 }
 
-/// The fault that is told, or None where no game was refused: no other fault goes before it.
+/// The fault to report, the first in the order of places, or None where no game was refused.
 pub(crate) fn worst(refusals: &[HarvestFault]) -> Option<HarvestFault>
     ensures { MatchOption result (refusals.now ≡ []) (IsWorst refusals.now) }
 {

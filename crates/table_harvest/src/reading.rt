@@ -69,7 +69,7 @@ fn wants_memory(worked: &Worked) -> bool
     matches!(worked.refused, Some(HarvestFault::Memory))
 }
 
-/// Reads all games of an input of which none was read. Want of memory ends it, also where it came
+/// Reads all games of an input of which none was read. A lack of memory ends it, also where it came
 /// in counting here.
 fn read_all<'a, R: Wait, O: ProbeOrder, G: Gate>(
     rt: &R,
@@ -133,7 +133,7 @@ pub(crate) fn close<R: Wait>(rt: &R, desk: &mut Desk<'_, '_>, workers: usize)
     }
 }
 
-/// What the thread that reads has come to, with its desk and pass.
+/// The result of the thread that reads, with its desk and pass.
 #[derive(Drop)]
 pub(crate) struct Reading<'q, 'a, 't, O: ProbeOrder, G: Gate> {
     pub worked: Worked,

@@ -12,7 +12,7 @@ use slot_table::Pass;
 use std::alloc::AllocError;
 use tally_core::Report;
 
-/// What all threads came to, and the pass that made the calls of all of them.
+/// The workers' results, and one pass that has the calls of all of them.
 #[derive(Drop)]
 pub(crate) struct Crop<O> {
     pub worked: Vec<Worked>,

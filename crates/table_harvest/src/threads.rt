@@ -127,7 +127,7 @@ impl<'q, 'a, 't, O: ProbeOrder, G: Gate> Crew<'q, 'a, 't, O, G> {
 }
 
 /// Reads all games beside the workers that were started. Where these are fewer than were asked for,
-/// that is want of memory, and nothing is read: the workers are told to end.
+/// that is out of memory, and nothing is read: the workers get an end each.
 fn finish<'q, 'a, 't, R: Wait, O: ProbeOrder, G: Gate>(
     rt: &R,
     alloc: Global,
@@ -228,7 +228,7 @@ impl<'q, 'a, 't, O: ProbeOrder, G: Gate> Crew<'q, 'a, 't, O, G> {
     ghost use Rattle.table_harvest.specs.Inner.Crew.{IsCrew, IsCrop, AreAsked};
 
     /// Starts workers, reads all games, and waits for the workers. All that were asked for have
-    /// counted, in the order of their numbers, or the fault is want of memory.
+    /// counted, in the order of their numbers, or the fault is out of memory.
     pub(crate) fn run<R: Threads + Wait + Sync>(
         self,
         rt: &R,

@@ -21,7 +21,7 @@ pub struct Worker<'q, 'a, 't, O: ProbeOrder, G: Gate> {
     pub table: &'t SlotTable<O>,
     /// Its pass of that table.
     pub pass: Pass<O>,
-    /// Who is told before each game.
+    /// What is called before each game.
     pub gate: &'t G,
     /// Workers are numbered from 1; 0 is the thread that reads.
     pub number: usize,

@@ -435,7 +435,7 @@ fn all_passes_read_the_least_mark(rt: HostRuntime) -> Result<(), Fail> {
     Ok(())
 }
 
-/// With memory refused at any request the table is made, or want of memory is answered.
+/// With memory refused at any request the table is made, or out of memory is answered.
 #[test]
 fn memory_is_found_or_named(rt: HostRuntime) -> Result<(), Fail> {
     let order = Linear {

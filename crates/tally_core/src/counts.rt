@@ -83,7 +83,7 @@ pub struct Counts {
     rows: Vec<Entry>,
     /// How many places are taken.
     taken: usize,
-    /// How many more are likely to be taken by the meetings that come next.
+    /// How many new patterns the next meetings are likely to have.
     expected: usize,
 }
 

@@ -112,7 +112,7 @@ impl Meetings {
     }
 
     /// The first place after this one that is free or has a meeting of this shape; where there is
-    /// none, this one. Most shapes are found at their own place, so this is a call.
+    /// none, this one. It is out of line, since it is rarely reached.
     #[inline(never)]
     fn place_after(&self, own: usize, shape: Shape) -> usize {
         let last = self.index.len().wrapping_sub(1);
@@ -174,8 +174,8 @@ impl Meetings {
         }
     }
 
-    /// The index of a meeting of this shape: one that is there, or a new one. It is called for each
-    /// point that changes, so it is no call in the program.
+    /// The index of a meeting of this shape: one that is there, or a new one. It is inlined, since
+    /// it runs for every point that changed.
     #[inline(always)]
     pub fn meet(&mut self, shape: Shape) -> Result<usize, AllocError>
         ensures met { IfOk result (IsMet (shapes_of self.new) shape) }

@@ -73,8 +73,7 @@ pub(crate) fn play(meetings: &mut Meetings, stay: Option<Stay>)
     }
 }
 
-/// A stay of a pattern that begins now. It is called for each point that changes, so it is no call
-/// in the program.
+/// A stay of a pattern that begins now. It is inlined, since it runs for every point that changed.
 #[inline(always)]
 pub(crate) fn begin(
     meetings: &mut Meetings,

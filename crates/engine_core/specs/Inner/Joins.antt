@@ -1,4 +1,4 @@
--- What the definitions of `Joins` serve inside the crate.
+-- Definitions that private contracts alone use, beside those of `Joins`.
 use Rattle.std.specs.Prelude.{ℕ, ◌≤◌, ◌⊎◌, List, length, take}
 use Rattle.shape_dict.specs.Contents.{Contents}
 use Rattle.shape_dict.specs.Reading.{IsTextOf, IsFrontFault}

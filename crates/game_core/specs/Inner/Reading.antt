@@ -1,4 +1,4 @@
--- What the definitions of `Reading` serve inside the crate.
+-- Definitions that private contracts alone use, beside those of `Reading`.
 use Rattle.std.specs.Prelude.{◌≡◌, ◌⊎◌, ℕ, ◌+◌, ◌<◌, ◌≤◌, Bool, true, false, List, length, Option, Some, None, Result, Ok, Err}
 use Rattle.sgf_core.specs.Tree.{GameTree}
 use Rattle.sgf_core.specs.Next.{IsNextTree, HasNoTree}

@@ -1,4 +1,4 @@
--- What the definitions of `Checking` serve inside the crate.
+-- Definitions that private contracts alone use, beside those of `Checking`.
 use Rattle.std.specs.Prelude.{◌≡◌, ℕ, ◌≤◌, if◌then◌else◌, List, Option, Some, None, Contains}
 use Rattle.slot_table.specs.declared.entries.Happened.{Happened}
 use Rattle.share_core.specs.declared.rows.Row.{Row}

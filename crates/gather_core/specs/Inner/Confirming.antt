@@ -1,4 +1,4 @@
--- What the definitions of `Confirming` serve inside the crate.
+-- Definitions that private contracts alone use, beside those of `Confirming`.
 use Rattle.std.specs.Prelude.{◌≡◌, ℕ, ◌≤◌, List, Option, Some, None, Contains}
 use Rattle.share_core.specs.declared.rows.Row.{Row}
 use Rattle.gather_core.specs.Confirming.{HasShape, HasShapeAt}

@@ -1,4 +1,4 @@
--- What the definitions of `Covering` serve inside the crate.
+-- Definitions that private contracts alone use, beside those of `Covering`.
 use Rattle.std.specs.Prelude.{◌≡◌, ℕ, ◌<◌, List, nat_lt, false, length, slice_index_or}
 use Rattle.gather_core.specs.declared.covering.Seen.{Seen}
 use Rattle.harvest_faults.specs.declared.faults.HarvestFault.{HarvestFault}

@@ -1,4 +1,4 @@
--- What the definitions of `Gathering` serve inside the crate.
+-- Definitions that private contracts alone use, beside those of `Gathering`.
 use Rattle.std.specs.Prelude.{◌≡◌, ◌↔◌, List, Contains}
 use Rattle.share_core.specs.declared.rows.Row.{Row}
 

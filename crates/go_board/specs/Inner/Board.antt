@@ -1,4 +1,4 @@
--- What the definitions of `Board` serve inside the crate.
+-- Definitions that private contracts alone use, beside those of `Board`.
 use Rattle.std.specs.Prelude.{◌≡◌, ◌*◌, List, length}
 use Rattle.go_board.specs.Extent.{Extent, IsExtent}
 use Rattle.go_board.specs.declared.points.Stone.{Stone}

@@ -1,4 +1,4 @@
--- What the definitions of `Gathered` serve inside the crate.
+-- Definitions that private contracts alone use, beside those of `Gathered`.
 use Rattle.std.specs.Prelude.{◌≡◌, ℕ, ◌*◌, ◌≤◌, Bool, true, false, List, length, take, slice_index_or, All, Contains}
 use Rattle.go_board.specs.declared.points.Point.{Point}
 use Rattle.go_board.specs.Extent.{Extent}

@@ -1,4 +1,4 @@
--- What the definitions of `Adding` serve inside the crate.
+-- Definitions that private contracts alone use, beside those of `Adding`.
 use Rattle.std.specs.Prelude.{◌≡◌, ◌<◌, List, [], ◌++◌, map, Option, Some, None, Result, Ok, Err}
 use Rattle.sgf_core.specs.Tree.{PropertyValue, Property}
 use Rattle.go_board.specs.Extent.{Extent}

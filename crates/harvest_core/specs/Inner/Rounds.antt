@@ -1,4 +1,4 @@
--- What threads are to do in a round of a count by words, and what they come to.
+-- What threads are to do in a round of a count by words, and their results.
 use Rattle.std.specs.Prelude.{◌≡◌, ℕ, List, All, Result, IfOk, IfErr, IfSome}
 use Rattle.shape_core.specs.declared.words.Kinds.{Kinds}
 use Rattle.slot_table.specs.Passes.{IsPassOf}

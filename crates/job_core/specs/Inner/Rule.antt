@@ -1,4 +1,4 @@
--- What the definitions of `Rule` serve inside the crate.
+-- Definitions that private contracts alone use, beside those of `Rule`.
 use Rattle.std.specs.Prelude.{◌≡◌, ℕ, ◌<◌, ◌≤◌, true, Option}
 use Rattle.crossbeam_queue.specs.declared.array_queue.Doing.{Doing}
 use Rattle.crossbeam_queue.specs.declared.array_queue.Slotted.{Slotted}

@@ -1,4 +1,4 @@
--- What the definitions of `Lawful` serve inside the crate.
+-- Definitions that private contracts alone use, beside those of `Lawful`.
 use Rattle.std.specs.Prelude.{◌≡◌, ℕ, ◌^◌, ◌<◌, ◌≤◌, Some, slice_get}
 use Rattle.probe_core.specs.Placing.{IsOrderly}
 use Rattle.probe_core.specs.Showing.{table_of}

@@ -1,4 +1,4 @@
--- What the definitions of `Machine` serve inside the crate.
+-- Definitions that private contracts alone use, beside those of `Machine`.
 use Rattle.std.specs.Prelude.{ℕ, ◌==◌, if◌then◌else◌, List, slice_index_or, slice_set}
 use Rattle.probe_core.specs.declared.calls.Want.{Want}
 use Rattle.probe_core.specs.declared.calls.Want.TheVariants as want

@@ -1,4 +1,4 @@
--- What the definitions of `Placing` serve inside the crate.
+-- Definitions that private contracts alone use, beside those of `Placing`.
 use Rattle.std.specs.Prelude.{◌≢◌, ℕ, ◌<◌, List, slice_index_or}
 use Rattle.probe_core.specs.Machine.{code_of}
 

@@ -1,4 +1,4 @@
--- What the definitions of `Reading` serve inside the crate.
+-- Definitions that private contracts alone use, beside those of `Reading`.
 use Rattle.std.specs.Prelude.{◌≤◌, length, Option, Some, None, IfSome}
 use Rattle.sgf_core.specs.Limit.{most_bytes}
 use Rattle.sgf_core.specs.declared.faults.SgfFault.{SgfFault}
@@ -11,7 +11,7 @@ pub record IsReading (reading : Reading) : Type 0 where
   pub in_input : reading.from ≤ length reading.bytes
   pub met : IfSome reading.fault (IsFaultAt reading.bytes reading.from)
 
--- the fault that a reader keeps: not want of memory
+-- the fault that a reader keeps: not a lack of memory
 abbrev pub kept_fault : SgfFault → Option SgfFault
 kept_fault fault.Memory = None
 kept_fault found = Some found

@@ -1,4 +1,4 @@
--- What the definitions of `KeptLists` serve inside the crate.
+-- Definitions that private contracts alone use, beside those of `KeptLists`.
 use Rattle.std.specs.Prelude.{◌≡◌, ℕ, ◌*◌, ◌⊎◌, List, [], ◌∷◌, length, slice_index}
 use Rattle.go_board.specs.Extent.{Extent}
 use Rattle.go_board.specs.Point.{IsOn, index_of}

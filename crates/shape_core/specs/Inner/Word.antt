@@ -1,4 +1,4 @@
--- What the definitions of `Word` serve inside the crate.
+-- Definitions that private contracts alone use, beside those of `Word`.
 use Rattle.std.specs.Prelude.{ℕ, slice_set, bit_xor}
 use Rattle.shape_core.specs.Word.{word_of, kind_of, codes_of, code_at}
 

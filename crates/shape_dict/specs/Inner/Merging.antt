@@ -1,4 +1,4 @@
--- What the definitions of `Merging` serve inside the crate.
+-- Definitions that private contracts alone use, beside those of `Merging`.
 use Rattle.std.specs.Prelude.{ℕ, suc, ◌≤◌, nat_lt, List, [], ◌∷◌, map, if◌then◌else◌}
 use Rattle.shape_dict.specs.declared.entries.Entry.{Entry}
 use Rattle.shape_dict.specs.Merging.{moved_entry, summed_entry}

@@ -1,4 +1,4 @@
--- What the definitions of `Reading` serve inside the crate.
+-- Definitions that private contracts alone use, beside those of `Reading`.
 use Rattle.std.specs.Prelude.{◌≡◌, ℕ, List}
 use Rattle.shape_dict.specs.declared.headers.Header.{Header}
 use Rattle.shape_dict.specs.Contents.{Contents, HasTotals}

@@ -1,4 +1,4 @@
--- What the definitions of `Adding` serve inside the crate.
+-- Definitions that private contracts alone use, beside those of `Adding`.
 use Rattle.std.specs.Prelude.{◌≡◌, ℕ, List, ◌++◌}
 use Rattle.go_record.specs.Actions.{Actions}
 use Rattle.probe_core.specs.declared.calls.Answer.{Answer}

@@ -1,4 +1,4 @@
--- What the definitions of `Entering` serve inside the crate.
+-- Definitions that private contracts alone use, beside those of `Entering`.
 use Rattle.std.specs.Prelude.{◌≡◌, ℕ, ◌<◌, List, length, Option, Some}
 use Rattle.probe_core.specs.declared.calls.Answer.{Answer}
 use Rattle.probe_core.specs.declared.calls.Answer.TheVariants as answer

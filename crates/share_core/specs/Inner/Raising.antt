@@ -1,4 +1,4 @@
--- What the definitions of `Raising` serve inside the crate.
+-- Definitions that private contracts alone use, beside those of `Raising`.
 use Rattle.std.specs.Prelude.{◌≡◌, ℕ, ◌+◌, ◌<◌, ◌==◌, ◌⊎◌, if◌then◌else◌, List, [], ◌∷◌, length, Option, Some, None, slice_index_or, slice_set}
 use Rattle.probe_core.specs.declared.calls.Answer.{Answer}
 use Rattle.probe_core.specs.declared.calls.Answer.TheVariants as answer

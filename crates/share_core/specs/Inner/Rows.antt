@@ -1,4 +1,4 @@
--- What the definitions of `Rows` serve inside the crate.
+-- Definitions that private contracts alone use, beside those of `Rows`.
 use Rattle.std.specs.Prelude.{◌≡◌, ℕ, ◌^◌, ◌<◌, List, length, Some, IfSome}
 use Rattle.std.specs.Ordering.{nat_cmp}
 use Rattle.std.specs.BTreeMap.{BTreeMap, get}

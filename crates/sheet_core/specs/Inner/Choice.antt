@@ -1,4 +1,4 @@
--- What the definitions of `Choice` serve inside the crate.
+-- Definitions that private contracts alone use, beside those of `Choice`.
 use Rattle.std.specs.Prelude.{ℕ, nat_le, ◌&&◌, Bool}
 use Rattle.shape_core.specs.declared.words.Kind.{Kind}
 use Rattle.shape_dict.specs.Contents.{is_of}

@@ -1,4 +1,4 @@
--- What the definitions of `Orders` serve inside the crate.
+-- Definitions that private contracts alone use, beside those of `Orders`.
 use Rattle.std.specs.Prelude.{Bool, nat_lt, ◌==◌, ◌&&◌, ◌||◌}
 use Rattle.shape_dict.specs.declared.entries.Entry.{Entry}
 use Rattle.sheet_core.specs.declared.orders.Order.{Order}

@@ -135,7 +135,7 @@ pub record IsJoinable {O G : Type 0} (stake given : List ℕ) (lent : ℕ) (read
   pub whole : reading.fault ≢ Some fault.Memory →
       IsAsMuch (before.pass.stake ++ given) stake × (before.desk.parts + lent ≡ all_parts) × (lent ≡ before.workers)
 
--- what all threads have come to, for this table, input and kinds; what their passes had together at the beginning
+-- the results of all threads, for this table, input and kinds; what their passes had together at the beginning
 pub record IsCrop {O : Type 0} (table : Numbers O) (bytes : List ℕ) (kinds : Kinds) (stake : List ℕ) (crop : Crop O) : Type 0 where
   pub worked_is : All (IsWorkOf bytes kinds) crop.worked.items
   pub counted : AgreesWithTable table bytes kinds [] crop.pass crop.worked.items

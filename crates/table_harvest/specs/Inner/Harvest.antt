@@ -1,4 +1,4 @@
--- What the definitions of `Harvest` serve inside the crate.
+-- Definitions that private contracts alone use, beside those of `Harvest`.
 use Rattle.std.specs.Prelude.{◌≡◌, ℕ, ◌⊎◌, List, [], Contains}
 use Rattle.slot_table.specs.declared.entries.Happened.{Happened}
 use Rattle.slot_table.specs.Passes.{Known, calls_of}
@@ -21,12 +21,12 @@ pub record AreTogether {O : Type 0} (n : ℕ) (earlier : List Happened) (pass : 
   pub marked : AreFirstsMarked pass.seen rows
   pub calls : (e : Happened) → Contains (calls_of pass) e → Contains earlier e ⊎ StandsIn rows e
 
--- what is told of a game that was refused: for want of a number what the shares confirm, and else the same fault
+-- what is reported of a game that was refused: for lack of a number what the shares confirm, and else the same fault
 abbrev pub IsExplained : ℕ → List Happened → List Held → HarvestFault → HarvestFault → Type 0
 IsExplained n seen shares (fault.Full game word) found = IsConfirmation n seen (all_rows shares) game word found
 IsExplained n seen shares refused found = found ≡ refused
 
--- games were refused, and this is told of the refusal that goes first
+-- games were refused, and this is reported of the first refusal
 pub record IsFirstTold (n : ℕ) (seen : List Happened) (worked : List Worked) (found : HarvestFault) : Type 0 where
   pub first : HarvestFault
   pub worst : IsWorst (refusals_of worked) first

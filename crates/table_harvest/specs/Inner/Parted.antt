@@ -1,4 +1,4 @@
--- What workers hand back, parted, and which of several refusals is told.
+-- What workers hand back, parted, and which of several refusals is reported.
 use Rattle.std.specs.Prelude.{◌≡◌, ◌⊎◌, ℕ, ◌<◌, List, Contains, map}
 use Rattle.std.specs.List.{filter_map}
 use Rattle.share_core.specs.Shares.{Held}
@@ -14,8 +14,8 @@ shares_of worked = map (λ (one : Worked). one.share) worked
 abbrev pub refusals_of : List Worked → List HarvestFault
 refusals_of worked = filter_map (λ (one : Worked). one.refused) worked
 
--- the place of a fault in the order in which faults of games are told: want of memory, want of a number, strangers, and then
--- a count that is too large
+-- the place of a fault in the order in which faults of games are reported: out of memory, lack of a number, strangers,
+-- and then a count that is too large
 abbrev pub rank : HarvestFault → ℕ
 rank fault.Memory = 0
 rank (fault.Full game word) = 1
@@ -28,11 +28,11 @@ abbrev pub game_of : HarvestFault → ℕ
 game_of (fault.Full game word) = game
 game_of found = 0
 
--- one fault is told rather than another: it has the lesser place, or the same one and the lesser game
+-- one fault is reported rather than another: it has the lesser place, or the same one and the lesser game
 abbrev pub GoesFirst : HarvestFault → HarvestFault → Type 0
 GoesFirst one other = (rank one < rank other) ⊎ ((rank one ≡ rank other) × (game_of one < game_of other))
 
--- one of these faults, and none of them goes before it
+-- one of these faults, and none of them precedes it
 pub record IsWorst (refusals : List HarvestFault) (found : HarvestFault) : Type 0 where
   pub among : Contains refusals found
   pub first : (other : HarvestFault) → Contains refusals other → GoesFirst other found → ⊥

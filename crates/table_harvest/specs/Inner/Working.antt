@@ -1,4 +1,4 @@
--- What the definitions of `Working` serve inside the crate.
+-- Definitions that private contracts alone use, beside those of `Working`.
 use Rattle.std.specs.Prelude.{ℕ, List}
 use Rattle.shape_core.specs.declared.words.Kinds.{Kinds}
 use Rattle.table_harvest.specs.declared.working.Worked.{Worked}
