@@ -57,8 +57,8 @@ pub(crate) fn moved(entry: Entry, games: u64) -> Result<Option<Entry>, NextFault
     ensures ok { IfOk result (λ moved. moved ≡ Some (moved_entry games entry)) }
     ensures err { IfErr result (λ found. found ≡ fault.Changed) }
 {
-    let first = entry.first.moved(games).ok_or(NextFault::Changed)?;
-    Ok(Some(Entry { first, ..entry }))
+    let moved = entry.moved(games).ok_or(NextFault::Changed)?;
+    Ok(Some(moved))
 }
 
 /// An entry of both.
@@ -68,17 +68,6 @@ pub(crate) fn summed(left: Entry, right: Entry) -> Result<Option<Entry>, NextFau
     ensures err { IfErr result (λ found. (found ≡ fault.Overflow)
         × ((2 ^ 64 ≤ left.there + right.there) ⊎ (2 ^ 64 ≤ left.played + right.played))) }
 {
-    let there = left
-        .there
-        .checked_add(right.there)
-        .ok_or(NextFault::Overflow)?;
-    let played = left
-        .played
-        .checked_add(right.played)
-        .ok_or(NextFault::Overflow)?;
-    Ok(Some(Entry {
-        there,
-        played,
-        ..left
-    }))
+    let both = left.with(right).ok_or(NextFault::Overflow)?;
+    Ok(Some(both))
 }

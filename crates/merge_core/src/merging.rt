@@ -12,8 +12,7 @@ use std::alloc::Global;
 fn moved(entry: Entry, games: u64) -> Result<Entry, NextFault>
     ensures { IfOk result (λ moved. moved ≡ moved_entry games entry) }
 {
-    let first = entry.first.moved(games).ok_or(NextFault::Changed)?;
-    Ok(Entry { first, ..entry })
+    entry.moved(games).ok_or(NextFault::Changed)
 }
 
 /// An entry of both.
@@ -21,19 +20,7 @@ fn moved(entry: Entry, games: u64) -> Result<Entry, NextFault>
 fn summed(left: Entry, right: Entry) -> Result<Entry, NextFault>
     ensures { IfOk result (λ both. both ≡ summed_entry left right) }
 {
-    let there = left
-        .there
-        .checked_add(right.there)
-        .ok_or(NextFault::Overflow)?;
-    let played = left
-        .played
-        .checked_add(right.played)
-        .ok_or(NextFault::Overflow)?;
-    Ok(Entry {
-        there,
-        played,
-        ..left
-    })
+    left.with(right).ok_or(NextFault::Overflow)
 }
 
 /// Appends an entry.

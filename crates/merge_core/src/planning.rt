@@ -6,7 +6,7 @@ use crate::cuts::{Cut, Plan};
 use crate::pieces::read_bytes;
 use crate::sources::Sources;
 use crate::surveying::read_front;
-use shape_dict::Header;
+use shape_dict::{Header, word_bits};
 use std::alloc::Global;
 use std::thread::{Threads, map_chunks};
 
@@ -42,17 +42,6 @@ const DIAMONDS: u64 = 1 << 50;
 /// All words are below.
 const END: u64 = 1 << 51;
 
-/// The word that bytes begin with.
-fn word_of(bytes: &[u8]) -> Option<u64> {
-    let digits = bytes.get(..13)?;
-    let mut word: u64 = 0;
-    for digit in digits {
-        let value = (*digit as char).to_digit(16)?;
-        word = word.wrapping_mul(16).wrapping_add(u64::from(value));
-    }
-    Some(word)
-}
-
 /// How far after the beginning of bytes a line begins, after the first line feed.
 fn next_line(bytes: &[u8]) -> Option<usize>
     ensures { IfSome result (λ start. start ≤ length bytes.now) }
@@ -80,7 +69,7 @@ fn line_after<S: Sources>(
     let to = end.min(place.saturating_add(LINE));
     let bytes = read_bytes(alloc, sources, n, place, to).ok()?;
     let start = next_line(&bytes)?;
-    let word = word_of(&bytes[start..])?;
+    let (word, _) = word_bits(&bytes[start..])?;
     Some((place.saturating_add(start), word))
 }
 
@@ -100,7 +89,7 @@ fn place_in_block<S: Sources>(
     let bytes = read_bytes(alloc, sources, n, from, to).ok()?;
     let mut start = 0;
     for _ in 0..bytes.len() {
-        if start >= bytes.len() || word_of(&bytes[start..])? >= word {
+        if start >= bytes.len() || word_bits(&bytes[start..])?.0 >= word {
             return Some(from.saturating_add(start));
         }
         start = start.saturating_add(next_line(&bytes[start..])?);

@@ -12,6 +12,39 @@ pub struct Entry {
     pub first: FirstGame,
 }
 
+impl Entry {
+    ghost use Rattle.std.specs.Prelude.{◌≡◌, ◌+◌, ◌^◌, ◌≤◌, ◌⊎◌, IfSome, IfNone, IsSomeAnd};
+    ghost use Rattle.shape_dict.specs.Merging.{moved_entry, summed_entry};
+
+    /// The entry after this many more games: its first game, where it is known, is numbered after
+    /// them. None where that number would pass 2^64 - 2. It takes no memory.
+    #[inline(always)]
+    pub fn moved(self, games: u64) -> Option<Entry>
+        ensures some { IfSome result (λ moved. moved ≡ moved_entry games self) }
+        ensures none { IfNone result (IsSomeAnd self.first (λ game. 2 ^ 64 ≤ game + games + 1)) }
+    {
+        let first = self.first.moved(games)?;
+        Some(Entry { first, ..self })
+    }
+
+    /// The entry with the counts of a later one of the same pattern: its first game stays. None
+    /// where a count would pass 2^64 - 1. It takes no memory.
+    #[inline(always)]
+    pub fn with(self, later: Entry) -> Option<Entry>
+        ensures some { IfSome result (λ both. both ≡ summed_entry self later) }
+        ensures none { IfNone result ((2 ^ 64 ≤ self.there + later.there)
+            ⊎ (2 ^ 64 ≤ self.played + later.played)) }
+    {
+        let there = self.there.checked_add(later.there)?;
+        let played = self.played.checked_add(later.played)?;
+        Some(Entry {
+            there,
+            played,
+            ..self
+        })
+    }
+}
+
 /// The texts of a dictionary: of its squares, of squares and diamonds, and with first games.
 #[derive(Clone, Copy, Debug, PartialEq, Eq)]
 pub enum Text {

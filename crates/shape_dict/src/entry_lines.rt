@@ -9,6 +9,7 @@ use crate::faults::DictFault;
 use crate::first_games::FirstGame;
 use crate::headers::Header;
 use crate::lines::read_line;
+use crate::quick::quick_entry;
 use shape_core::{Shape, Word};
 
 /// Whether a word is above the last shape, where there is one.
@@ -21,6 +22,39 @@ fn is_above(last: Option<Shape>, word: Word) -> bool
     }
 }
 
+/// The entry of a line of any form at the front of the bytes, or what is wrong with it.
+#[inline(never)]
+fn slow_entry<'a>(
+    header: &Header,
+    place: u64,
+    last: &Option<Shape>,
+    bytes: &'a [u8],
+) -> Result<(Entry, &'a [u8]), DictFault>
+    requires { place < 2 ^ 63 }
+    ensures line { IfOk result (λ p. IsLine header.now place p.0) }
+    ensures shape { IfOk result (λ p. IsAbove last.now p.0.shape
+        × (least_image p.0.shape ≡ p.0.shape)) }
+    ensures same { IfOk result (λ p. bytes.now ≡ line_text header.now.text p.0 ++ p.1.now) }
+    ensures fault { IfErr result (IsLineFault header.now place last.now bytes.now) }
+{
+    let Some((line, rest)) = read_line(header, place, bytes) else {
+        return Err(DictFault::BadLine(place + 2));
+    };
+    if !is_above(*last, line.word) {
+        return Err(DictFault::NotRising(place + 2));
+    }
+    let Some(shape) = Shape::of_word(line.word) else {
+        return Err(DictFault::NotCanonical(place + 2));
+    };
+    let entry = Entry {
+        shape,
+        there: line.there,
+        played: line.played,
+        first: FirstGame::new(line.first),
+    };
+    Ok((entry, rest))
+}
+
 /// The entry of the line at the front of the bytes, and what follows it. `place` is how many
 /// entries came before it, and `last` the shape of the last of them. It takes no memory.
 ///
@@ -29,6 +63,7 @@ fn is_above(last: Option<Shape>, word: Word) -> bool
 /// `BadLine` where the bytes don't begin with a line that this place may have, else `NotRising`
 /// where its word is not above `last`, else `NotCanonical` where its word is not the least of its
 /// images.
+#[inline(always)]
 pub fn read_entry<'a>(
     header: &Header,
     place: u64,
@@ -42,20 +77,9 @@ pub fn read_entry<'a>(
     ensures same { IfOk result (λ p. bytes.now ≡ line_text header.now.text p.0 ++ p.1.now) }
     ensures fault { IfErr result (IsLineFault header.now place last bytes.now) }
 {
-    let Some((line, rest)) = read_line(header, place, bytes) else {
-        return Err(DictFault::BadLine(place + 2));
-    };
-    if !is_above(last, line.word) {
-        return Err(DictFault::NotRising(place + 2));
+    if let Some((entry, rest)) = quick_entry(header, place, last, bytes) {
+        return Ok((entry, rest));
     }
-    let Some(shape) = Shape::of_word(line.word) else {
-        return Err(DictFault::NotCanonical(place + 2));
-    };
-    let entry = Entry {
-        shape,
-        there: line.there,
-        played: line.played,
-        first: FirstGame::new(line.first),
-    };
-    Ok((entry, rest))
+    // The kit's borrow checker does not follow a struct that is passed by value twice.
+    slow_entry(header, place, &last, bytes)
 }

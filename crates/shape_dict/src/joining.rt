@@ -24,10 +24,7 @@ fn moved(entry: Entry, games: u64) -> Entry
     requires { IfSome entry.first (λ game. game + games + 1 < 2 ^ 64) }
     ensures { result ≡ moved_entry games entry }
 {
-    Entry {
-        first: entry.first.moved(games).unwrap(),
-        ..entry
-    }
+    entry.moved(games).unwrap()
 }
 
 /// An entry of both.
@@ -38,12 +35,7 @@ fn summed(left: Entry, right: Entry) -> Result<Entry, DictFault>
     ensures err { IfErr result (λ found. (found ≡ fault.Overflow)
         × (2 ^ 64 ≤ left.there + right.there)) }
 {
-    let there = sum_of(left.there, right.there)?;
-    Ok(Entry {
-        there,
-        played: left.played + right.played,
-        ..left
-    })
+    left.with(right).ok_or(DictFault::Overflow)
 }
 
 /// Appends an entry.

@@ -5,7 +5,6 @@ mod blocks;
 mod faults;
 mod lines;
 mod progress;
-mod quick;
 mod rows;
 mod standing;
 mod steps;

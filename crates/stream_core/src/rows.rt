@@ -4,8 +4,7 @@ ghost use Rattle.std.specs.List.{flat_map};
 ghost use Rattle.shape_dict.specs.Text.{line_text};
 ghost use Rattle.stream_core.specs.Rows.{AreRows, IsRow};
 
-use crate::quick::quick_entry;
-use shape_dict::{Entry, Header};
+use shape_dict::{Entry, Header, quick_entry};
 use std::alloc::{AllocError, Global};
 
 /// No line is shorter: 13 digits, two numbers, a space before each, and the line feed.

@@ -17,8 +17,7 @@ ghost use Rattle.stream_core.specs.declared.faults.StreamFault.TheVariants as fa
 use crate::blocks::Block;
 use crate::faults::StreamFault;
 use crate::progress::Progress;
-use crate::quick::entry_of;
-use shape_dict::{DictFault, Entry, Header, count_lines, read_header};
+use shape_dict::{DictFault, Entry, Header, count_lines, read_entry, read_header};
 use std::io::Read;
 
 /// The header at the front of a block, which is passed over.
@@ -59,7 +58,7 @@ fn take_line<R: Read>(
     ensures ahead { length block.new.unread ≤ 2 ^ 16 }
 {
     let bytes = block.unread();
-    let (entry, rest) = match entry_of(header, progress, bytes) {
+    let (entry, rest) = match read_entry(header, progress.given, progress.last, bytes) {
         Ok(line) => line,
         Err(found) => return Err(found),
     };

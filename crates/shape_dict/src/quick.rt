@@ -1,76 +1,22 @@
 //! The next line's entry, read with few branches where its numbers are of the common lengths.
 ghost use Rattle.std.specs.Prelude.{◌+◌, ◌≡◌, ◌++◌, ◌∷◌, ◌<◌, ◌≤◌, ◌^◌, length, take, true, codes};
-ghost use Rattle.std.specs.Prelude.{IfSome, IfOk, IfErr};
+ghost use Rattle.std.specs.Prelude.{IfSome};
 ghost use Rattle.std.specs.Fmt.{decimal};
 ghost use Rattle.shape_core.specs.Symmetry.{least_image};
-ghost use Rattle.shape_dict.specs.Text.{hexadecimal_digit, word_text, first_text, line_text, line_feed};
+ghost use Rattle.shape_dict.specs.Text.{first_text, line_text, line_feed};
 ghost use Rattle.shape_dict.specs.Text.{optional_number};
 ghost use Rattle.shape_dict.specs.Inner.Parsing.{AreDigits, read_on};
-ghost use Rattle.shape_dict.specs.Reading.{IsLine, IsAbove, IsFirst, IsLineFault, kind_at};
+ghost use Rattle.shape_dict.specs.Reading.{IsLine, IsAbove, IsFirst, kind_at};
 ghost use Rattle.shape_core.specs.Word.{kind_of};
-ghost use Rattle.stream_core.specs.Inner.Counting.{CountedTo};
 
-use crate::progress::Progress;
+use crate::entries::{Entry, Text};
+use crate::first_games::FirstGame;
+use crate::headers::Header;
+use crate::hexadecimals::word_bits;
 use shape_core::{Kind, Shape, Word};
-use shape_dict::{DictFault, Entry, FirstGame, Header, Text, read_entry};
 
 /// No more digits of a number are read here.
 const DIGITS: usize = 18;
-
-/// The value of each byte as a hexadecimal digit in lower case, and 16 where it is none. A table in
-/// place of tests, since no processor can foresee which digit comes.
-static VALUES: [u8; 256] = [
-    16, 16, 16, 16, 16, 16, 16, 16, 16, 16, 16, 16, 16, 16, 16, 16, 16, 16, 16, 16, 16, 16, 16, 16,
-    16, 16, 16, 16, 16, 16, 16, 16, 16, 16, 16, 16, 16, 16, 16, 16, 16, 16, 16, 16, 16, 16, 16, 16,
-    0, 1, 2, 3, 4, 5, 6, 7, 8, 9, 16, 16, 16, 16, 16, 16, 16, 16, 16, 16, 16, 16, 16, 16, 16, 16,
-    16, 16, 16, 16, 16, 16, 16, 16, 16, 16, 16, 16, 16, 16, 16, 16, 16, 16, 16, 16, 16, 16, 16, 10,
-    11, 12, 13, 14, 15, 16, 16, 16, 16, 16, 16, 16, 16, 16, 16, 16, 16, 16, 16, 16, 16, 16, 16, 16,
-    16, 16, 16, 16, 16, 16, 16, 16, 16, 16, 16, 16, 16, 16, 16, 16, 16, 16, 16, 16, 16, 16, 16, 16,
-    16, 16, 16, 16, 16, 16, 16, 16, 16, 16, 16, 16, 16, 16, 16, 16, 16, 16, 16, 16, 16, 16, 16, 16,
-    16, 16, 16, 16, 16, 16, 16, 16, 16, 16, 16, 16, 16, 16, 16, 16, 16, 16, 16, 16, 16, 16, 16, 16,
-    16, 16, 16, 16, 16, 16, 16, 16, 16, 16, 16, 16, 16, 16, 16, 16, 16, 16, 16, 16, 16, 16, 16, 16,
-    16, 16, 16, 16, 16, 16, 16, 16, 16, 16, 16, 16, 16, 16, 16, 16, 16, 16, 16, 16, 16, 16, 16, 16,
-    16, 16, 16, 16, 16, 16, 16, 16, 16, 16, 16, 16, 16, 16,
-];
-
-/// The value of a hexadecimal digit in lower case, or 16 of another byte.
-#[inline(always)]
-fn value_of(byte: u8) -> u8
-    ensures small { result ≤ 16 }
-    ensures is { result < 16 → hexadecimal_digit result ≡ byte }
-{
-    VALUES[byte as usize]
-}
-
-/// The greater of two bytes.
-#[inline(always)]
-fn greater(one: u8, other: u8) -> u8
-    ensures one { one ≤ result }
-    ensures other { other ≤ result }
-{
-    if one < other { other } else { one }
-}
-
-/// The number of 13 hexadecimal digits, and what follows them.
-#[inline(always)]
-fn quick_word(bytes: &[u8]) -> Option<(u64, &[u8])>
-    ensures { IfSome result (λ p. (bytes.now ≡ word_text p.0 ++ p.1.now) × (p.0 < 2 ^ 52)) }
-{
-    if bytes.len() < 13 {
-        return None;
-    }
-    let mut bits: u64 = 0;
-    let mut most = 0;
-    for place in 0..13 {
-        let value = value_of(bytes[place]);
-        most = greater(most, value);
-        bits = 16 * bits + u64::from(value);
-    }
-    if most > 15 {
-        return None;
-    }
-    Some((bits, &bytes[13..]))
-}
 
 /// The number that the first digits are, and how many these are.
 #[inline(always)]
@@ -174,9 +120,12 @@ fn may_stand(header: &Header, place: u64, last: Option<Shape>, word: Word) -> bo
     is_above && is_square == (place < header.squares)
 }
 
-/// The line at the front of the bytes, or None where this fast way cannot tell.
+/// The entry of the line at the front of the bytes, and what follows it, as `read_entry` answers
+/// them. `place` is how many entries came before it, and `last` the shape of the last of them. None
+/// where this fast way can't tell: the line is none that this place may have, or one of its numbers
+/// has more than 18 digits. It takes no memory. This project's own.
 #[inline(always)]
-pub(crate) fn quick_entry<'a>(
+pub fn quick_entry<'a>(
     header: &Header,
     place: u64,
     last: Option<Shape>,
@@ -187,7 +136,7 @@ pub(crate) fn quick_entry<'a>(
         × (least_image p.0.shape ≡ p.0.shape)) }
     ensures same { IfSome result (λ p. bytes.now ≡ line_text header.now.text p.0 ++ p.1.now) }
 {
-    let (bits, rest) = quick_word(bytes)?;
+    let (bits, rest) = word_bits(bytes)?;
     let (there, played, rest) = quick_uses(rest)?;
     let (first, rest) = quick_end(rest, header)?;
     let word = Word::new(bits)?;
@@ -202,25 +151,4 @@ pub(crate) fn quick_entry<'a>(
         first: FirstGame::new(first),
     };
     Some((entry, rest))
-}
-
-/// The entry of the line at the front of the bytes, and what follows it, as `read_entry` has them.
-#[inline(always)]
-pub(crate) fn entry_of<'a>(
-    header: &Header,
-    progress: &Progress,
-    bytes: &'a [u8],
-) -> Result<(Entry, &'a [u8]), DictFault>
-    requires { CountedTo progress.now.given progress.now.last }
-    ensures line { IfOk result (λ p. IsLine header.now progress.now.given p.0) }
-    ensures shape { IfOk result (λ p. IsAbove progress.now.last p.0.shape
-        × (least_image p.0.shape ≡ p.0.shape)) }
-    ensures same { IfOk result (λ p. bytes.now ≡ line_text header.now.text p.0 ++ p.1.now) }
-    ensures fault { IfErr result (IsLineFault header.now progress.now.given progress.now.last
-        bytes.now) }
-{
-    if let Some((entry, rest)) = quick_entry(header, progress.given, progress.last, bytes) {
-        return Ok((entry, rest));
-    }
-    read_entry(header, progress.given, progress.last, bytes)
 }

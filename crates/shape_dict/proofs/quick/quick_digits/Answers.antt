@@ -4,7 +4,7 @@ use Rattle.std.proofs.lemmas.Grind.{common_steps}
 use Rattle.std.proofs.lemmas.List.{take_more}
 use Rattle.shape_dict.specs.Inner.Parsing.{read_on}
 use Rattle.shape_dict.proofs.Decimals.{digits_push}
-use Rattle.stream_core.proofs.quick.quick_digits.Goals as goal
+use Rattle.shape_dict.proofs.quick.quick_digits.Goals as goal
 
 -- one digit more
 read_on_push : (n : ℕ) (xs : List ℕ) (b : ℕ) → read_on n (xs ++ b ∷ []) ≡ 10 * read_on n xs + (b - 48)

@@ -1,8 +1,8 @@
 use Rattle.std.proofs.Common.{◌≡◌, ◌<◌, get_or, arith}
 use Rattle.std.proofs.lemmas.List.{take_rest}
 use Rattle.shape_dict.proofs.Decimals.{spelled}
-use Rattle.stream_core.proofs.quick.quick_number.Goals as goal
-use Rattle.stream_core.proofs.quick.quick_number.Goals.{else-count-gt1-via-then-count-gt1+else-bytes-eq48, else-count-gt1-via-else-count-gt1}
+use Rattle.shape_dict.proofs.quick.quick_number.Goals as goal
+use Rattle.shape_dict.proofs.quick.quick_number.Goals.{else-count-gt1-via-then-count-gt1+else-bytes-eq48, else-count-gt1-via-else-count-gt1}
 
 pub returns : goal.returns
 returns c =

@@ -1,6 +1,6 @@
 use Rattle.std.proofs.Common.{◌≡◌, ◌≤◌, ◌<◌, ◌-◌, ◌^◌, length, take}
 use Rattle.shape_dict.specs.Inner.Parsing.{AreDigits, read_on}
-use Rattle.stream_core.proofs.quick.quick_digits.Given as goal
+use Rattle.shape_dict.proofs.quick.quick_digits.Given as goal
 
 abbrev pub invariant-loop-count : goal.invariant-loop-count
 invariant-loop-count l = record {
