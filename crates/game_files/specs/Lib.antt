@@ -1,4 +1,5 @@
 pub mod Causes
 pub mod Flaws
+pub mod Fronts
 pub mod Names
 pub mod Shown

@@ -3,7 +3,6 @@ ghost use Rattle.std.specs.Prelude.{◌≡◌};
 ghost use Rattle.game_files.specs.Causes.{packed_cause, is_wide, cause_of};
 
 use std::fmt;
-use std::io::{self, Read};
 
 /// What an input is that has no tree.
 #[derive(Clone, Copy, Debug, PartialEq, Eq)]
@@ -91,50 +90,5 @@ pub fn cause_of(front: &[u8]) -> Cause
         Cause::Dictionary
     } else {
         Cause::NoSgf
-    }
-}
-
-/// How many first bytes are kept.
-const KEPT: usize = 8;
-
-/// A reader that keeps the first bytes that it gives. No contract says which they are.
-#[derive(Drop)]
-pub struct Fronted<'a, R> {
-    reader: &'a mut R,
-    front: [u8; 8],
-    kept: usize,
-}
-
-impl<'a, R: Read> Fronted<'a, R> {
-    /// A reader that gives what this one gives.
-    pub fn new(reader: &'a mut R) -> Fronted<'a, R> {
-        Fronted {
-            reader,
-            front: [0; KEPT],
-            kept: 0,
-        }
-    }
-
-    /// Keeps bytes, as long as there are fewer than eight.
-    fn keep(&mut self, bytes: &[u8]) {
-        for byte in bytes.iter().take(KEPT) {
-            if self.kept < KEPT {
-                self.front[self.kept] = *byte;
-                self.kept += 1;
-            }
-        }
-    }
-
-    /// What the input may be, where it has no tree.
-    pub fn cause(&self) -> Cause {
-        cause_of(&self.front[..self.kept.min(KEPT)])
-    }
-}
-
-impl<R: Read> Read for Fronted<'_, R> {
-    fn read(&mut self, buf: &mut [u8]) -> io::Result<usize> {
-        let count = self.reader.read(buf)?;
-        self.keep(&buf[..count]);
-        Ok(count)
     }
 }

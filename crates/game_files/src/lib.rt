@@ -8,14 +8,16 @@ mod showing;
 
 // what an input without a tree may be
 mod causes;
+mod fronts;
 
 // what the system tells of them
 mod looks;
 mod walks;
 mod words;
 
-pub use causes::{Cause, Fronted, cause_of};
+pub use causes::{Cause, cause_of};
 pub use flaws::{Flaw, Why, status_of};
+pub use fronts::Fronted;
 pub use looks::open_file;
 pub use names::{is_game_name, sort_names};
 pub use showing::{Shown, push_name};

@@ -1,0 +1,92 @@
+//! A reader that keeps the first bytes that it gives.
+use crate::causes::{Cause, cause_of};
+use std::io::{self, Read};
+use std::marker::Model;
+
+/// How many first bytes are kept.
+const KEPT: usize = 8;
+
+/// A reader that gives what another gives, and keeps the first eight bytes of that, or all where
+/// they are fewer. It takes no memory.
+#[derive(Drop)]
+pub struct Fronted<'a, R: Read> {
+    reader: &'a mut R,
+    front: [u8; 8],
+    kept: usize,
+}
+
+impl<'a, R: Read> Model for Fronted<'a, R> {
+    ghost use Rattle.std.specs.Prelude.{◌≤◌, take};
+    ghost use Rattle.game_files.specs.Fronts.{Front};
+
+    ghost Value = { Front };
+
+    ghost view = { λ f. record {
+      kept = take f.kept f.front;
+      remaining = R.remaining f.reader.now;
+    } };
+
+    ghost invariant = { λ f. f.kept ≤ 8 };
+}
+
+impl<'a, R: Read> Fronted<'a, R> {
+    ghost use Rattle.std.specs.Prelude.{◌≡◌, [], List, ℕ};
+    ghost use Rattle.game_files.specs.Causes.{cause_of};
+    ghost use Rattle.game_files.specs.Fronts.{kept_after, IsFrontOf};
+
+    /// A reader that gives what this one gives, and has kept no byte yet.
+    pub fn new(reader: &'a mut R) -> Fronted<'a, R>
+        ensures kept { result.kept ≡ [] }
+        ensures remaining { result.remaining ≡ R.remaining reader.old }
+    {
+        Fronted {
+            reader,
+            front: [0; KEPT],
+            kept: 0,
+        }
+    }
+
+    /// Keeps those of the bytes for which there is room.
+    fn keep(&mut self, bytes: &[u8])
+        ensures kept { self.new.kept ≡ kept_after self.old.kept bytes.now }
+        ensures remaining { self.new.remaining ≡ self.old.remaining }
+    {
+        let count = bytes.len().min(KEPT - self.kept);
+        let end = self.kept + count;
+        self.front[self.kept..end].copy_from_slice(&bytes[..count]);
+        self.kept = end;
+    }
+
+    /// What the input may be, where it has no tree: `cause_of` of all bytes that were given so far.
+    pub fn cause(&self) -> Cause
+        ensures kept { result ≡ cause_of self.now.kept }
+        ensures given { (given : List ℕ) → IsFrontOf self.now.kept given
+            → result ≡ cause_of given }
+    {
+        cause_of(&self.front[..self.kept])
+    }
+}
+
+impl<R: Read> Read for Fronted<'_, R> {
+    ghost use Rattle.std.specs.Prelude.{◌≡◌, ◌++◌, List, ℕ, take, IfOk, OnErr};
+    ghost use Rattle.std.specs.Io.{ReadsAtMost};
+    ghost use Rattle.std.specs.Io.KnownBytes.{ReadConsumes};
+    ghost use Rattle.game_files.specs.Fronts.{kept_after, IsFrontOf};
+
+    ghost remaining = { λ f. f.remaining };
+
+    /// What the other reader gives. Nothing is kept where it fails.
+    fn read(&mut self, buf: &mut [u8]) -> io::Result<usize>
+        ensures bound { ReadsAtMost result buf.new }
+        ensures bytes { ReadConsumes self.old.remaining self.new.remaining result buf.new }
+        ensures kept { IfOk result (λ count. self.new.kept
+            ≡ kept_after self.old.kept (take count buf.new)) }
+        ensures front { (given : List ℕ) → IsFrontOf self.old.kept given
+            → IfOk result (λ count. IsFrontOf self.new.kept (given ++ take count buf.new)) }
+        ensures same { OnErr result (self.new.kept ≡ self.old.kept) }
+    {
+        let count = self.reader.read(buf)?;
+        self.keep(&buf[..count]);
+        Ok(count)
+    }
+}
