@@ -1,4 +1,8 @@
 //! What the system tells of a name, links followed.
+ghost use Rattle.std.specs.Prelude.{◌≡◌, IfOk, IfErr};
+ghost use Rattle.game_files.specs.Flaws.{status_of};
+ghost use Rattle.game_files.specs.Inner.Looks.{HasStatus};
+
 use crate::flaws::Why;
 use std::alloc::AllocError;
 use std::fs::File;
@@ -30,7 +34,9 @@ pub(crate) enum Seen {
 /// # Errors
 ///
 /// `AllocError` where memory was refused.
-pub(crate) fn why_of(error: &io::Error) -> Result<Why, AllocError> {
+pub(crate) fn why_of(error: &io::Error) -> Result<Why, AllocError>
+    ensures { IfOk result (λ why. status_of why ≡ 6) }
+{
     match error.kind() {
         ErrorKind::OutOfMemory => Err(AllocError),
         ErrorKind::NotFound => Ok(Why::Missing),
@@ -45,7 +51,9 @@ pub(crate) fn why_of(error: &io::Error) -> Result<Why, AllocError> {
 /// # Errors
 ///
 /// `AllocError` where memory was refused.
-pub(crate) fn look(rt: &HostRuntime, name: &str) -> Result<Seen, AllocError> {
+pub(crate) fn look(rt: &HostRuntime, name: &str) -> Result<Seen, AllocError>
+    ensures { IfOk result HasStatus }
+{
     match fs::metadata(rt, name) {
         Ok(found) if found.is_dir() => Ok(Seen::Folder(Place {
             device: found.dev(),
@@ -57,12 +65,15 @@ pub(crate) fn look(rt: &HostRuntime, name: &str) -> Result<Seen, AllocError> {
     }
 }
 
-/// Opens the file of this name, to be read from its beginning; or why it can't be.
+/// Opens the file of this name, to be read from its beginning; or why it can't be, which has the
+/// exit status 6.
 ///
 /// # Errors
 ///
 /// `AllocError` where memory was refused.
-pub fn open_file(rt: &HostRuntime, name: &str) -> Result<Result<File, Why>, AllocError> {
+pub fn open_file(rt: &HostRuntime, name: &str) -> Result<Result<File, Why>, AllocError>
+    ensures { IfOk result (λ opened. IfErr opened (λ why. status_of why ≡ 6)) }
+{
     match File::open(rt, name) {
         Ok(file) => Ok(Ok(file)),
         Err(error) => Ok(Err(why_of(&error)?)),

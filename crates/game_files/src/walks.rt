@@ -1,4 +1,7 @@
 //! The files of games below a folder, links followed.
+ghost use Rattle.std.specs.Prelude.{◌≡◌, [], IfOk, OnOk};
+ghost use Rattle.game_files.specs.Sources.{AreGameFiles, AreGames};
+
 use crate::flaws::{Flaw, Why};
 use crate::looks::{Place, Seen, look, why_of};
 use crate::names::{is_game_name, sort_names};
@@ -37,7 +40,9 @@ struct Walk<'a> {
 impl Walk<'_> {
     /// The names in a folder wait. A folder that it stands in has been walked, so a link to it ends
     /// the walk there.
-    fn enter(&mut self, path: String, place: Place) -> Result<(), AllocError> {
+    fn enter(&mut self, path: String, place: Place) -> Result<(), AllocError>
+        ensures { self.new.below.files ≡ self.old.below.files }
+    {
         if self.inside.contains(&place) {
             return Ok(());
         }
@@ -49,7 +54,9 @@ impl Walk<'_> {
     }
 
     /// The names of a folder wait.
-    fn wait_for(&mut self, entries: fs::ReadDir, folder: String) -> Result<(), AllocError> {
+    fn wait_for(&mut self, entries: fs::ReadDir, folder: String) -> Result<(), AllocError>
+        ensures { self.new.below.files ≡ self.old.below.files }
+    {
         let depth = self.inside.len();
         for entry in entries {
             match entry {
@@ -68,7 +75,9 @@ impl Walk<'_> {
 
     /// A name could not be looked at. One that leads nowhere and is not that of a file of games is
     /// no fault.
-    fn fail(&mut self, name: String, why: Why) -> Result<(), AllocError> {
+    fn fail(&mut self, name: String, why: Why) -> Result<(), AllocError>
+        ensures { self.new.below.files ≡ self.old.below.files }
+    {
         let leads_nowhere = matches!(why, Why::Missing | Why::Circle);
         if !leads_nowhere || is_game_name(name.as_str()) {
             self.below.flaws.push(Flaw { name, why })?;
@@ -77,7 +86,10 @@ impl Walk<'_> {
     }
 
     /// Looks at one name that waits. The answer is whether one did.
-    fn step(&mut self) -> Result<bool, AllocError> {
+    fn step(&mut self) -> Result<bool, AllocError>
+        ensures { OnOk result (AreGames self.old.below.files.items
+            → AreGames self.new.below.files.items) }
+    {
         let Some(Waiting { path, depth }) = self.waiting.pop() else {
             return Ok(false);
         };
@@ -97,7 +109,9 @@ impl Walk<'_> {
 }
 
 /// A walk at the folder of this name.
-fn walk_at<'a>(rt: &'a HostRuntime, folder: &str) -> Result<Walk<'a>, AllocError> {
+fn walk_at<'a>(rt: &'a HostRuntime, folder: &str) -> Result<Walk<'a>, AllocError>
+    ensures { IfOk result (λ walk. walk.below.files.items ≡ []) }
+{
     let mut waiting = Vec::new(rt.alloc());
     waiting.push(Waiting {
         path: String::from_str(rt.alloc(), folder)?,
@@ -116,7 +130,9 @@ fn walk_at<'a>(rt: &'a HostRuntime, folder: &str) -> Result<Walk<'a>, AllocError
 }
 
 /// What is below the folder of this name: its files in the order of their whole names, each once.
-pub(crate) fn walk_below(rt: &HostRuntime, folder: &str) -> Result<Below, AllocError> {
+pub(crate) fn walk_below(rt: &HostRuntime, folder: &str) -> Result<Below, AllocError>
+    ensures { IfOk result (λ below. AreGameFiles below.files.items) }
+{
     let mut walk = walk_at(rt, folder)?;
     for _ in 0..u64::MAX {
         if !walk.step()? {

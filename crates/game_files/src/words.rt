@@ -1,10 +1,12 @@
 //! What the words of a command line mean: files, and what is wrong with names.
-ghost use Rattle.std.specs.Prelude.{◌≡◌, [], ◌∷◌, IfOk};
+ghost use Rattle.std.specs.Prelude.{◌≡◌, ◌≢◌, [], ◌∷◌, ◌++◌, map, IfOk, OnOk};
+ghost use Rattle.game_files.specs.Sources.{AreFlaws, AreGameFiles, AreMeant};
+ghost use Rattle.game_files.specs.Sources.{Grew, IsBelow, IsFlawOf, IsMeant};
 ghost use Rattle.game_files.specs.declared.words.Source.TheVariants as source;
 
 use crate::flaws::{Flaw, Why};
 use crate::looks::{Seen, look};
-use crate::walks::walk_below;
+use crate::walks::{Below, walk_below};
 use std::alloc::AllocError;
 
 /// One of the inputs that words mean, or what is wrong with a name.
@@ -24,32 +26,79 @@ fn push_flaw(
     name: &str,
     why: Why,
     all: &mut Vec<Source>,
-) -> Result<(), AllocError> {
+) -> Result<(), AllocError>
+    ensures { OnOk result (Grew (IsFlawOf name.now why) all.old.items all.new.items) }
+{
     let name = String::from_str(rt.alloc(), name)?;
     all.push(Source::Flaw(Flaw { name, why }))?;
     Ok(())
 }
 
-/// Appends what a folder means.
-fn push_folder(rt: &HostRuntime, folder: &str, all: &mut Vec<Source>) -> Result<(), AllocError> {
-    let below = walk_below(rt, folder)?;
-    if below.passed_over > 0 {
-        push_flaw(rt, folder, Why::PassedOver(below.passed_over), all)?;
+/// Appends that names of a folder were passed over, where some were.
+fn push_passed_over(
+    rt: &HostRuntime,
+    folder: &str,
+    names: u64,
+    all: &mut Vec<Source>,
+) -> Result<(), AllocError>
+    ensures { OnOk result (Grew AreFlaws all.old.items all.new.items) }
+{
+    if names > 0 {
+        push_flaw(rt, folder, Why::PassedOver(names), all)?;
     }
-    if below.files.is_empty() && below.flaws.is_empty() {
-        push_flaw(rt, folder, Why::NoGames, all)?;
-    }
-    for flaw in below.flaws {
+    Ok(())
+}
+
+/// Appends what is wrong with names.
+fn push_flaws(flaws: Vec<Flaw>, all: &mut Vec<Source>) -> Result<(), AllocError>
+    ensures { OnOk result (all.new.items ≡ all.old.items ++ map source.Flaw flaws.items) }
+{
+    for flaw in flaws {
         all.push(Source::Flaw(flaw))?;
     }
-    for file in below.files {
+    Ok(())
+}
+
+/// Appends files.
+fn push_files(files: Vec<String>, all: &mut Vec<Source>) -> Result<(), AllocError>
+    ensures { OnOk result (all.new.items ≡ all.old.items ++ map source.File files.items) }
+{
+    for file in files {
         all.push(Source::File(file))?;
     }
     Ok(())
 }
 
+/// Appends what was found below a folder, or that nothing was.
+fn push_below(
+    rt: &HostRuntime,
+    folder: &str,
+    below: Below,
+    all: &mut Vec<Source>,
+) -> Result<(), AllocError>
+    requires { AreGameFiles below.files.items }
+    ensures { OnOk result (Grew IsBelow all.old.items all.new.items) }
+{
+    if below.files.is_empty() && below.flaws.is_empty() {
+        return push_flaw(rt, folder, Why::NoGames, all);
+    }
+    push_flaws(below.flaws, all)?;
+    push_files(below.files, all)
+}
+
+/// Appends what a folder means.
+fn push_folder(rt: &HostRuntime, folder: &str, all: &mut Vec<Source>) -> Result<(), AllocError>
+    ensures { OnOk result (Grew IsBelow all.old.items all.new.items) }
+{
+    let below = walk_below(rt, folder)?;
+    push_passed_over(rt, folder, below.passed_over, all)?;
+    push_below(rt, folder, below, all)
+}
+
 /// Appends what a word means.
-fn push_word(rt: &HostRuntime, word: &str, all: &mut Vec<Source>) -> Result<(), AllocError> {
+fn push_word(rt: &HostRuntime, word: &str, all: &mut Vec<Source>) -> Result<(), AllocError>
+    ensures { OnOk result (Grew (IsMeant word.now) all.old.items all.new.items) }
+{
     if word == "-" {
         all.push(Source::Input)?;
         return Ok(());
@@ -81,6 +130,8 @@ fn push_word(rt: &HostRuntime, word: &str, all: &mut Vec<Source>) -> Result<(), 
 /// `AllocError` where memory was refused.
 pub fn sources(rt: &HostRuntime, words: &[&str]) -> Result<Vec<Source>, AllocError>
     ensures none { words.now ≡ [] → IfOk result (λ all. all.items ≡ source.Input ∷ []) }
+    ensures some { words.now ≢ [] → IfOk result (λ all.
+        AreMeant (map (λ w. w.now) words.now) all.items) }
 {
     let mut all = Vec::new(rt.alloc());
     if words.is_empty() {
