@@ -10,9 +10,9 @@ use Rattle.listing_core.specs.declared.conditions.Condition.{Condition}
 use Rattle.listing_core.specs.declared.lines.Line.{Line}
 use Rattle.listing_core.specs.declared.lines.What.{What}
 use Rattle.listing_core.specs.declared.lines.What.TheVariants as what
-use Rattle.listing_core.specs.Columns.{columns_text, fault_columns}
+use Rattle.listing_core.specs.Columns.{tab, no_columns, columns_text}
 use Rattle.listing_core.specs.Conditions.{meets_all}
-use Rattle.listing_core.specs.Lines.{line_text, fault_text}
+use Rattle.listing_core.specs.Lines.{space, line_text, fault_line}
 
 -- whether what is no game has a line: where all trees have one
 abbrev pub lists_all : Form → List Condition → Bool
@@ -49,8 +49,8 @@ pieces asked bytes _ _ = []
 
 -- the last line of an input with a fault of syntax, where all trees have lines
 abbrev pub fault_form : Form → Option (List ℕ) → ℕ → ℕ → SgfFault → List ℕ
-fault_form form.Lines name from to fault = fault_text name from to fault
-fault_form form.Columns name from to fault = fault_columns name from to fault
+fault_form form.Lines name from to fault = fault_line space [] name from to fault
+fault_form form.Columns name from to fault = fault_line tab no_columns name from to fault
 fault_form form.Trees name from to fault = []
 
 abbrev pub fault_piece : Asked → ℕ → ℕ → SgfFault → List ℕ

@@ -6,14 +6,13 @@ use Rattle.sgf_core.specs.Tree.{PropertyValue, Node}
 use Rattle.go_board.specs.Extent.{Extent}
 use Rattle.go_record.specs.Record.{root_of, first_value}
 use Rattle.go_record.specs.declared.faults.RecordFault.{RecordFault}
-use Rattle.sgf_core.specs.declared.faults.SgfFault.{SgfFault}
 use Rattle.listing_core.specs.declared.keys.Key.{Key}
 use Rattle.listing_core.specs.declared.keys.Key.TheVariants as key
 use Rattle.listing_core.specs.declared.lines.Line.{Line}
 use Rattle.listing_core.specs.declared.lines.What.{What}
 use Rattle.listing_core.specs.declared.lines.What.TheVariants as what
 use Rattle.listing_core.specs.Simple.{simple_text}
-use Rattle.listing_core.specs.Lines.{record_fault_text, sgf_fault_text, number_text, size_text, ending}
+use Rattle.listing_core.specs.Lines.{record_fault_text, place_text, size_text, ending}
 
 abbrev pub key_text : Key → List ℕ
 key_text key.Size = codes "SZ"
@@ -78,16 +77,7 @@ what_columns line (what.Game size moves occasions) =
 what_columns line what.Other = codes "other" ++ no_columns
 what_columns line (what.Refused fault) = refused_columns fault
 
--- the number of the game, where the tree begins and where it ends
-abbrev pub place_columns : Option ℕ → ℕ → ℕ → List ℕ
-place_columns number from to = number_text number ++ column (decimal from) ++ column (decimal to) ++ tab
-
 -- the columns of a tree with this main line, in a file of this name
 abbrev pub columns_text : Option (List ℕ) → List Node → Line → List ℕ
 columns_text name line found =
-    place_columns found.number found.from found.to ++ what_columns line found.what ++ ending tab name
-
--- the last line of an input with a fault of syntax, which is looked for from `from` on
-abbrev pub fault_columns : Option (List ℕ) → ℕ → ℕ → SgfFault → List ℕ
-fault_columns name from to fault =
-    place_columns None from to ++ codes "fault " ++ sgf_fault_text fault ++ no_columns ++ ending tab name
+    place_text tab found.number found.from found.to ++ what_columns line found.what ++ ending tab name

@@ -32,9 +32,9 @@ abbrev pub number_text : Option ℕ → List ℕ
 number_text None = codes "-"
 number_text (Some number) = decimal number
 
--- where the tree begins and where it ends
-abbrev pub bounds_text : ℕ → ℕ → List ℕ
-bounds_text from to = codes " " ++ decimal from ++ codes " " ++ decimal to ++ codes " "
+-- the number of a game, and where its tree begins and where it ends, with this after each
+abbrev pub place_text : List ℕ → Option ℕ → ℕ → ℕ → List ℕ
+place_text between number from to = number_text number ++ between ++ decimal from ++ between ++ decimal to ++ between
 
 -- a board's size
 abbrev pub size_text : Extent → List ℕ
@@ -57,9 +57,10 @@ space = codes " "
 
 -- the line of a tree, in a file of this name
 abbrev pub line_text : Option (List ℕ) → Line → List ℕ
-line_text name line = number_text line.number ++ bounds_text line.from line.to ++ what_text line.what ++ ending space name
+line_text name line = place_text space line.number line.from line.to ++ what_text line.what ++ ending space name
 
--- the last line of an input with a fault of syntax, which is looked for from `from` on
-abbrev pub fault_text : Option (List ℕ) → ℕ → ℕ → SgfFault → List ℕ
-fault_text name from to fault =
-    codes "-" ++ bounds_text from to ++ codes "fault " ++ sgf_fault_text fault ++ ending space name
+-- the last line of an input with a fault of syntax, which is looked for from `from` on: its parts with this between them, and
+-- these columns after the fault
+abbrev pub fault_line : List ℕ → List ℕ → Option (List ℕ) → ℕ → ℕ → SgfFault → List ℕ
+fault_line between columns name from to fault =
+    place_text between None from to ++ codes "fault " ++ sgf_fault_text fault ++ columns ++ ending between name

@@ -7,7 +7,7 @@ ghost use Rattle.listing_core.specs.Choice.{lists_all, is_chosen, name_in, form_
 ghost use Rattle.listing_core.specs.Choice.{fault_piece};
 
 use crate::asked::{Asked, Form};
-use crate::columns::{push_columns, push_fault_columns};
+use crate::columns::{NO_COLUMNS, push_columns};
 use crate::conditions::meets_all;
 use crate::lines::{Line, What};
 use crate::writing::{push_fault, push_line};
@@ -105,8 +105,8 @@ pub(crate) fn push_fault_piece(
         return Ok(());
     }
     match asked.form {
-        Form::Lines => push_fault(text, asked.name, from, to, fault),
-        Form::Columns => push_fault_columns(text, asked.name, from, to, fault),
+        Form::Lines => push_fault(text, b" ", b"", asked.name, from, to, fault),
+        Form::Columns => push_fault(text, b"\t", NO_COLUMNS, asked.name, from, to, fault),
         Form::Trees => Ok(()),
     }
 }

@@ -7,23 +7,20 @@ ghost use Rattle.sgf_core.specs.Values.{value_of};
 ghost use Rattle.go_record.specs.Record.{front_value, first_value, root_of};
 ghost use Rattle.listing_core.specs.Columns.{value_text, key_text, property_text, key_value};
 ghost use Rattle.listing_core.specs.Columns.{column, key_columns, shown_keys, refused_columns};
-ghost use Rattle.listing_core.specs.Columns.{what_columns};
-ghost use Rattle.listing_core.specs.Columns.{place_columns, columns_text, fault_columns};
+ghost use Rattle.listing_core.specs.Columns.{what_columns, columns_text};
 ghost use Rattle.listing_core.specs.Lines.{ending};
 
 use crate::keys::{Key, SHOWN, key_text};
 use crate::lines::{Line, What};
 use crate::simple::push_simple;
-use crate::writing::{
-    push_count, push_ending, push_game_number, push_record_fault, push_sgf_fault, push_size,
-};
+use crate::writing::{push_count, push_ending, push_place, push_record_fault, push_size};
 use go_board::Size;
 use go_record::RecordFault;
-use sgf_core::{MainLine, Node, Prop, SgfFault, Tree, Value};
+use sgf_core::{MainLine, Node, Prop, Tree, Value};
 use std::alloc::AllocError;
 
 /// What stands for the columns that only a game has.
-const NO_COLUMNS: &[u8] = b"\t\t\t\t\t\t\t\t\t\t\t";
+pub(crate) const NO_COLUMNS: &[u8] = b"\t\t\t\t\t\t\t\t\t\t\t";
 
 fn front_value<'a>(prop: &Prop<'a>) -> Option<Value<'a>>
     ensures { option_map value_of result ≡ front_value prop.now.values }
@@ -144,22 +141,6 @@ fn push_what_columns(text: &mut Vec<u8>, tree: &Tree<'_>, what: What) -> Result<
     }
 }
 
-/// Appends the number of a game, and where its tree begins and ends.
-fn push_place_columns(
-    text: &mut Vec<u8>,
-    number: Option<u64>,
-    from: usize,
-    to: usize,
-) -> Result<(), AllocError>
-    ensures { OnOk result (text.new.items ≡ text.old.items ++ place_columns number from to) }
-{
-    push_game_number(text, number)?;
-    push_count_column(text, from)?;
-    push_count_column(text, to)?;
-    text.push(b'\t')?;
-    Ok(())
-}
-
 /// Appends the columns of a tree in a file of this name.
 pub(crate) fn push_columns(
     text: &mut Vec<u8>,
@@ -171,25 +152,7 @@ pub(crate) fn push_columns(
         → OnOk result (text.new.items ≡ text.old.items
         ++ columns_text (option_map (λ n. n.now) name.entry) (main_line_of game) line.now) }
 {
-    push_place_columns(text, line.number, line.from, line.to)?;
+    push_place(text, b"\t", line.number, line.from, line.to)?;
     push_what_columns(text, tree, line.what)?;
-    push_ending(text, b"\t", name)
-}
-
-/// Appends the last line of an input with a fault of syntax, in columns.
-pub(crate) fn push_fault_columns(
-    text: &mut Vec<u8>,
-    name: Option<&str>,
-    from: usize,
-    to: usize,
-    fault: SgfFault,
-) -> Result<(), AllocError>
-    ensures { OnOk result (text.new.items ≡ text.old.items
-        ++ fault_columns (option_map (λ n. n.now) name.entry) from to fault) }
-{
-    push_place_columns(text, None, from, to)?;
-    text.extend_from_slice(b"fault ")?;
-    push_sgf_fault(text, fault)?;
-    text.extend_from_slice(NO_COLUMNS)?;
     push_ending(text, b"\t", name)
 }

@@ -2,8 +2,8 @@
 ghost use Rattle.std.specs.Prelude.{◌≡◌, ◌++◌, OnOk, option_map};
 ghost use Rattle.std.specs.Fmt.{decimal};
 ghost use Rattle.listing_core.specs.Lines.{record_fault_text, sgf_fault_text, number_text};
-ghost use Rattle.listing_core.specs.Lines.{size_text, bounds_text, what_text, ending, line_text};
-ghost use Rattle.listing_core.specs.Lines.{fault_text};
+ghost use Rattle.listing_core.specs.Lines.{size_text, place_text, what_text, ending, line_text};
+ghost use Rattle.listing_core.specs.Lines.{fault_line};
 
 use crate::lines::{Line, What};
 use game_files::push_name;
@@ -41,7 +41,7 @@ pub(crate) fn push_record_fault(text: &mut Vec<u8>, fault: RecordFault) -> Resul
 }
 
 /// Appends the fault of a collection.
-pub(crate) fn push_sgf_fault(text: &mut Vec<u8>, fault: SgfFault) -> Result<(), AllocError>
+fn push_sgf_fault(text: &mut Vec<u8>, fault: SgfFault) -> Result<(), AllocError>
     ensures { OnOk result (text.new.items ≡ text.old.items ++ sgf_fault_text fault) }
 {
     match fault {
@@ -54,7 +54,7 @@ pub(crate) fn push_sgf_fault(text: &mut Vec<u8>, fault: SgfFault) -> Result<(), 
 }
 
 /// Appends the number of a game, or that there is none.
-pub(crate) fn push_game_number(text: &mut Vec<u8>, number: Option<u64>) -> Result<(), AllocError>
+fn push_game_number(text: &mut Vec<u8>, number: Option<u64>) -> Result<(), AllocError>
     ensures { OnOk result (text.new.items ≡ text.old.items ++ number_text number) }
 {
     match number {
@@ -63,15 +63,23 @@ pub(crate) fn push_game_number(text: &mut Vec<u8>, number: Option<u64>) -> Resul
     }
 }
 
-/// Appends where a tree begins and where it ends.
-fn push_bounds(text: &mut Vec<u8>, from: usize, to: usize) -> Result<(), AllocError>
-    ensures { OnOk result (text.new.items ≡ text.old.items ++ bounds_text from to) }
+/// Appends the number of a game, and where its tree begins and ends, with this after each.
+pub(crate) fn push_place(
+    text: &mut Vec<u8>,
+    between: &[u8],
+    number: Option<u64>,
+    from: usize,
+    to: usize,
+) -> Result<(), AllocError>
+    ensures { OnOk result (text.new.items
+        ≡ text.old.items ++ place_text between.now number from to) }
 {
-    text.extend_from_slice(b" ")?;
+    push_game_number(text, number)?;
+    text.extend_from_slice(between)?;
     push_count(text, from)?;
-    text.extend_from_slice(b" ")?;
+    text.extend_from_slice(between)?;
     push_count(text, to)?;
-    text.extend_from_slice(b" ")
+    text.extend_from_slice(between)
 }
 
 /// Appends the size of a board.
@@ -134,26 +142,28 @@ pub(crate) fn push_line(
     ensures { OnOk result (text.new.items ≡ text.old.items
         ++ line_text (option_map (λ n. n.now) name.entry) line.now) }
 {
-    push_game_number(text, line.number)?;
-    push_bounds(text, line.from, line.to)?;
+    push_place(text, b" ", line.number, line.from, line.to)?;
     push_what(text, line.what)?;
     push_ending(text, b" ", name)
 }
 
-/// Appends the last line of an input with a fault of syntax, in a file of this name.
+/// Appends the last line of an input with a fault of syntax, in a file of this name: its parts with
+/// this between them, and these columns after the fault.
 pub(crate) fn push_fault(
     text: &mut Vec<u8>,
+    between: &[u8],
+    columns: &[u8],
     name: Option<&str>,
     from: usize,
     to: usize,
     fault: SgfFault,
 ) -> Result<(), AllocError>
-    ensures { OnOk result (text.new.items ≡ text.old.items
-        ++ fault_text (option_map (λ n. n.now) name.entry) from to fault) }
+    ensures { OnOk result (text.new.items ≡ text.old.items ++ fault_line between.now columns.now
+        (option_map (λ n. n.now) name.entry) from to fault) }
 {
-    text.extend_from_slice(b"-")?;
-    push_bounds(text, from, to)?;
+    push_place(text, between, None, from, to)?;
     text.extend_from_slice(b"fault ")?;
     push_sgf_fault(text, fault)?;
-    push_ending(text, b" ", name)
+    text.extend_from_slice(columns)?;
+    push_ending(text, between, name)
 }
