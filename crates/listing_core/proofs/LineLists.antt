@@ -1,5 +1,5 @@
 -- The lines of trees, one tree after another, and what is written of them.
-use Rattle.std.proofs.Common.{◌≡◌, ◌≢◌, ℕ, ◌+◌, ◌≤◌, ◌==◌, ◌&&◌, Bool, true, false, List, [], ◌∷◌, ◌++◌, length, map, Result, Ok, Err, refl, ap, sym, subst, ◌∙◌, arith, append_assoc}
+use Rattle.std.proofs.Common.{◌≡◌, ℕ, ◌+◌, List, [], ◌∷◌, ◌++◌, length, map, Result, Ok, Err, refl, ap, sym, subst, ◌∙◌, arith, append_assoc}
 use Rattle.std.proofs.lemmas.List.{map-append, append-nil}
 use Rattle.sgf_core.specs.Tree.{GameTree, main_line_of}
 use Rattle.sgf_core.specs.Next.{IsNextTree}
@@ -17,11 +17,11 @@ use Rattle.listing_core.specs.declared.lines.What.TheVariants as what
 use Rattle.listing_core.specs.Choice.{piece, pieces}
 use Rattle.listing_core.specs.Listing.{IsWhat, number_of, AreLines}
 use Rattle.listing_core.specs.Inner.Reading.{IsLineOf, ListsNext, ListsUpTo, counted, all_in}
-use Rattle.listing_core.specs.Inner.Wants.{NextWants, IsWanted}
+use Rattle.listing_core.specs.Inner.Wants.{NextWants, ReadsUpTo, IsWanted}
 use Rattle.listing_core.specs.declared.wants.Want.{Want}
 
 -- how many games there are, the first record apart
-games_first : (recorded : Result Kind RecordFault) (records : List (Result Kind RecordFault)) →
+pub games_first : (recorded : Result Kind RecordFault) (records : List (Result Kind RecordFault)) →
     length (games_among (recorded ∷ records)) ≡ length (games_among (recorded ∷ [])) + length (games_among records)
 games_first (Ok (kind.Go game)) records = omega arith
 games_first (Ok kind.Other) records = omega arith
@@ -144,13 +144,13 @@ lines_are_of_trees bytes number place end (tree ∷ trees) [] h = absurd h
 lines_are_of_trees bytes number place end (tree ∷ trees) (line ∷ lines) h =
     (line.from, line.to, h.0, lines_are_of_trees bytes (number + length (games_among (record_of_tree tree ∷ []))) line.to end trees lines h.3)
 
--- what the tree after those that are listed asks for
-pub is_wanted : (asked : Asked) (bytes : List ℕ) (place : ℕ) (report : Report) (text : List ℕ) (before : Reading) (found : Want) → before.bytes ≡ bytes → place ≡ before.from →
-    ListsUpTo asked bytes place report text → NextWants before.bytes before.from found → IsWanted bytes found
-is_wanted asked bytes place report text before found same here h is = record {
-  before = h.trees;
+-- what the tree after those up to a place asks for
+pub is_wanted : (bytes : List ℕ) (place : ℕ) (before : Reading) (found : Want) → before.bytes ≡ bytes → place ≡ before.from → ReadsUpTo bytes place →
+    NextWants before.bytes before.from found → IsWanted bytes found
+is_wanted bytes place before found same here h is = record {
+  before = h.0;
   from = place;
-  written = lines_are_of_trees bytes asked.first 0 place h.trees h.lines h.are;
+  written = h.1;
   at = is.0;
   end = is.1;
   tree = is.2;

@@ -28,3 +28,4 @@ pub use laws::{cuts_are_read_back, listings_agree_with_counts};
 pub use lines::{Line, What};
 pub use listings::{Listed, Summary, listed_by};
 pub use runs::{MOST_FIRST, run_listing};
+pub use wants::Want;

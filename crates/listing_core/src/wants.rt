@@ -9,13 +9,17 @@ use go_record::RecordFault;
 use sgf_core::SgfFault;
 use std::alloc::{AllocError, AllocFailed};
 
-/// What wanted memory in a listing. The whole is a run's fault, which is too large to be handed
-/// through each step.
+/// What wanted memory where the trees of an input are read, one after another. A run's fault is too
+/// large to be handed through each step; it is made of this at the end.
 #[derive(Clone, Copy, Debug, PartialEq, Eq)]
-pub(crate) enum Want {
+pub enum Want {
+    /// A tree: S5 of a run.
     Tree,
+    /// The record of a tree: G4.
     Record,
+    /// The board of a game: B1.
     Board,
+    /// All else, as what is written.
     Text,
 }
 

@@ -1,24 +1,24 @@
 -- Games that are met, one tree after another.
-use Rattle.std.proofs.Common.{◌≡◌, ◌≢◌, ℕ, ◌+◌, ◌≤◌, Option, Some, None, List, [], ◌∷◌, ◌++◌, length, map, Result, Ok, Err, refl, ap, sym, subst, ◌∙◌, arith, append_assoc}
+use Rattle.std.proofs.Common.{◌≡◌, ℕ, ◌+◌, Option, List, [], ◌∷◌, ◌++◌, length, map, Result, Ok, Err, refl, ap, sym, subst, ◌∙◌, arith, append_assoc}
 use Rattle.std.proofs.lemmas.List.{map-append, append-nil}
-use Rattle.sgf_core.specs.Tree.{GameTree, main_line_of}
+use Rattle.sgf_core.specs.Tree.{GameTree}
 use Rattle.sgf_core.specs.Next.{IsNextTree}
 use Rattle.sgf_core.specs.Reading.{Reading}
-use Rattle.go_record.specs.Actions.{Actions}
 use Rattle.go_record.specs.declared.records.Kind.{Kind}
 use Rattle.go_record.specs.declared.records.Kind.TheVariants as kind
 use Rattle.go_record.specs.declared.faults.RecordFault.{RecordFault}
 use Rattle.game_core.specs.Collection.{AreTrees, record_of_tree, games_among, others_among, refused_among}
 use Rattle.game_core.specs.Reports.{IsReport}
 use Rattle.game_core.specs.declared.reports.Report.{Report}
-use Rattle.listing_core.proofs.LineLists.{games_last, others_last, refused_last}
+use Rattle.listing_core.specs.Inner.Reading.{all_in}
+use Rattle.listing_core.specs.Inner.Wants.{ReadsUpTo}
+use Rattle.listing_core.proofs.LineLists.{games_first, games_last, others_last, refused_last}
 use Rattle.twins_core.specs.declared.reading.Sort.{Sort}
 use Rattle.twins_core.specs.declared.reading.Sort.TheVariants as sort
-use Rattle.twins_core.specs.declared.reading.Want.{Want}
 use Rattle.twins_core.specs.Twins.{Met, AreTwins, Kept, Knows, piece}
 use Rattle.twins_core.specs.Runs.{met_of, AreMet}
 use Rattle.twins_core.specs.Inner.Meets.{Meets}
-use Rattle.twins_core.specs.Inner.Reading.{sort_of, counted, all_in, MeetsAll, MeetsNext, MeetsUpTo, ReadsNext, ReadsUpTo, NextWants, IsWanted}
+use Rattle.twins_core.specs.Inner.Reading.{sort_of, counted, MeetsAll, MeetsNext, MeetsUpTo, ReadsNext}
 use Rattle.twins_core.proofs.Firsts.{twins_append}
 
 -- one game
@@ -63,13 +63,6 @@ report_push trees report tree h =
       others = omega (arith, more.others, h.others, others_last records recorded, ap others_among all);
       refused = omega (arith, more.refused, h.refused, refused_last records recorded, ap refused_among all);
     }
-
--- how many games there are, the first record apart
-games_first : (recorded : Result Kind RecordFault) (records : List (Result Kind RecordFault)) →
-    length (games_among (recorded ∷ records)) ≡ length (games_among (recorded ∷ [])) + length (games_among records)
-games_first (Ok (kind.Go game)) records = omega arith
-games_first (Ok kind.Other) records = omega arith
-games_first (Err found) records = omega arith
 
 -- a tree more
 met_push : (name : Option (List ℕ)) (bytes : List ℕ) (number place middle : ℕ) (trees : List GameTree) (mets : List Met) (tree : GameTree) (from to next : ℕ) →
@@ -155,20 +148,6 @@ pub one_more : (report : Report) (found : Sort) → all_in (counted report found
 one_more report sort.Game = omega arith
 one_more report sort.Other = omega arith
 one_more report sort.Refused = omega arith
-
--- what the tree after those that were read asks for
-pub is_wanted : (bytes : List ℕ) (place : ℕ) (before : Reading) (found : Want) → before.bytes ≡ bytes → place ≡ before.from → ReadsUpTo bytes place →
-    NextWants before.bytes before.from found → IsWanted bytes found
-is_wanted bytes place before found same here h is = record {
-  before = h.0;
-  from = place;
-  written = h.1;
-  at = is.0;
-  end = is.1;
-  tree = is.2;
-  next = subst (λ b. IsNextTree b place is.0 is.1 is.2) same (subst (λ p. IsNextTree before.bytes p is.0 is.1 is.2) (sym here) is.3);
-  holds = is.4;
-}
 
 -- where no tree more is met, all is as it was
 pub meets_stay : (number : ℕ) (name : Option (List ℕ)) (before : List Met) (old kept : List Kept) (bytes : List ℕ) (place : ℕ) (report : Report) (text new : List ℕ) →

@@ -1,5 +1,5 @@
 //! The trees of an input, one after another, whose games are met.
-ghost use Rattle.std.specs.Prelude.{◌≡◌, ◌≤◌, ◌<◌, ◌+◌, ◌^◌, [], List, length, option_map, IfOk, IfErr};
+ghost use Rattle.std.specs.Prelude.{◌≡◌, ◌≤◌, ◌<◌, ◌+◌, ◌^◌, ◌≢◌, [], List, length, option_map, IfOk, IfErr};
 ghost use Rattle.sgf_core.specs.Limit.{most_bytes};
 ghost use Rattle.sgf_core.specs.Tree.{GameTree, main_line_of};
 ghost use Rattle.sgf_core.specs.Marks.{marks_of};
@@ -7,45 +7,18 @@ ghost use Rattle.game_core.specs.Collection.{record_of_tree};
 ghost use Rattle.listing_core.specs.Listing.{most_first};
 ghost use Rattle.twins_core.specs.Twins.{Met, Knows};
 ghost use Rattle.twins_core.specs.Runs.{met_of};
-ghost use Rattle.twins_core.specs.Inner.Reading.{fault_of, Wants, NextWants, IsWanted, sort_of};
-ghost use Rattle.twins_core.specs.Inner.Reading.{counted, MeetsAll, IsRead, IsStep, IsEnding};
-ghost use Rattle.twins_core.specs.declared.reading.Want.TheVariants.{Text};
+ghost use Rattle.listing_core.specs.Inner.Wants.{Wants, NextWants, IsWanted};
+ghost use Rattle.listing_core.specs.declared.wants.Want.TheVariants as want;
+ghost use Rattle.twins_core.specs.Inner.Reading.{sort_of, counted, MeetsAll, IsRead, IsStep};
+ghost use Rattle.twins_core.specs.Inner.Reading.{IsEnding};
 
 use crate::seats::Place;
 use crate::twins::Twins;
-use engine_core::RunFault;
 use game_core::Report;
 use go_record::{Kind, RecordFault, read_record};
+use listing_core::Want;
 use sgf_core::{SgfFault, Tree, Trees};
-use std::alloc::{AllocError, Global};
-
-/// What wanted memory.
-#[derive(Clone, Copy, Debug, PartialEq, Eq)]
-pub(crate) enum Want {
-    Tree,
-    Record,
-    Text,
-}
-
-impl From<AllocError> for Want {
-    ghost from_gives = { λ _ want. want ≡ Text };
-
-    fn from(_: AllocError) -> Want {
-        Want::Text
-    }
-}
-
-impl From<Want> for RunFault {
-    ghost from_gives = { λ want fault. fault ≡ fault_of want };
-
-    fn from(want: Want) -> RunFault {
-        match want {
-            Want::Tree => RunFault::Sgf(SgfFault::Memory),
-            Want::Record => RunFault::Record(RecordFault::Memory),
-            Want::Text => RunFault::Memory,
-        }
-    }
-}
+use std::alloc::Global;
 
 /// What sort of tree one is.
 #[derive(Clone, Copy)]
@@ -92,6 +65,7 @@ fn meet_tree(
         tree.now.end) text.old.items text.new.items) }
     ensures wanted { (game : GameTree) → tree.now.marks ≡ marks_of game
         → IfErr result (Wants (main_line_of game)) }
+    ensures no_board { IfErr result (λ found. found ≢ want.Board) }
 {
     match read_record(alloc, tree) {
         Ok(Kind::Go(game)) => {
@@ -123,6 +97,7 @@ fn meet_next(
         → IfOk result (IsStep (option_map (λ n. n.now) name.entry) twins.new trees.old trees.new
         number before text.old.items text.new.items) }
     ensures wanted { IfErr result (NextWants trees.old.bytes trees.old.from) }
+    ensures no_board { IfErr result (λ found. found ≢ want.Board) }
 {
     match trees.next_tree(alloc) {
         Ok(Some(tree)) => {
@@ -169,6 +144,7 @@ pub(crate) fn meet_all(
         → IfOk result (IsEnding first (option_map (λ n. n.now) name.entry) before twins.new
         trees.old.bytes text.new.items) }
     ensures wanted { IfErr result (IsWanted trees.old.bytes) }
+    ensures no_board { IfErr result (λ found. found ≢ want.Board) }
 {
     let mut report = Report {
         games: 0,

@@ -1,23 +1,15 @@
 -- What one step meets, and what was met up to a place.
-use Rattle.std.specs.Prelude.{◌≡◌, ℕ, ◌+◌, ◌<◌, ◌≤◌, List, [], ◌++◌, length, Option, MatchOption, Result, Ok, Err}
-use Rattle.sgf_core.specs.Tree.{GameTree, Node, main_line_of}
+use Rattle.std.specs.Prelude.{◌≡◌, ℕ, ◌+◌, ◌<◌, ◌≤◌, List, ◌++◌, length, Option, MatchOption, Result, Ok, Err}
+use Rattle.sgf_core.specs.Tree.{GameTree}
 use Rattle.sgf_core.specs.Next.{IsNextTree, HasNoTree}
 use Rattle.sgf_core.specs.Reading.{Reading, IsFaultAt}
-use Rattle.sgf_core.specs.declared.faults.SgfFault.TheVariants as sgf
-use Rattle.go_record.specs.Actions.{Actions}
-use Rattle.go_record.specs.Adding.{KeepsAnAction}
 use Rattle.go_record.specs.declared.records.Kind.{Kind}
 use Rattle.go_record.specs.declared.records.Kind.TheVariants as kind
 use Rattle.go_record.specs.declared.faults.RecordFault.{RecordFault}
-use Rattle.go_record.specs.declared.faults.RecordFault.TheVariants as record_fault
-use Rattle.game_core.specs.Collection.{AreTrees, record_of_tree}
+use Rattle.game_core.specs.Collection.{record_of_tree}
 use Rattle.game_core.specs.Reports.{IsReport}
 use Rattle.game_core.specs.declared.reports.Report.{Report}
-use Rattle.engine_core.specs.declared.faults.RunFault.{RunFault}
-use Rattle.engine_core.specs.declared.faults.RunFault.TheVariants as fault
-use Rattle.listing_core.specs.Listing.{HasTree}
-use Rattle.twins_core.specs.declared.reading.Want.{Want}
-use Rattle.twins_core.specs.declared.reading.Want.TheVariants as want
+use Rattle.listing_core.specs.Inner.Reading.{all_in}
 use Rattle.twins_core.specs.declared.reading.Sort.{Sort}
 use Rattle.twins_core.specs.declared.reading.Sort.TheVariants as sort
 use Rattle.twins_core.specs.declared.reading.Step.{Step}
@@ -25,26 +17,6 @@ use Rattle.twins_core.specs.declared.reading.Step.TheVariants as step
 use Rattle.twins_core.specs.declared.reading.Ending.{Ending}
 use Rattle.twins_core.specs.Twins.{Met, AreTwins, Kept, Knows}
 use Rattle.twins_core.specs.Runs.{met_of, AreMet}
-
-abbrev pub fault_of : Want → RunFault
-fault_of want.Tree = fault.Sgf sgf.Memory
-fault_of want.Record = fault.Record record_fault.Memory
-fault_of want.Text = fault.Memory
-
--- meeting a tree of this main line asks for this memory
-abbrev pub Wants : List Node → Want → Type 0
-Wants line want.Tree = Unit {0}
-Wants line want.Record = KeepsAnAction line
-Wants line want.Text = Unit {0}
-
--- the next tree asks for it
-abbrev pub NextWants : List ℕ → ℕ → Want → Type 0
-NextWants bytes from found =
-    (at : ℕ) × (end : ℕ) × (tree : GameTree) × IsNextTree bytes from at end tree × Wants (main_line_of tree) found
-
--- a tree that is next after others asks for it
-abbrev pub IsWanted : List ℕ → Want → Type 0
-IsWanted bytes found = HasTree (λ tree. Wants (main_line_of tree) found) bytes
 
 -- what sort of tree this record is of
 abbrev pub sort_of : Result Kind RecordFault → Sort
@@ -97,14 +69,6 @@ abbrev pub IsStep : Option (List ℕ) → List Kept → Reading → Reading → 
 IsStep name kept reading after number before text new (step.Tree found end) = MeetsNext name kept reading after number before text new found end
 IsStep name kept reading after number before text new step.End = HasNoTree reading.bytes reading.from × (new ≡ text) × Knows kept before
 IsStep name kept reading after number before text new (step.Fault found) = IsFaultAt reading.bytes reading.from found × (new ≡ text) × Knows kept before
-
--- how many trees a report is on
-abbrev pub all_in : Report → ℕ
-all_in report = report.games + report.others + report.refused
-
--- the trees up to a place were read
-abbrev pub ReadsUpTo : List ℕ → ℕ → Type 0
-ReadsUpTo bytes place = (trees : List GameTree) × AreTrees bytes 0 trees place
 
 -- what was met up to a place
 pub record MeetsUpTo (number : ℕ) (name : Option (List ℕ)) (before : List Met) (kept : List Kept) (bytes : List ℕ)

@@ -1,9 +1,9 @@
-use Rattle.std.proofs.Common.{◌≡◌, ◌+◌, ◌∙◌, refl, ap, sym, subst, arith, length}
+use Rattle.std.proofs.Common.{◌+◌, ◌∙◌, refl, ap, sym, subst, arith, length}
 use Rattle.std.proofs.lemmas.Result.{err_from_is_err_and}
 use Rattle.sgf_core.specs.Reading.{Reading}
 use Rattle.game_core.specs.declared.reports.Report.{Report}
-use Rattle.listing_core.specs.Inner.Reading.{IsStep, ListsUpTo, counted, all_in}
-use Rattle.listing_core.proofs.LineLists.{lists_on, one_more, is_wanted}
+use Rattle.listing_core.specs.Inner.Reading.{IsStep, ListsUpTo, all_in}
+use Rattle.listing_core.proofs.LineLists.{lists_on, one_more, lines_are_of_trees, is_wanted}
 use Rattle.listing_core.proofs.listings.push_lines.Goals as goal
 
 pub tree-preserved : goal.tree-preserved
@@ -32,5 +32,6 @@ pub returns-in_err-line-clause-wanted : goal.returns-in_err-line-clause-wanted
 returns-in_err-line-clause-wanted c =
     let is = c.tree.invariant in
     let p = err_from_is_err_and c.from_residual.result c.from_residual.ensures.1 in
-    rw (p.1, p.2) (is_wanted c.args.asked.now c.args.input.now c.tree.end c.tree.report c.tree.text.items c.tree.trees c.in_err-line.field-0.0
-    (is.bytes ∙ c.requires.bytes) is.end is.lists c.in_err-line.ensures.wanted)
+    let read = lines_are_of_trees c.args.input.now c.args.asked.now.first 0 c.tree.end is.lists.trees is.lists.lines is.lists.are in
+    rw (p.1, p.2) (is_wanted c.args.input.now c.tree.end c.tree.trees c.in_err-line.field-0.0 (is.bytes ∙ c.requires.bytes) is.end
+    (is.lists.trees, read) c.in_err-line.ensures.wanted)

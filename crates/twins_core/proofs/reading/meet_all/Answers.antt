@@ -1,11 +1,11 @@
-use Rattle.std.proofs.Common.{◌≡◌, ◌+◌, ◌++◌, ◌∙◌, refl, ap, sym, subst, arith, length, List, ℕ, Option, option_map}
+use Rattle.std.proofs.Common.{◌+◌, ◌++◌, ◌∙◌, refl, ap, sym, subst, arith, length, List, ℕ, option_map}
 use Rattle.std.specs.Borrow.{Bor}
-use Rattle.std.proofs.lemmas.Result.{err_from_is_err_and}
 use Rattle.sgf_core.specs.Next.{HasNoTree}
 use Rattle.sgf_core.specs.Reading.{Reading, IsFaultAt}
 use Rattle.game_core.specs.declared.reports.Report.{Report}
-use Rattle.twins_core.specs.Inner.Reading.{IsRead, IsStep, MeetsUpTo, counted, all_in}
-use Rattle.twins_core.proofs.Meetings.{meets_on, meets_stay, reads_on, one_more, is_wanted}
+use Rattle.listing_core.specs.Inner.Reading.{all_in}
+use Rattle.twins_core.specs.Inner.Reading.{IsRead, IsStep, MeetsUpTo}
+use Rattle.twins_core.proofs.Meetings.{meets_on, meets_stay, reads_on, one_more}
 use Rattle.twins_core.proofs.reading.meet_all.Goals as goal
 
 pub tree-preserved : goal.tree-preserved

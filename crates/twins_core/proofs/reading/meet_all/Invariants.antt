@@ -1,6 +1,8 @@
-use Rattle.std.proofs.Common.{◌≡◌, ◌≤◌, ◌-◌, ℕ, List, length, option_map}
+use Rattle.std.proofs.Common.{◌≡◌, ◌≤◌, ◌-◌, List, length, option_map}
 use Rattle.twins_core.specs.Twins.{Met, Knows}
-use Rattle.twins_core.specs.Inner.Reading.{MeetsUpTo, ReadsUpTo, all_in}
+use Rattle.listing_core.specs.Inner.Reading.{all_in}
+use Rattle.listing_core.specs.Inner.Wants.{ReadsUpTo}
+use Rattle.twins_core.specs.Inner.Reading.{MeetsUpTo}
 use Rattle.twins_core.proofs.reading.meet_all.Given as goal
 
 abbrev pub invariant-tree : goal.invariant-tree
