@@ -1,5 +1,5 @@
 -- The text of trees that are cut out, read back.
-use Rattle.std.proofs.Common.{◌≡◌, ◌≢◌, ℕ, zero, suc, ◌+◌, ◌-◌, ◌<◌, ◌≤◌, Bool, true, false, cond, IsTrue, List, [], ◌∷◌, ◌++◌, length, take, drop, refl, ap, ap₂, sym, subst, ◌∙◌, arith, append_assoc, length-append, drop_of_length-le}
+use Rattle.std.proofs.Common.{◌≡◌, ◌≢◌, ℕ, zero, suc, ◌+◌, ◌-◌, ◌<◌, Bool, true, false, cond, IsTrue, List, [], ◌∷◌, ◌++◌, length, take, drop, refl, ap, ap₂, sym, subst, ◌∙◌, arith, append_assoc, length-append, drop_of_length-le}
 use Rattle.std.specs.Prelude.{slice_range}
 use Rattle.std.specs.List.{flat_map, list_all}
 use Rattle.std.proofs.Math.Seq.{drop-append_seam, drop-append-add, take-append_seam}
@@ -7,7 +7,7 @@ use Rattle.std.proofs.lemmas.List.{append-nil}
 use Rattle.sgf_core.specs.Bytes.{is_white}
 use Rattle.sgf_core.specs.Tree.{Node, GameTree, main_line_of}
 use Rattle.sgf_core.specs.Grammar.{Part, closes, node_parts, forest_parts, WritesTree, WritesParts, tree_parts}
-use Rattle.sgf_core.specs.Next.{BeginsTree, IsFirstBegin, HasNoTree, IsNextTree}
+use Rattle.sgf_core.specs.Next.{BeginsTree, HasNoTree, IsNextTree}
 use Rattle.sgf_core.proofs.StateLemmas.{and-left, and-right}
 use Rattle.shape_dict.specs.Text.{line_feed}
 use Rattle.game_core.specs.Collection.{AreTrees, record_of_tree, games_among}
@@ -16,7 +16,7 @@ use Rattle.listing_core.specs.declared.asked.Form.TheVariants as form
 use Rattle.listing_core.specs.declared.lines.Line.{Line}
 use Rattle.listing_core.specs.Choice.{is_chosen, pieces, form_text, name_in}
 use Rattle.listing_core.specs.Listing.{AreLines}
-use Rattle.listing_core.specs.Cuts.{chosen_trees, moved, tree_at, AreMoved, IsReadFrom}
+use Rattle.listing_core.specs.Cuts.{chosen_trees, moved, tree_at, IsReadFrom}
 use Rattle.listing_core.proofs.Moved.{tree_writes}
 
 -- a white byte is no parenthesis

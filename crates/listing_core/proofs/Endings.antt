@@ -1,5 +1,5 @@
 -- How a listing ends.
-use Rattle.std.proofs.Common.{◌≡◌, ◌≢◌, ℕ, ◌+◌, ◌≤◌, Bool, true, false, cond, List, [], ◌∷◌, ◌++◌, length, map, Option, Some, None, MatchOption, Result, Ok, Err, refl, ap, sym, subst, ◌∙◌, arith}
+use Rattle.std.proofs.Common.{◌≡◌, ◌≢◌, ℕ, ◌+◌, ◌≤◌, Bool, true, false, cond, List, [], ◌∷◌, ◌++◌, length, map, Option, Some, None, MatchOption, Result, Ok, Err, refl, ap, sym, ◌∙◌, arith}
 use Rattle.std.proofs.lemmas.List.{append-nil}
 use Rattle.sgf_core.specs.Limit.{most_bytes}
 use Rattle.sgf_core.specs.Tree.{GameTree}
@@ -14,10 +14,8 @@ use Rattle.game_core.specs.Reports.{IsReport}
 use Rattle.game_core.specs.declared.reports.Report.{Report}
 use Rattle.listing_core.specs.declared.asked.Asked.{Asked}
 use Rattle.listing_core.specs.declared.listings.Ending.{Ending}
-use Rattle.listing_core.specs.declared.listings.Listed.{Listed}
 use Rattle.listing_core.specs.declared.listings.Listed.TheVariants as listed
-use Rattle.listing_core.specs.declared.listings.Summary.{Summary}
-use Rattle.listing_core.specs.Choice.{pieces, fault_piece}
+use Rattle.listing_core.specs.Choice.{fault_piece}
 use Rattle.listing_core.specs.Listing.{IsListing, Stops, is_none, listed_of, last_piece}
 use Rattle.listing_core.specs.Inner.Reading.{IsEnding, all_in}
 

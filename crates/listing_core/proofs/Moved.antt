@@ -1,10 +1,9 @@
 -- A tree that is moved to another place is written by the same bytes.
-use Rattle.std.proofs.Common.{◌≡◌, ◌≢◌, ℕ, ◌+◌, ◌-◌, ◌≤◌, IsTrue, List, [], ◌∷◌, ◌++◌, length, map, refl, ap, ap₂, sym, subst, ◌∙◌, arith}
-use Rattle.std.specs.List.{flat_map, list_all, AllByRecursion}
+use Rattle.std.proofs.Common.{◌≡◌, ◌≢◌, ℕ, ◌+◌, ◌≤◌, List, [], ◌∷◌, ◌++◌, length, map, refl, ap, ap₂, sym, subst, ◌∙◌, arith}
+use Rattle.std.specs.List.{flat_map, AllByRecursion}
 use Rattle.std.proofs.lemmas.List.{map-append}
-use Rattle.sgf_core.specs.Bytes.{is_white}
 use Rattle.sgf_core.specs.Tree.{PropertyValue, Property, Node, Forest, no_trees, a_tree, GameTree}
-use Rattle.sgf_core.specs.Grammar.{Part, opens, begins_node, names, has_value, closes, property_parts, node_parts, forest_parts, tree_parts, IsPartText, WritesParts, HasValues, AreComplete, IsComplete, WritesTree}
+use Rattle.sgf_core.specs.Grammar.{Part, opens, begins_node, names, has_value, closes, property_parts, node_parts, forest_parts, tree_parts, IsPartText, WritesParts, HasValues, AreComplete, WritesTree}
 use Rattle.listing_core.specs.Cuts.{moved, value_at, property_at, node_at, forest_at, tree_at}
 
 -- what a part is when its value is at another place

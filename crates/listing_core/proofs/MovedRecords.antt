@@ -15,7 +15,6 @@ use Rattle.go_record.specs.Setup.{is_pass, played, move_of, spanned, always, set
 use Rattle.go_record.specs.Spelling.{trimmed, is_colon, size_of}
 use Rattle.go_record.specs.declared.actions.Action.{Action}
 use Rattle.go_record.specs.declared.actions.Action.TheVariants as action
-use Rattle.go_record.specs.declared.records.Kind.{Kind}
 use Rattle.go_record.specs.declared.records.Kind.TheVariants as kind
 use Rattle.go_record.specs.declared.faults.RecordFault.{RecordFault}
 use Rattle.go_record.specs.declared.faults.RecordFault.TheVariants as fault

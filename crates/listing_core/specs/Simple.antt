@@ -1,7 +1,7 @@
 -- Simple text, as SGF FF[4] reads it from the bytes of a value: a backslash takes the meaning away from the byte after it; a line
 -- break is a line feed, a carriage return, or both in either order; one after a backslash is nothing, and any other is a space,
 -- as is each other white byte. So the text is one line without tabs.
-use Rattle.std.specs.Prelude.{ℕ, ◌==◌, ◌&&◌, ◌||◌, Bool, true, false, not, List, [], ◌∷◌, ◌++◌, if◌then◌else◌}
+use Rattle.std.specs.Prelude.{ℕ, ◌==◌, ◌||◌, Bool, true, false, List, [], ◌∷◌, if◌then◌else◌}
 use Rattle.sgf_core.specs.Bytes.{is_white, backslash}
 use Rattle.listing_core.specs.declared.simple.After.{After}
 use Rattle.listing_core.specs.declared.simple.After.TheVariants as after

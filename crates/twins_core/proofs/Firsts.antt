@@ -1,8 +1,8 @@
 -- The first game of a record, when one game more is met.
-use Rattle.std.proofs.Common.{◌≡◌, ◌≢◌, ◌⊎◌, ℕ, Option, Some, None, List, [], ◌∷◌, ◌++◌, refl, ap, sym, subst, ◌∙◌, inl, inr, ⊎_elim, append_assoc}
+use Rattle.std.proofs.Common.{◌≡◌, ◌≢◌, ℕ, Option, Some, None, List, [], ◌∷◌, ◌++◌, refl, ap, sym, subst, ◌∙◌, inl, inr, ⊎_elim, append_assoc}
 use Rattle.std.proofs.lemmas.List.{append-nil}
 use Rattle.go_record.specs.Actions.{Actions}
-use Rattle.twins_core.specs.Twins.{Met, IsFirst, AreTwins, Knows, piece}
+use Rattle.twins_core.specs.Twins.{Met, IsFirst, AreTwins, piece}
 
 -- it is the first where none was
 pub first_new : (before : List Met) (game : Actions) (met : Met) → IsFirst before game None → met.game ≡ game → IsFirst (before ++ met ∷ []) game (Some met)

@@ -1,6 +1,5 @@
 -- No two records have one code.
-use Rattle.std.proofs.Common.{◌≡◌, ◌≢◌, ℕ, ◌==◌, Bool, cond, Option, Some, None, List, [], ◌∷◌, ◌++◌, refl, ap, sym, subst, ◌∙◌}
-use Rattle.std.specs.List.{flat_map}
+use Rattle.std.proofs.Common.{◌≡◌, ℕ, ◌==◌, cond, Option, Some, None, List, [], ◌∷◌, ◌++◌, refl, ap, sym, ◌∙◌}
 use Rattle.go_board.specs.declared.points.Point.{Point}
 use Rattle.go_board.specs.declared.points.Colour.TheVariants as colour
 use Rattle.go_board.specs.declared.points.Stone.{Stone}

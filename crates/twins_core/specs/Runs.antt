@@ -4,7 +4,6 @@ use Rattle.sgf_core.specs.Limit.{most_bytes}
 use Rattle.sgf_core.specs.Tree.{GameTree}
 use Rattle.sgf_core.specs.Next.{IsNextTree}
 use Rattle.sgf_core.specs.declared.faults.SgfFault.TheVariants as sgf
-use Rattle.go_record.specs.Actions.{Actions}
 use Rattle.go_record.specs.declared.records.Kind.{Kind}
 use Rattle.go_record.specs.declared.records.Kind.TheVariants as kind
 use Rattle.go_record.specs.declared.faults.RecordFault.{RecordFault}

@@ -1,6 +1,5 @@
 -- A game more that is met.
 use Rattle.std.specs.Prelude.{◌≡◌, ℕ, List, [], ◌∷◌, ◌++◌, Option}
-use Rattle.go_record.specs.Actions.{Actions}
 use Rattle.twins_core.specs.Twins.{Met, IsFirst, Kept, Knows, piece}
 
 -- after these games that one was met: what is written of it was appended, and it is known

@@ -1,4 +1,4 @@
-use Rattle.std.proofs.Common.{◌≡◌, ◌∷◌, [], ◌++◌, ◌∙◌, ap, sym, ℕ, List, take, get_or, append_assoc}
+use Rattle.std.proofs.Common.{◌∷◌, [], ◌++◌, ◌∙◌, ap, sym, ℕ, List, take, get_or, append_assoc}
 use Rattle.listing_core.specs.declared.keys.Key.{Key}
 use Rattle.std.proofs.lemmas.List.{take_more, flat_map_more}
 use Rattle.sgf_core.specs.Tree.{main_line_of}

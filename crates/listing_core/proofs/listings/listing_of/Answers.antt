@@ -1,9 +1,7 @@
 use Rattle.std.proofs.Common.{◌≡◌, ◌++◌, ◌∙◌, ℕ, Vec, ap, sym, subst, refl, length}
 use Rattle.std.specs.Global.{Global}
-use Rattle.sgf_core.specs.Reading.{Reading}
 use Rattle.listing_core.specs.declared.listings.Listed.{Listed}
 use Rattle.listing_core.specs.Listing.{listed_of, last_piece, IsListing}
-use Rattle.listing_core.specs.Inner.Reading.{IsEnding}
 use Rattle.listing_core.proofs.Endings.{is_listing, last_none, last_fault}
 use Rattle.listing_core.proofs.listings.listing_of.Goals as goal
 use Rattle.listing_core.proofs.listings.listing_of.Goals.{in-Some+in_ok-push_fault_piece, in_default}

@@ -1,4 +1,4 @@
-use Rattle.std.proofs.Common.{◌≡◌, ◌∷◌, ◌++◌, take}
+use Rattle.std.proofs.Common.{◌≡◌, ◌∷◌, take}
 use Rattle.twins_core.specs.Codes.{actions_code}
 use Rattle.twins_core.proofs.codes.code_of.Given as goal
 

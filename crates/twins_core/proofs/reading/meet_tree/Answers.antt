@@ -1,6 +1,5 @@
-use Rattle.std.proofs.Common.{◌≡◌, ◌∙◌, ap, ap₂, sym, subst, List, ℕ, Option, Ok, Result, option_map}
+use Rattle.std.proofs.Common.{subst, List, ℕ, Ok, Result, option_map}
 use Rattle.std.specs.Borrow.{Bor}
-use Rattle.sgf_core.specs.Tree.{main_line_of}
 use Rattle.go_record.specs.declared.records.Kind.{Kind}
 use Rattle.go_record.specs.declared.records.Kind.TheVariants as kind
 use Rattle.go_record.specs.declared.faults.RecordFault.{RecordFault}

@@ -1,4 +1,4 @@
-use Rattle.std.proofs.Common.{◌≡◌, ◌++◌, ap, sym, subst, refl, List, ℕ, Option, option_map}
+use Rattle.std.proofs.Common.{sym, subst, refl, List, ℕ, option_map}
 use Rattle.std.specs.Borrow.{Bor}
 use Rattle.sgf_core.specs.Reading.{Reading}
 use Rattle.listing_core.specs.Listing.{Stops}

@@ -1,9 +1,9 @@
-use Rattle.std.proofs.Common.{◌≡◌, ◌∙◌, ap, ap₂, sym, subst, List, ℕ, Option, Some, None, option_map}
+use Rattle.std.proofs.Common.{◌≡◌, ◌∙◌, ap₂, sym, subst, List, ℕ, Some, None, option_map}
 use Rattle.std.specs.Borrow.{Bor}
 use Rattle.std.specs.Map.{lookup}
 use Rattle.std.proofs.lemmas.Result.{on_ok_weaker}
 use Rattle.twins_core.specs.Codes.{record_code}
-use Rattle.twins_core.specs.Twins.{Kept, Knows}
+use Rattle.twins_core.specs.Twins.{Knows}
 use Rattle.twins_core.specs.Inner.Finds.{kept_in}
 use Rattle.twins_core.specs.Inner.Meets.{Meets}
 use Rattle.twins_core.specs.Inner.Seats.{met_at}
