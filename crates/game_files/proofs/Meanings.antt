@@ -10,7 +10,8 @@ use Rattle.game_files.specs.declared.flaws.Why.{Why}
 use Rattle.game_files.specs.declared.words.Source.{Source}
 use Rattle.game_files.specs.declared.words.Source.TheVariants as source
 use Rattle.game_files.specs.Names.{is_game_name}
-use Rattle.game_files.specs.Sources.{AreGames, AreGameFiles, AreFlaws, AreMeant, Grew, IsBelow, IsFlawOf, IsMeant}
+use Rattle.game_files.specs.Sources.{AreGames, AreGameFiles, AreMeant, IsBelow, IsFlawOf, IsMeant}
+use Rattle.game_files.specs.Inner.Grown.{AreFlaws, Grew}
 
 -- one file more
 pub games_push : (files : List (String Global)) (file : String Global) → AreGames files → is_game_name (string_bytes file) ≡ true → AreGames (files ++ file ∷ [])

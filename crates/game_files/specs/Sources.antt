@@ -31,9 +31,6 @@ IsFlawOf word why all = (flaw : Flaw) × (string_bytes flaw.name ≡ word) × (f
 abbrev pub IsUnseen : List ℕ → List Source → Type 0
 IsUnseen word all = (why : Why) × (status_of why ≡ 6) × IsFlawOf word why all
 
-abbrev pub AreFlaws : List Source → Type 0
-AreFlaws all = (flaws : List Flaw) × (all ≡ map source.Flaw flaws)
-
 -- a folder: what is wrong with names of it or with itself, and then the files of games below it; never nothing
 pub record IsBelow (all : List Source) : Type 0 where
   pub flaws : List Flaw
@@ -51,7 +48,3 @@ IsMeant word all =
 abbrev pub AreMeant : List (List ℕ) → List Source → Type 0
 AreMeant [] all = all ≡ []
 AreMeant (word ∷ words) all = (first : List Source) × (rest : List Source) × IsMeant word first × AreMeant words rest × (all ≡ first ++ rest)
-
--- a list grew at its end by sources of which this holds
-abbrev pub Grew : (List Source → Type 0) → List Source → List Source → Type 0
-Grew P old new = (more : List Source) × P more × (new ≡ old ++ more)

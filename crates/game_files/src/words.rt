@@ -1,7 +1,7 @@
 //! What the words of a command line mean: files, and what is wrong with names.
 ghost use Rattle.std.specs.Prelude.{◌≡◌, ◌≢◌, [], ◌∷◌, ◌++◌, map, IfOk, OnOk};
-ghost use Rattle.game_files.specs.Sources.{AreFlaws, AreGameFiles, AreMeant};
-ghost use Rattle.game_files.specs.Sources.{Grew, IsBelow, IsFlawOf, IsMeant};
+ghost use Rattle.game_files.specs.Sources.{AreGameFiles, AreMeant, IsBelow, IsFlawOf, IsMeant};
+ghost use Rattle.game_files.specs.Inner.Grown.{AreFlaws, Grew};
 ghost use Rattle.game_files.specs.declared.words.Source.TheVariants as source;
 
 use crate::flaws::{Flaw, Why};
