@@ -1,4 +1,2 @@
 pub mod Told
 pub mod Numbers
-pub mod Taken
-pub mod Added

@@ -3,9 +3,9 @@ use Rattle.std.proofs.Common.{◌≡◌, ◌≢◌, ◌<◌, ◌^◌, ℕ, List,
 use Rattle.std.specs.Prelude.{IfSome, IfNone}
 use Rattle.std.specs.Str.Parse.{ExplainsUnsignedError, HasUnsignedDigitsIfOk, ParsesUnsigned, digits_value, without_leading_plus}
 use Rattle.std.specs.declared.num.ParseIntError.{ParseIntError}
-use Rattle.clap.specs.Words.{Row, ReadsOne, one_of}
+use Rattle.clap.specs.Words.{Row, ReadsOne, first_of, one_of}
 use Rattle.command_lines.specs.Texts.{HasNoText, number_of}
-use Rattle.command_lines.specs.Values.{HasNoNumber, IsNumberOf}
+use Rattle.command_lines.specs.Values.{HasNoNumber, HasNoOptionalNumber, IsNumberOf}
 use Rattle.shape_dict.specs.declared.entries.Text.{Text}
 use Rattle.shape_dict.specs.declared.entries.Text.TheVariants as text
 
@@ -28,6 +28,11 @@ pub number_missing : (bits : ℕ) (name : List ℕ) (rows : List Row) (text : Op
 number_missing bits name rows text (Some n) is value = tt
 number_missing bits name rows text None is value = λ number given small.
     (value given.text (sym is ∙ given.given)).1.0 (given.digits, subst (λ m. m < 2 ^ bits) given.value small)
+
+-- a value that is no number is no number that may be left out
+pub no_optional : (name : List ℕ) (rows : List Row) (text : List ℕ) → first_of name rows ≡ Some text → HasNoNumber (2 ^ 64) name rows → HasNoOptionalNumber name rows
+no_optional name rows text is none None given small = let both = sym is ∙ given in absurd (cc)
+no_optional name rows text is none (Some number) given small = none number given small
 
 -- an option has one number
 pub one_number : (name : List ℕ) (rows : List Row) (m n : ℕ) → IsNumberOf name rows m → IsNumberOf name rows n → m ≡ n

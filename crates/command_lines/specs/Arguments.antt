@@ -1,5 +1,6 @@
 -- What `clap` is told of a program without arguments, and of those arguments that several programs take.
 use Rattle.std.specs.Prelude.{ℕ, List, [], ◌∷◌, Some, true, codes, pos}
+use Rattle.clap.specs.Lexer.{usize_max}
 use Rattle.clap.specs.Words.{App, Rule, new_app, new_rule}
 use Rattle.clap.specs.declared.builder.ArgAction.TheVariants.{SetTrue}
 use Rattle.clap.specs.declared.builder.value_parser.ValueParser.TheVariants as parser
@@ -11,6 +12,13 @@ bare_app name = let app = new_app name in record app { top = record app.top { ha
 -- an argument that may be given, at its place among such arguments
 abbrev pub word_rule : List ℕ → Rule
 word_rule name = record (new_rule name) { value_names = 1 }
+
+-- any number of words
+abbrev pub names_rule : List ℕ → Rule
+names_rule name = record (new_rule name) {
+  value_names = 1;
+  range = Some (record { start_inclusive = 1; end_inclusive = usize_max });
+}
 
 -- a flag
 abbrev pub flag_rule : List ℕ → Rule

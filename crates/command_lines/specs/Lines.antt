@@ -18,16 +18,15 @@ refusals_of app words = fault_of app words
 abbrev pub AsksForHelp : App → List (List ℕ) → Type 0
 AsksForHelp app words = IsAmong refusal.DisplayHelp (refusals_of app words) ⊎ IsAmong refusal.DisplayVersion (refusals_of app words)
 
--- `clap` refuses nothing of the words, and these are the values that they give, to the program or to the subcommand that they name
-pub record AreTaken (app : App) (words : List (List ℕ)) (matches : ArgMatches) : Type 0 where
-  pub taken : refusals_of app words ≡ []
+-- these are the values that the words give, to the program or to the subcommand that they name
+pub record AreValues (app : App) (words : List (List ℕ)) (matches : ArgMatches) : Type 0 where
   pub rows : rows_in matches ≡ matches_of app words
   pub subcommand : subcommand_rows_of matches ≡ subcommand_of app words
 
--- the line asks for what the words ask for: a text only where help or a version was asked for, and values only where `clap` takes them
-abbrev pub IsLineOf : App → List (List ℕ) → Line → Type 0
-IsLineOf app words (line.Asked matches) = AreTaken app words matches
-IsLineOf app words (line.Told text) = AsksForHelp app words
+-- the line is what the words ask for: a text only where help or a version was asked for, and else what this holds of, only where `clap` refuses nothing
+abbrev pub IsLineOf : {A : Type 0} → App → List (List ℕ) → (A → Type 0) → Line A → Type 0
+IsLineOf app words IsAsked (line.Asked asked) = (refusals_of app words ≡ []) × IsAsked asked
+IsLineOf app words IsAsked (line.Told text) = AsksForHelp app words
 
 -- this is a refusal, and no answer to who asked for help or a version
 abbrev pub IsRefusal : ErrorKind → Type 0

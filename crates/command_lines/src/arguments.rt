@@ -1,8 +1,8 @@
 //! The arguments that several programs take, as they are told to `clap`.
 ghost use Rattle.std.specs.Prelude.{◌≡◌, false, codes};
 ghost use Rattle.clap.specs.Words.{rule_of};
-ghost use Rattle.command_lines.specs.Arguments.{option_rule, flag_rule, word_rule, text_rule};
-ghost use Rattle.command_lines.specs.Arguments.{workers_rule};
+ghost use Rattle.command_lines.specs.Arguments.{option_rule, flag_rule, word_rule, names_rule};
+ghost use Rattle.command_lines.specs.Arguments.{text_rule, workers_rule};
 
 use clap::{Arg, ArgAction, value_parser};
 use std::alloc::Global;
@@ -83,5 +83,34 @@ pub fn diamond_argument<'a>(alloc: Global) -> Arg<'a>
         alloc,
         "diamond",
         "The glyphs are those of a diamond and not of a square",
+    )
+}
+
+/// Words of this name, any number of them, which help calls `value_name`. It takes no memory.
+pub fn names_argument<'a>(
+    alloc: Global,
+    name: &'a str,
+    value_name: &'a str,
+    help: &'a str,
+) -> Arg<'a>
+    ensures rule { rule_of result ≡ names_rule name.entry.now }
+    ensures local { result.global ≡ false }
+{
+    Arg::new(alloc, name)
+        .value_name(value_name)
+        .num_args(1..)
+        .help(help)
+}
+
+/// FILE.., the names of collections and folders. It takes no memory.
+pub fn files_argument<'a>(alloc: Global) -> Arg<'a>
+    ensures rule { rule_of result ≡ names_rule (codes "files") }
+    ensures local { result.global ≡ false }
+{
+    names_argument(
+        alloc,
+        "files",
+        "FILE",
+        "Collections of games, and folders of such, in their order",
     )
 }

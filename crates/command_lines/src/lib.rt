@@ -6,7 +6,8 @@
 mod arguments;
 mod programs;
 
-// what it makes of a line
+// what it makes of a line, and what a program makes of that
+mod from_words;
 mod lines;
 
 // the values that a line gives
@@ -18,12 +19,13 @@ mod values;
 mod unread;
 
 pub use arguments::{
-    colour_argument, diamond_argument, flag_argument, glyphs_argument, option_argument,
-    text_argument, workers_argument,
+    colour_argument, diamond_argument, files_argument, flag_argument, glyphs_argument,
+    names_argument, option_argument, text_argument, workers_argument,
 };
+pub use from_words::{FromWords, read_words};
 pub use lines::{Line, read_line};
 pub use patterns::spelled_pattern;
-pub use programs::{command_named, program_named};
+pub use programs::{command_named, program_named, with_argument, with_command};
 pub use texts::text_of;
 pub use unread::why_unread;
-pub use values::{choice, kind_of, number, small_number, word_of};
+pub use values::{choice, kind_of, number, optional_number, small_number, word_of, words_of};

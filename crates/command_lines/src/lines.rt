@@ -3,7 +3,7 @@ ghost use Rattle.std.specs.Prelude.{◌≡◌, ◌⊎◌, true, map, string_byte
 ghost use Rattle.clap.specs.Values.{kind_of};
 ghost use Rattle.clap.specs.Words.{app_of, is_simple_and_free};
 ghost use Rattle.command_lines.specs.Inner.Kinds.{IsHelpKind};
-ghost use Rattle.command_lines.specs.Lines.{IsLineOf, IsLineFault, IsRefusal};
+ghost use Rattle.command_lines.specs.Lines.{AreValues, IsLineOf, IsLineFault, IsRefusal};
 ghost use Rattle.engine_core.specs.declared.faults.RunFault.TheVariants as fault;
 
 use clap::error::ErrorKind;
@@ -13,9 +13,9 @@ use std::alloc::Global;
 
 /// What a line asks for.
 #[derive(Debug, Drop)]
-pub enum Line<'a> {
-    /// What these values say, of which `clap` refuses nothing.
-    Asked(ArgMatches<'a>),
+pub enum Line<T> {
+    /// This, by words of which `clap` refuses nothing.
+    Asked(T),
     /// This text, which was asked for by help or version.
     Told(String),
 }
@@ -33,9 +33,9 @@ fn told(alloc: Global, error: &Error) -> Result<String, RunFault>
     }
 }
 
-/// What the words after a program's name ask for, where this is the program as `clap` is told it:
-/// one without groups and global arguments, in which no argument has a rule on another. It takes
-/// memory.
+/// The values that the words after a program's name give, where this is the program as `clap` is
+/// told it: one without groups and global arguments, in which no argument has a rule on another. It
+/// takes memory.
 ///
 /// # Errors
 ///
@@ -44,9 +44,10 @@ pub fn read_line<'a>(
     alloc: Global,
     program: Command<'a>,
     words: &'a [String],
-) -> Result<Line<'a>, RunFault>
+) -> Result<Line<ArgMatches<'a>>, RunFault>
     requires { is_simple_and_free (app_of program) ≡ true }
-    ensures line { IfOk result (IsLineOf (app_of program.entry) (map string_bytes words.now)) }
+    ensures line { IfOk result (IsLineOf (app_of program.entry) (map string_bytes words.now)
+        (AreValues (app_of program.entry) (map string_bytes words.now))) }
     ensures fault { IfErr result (IsLineFault (app_of program.entry) (map string_bytes words.now)) }
 {
     match program.try_get_matches_from(words) {

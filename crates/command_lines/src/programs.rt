@@ -1,11 +1,11 @@
-//! Programs and subcommands as they are told to `clap`, before they have arguments.
-ghost use Rattle.std.specs.Prelude.{◌≡◌, false};
-ghost use Rattle.clap.specs.Words.{app_of, new_app};
+//! Programs and subcommands as they are told to `clap`, and what they get one after another.
+ghost use Rattle.std.specs.Prelude.{◌≡◌, false, IfOk};
+ghost use Rattle.clap.specs.Words.{app_of, new_app, rule_of, with_rule, with_subcommand};
 ghost use Rattle.clap.specs.declared.Command.TheViews.{out-Command as fields_of};
 ghost use Rattle.command_lines.specs.Arguments.{bare_app};
 
-use clap::Command;
-use std::alloc::Global;
+use clap::{Arg, Command};
+use std::alloc::{AllocError, Global};
 
 /// The version of all programs, which is that on top of `CHANGELOG.md`.
 const VERSION: &str = "1.1.0";
@@ -43,4 +43,32 @@ pub fn program_named<'a>(
     command_named(alloc, name, about, usage, notes)
         .version(VERSION)
         .no_binary_name(true)
+}
+
+/// The command with this argument after those that it has. It takes memory.
+///
+/// # Errors
+///
+/// `AllocError` where memory was refused.
+pub fn with_argument<'a>(command: Command<'a>, argument: Arg<'a>) -> Result<Command<'a>, AllocError>
+    requires { argument.global ≡ false }
+    ensures app { IfOk result (λ new.
+        app_of new ≡ with_rule (app_of command.entry) (rule_of argument.entry)) }
+    ensures local { IfOk result (λ new.
+        (fields_of new).has_globals ≡ (fields_of command.entry).has_globals) }
+{
+    command.arg(argument)
+}
+
+/// The command with this subcommand after those that it has. It takes memory.
+///
+/// # Errors
+///
+/// `AllocError` where memory was refused.
+pub fn with_command<'a>(command: Command<'a>, other: Command<'a>) -> Result<Command<'a>, AllocError>
+    requires { (fields_of other).has_globals ≡ false }
+    ensures { IfOk result (λ new.
+        app_of new ≡ with_subcommand (app_of command.entry) (app_of other.entry).top) }
+{
+    command.subcommand(other)
 }

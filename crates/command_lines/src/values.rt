@@ -1,11 +1,13 @@
-//! The value of one option, word or flag.
-ghost use Rattle.std.specs.Prelude.{◌≡◌, ◌^◌, option_map, IfSome, IfNone};
+//! The value or values of one option, word or flag.
+ghost use Rattle.std.specs.Prelude.{◌≡◌, ◌^◌, map, option_map, IfOk, IfSome, IfNone};
 ghost use Rattle.clap.specs.Words.{first_of};
-ghost use Rattle.command_lines.specs.Values.{HasNoNumber, IsChoiceOf, IsNumberOf, rows_in};
+ghost use Rattle.command_lines.specs.Values.{HasNoNumber, HasNoOptionalNumber, IsChoiceOf, IsNumberOf};
+ghost use Rattle.command_lines.specs.Values.{IsOptionalNumberOf, rows_in, words_in};
 ghost use Rattle.command_lines.specs.Patterns.{IsKindOf};
 
 use clap::ArgMatches;
 use shape_core::Kind;
+use std::alloc::{AllocError, Global};
 
 /// The first value of the option or word of this name, where it has one. It takes no memory.
 pub fn word_of<'a>(matches: &ArgMatches<'a>, name: &str) -> Option<&'a str>
@@ -14,12 +16,48 @@ pub fn word_of<'a>(matches: &ArgMatches<'a>, name: &str) -> Option<&'a str>
     matches.get_str(name)
 }
 
+/// The values of the option or words of this name, in their order: none where it is not given. It
+/// takes memory.
+///
+/// # Errors
+///
+/// `AllocError` where memory was refused.
+pub fn words_of<'a>(
+    alloc: Global,
+    matches: &ArgMatches<'a>,
+    name: &str,
+) -> Result<Vec<&'a str>, AllocError>
+    ensures { IfOk result (λ found. map (λ word. word.now) found.items
+        ≡ words_in name.now (rows_in matches.now)) }
+{
+    let Some(found) = matches.get_strs(name) else {
+        return Ok(Vec::new(alloc));
+    };
+    let words = found.to_vec(alloc)?;
+    Ok(words)
+}
+
 /// The number that the option of this name has, where it has one. It takes no memory.
 pub fn number(matches: &ArgMatches<'_>, name: &str) -> Option<u64>
     ensures number { IfSome result (IsNumberOf name.now (rows_in matches.now)) }
     ensures none { IfNone result (HasNoNumber (2 ^ 64) name.now (rows_in matches.now)) }
 {
     matches.get_one::<u64>(name)
+}
+
+/// The number that the option of this name has: none where it isn't given, and no answer where its
+/// value is no number. It takes no memory.
+pub fn optional_number(matches: &ArgMatches<'_>, name: &str) -> Option<Option<u64>>
+    ensures number { IfSome result (IsOptionalNumberOf name.now (rows_in matches.now)) }
+    ensures none { IfNone result (HasNoOptionalNumber name.now (rows_in matches.now)) }
+{
+    match word_of(matches, name) {
+        Some(_) => match number(matches, name) {
+            Some(number) => Some(Some(number)),
+            None => None,
+        },
+        None => Some(None),
+    }
 }
 
 /// The number that the option of this name has, where it has one that is below 256. It takes no

@@ -1,27 +1,13 @@
 -- What the words of the command line ask for.
-use Rattle.std.specs.Prelude.{◌≡◌, ◌⊎◌, ℕ, Bool, true, false, List, [], ◌∷◌, Option, Some, None, unwrap_or, map, codes, if◌then◌else◌}
-use Rattle.clap.specs.Words.{Row, all_of, matches_of}
-use Rattle.command_lines.specs.Lines.{AsksForHelp, IsAskingFault, refusals_of}
-use Rattle.command_lines.specs.Values.{IsChoiceOf}
-use Rattle.engine_core.specs.declared.faults.RunFault.{RunFault}
-use Rattle.engine_core.specs.declared.faults.RunFault.TheVariants as fault
+use Rattle.std.specs.Prelude.{◌≡◌, ◌⊎◌, ℕ, Bool, true, false, List, [], ◌∷◌, Option, Some, None, map, codes, if◌then◌else◌}
+use Rattle.clap.specs.Words.{Row}
+use Rattle.command_lines.specs.Values.{IsChoiceOf, words_in}
 use Rattle.listing_core.specs.Conditions.{IsSpelled, SpellsNone}
 use Rattle.listing_core.specs.declared.asked.Form.TheVariants as form
 use Rattle.listing_core.specs.declared.conditions.Condition.{Condition}
-use Rattle.shape_games.specs.Commands.{program_app}
 use Rattle.shape_games.specs.declared.words.Asked.{Asked}
-use Rattle.shape_games.specs.declared.words.Task.{Task}
-use Rattle.shape_games.specs.declared.words.Task.TheVariants as task
 use Rattle.shape_games.specs.declared.words.Work.{Work}
 use Rattle.shape_games.specs.declared.words.Work.TheVariants as work
-
--- what `clap` finds in the words: the values of each option, and the names of files
-abbrev pub rows_for : List (List ℕ) → List Row
-rows_for words = matches_of program_app words
-
--- the values of this name, in their order
-abbrev pub values_of : List ℕ → List Row → List (List ℕ)
-values_of id rows = unwrap_or (all_of id rows) []
 
 -- these texts spell these conditions, one after another
 abbrev pub AreConditions : List (List ℕ) → List Condition → Type 0
@@ -61,9 +47,9 @@ pub record IsAsked (rows : List Row) (asked : Asked) : Type 0 where
   pub cut : Bool
   pub twice : Bool
   pub flags : HasFlags rows info cut twice
-  pub is_work : work_of info cut twice (is_some_text (values_of (codes "where") rows)) ≡ Some asked.work
-  pub conditions : AreConditions (values_of (codes "where") rows) asked.conditions.items
-  pub files : map (λ name. name.now) asked.files.items ≡ values_of (codes "files") rows
+  pub is_work : work_of info cut twice (is_some_text (words_in (codes "where") rows)) ≡ Some asked.work
+  pub conditions : AreConditions (words_in (codes "where") rows) asked.conditions.items
+  pub files : map (λ name. name.now) asked.files.items ≡ words_in (codes "files") rows
 
 -- the flags don't go together
 pub record HasNoWork (rows : List Row) : Type 0 where
@@ -71,25 +57,8 @@ pub record HasNoWork (rows : List Row) : Type 0 where
   pub cut : Bool
   pub twice : Bool
   pub flags : HasFlags rows info cut twice
-  pub no_work : work_of info cut twice (is_some_text (values_of (codes "where") rows)) ≡ None
-
--- the task is what these values ask for
-abbrev pub AreAsked : List Row → Task → Type 0
-AreAsked rows (task.Help text) = ⊥
-AreAsked rows (task.Do asked) = IsAsked rows asked
+  pub no_work : work_of info cut twice (is_some_text (words_in (codes "where") rows)) ≡ None
 
 -- what is wrong with values that `clap` takes: a condition is none, or they don't go together
 abbrev pub IsUsage : List Row → Type 0
-IsUsage rows = HasBadCondition (values_of (codes "where") rows) ⊎ HasNoWork rows
-
-abbrev pub IsValueFault : List Row → RunFault → Type 0
-IsValueFault rows found = (found ≡ fault.Memory) ⊎ ((found ≡ fault.Usage) × IsUsage rows)
-
--- the task is that of the words: help only where it was asked for, and all else only where `clap` refuses nothing
-abbrev pub IsAnswered : List (List ℕ) → Task → Type 0
-IsAnswered words (task.Help text) = AsksForHelp program_app words
-IsAnswered words (task.Do asked) = (refusals_of program_app words ≡ []) × IsAsked (rows_for words) asked
-
--- what can be wrong with the words: memory was wanting; or `clap` refuses them, or takes them and they ask for nothing
-abbrev pub IsWordsFault : List (List ℕ) → RunFault → Type 0
-IsWordsFault words = IsAskingFault program_app words (λ found. (found ≡ fault.Usage) × IsUsage (rows_for words))
+IsUsage rows = HasBadCondition (words_in (codes "where") rows) ⊎ HasNoWork rows

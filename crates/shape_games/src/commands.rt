@@ -1,10 +1,10 @@
 //! The command line as it is told to `clap`.
 ghost use Rattle.std.specs.Prelude.{◌≡◌, false, IfOk};
 ghost use Rattle.clap.specs.Words.{app_of, rule_of};
-ghost use Rattle.shape_games.specs.Commands.{files_rule, where_rule, choosing_app, program_app};
+ghost use Rattle.shape_games.specs.Commands.{where_rule, program_app};
 
 use clap::{Arg, ArgAction, Command};
-use command_lines::{flag_argument, option_argument, program_named};
+use command_lines::{files_argument, flag_argument, option_argument, program_named, with_argument};
 use std::alloc::{AllocError, Global};
 
 /// The end of the program's help.
@@ -44,35 +44,6 @@ fn where_argument<'a>(alloc: Global) -> Arg<'a>
     .action(ArgAction::Append)
 }
 
-fn files_argument<'a>(alloc: Global) -> Arg<'a>
-    ensures rule { rule_of result ≡ files_rule }
-    ensures local { result.global ≡ false }
-{
-    Arg::new(alloc, "files")
-        .value_name("FILE")
-        .num_args(1..)
-        .help("Collections of games, and folders of such, in their order")
-}
-
-/// The program with what says which games are chosen.
-fn program_of_choosing<'a>(alloc: Global) -> Result<Command<'a>, AllocError>
-    ensures { IfOk result (λ command. app_of command ≡ choosing_app) }
-{
-    program_named(
-        alloc,
-        "shape_games",
-        "Lists the trees of collections: where each is, and what",
-        "shape_games [OPTIONS] [FILE|FOLDER]..",
-        NOTES,
-    )
-    .arg(flag_argument(
-        alloc,
-        "info",
-        "Columns, and among them who played, when, and how the game ended",
-    ))?
-    .arg(where_argument(alloc))
-}
-
 /// All that the program knows.
 ///
 /// # Errors
@@ -81,16 +52,20 @@ fn program_of_choosing<'a>(alloc: Global) -> Result<Command<'a>, AllocError>
 pub fn program<'a>(alloc: Global) -> Result<Command<'a>, AllocError>
     ensures { IfOk result (λ command. app_of command ≡ program_app) }
 {
-    program_of_choosing(alloc)?
-        .arg(flag_argument(
-            alloc,
-            "cut",
-            "The games themselves, each as it stands in its file",
-        ))?
-        .arg(flag_argument(
-            alloc,
-            "twice",
-            "A line for each game whose board, setup and moves an earlier one has",
-        ))?
-        .arg(files_argument(alloc))
+    let command = program_named(
+        alloc,
+        "shape_games",
+        "Lists the trees of collections: where each is, and what",
+        "shape_games [OPTIONS] [FILE|FOLDER]..",
+        NOTES,
+    );
+    let info = "Columns, and among them who played, when, and how the game ended";
+    let cut = "The games themselves, each as it stands in its file";
+    let twice = "A line for each game whose board, setup and moves an earlier one has";
+    let command = with_argument(command, flag_argument(alloc, "info", info))?;
+    let command = with_argument(command, where_argument(alloc))?;
+    let command = with_argument(command, flag_argument(alloc, "cut", cut))?;
+    let command = with_argument(command, flag_argument(alloc, "twice", twice))?;
+    let command = with_argument(command, files_argument(alloc))?;
+    Ok(command)
 }

@@ -7,18 +7,18 @@ mod outputs;
 mod telling;
 mod words;
 
+use command_lines::{Line, read_words};
 use engine_core::{RunFault, own_words, status_of, write_output};
 use inputs::list_all;
 use std::io;
 use std::process::ExitCode;
-use words::{Task, read_words};
 
 /// Does what the words say. The answer is the exit status.
 fn run(rt: &HostRuntime) -> Result<u8, RunFault> {
     let words = own_words(rt)?;
     match read_words(rt.alloc(), &words)? {
-        Task::Do(asked) => list_all(rt, &asked),
-        Task::Help(text) => {
+        Line::Asked(asked) => list_all(rt, &asked),
+        Line::Told(text) => {
             write_output(&mut rt.stdout(), text.as_bytes())?;
             Ok(0)
         }

@@ -1,11 +1,9 @@
 -- What the words of the command line ask for.
-use Rattle.std.specs.Prelude.{◌≡◌, ◌≢◌, ◌⊎◌, ◌<◌, ◌^◌, ℕ, List, [], ◌++◌, map, Option, Some, None, IfSome, codes, option_map, option_to_list, unwrap_or}
-use Rattle.clap.specs.Words.{Row, all_of, first_of, matches_of}
-use Rattle.command_lines.specs.Lines.{AsksForHelp, IsAskingFault, refusals_of}
-use Rattle.command_lines.specs.Patterns.{HasNoColour, IsBadSpelling, IsKindOf, IsSpelled}
-use Rattle.command_lines.specs.Values.{HasNoNumber, IsChoiceOf, IsNumberOf}
+use Rattle.std.specs.Prelude.{◌≡◌, ◌≢◌, ◌⊎◌, ◌^◌, ℕ, List, [], ◌++◌, map, Option, Some, None, codes, option_map, option_to_list}
+use Rattle.clap.specs.Words.{Row, first_of}
+use Rattle.command_lines.specs.Patterns.{IsKindOf, IsSpelled, IsSpellingFault}
+use Rattle.command_lines.specs.Values.{HasNoNumber, HasNoOptionalNumber, IsChoiceOf, IsNumberOf, IsOptionalNumberOf, words_in}
 use Rattle.shape_core.specs.declared.words.Kind.TheVariants as kind
-use Rattle.shape_core.specs.declared.spelling.GlyphFault.{GlyphFault}
 use Rattle.engine_core.specs.declared.faults.RunFault.{RunFault}
 use Rattle.engine_core.specs.declared.faults.RunFault.TheVariants as fault
 use Rattle.hits_core.specs.declared.searches.Shown.{Shown}
@@ -14,19 +12,7 @@ use Rattle.hits_core.specs.declared.searches.Sought.{Sought}
 use Rattle.hits_core.specs.declared.searches.Sought.TheVariants as sought
 use Rattle.hits_core.specs.declared.searches.Spelling.{Spelling}
 use Rattle.hits_core.specs.declared.searches.Spelling.TheVariants as spelling
-use Rattle.shape_hits.specs.Commands.{program_app}
 use Rattle.shape_hits.specs.declared.words.Asked.{Asked}
-use Rattle.shape_hits.specs.declared.words.Task.{Task}
-use Rattle.shape_hits.specs.declared.words.Task.TheVariants as task
-
--- what `clap` finds in the words: the values of each option, and the glyphs and the colour
-abbrev pub rows_for : List (List ℕ) → List Row
-rows_for words = matches_of program_app words
-
--- this many hits are asked for: all, where no number is given
-abbrev pub IsMostOf : List Row → Option ℕ → Type 0
-IsMostOf rows None = first_of (codes "most") rows ≡ None
-IsMostOf rows (Some most) = IsNumberOf (codes "most") rows most
 
 -- whether the flag was given says which times are listed
 abbrev pub IsSoughtOf : List Row → Sought → Type 0
@@ -48,7 +34,7 @@ first_names (Some words) rows = option_to_list (first_of (codes "glyphs") rows) 
 
 -- the names of collections and folders: the words after those of a pattern, and where a file of words is named all words
 abbrev pub names_of : List Row → List (List ℕ)
-names_of rows = first_names (first_of (codes "words") rows) rows ++ unwrap_or (all_of (codes "files") rows) []
+names_of rows = first_names (first_of (codes "words") rows) rows ++ words_in (codes "files") rows
 
 -- the words of a list are shown
 abbrev pub shown_for : Option ℕ → Shown
@@ -60,7 +46,7 @@ pub record IsAsked (rows : List Row) (asked : Asked) : Type 0 where
   pub patterns : ArePatterns rows asked.shape
   pub words : option_map (λ name. name.now) asked.words ≡ first_of (codes "words") rows
   pub sought : IsSoughtOf rows asked.search.sought
-  pub most : IsMostOf rows asked.search.most
+  pub most : IsOptionalNumberOf (codes "most") rows asked.search.most
   pub shown : asked.search.shown ≡ shown_for asked.shape
   pub spelling : IsSpellingOf rows asked.search.spelling
   pub first : asked.search.first ≡ 0
@@ -69,45 +55,17 @@ pub record IsAsked (rows : List Row) (asked : Asked) : Type 0 where
   pub folder : option_map (λ name. name.now) asked.folder ≡ first_of (codes "sgf") rows
   pub names : map (λ name. name.now) asked.names.items ≡ names_of rows
 
--- `--most` has a value that is no number below 2 ^ 64
-abbrev pub HasNoMost : List Row → Type 0
-HasNoMost rows = (most : Option ℕ) → IsMostOf rows most → IfSome most (λ n. n < 2 ^ 64) → ⊥
-
--- no file of words is named, and the glyphs or the colour are missing, or the colour is none
-abbrev pub HasNoPattern : List Row → Type 0
-HasNoPattern rows = (first_of (codes "words") rows ≡ None) × HasNoColour rows
-
 -- a file of words is named, and it is said that a pattern is a diamond
 abbrev pub HasPatternBeside : List Row → Type 0
 HasPatternBeside rows = (first_of (codes "words") rows ≢ None) × IsKindOf rows kind.Diamond
 
--- no file of words is named, and the glyphs spell no pattern
-abbrev pub IsBadPattern : List Row → GlyphFault → Type 0
-IsBadPattern rows found = (first_of (codes "words") rows ≡ None) × IsBadSpelling rows found
-
--- why there are no patterns to look for
+-- why there are no patterns to look for: no file of words is named and no pattern is spelled, or one is named beside a diamond
 abbrev pub IsPatternsFault : List Row → RunFault → Type 0
-IsPatternsFault rows fault.Usage = HasNoPattern rows ⊎ HasPatternBeside rows
-IsPatternsFault rows (fault.Glyph found) = IsBadPattern rows found
-IsPatternsFault rows found = ⊥
+IsPatternsFault rows found =
+    ((first_of (codes "words") rows ≡ None) × IsSpellingFault rows found) ⊎ ((found ≡ fault.Usage) × HasPatternBeside rows)
 
--- why there is nothing to do: there are no patterns to look for, or a number is missing or too large, or memory was wanting
+-- why there is nothing to do: there are no patterns to look for, or a number is missing or too large
 abbrev pub IsSearchFault : List Row → RunFault → Type 0
-IsSearchFault rows fault.Usage = IsPatternsFault rows fault.Usage ⊎ HasNoMost rows ⊎ HasNoNumber (2 ^ 8) (codes "workers") rows
-IsSearchFault rows (fault.Glyph found) = IsBadPattern rows found
-IsSearchFault rows fault.Memory = Unit {0}
-IsSearchFault rows found = ⊥
-
--- the task is that of the words: help only where it was asked for, and a search only where `clap` refuses nothing
-abbrev pub IsAnswered : List (List ℕ) → Task → Type 0
-IsAnswered words (task.Help text) = AsksForHelp program_app words
-IsAnswered words (task.Find asked) = (refusals_of program_app words ≡ []) × IsAsked (rows_for words) asked
-
--- the task is the search that these values ask for
-abbrev pub IsSearchOf : List Row → Task → Type 0
-IsSearchOf rows (task.Help text) = ⊥
-IsSearchOf rows (task.Find asked) = IsAsked rows asked
-
--- what can be wrong with the words: memory was wanting; or `clap` refuses them, or takes them and they ask for no search
-abbrev pub IsWordsFault : List (List ℕ) → RunFault → Type 0
-IsWordsFault words = IsAskingFault program_app words (IsSearchFault (rows_for words))
+IsSearchFault rows found =
+    IsPatternsFault rows found
+    ⊎ ((found ≡ fault.Usage) × (HasNoOptionalNumber (codes "most") rows ⊎ HasNoNumber (2 ^ 8) (codes "workers") rows))

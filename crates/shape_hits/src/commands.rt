@@ -1,13 +1,12 @@
 //! The command line as it is told to `clap`.
 ghost use Rattle.std.specs.Prelude.{◌≡◌, false, IfOk};
 ghost use Rattle.clap.specs.Words.{app_of, rule_of};
-ghost use Rattle.shape_hits.specs.Commands.{most_rule, files_rule, patterns_app, listing_app};
-ghost use Rattle.shape_hits.specs.Commands.{program_app};
+ghost use Rattle.shape_hits.specs.Commands.{most_rule, patterns_app, program_app};
 
 use clap::{Arg, Command, value_parser};
 use command_lines::{
-    colour_argument, diamond_argument, flag_argument, glyphs_argument, option_argument,
-    program_named, workers_argument,
+    colour_argument, diamond_argument, files_argument, flag_argument, glyphs_argument,
+    option_argument, program_named, with_argument, workers_argument,
 };
 use std::alloc::{AllocError, Global};
 
@@ -45,58 +44,24 @@ fn most_argument<'a>(alloc: Global) -> Arg<'a>
     ))
 }
 
-fn files_argument<'a>(alloc: Global) -> Arg<'a>
-    ensures rule { rule_of result ≡ files_rule }
-    ensures local { result.global ≡ false }
-{
-    Arg::new(alloc, "files")
-        .value_name("FILE")
-        .num_args(1..)
-        .help("Collections of games, and folders of such, in their order")
-}
-
 /// The program with what says which patterns are looked for.
 fn program_of_patterns<'a>(alloc: Global) -> Result<Command<'a>, AllocError>
     ensures { IfOk result (λ command. app_of command ≡ patterns_app) }
 {
-    program_named(
+    let command = program_named(
         alloc,
         "shape_hits",
         "Lists in which games of a collection a pattern is, and where",
         "shape_hits [OPTIONS] GLYPHS COLOUR [FILE|FOLDER]..\n       shape_hits [OPTIONS] --words LIST [FILE|FOLDER]..",
         NOTES,
-    )
-    .arg(glyphs_argument(alloc))?
-    .arg(colour_argument(alloc))?
-    .arg(diamond_argument(alloc))?
-    .arg(option_argument(
-        alloc,
-        "words",
-        "LIST",
-        "Look for the patterns whose words stand first in the lines of this file, as in a dictionary",
-    ))
-}
-
-/// The program with what says which hits are listed, and how.
-fn program_of_listing<'a>(alloc: Global) -> Result<Command<'a>, AllocError>
-    ensures { IfOk result (λ command. app_of command ≡ listing_app) }
-{
-    program_of_patterns(alloc)?
-        .arg(flag_argument(
-            alloc,
-            "there",
-            "Each time that a pattern was there, and not only when it was played",
-        ))?
-        .arg(flag_argument(
-            alloc,
-            "coordinates",
-            "Points as boards are labelled, as N14, in place of the letters that SGF has",
-        ))?
-        .arg(most_argument(alloc))?
-        .arg(workers_argument(
-            alloc,
-            "How many threads search, from 1 to 64; the lines are the same for any number",
-        ))
+    );
+    let words =
+        "Look for the patterns whose words stand first in the lines of this file, as in a dictionary";
+    let command = with_argument(command, glyphs_argument(alloc))?;
+    let command = with_argument(command, colour_argument(alloc))?;
+    let command = with_argument(command, diamond_argument(alloc))?;
+    let command = with_argument(command, option_argument(alloc, "words", "LIST", words))?;
+    Ok(command)
 }
 
 /// All that the program knows.
@@ -107,12 +72,17 @@ fn program_of_listing<'a>(alloc: Global) -> Result<Command<'a>, AllocError>
 pub fn program<'a>(alloc: Global) -> Result<Command<'a>, AllocError>
     ensures { IfOk result (λ command. app_of command ≡ program_app) }
 {
-    program_of_listing(alloc)?
-        .arg(option_argument(
-            alloc,
-            "sgf",
-            "FOLDER",
-            "Write an SGF file for each hit into this folder, for 1000 at most unless --most says how many",
-        ))?
-        .arg(files_argument(alloc))
+    let there = "Each time that a pattern was there, and not only when it was played";
+    let coordinates = "Points as boards are labelled, as N14, in place of the letters that SGF has";
+    let workers = "How many threads search, from 1 to 64; the lines are the same for any number";
+    let sgf =
+        "Write an SGF file for each hit into this folder, for 1000 at most unless --most says how many";
+    let command = program_of_patterns(alloc)?;
+    let command = with_argument(command, flag_argument(alloc, "there", there))?;
+    let command = with_argument(command, flag_argument(alloc, "coordinates", coordinates))?;
+    let command = with_argument(command, most_argument(alloc))?;
+    let command = with_argument(command, workers_argument(alloc, workers))?;
+    let command = with_argument(command, option_argument(alloc, "sgf", "FOLDER", sgf))?;
+    let command = with_argument(command, files_argument(alloc))?;
+    Ok(command)
 }

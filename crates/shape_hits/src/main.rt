@@ -6,7 +6,7 @@ mod files;
 mod inputs;
 mod words;
 
-use command_lines::why_unread;
+use command_lines::{Line, read_words, why_unread};
 use engine_core::{RunFault, own_words, status_of, write_output};
 use files::make_folder;
 use hits_core::{Wanted, WordsFault, read_wanted, status_of as words_status};
@@ -15,7 +15,7 @@ use std::fs::File;
 use std::io;
 use std::process::ExitCode;
 use std::thread::Threads;
-use words::{Asked, Task, read_words};
+use words::Asked;
 
 /// Those of the list of words in the file of this name.
 fn listed(rt: &HostRuntime, name: &str) -> Result<Wanted, WordsFault> {
@@ -70,8 +70,8 @@ fn find<T: Threads + Sync>(
 fn run<T: Threads + Sync>(rt: &HostRuntime, threads: &T) -> Result<u8, RunFault> {
     let words = own_words(rt)?;
     match read_words(rt.alloc(), &words)? {
-        Task::Find(asked) => find(rt, threads, &asked),
-        Task::Help(text) => {
+        Line::Asked(asked) => find(rt, threads, &asked),
+        Line::Told(text) => {
             write_output(&mut rt.stdout(), text.as_bytes())?;
             Ok(0)
         }

@@ -1,17 +1,16 @@
 //! The words of the command line, and what they ask for.
-ghost use Rattle.std.specs.Prelude.{◌≡◌, ◌≢◌, codes, map, string_bytes, IfOk, IfErr};
-ghost use Rattle.std.specs.Prelude.{IfSome, IfNone, None, MatchBool, OnOk, ◌++◌, [], option_to_list};
-ghost use Rattle.std.specs.Prelude.{unwrap_or};
-ghost use Rattle.clap.specs.Words.{all_of, first_of};
+ghost use Rattle.std.specs.Prelude.{◌≡◌, ◌≢◌, ◌++◌, codes, map, IfOk, IfErr, None, MatchBool, OnOk};
+ghost use Rattle.std.specs.Prelude.{option_to_list, refl};
+ghost use Rattle.clap.specs.Words.{first_of};
 ghost use Rattle.command_lines.specs.Values.{rows_in};
-ghost use Rattle.shape_hits.specs.Words.{ArePatterns, HasNoMost, IsAnswered, IsMostOf};
-ghost use Rattle.shape_hits.specs.Words.{IsPatternsFault, IsSearchFault, IsSearchOf, IsSoughtOf, IsSpellingOf};
-ghost use Rattle.shape_hits.specs.Words.{IsWordsFault, first_names, names_of, shown_for};
+ghost use Rattle.shape_hits.specs.Commands.{program_app};
+ghost use Rattle.shape_hits.specs.Words.{ArePatterns, IsAsked, IsPatternsFault, IsSearchFault, IsSoughtOf};
+ghost use Rattle.shape_hits.specs.Words.{IsSpellingOf, first_names, names_of, shown_for};
 
 use crate::commands::program;
-use clap::ArgMatches;
+use clap::{ArgMatches, Command};
 use command_lines::{
-    Line, choice, kind_of, number, read_line, small_number, spelled_pattern, word_of,
+    FromWords, choice, kind_of, optional_number, small_number, spelled_pattern, word_of, words_of,
 };
 use engine_core::RunFault;
 use hits_core::{Search, Shown, Sought, Spelling};
@@ -33,30 +32,6 @@ pub struct Asked<'a> {
     pub folder: Option<&'a str>,
     /// The words that name collections and folders of such.
     pub names: Vec<&'a str>,
-}
-
-/// What the program is to do.
-#[derive(Debug, Drop)]
-pub enum Task<'a> {
-    /// List these hits.
-    Find(Asked<'a>),
-    /// Print this text, which was asked for by help or version.
-    Help(String),
-}
-
-/// How many hits are asked for: all, where the words don't say how many. None where they say no
-/// number.
-fn most_of(matches: &ArgMatches<'_>) -> Option<Option<u64>>
-    ensures most { IfSome result (IsMostOf (rows_in matches.now)) }
-    ensures none { IfNone result (HasNoMost (rows_in matches.now)) }
-{
-    match word_of(matches, "most") {
-        Some(_) => match number(matches, "most") {
-            Some(number) => Some(Some(number)),
-            None => None,
-        },
-        None => Some(None),
-    }
 }
 
 /// What the lines show: the words of a list.
@@ -144,17 +119,6 @@ fn first_names<'a>(alloc: Global, matches: &ArgMatches<'a>) -> Result<Vec<&'a st
     Ok(names)
 }
 
-/// The words after those of a pattern.
-fn last_names<'a>(alloc: Global, matches: &ArgMatches<'a>) -> Result<Vec<&'a str>, AllocError>
-    ensures { IfOk result (λ names. map (λ name. name.now) names.items
-        ≡ unwrap_or (all_of (codes "files") (rows_in matches.now)) []) }
-{
-    match matches.get_strs("files") {
-        Some(names) => names.to_vec(alloc),
-        None => Ok(Vec::new(alloc)),
-    }
-}
-
 /// Appends words.
 fn push_all<'a>(names: &mut Vec<&'a str>, others: &[&'a str]) -> Result<(), AllocError>
     ensures { OnOk result (names.new.items ≡ names.old.items ++ others.now) }
@@ -171,7 +135,7 @@ fn names_of<'a>(alloc: Global, matches: &ArgMatches<'a>) -> Result<Vec<&'a str>,
         ≡ names_of (rows_in matches.now)) }
 {
     let mut names = first_names(alloc, matches)?;
-    let others = last_names(alloc, matches)?;
+    let others = words_of(alloc, matches, "files")?;
     push_all(&mut names, &others)?;
     Ok(names)
 }
@@ -200,45 +164,40 @@ fn search_of(matches: &ArgMatches<'_>, most: Option<u64>, shape: &Option<Shape>)
     }
 }
 
-/// What values that `clap` takes ask for.
-fn accepted<'a>(alloc: Global, matches: &ArgMatches<'a>) -> Result<Task<'a>, RunFault>
-    ensures search { IfOk result (IsSearchOf (rows_in matches.now)) }
-    ensures fault { IfErr result (IsSearchFault (rows_in matches.now)) }
-{
-    let shape = shape_of(matches)?;
-    let Some(most) = most_of(matches) else {
-        return Err(RunFault::Usage);
-    };
-    let Some(workers) = small_number(matches, "workers") else {
-        return Err(RunFault::Usage);
-    };
-    let search = search_of(matches, most, &shape);
-    let names = names_of(alloc, matches)?;
-    Ok(Task::Find(Asked {
-        shape,
-        words: word_of(matches, "words"),
-        search,
-        workers,
-        folder: word_of(matches, "sgf"),
-        names,
-    }))
-}
+impl<'a> FromWords<'a> for Asked<'a> {
+    ghost app = { program_app };
 
-/// What the words after the program's name ask for. It takes memory.
-///
-/// # Errors
-///
-/// `Usage` where the words are none that the program knows, a colour that is none among them, or
-/// they name no file of words and spell no pattern, or name one with `--diamond`; else `Glyph`
-/// where the glyphs are not those of a pattern; `Memory` where memory was refused.
-pub fn read_words<'a>(alloc: Global, words: &'a [String]) -> Result<Task<'a>, RunFault>
-    ensures task { IfOk result (IsAnswered (map string_bytes words.now)) }
-    ensures fault { IfErr result (IsWordsFault (map string_bytes words.now)) }
-{
-    let command = program(alloc)?;
-    let line = read_line(alloc, command, words)?;
-    match line {
-        Line::Asked(matches) => accepted(alloc, &matches),
-        Line::Told(text) => Ok(Task::Help(text)),
+    ghost IsAsked = { IsAsked };
+
+    ghost IsWrong = { IsSearchFault };
+
+    ghost simple = { refl };
+
+    fn program(alloc: Global) -> Result<Command<'a>, AllocError> {
+        program(alloc)
+    }
+
+    /// What the values ask for. `Usage` comes where they name no file of words and the colour or
+    /// the glyphs are missing, or the colour is none; where they name one with `--diamond`; and
+    /// where a number is missing or too large. `Glyph` comes where the glyphs are not those of a
+    /// pattern.
+    fn from_values(alloc: Global, matches: &ArgMatches<'a>) -> Result<Asked<'a>, RunFault> {
+        let shape = shape_of(matches)?;
+        let Some(most) = optional_number(matches, "most") else {
+            return Err(RunFault::Usage);
+        };
+        let Some(workers) = small_number(matches, "workers") else {
+            return Err(RunFault::Usage);
+        };
+        let search = search_of(matches, most, &shape);
+        let names = names_of(alloc, matches)?;
+        Ok(Asked {
+            shape,
+            words: word_of(matches, "words"),
+            search,
+            workers,
+            folder: word_of(matches, "sgf"),
+            names,
+        })
     }
 }

@@ -1,9 +1,8 @@
 -- The command line as `clap` is told it.
 use Rattle.std.specs.Prelude.{Some, true, codes}
-use Rattle.clap.specs.Lexer.{usize_max}
-use Rattle.clap.specs.Words.{App, Rule, new_rule, with_rule}
+use Rattle.clap.specs.Words.{App, Rule, with_rule}
 use Rattle.clap.specs.declared.builder.value_parser.ValueParser.TheVariants as parser
-use Rattle.command_lines.specs.Arguments.{bare_app, option_rule, text_rule}
+use Rattle.command_lines.specs.Arguments.{bare_app, names_rule, option_rule, text_rule}
 
 -- the option takes a number, from 1 on
 abbrev pub least_rule : Rule
@@ -15,11 +14,7 @@ out_rule = record (option_rule (codes "out")) { short = Some 111 }
 
 -- one name at least has to be given
 abbrev pub dictionaries_rule : Rule
-dictionaries_rule = record (new_rule (codes "dictionaries")) {
-  value_names = 1;
-  range = Some (record { start_inclusive = 1; end_inclusive = usize_max });
-  required = true;
-}
+dictionaries_rule = record (names_rule (codes "dictionaries")) { required = true }
 
 abbrev pub program_app : App
 program_app =

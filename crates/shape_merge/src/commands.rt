@@ -4,7 +4,7 @@ ghost use Rattle.clap.specs.Words.{app_of, rule_of};
 ghost use Rattle.shape_merge.specs.Commands.{least_rule, out_rule, dictionaries_rule, program_app};
 
 use clap::{Arg, Command, value_parser};
-use command_lines::{option_argument, program_named, text_argument};
+use command_lines::{names_argument, option_argument, program_named, text_argument, with_argument};
 use std::alloc::{AllocError, Global};
 
 /// The end of the program's help.
@@ -53,11 +53,8 @@ fn dictionaries_argument<'a>(alloc: Global) -> Arg<'a>
     ensures rule { rule_of result ≡ dictionaries_rule }
     ensures local { result.global ≡ false }
 {
-    Arg::new(alloc, "dictionaries")
-        .value_name("DICTIONARY")
-        .num_args(1..)
-        .required(true)
-        .help("The dictionaries' files, in their order")
+    let help = "The dictionaries' files, in their order";
+    names_argument(alloc, "dictionaries", "DICTIONARY", help).required(true)
 }
 
 /// All that the program knows.
@@ -68,18 +65,17 @@ fn dictionaries_argument<'a>(alloc: Global) -> Arg<'a>
 pub fn program<'a>(alloc: Global) -> Result<Command<'a>, AllocError>
     ensures { IfOk result (λ command. app_of command ≡ program_app) }
 {
-    program_named(
+    let command = program_named(
         alloc,
         "shape_merge",
         "Joins dictionaries of Go patterns",
         "shape_merge [OPTIONS] DICTIONARY.. > DICTIONARY",
         NOTES,
-    )
-    .arg(text_argument(
-        alloc,
-        "Which text is written: 1 squares, 2 diamonds too, 3 first games besides",
-    ))?
-    .arg(least_argument(alloc))?
-    .arg(out_argument(alloc))?
-    .arg(dictionaries_argument(alloc))
+    );
+    let text = "Which text is written: 1 squares, 2 diamonds too, 3 first games besides";
+    let command = with_argument(command, text_argument(alloc, text))?;
+    let command = with_argument(command, least_argument(alloc))?;
+    let command = with_argument(command, out_argument(alloc))?;
+    let command = with_argument(command, dictionaries_argument(alloc))?;
+    Ok(command)
 }

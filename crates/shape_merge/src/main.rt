@@ -10,6 +10,7 @@ mod words;
 
 ghost use Rattle.std.specs.Prelude.{◌≡◌, length, vec_len};
 
+use command_lines::{Line, read_words};
 use engine_core::{RunFault, own_words, status_of, write_output};
 use files::{Dictionaries, Named, look_at, new_target, which_is_barred};
 use merge_core::{MergeFault, run_merge};
@@ -18,7 +19,7 @@ use std::io;
 use std::process::ExitCode;
 use std::thread::Threads;
 use telling::{tell, tell_changed};
-use words::{Asked, Task, read_words};
+use words::Asked;
 
 /// Writes the join of the files, to standard output or to a file that is made once all is judged.
 /// The threads that join are started through `threads`.
@@ -77,8 +78,8 @@ fn join_files<T: Threads + Sync>(
 fn run<T: Threads + Sync>(rt: &HostRuntime, threads: &T) -> Result<u8, RunFault> {
     let words = own_words(rt)?;
     match read_words(rt.alloc(), &words)? {
-        Task::Join(asked) => join_files(threads, rt, &asked),
-        Task::Help(text) => {
+        Line::Asked(asked) => join_files(threads, rt, &asked),
+        Line::Told(text) => {
             write_output(&mut rt.stdout(), text.as_bytes())?;
             Ok(0)
         }

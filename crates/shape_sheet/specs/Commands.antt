@@ -13,10 +13,7 @@ least_rule = record (option_rule (codes "least")) { parser = Some (parser.Unsign
 abbrev pub most_rule : Rule
 most_rule = number_rule (codes "most") 1 10000 (codes "50")
 
--- with the options that take values
-abbrev pub values_app : App
-values_app = with_rule (with_rule (with_rule (bare_app (codes "shape_sheet")) by_rule) least_rule) most_rule
-
 abbrev pub program_app : App
 program_app =
-    with_rule (with_rule (with_rule values_app (flag_rule (codes "diamonds"))) (flag_rule (codes "plain"))) (option_rule (codes "hits"))
+    with_rule (with_rule (with_rule (with_rule (with_rule (with_rule (bare_app (codes "shape_sheet")) by_rule) least_rule) most_rule)
+    (flag_rule (codes "diamonds"))) (flag_rule (codes "plain"))) (option_rule (codes "hits"))

@@ -1,11 +1,10 @@
 //! The command line as it is told to `clap`.
 ghost use Rattle.std.specs.Prelude.{◌≡◌, false, IfOk};
 ghost use Rattle.clap.specs.Words.{app_of, rule_of};
-ghost use Rattle.shape_sheet.specs.Commands.{by_rule, least_rule, most_rule};
-ghost use Rattle.shape_sheet.specs.Commands.{values_app, program_app};
+ghost use Rattle.shape_sheet.specs.Commands.{by_rule, least_rule, most_rule, program_app};
 
 use clap::{Arg, Command, value_parser};
-use command_lines::{flag_argument, option_argument, program_named};
+use command_lines::{flag_argument, option_argument, program_named, with_argument};
 use std::alloc::{AllocError, Global};
 
 /// The end of the program's help.
@@ -62,22 +61,6 @@ fn most_argument<'a>(alloc: Global) -> Arg<'a>
     .default_value("50")
 }
 
-/// The program with the options that take values.
-fn program_of_values<'a>(alloc: Global) -> Result<Command<'a>, AllocError>
-    ensures { IfOk result (λ command. app_of command ≡ values_app) }
-{
-    program_named(
-        alloc,
-        "shape_sheet",
-        "Draws the first patterns of a dictionary, as a page of HTML or as text",
-        "shape_sheet [OPTIONS] < DICTIONARY",
-        NOTES,
-    )
-    .arg(by_argument(alloc))?
-    .arg(least_argument(alloc))?
-    .arg(most_argument(alloc))
-}
-
 /// All that the program knows.
 ///
 /// # Errors
@@ -86,13 +69,22 @@ fn program_of_values<'a>(alloc: Global) -> Result<Command<'a>, AllocError>
 pub fn program<'a>(alloc: Global) -> Result<Command<'a>, AllocError>
     ensures { IfOk result (λ command. app_of command ≡ program_app) }
 {
-    program_of_values(alloc)?
-        .arg(flag_argument(alloc, "diamonds", "Diamonds and not squares"))?
-        .arg(flag_argument(alloc, "plain", "Text for a terminal and not a page"))?
-        .arg(option_argument(
-            alloc,
-            "hits",
-            "FILE",
-            "Lines of shape_hits --words: the first places of a pattern stand below it on the page",
-        ))
+    let command = program_named(
+        alloc,
+        "shape_sheet",
+        "Draws the first patterns of a dictionary, as a page of HTML or as text",
+        "shape_sheet [OPTIONS] < DICTIONARY",
+        NOTES,
+    );
+    let diamonds = "Diamonds and not squares";
+    let plain = "Text for a terminal and not a page";
+    let hits =
+        "Lines of shape_hits --words: the first places of a pattern stand below it on the page";
+    let command = with_argument(command, by_argument(alloc))?;
+    let command = with_argument(command, least_argument(alloc))?;
+    let command = with_argument(command, most_argument(alloc))?;
+    let command = with_argument(command, flag_argument(alloc, "diamonds", diamonds))?;
+    let command = with_argument(command, flag_argument(alloc, "plain", plain))?;
+    let command = with_argument(command, option_argument(alloc, "hits", "FILE", hits))?;
+    Ok(command)
 }

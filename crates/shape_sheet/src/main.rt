@@ -4,13 +4,13 @@
 mod commands;
 mod words;
 
-use command_lines::why_unread;
+use command_lines::{Line, read_words, why_unread};
 use engine_core::{RunFault, own_words, read_input, status_of, write_output};
 use sheet_core::{Asked, run_sheet};
 use std::fs::File;
 use std::io;
 use std::process::ExitCode;
-use words::{Task, read_words};
+use words::Drawing;
 
 /// The bytes of the file of lines of hits, or the exit status where they could not be read, which
 /// was said.
@@ -47,8 +47,8 @@ fn draw(rt: &HostRuntime, asked: Asked, name: Option<&str>) -> Result<u8, RunFau
 fn run(rt: &HostRuntime) -> Result<u8, RunFault> {
     let words = own_words(rt)?;
     match read_words(rt.alloc(), &words)? {
-        Task::Sheet(asked, hits) => draw(rt, asked, hits),
-        Task::Help(text) => {
+        Line::Asked(Drawing { sheet, hits }) => draw(rt, sheet, hits),
+        Line::Told(text) => {
             write_output(&mut rt.stdout(), text.as_bytes())?;
             Ok(0)
         }

@@ -1,26 +1,26 @@
 //! The words of the command line, and what they ask for.
-ghost use Rattle.std.specs.Prelude.{◌≡◌, ◌≢◌, map, string_bytes, IfOk, IfErr, IfSome, IfNone};
+ghost use Rattle.std.specs.Prelude.{◌≡◌, ◌≢◌, refl, IfSome, IfNone};
 ghost use Rattle.command_lines.specs.Values.{rows_in};
-ghost use Rattle.shape_sheet.specs.Words.{HasNoOrder, HasNoSheet, IsAnswered, IsAsked, IsOrderOf};
-ghost use Rattle.shape_sheet.specs.Words.{IsSheetOf, IsWordsFault, name_of};
-ghost use Rattle.sheet_core.specs.declared.orders.Order.{Order};
 ghost use Rattle.engine_core.specs.declared.faults.RunFault.TheVariants as fault;
+ghost use Rattle.shape_sheet.specs.Commands.{program_app};
+ghost use Rattle.shape_sheet.specs.Words.{HasNoOrder, HasNoSheet, IsAsked, IsDrawing, IsOrderOf, name_of};
+ghost use Rattle.sheet_core.specs.declared.orders.Order.{Order};
 
 use crate::commands::program;
-use clap::ArgMatches;
-use command_lines::{Line, choice, number, read_line, word_of};
+use clap::{ArgMatches, Command};
+use command_lines::{FromWords, choice, number, word_of};
 use engine_core::RunFault;
 use shape_core::Kind;
 use sheet_core::{Asked, Form, Order};
-use std::alloc::Global;
+use std::alloc::{AllocError, Global};
 
-/// What the program is to do.
+/// What is asked for.
 #[derive(Debug, Drop)]
-pub enum Task<'a> {
-    /// Print this sheet, with places from the lines of the file of this name, where there is one.
-    Sheet(Asked, Option<&'a str>),
-    /// Print this text, which was asked for by help or version.
-    Help(String),
+pub struct Drawing<'a> {
+    /// The sheet.
+    pub sheet: Asked,
+    /// The name of the file with lines of hits, where one is named.
+    pub hits: Option<&'a str>,
 }
 
 /// The order of this name, where there is one.
@@ -66,33 +66,28 @@ fn sheet_of(matches: &ArgMatches<'_>) -> Option<Asked>
     })
 }
 
-/// What values that `clap` takes ask for.
-fn accepted<'a>(matches: &ArgMatches<'a>) -> Result<Task<'a>, RunFault>
-    ensures sheet { IfOk result (IsSheetOf (rows_in matches.now)) }
-    ensures fault { IfErr result (λ found. (found ≡ fault.Usage)
-        × HasNoSheet (rows_in matches.now)) }
-{
-    match sheet_of(matches) {
-        Some(asked) => Ok(Task::Sheet(asked, word_of(matches, "hits"))),
-        None => Err(RunFault::Usage),
-    }
-}
+impl<'a> FromWords<'a> for Drawing<'a> {
+    ghost app = { program_app };
 
-/// What the words after the program's name ask for; no word at all asks for a page of the 50
-/// squares that were played most. It takes memory.
-///
-/// # Errors
-///
-/// `Usage` where the words are none that the program knows, the name of no order among them;
-/// `Memory` where memory was refused.
-pub fn read_words<'a>(alloc: Global, words: &'a [String]) -> Result<Task<'a>, RunFault>
-    ensures task { IfOk result (IsAnswered (map string_bytes words.now)) }
-    ensures fault { IfErr result (IsWordsFault (map string_bytes words.now)) }
-{
-    let command = program(alloc)?;
-    let line = read_line(alloc, command, words)?;
-    match line {
-        Line::Asked(matches) => accepted(&matches),
-        Line::Told(text) => Ok(Task::Help(text)),
+    ghost IsAsked = { IsDrawing };
+
+    ghost IsWrong = { λ rows found. (found ≡ fault.Usage) × HasNoSheet rows };
+
+    ghost simple = { refl };
+
+    fn program(alloc: Global) -> Result<Command<'a>, AllocError> {
+        program(alloc)
+    }
+
+    /// What the values ask for; none at all ask for a page of the 50 squares that were played most.
+    /// `Usage` comes where the name is that of no order, or a number is missing or too large.
+    fn from_values(_alloc: Global, matches: &ArgMatches<'a>) -> Result<Drawing<'a>, RunFault> {
+        match sheet_of(matches) {
+            Some(sheet) => Ok(Drawing {
+                sheet,
+                hits: word_of(matches, "hits"),
+            }),
+            None => Err(RunFault::Usage),
+        }
     }
 }

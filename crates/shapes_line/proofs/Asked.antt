@@ -1,10 +1,10 @@
 -- What the values of a subcommand say.
 use Rattle.std.proofs.Common.{◌≡◌, ◌^◌, ℕ, List, Option, Some, arith, inl, inr, refl, sym, subst, [], codes, Result, Ok, Err, IfOk, IfErr}
-use Rattle.clap.specs.Words.{Row}
-use Rattle.clap.specs.Words.{subcommand_rows_of}
+use Rattle.clap.specs.Words.{App, Row, subcommand_rows_of}
 use Rattle.clap.specs.declared.parser.matches.ArgMatches.{ArgMatches}
-use Rattle.command_lines.specs.Lines.{AreTaken, IsAskingFault, refusals_of}
-use Rattle.command_lines.specs.Patterns.{IsSpellingFault}
+use Rattle.command_lines.specs.Lines.{AreValues, IsAskingFault, IsLineOf, refusals_of}
+use Rattle.command_lines.specs.declared.lines.Line.{Line}
+use Rattle.command_lines.specs.declared.lines.Line.TheVariants as line
 use Rattle.command_lines.specs.Texts.{HasNoText}
 use Rattle.command_lines.specs.Values.{HasNoNumber, IsNumberOf}
 use Rattle.command_lines.proofs.Numbers.{one_number}
@@ -38,25 +38,12 @@ no_settings_limits rows workers k is_workers is_k outside settings kind is limit
       small_table = omega (arith, same_k, limits.small_table);
     })
 
--- why a search was refused
-pub search_fault : (rows : List Row) (found : RunFault) → IsSpellingFault rows found → IsWordsFault (Some (codes "find", rows)) found
-search_fault rows fault.Usage wrong = inl (rows, refl, wrong)
-search_fault rows (fault.Glyph found) wrong = (rows, refl, wrong)
-search_fault rows (fault.Sgf found) wrong = absurd wrong
-search_fault rows (fault.Record found) wrong = absurd wrong
-search_fault rows (fault.Board found) wrong = absurd wrong
-search_fault rows (fault.Harvest found) wrong = absurd wrong
-search_fault rows (fault.Dict n found) wrong = absurd wrong
-search_fault rows fault.Read wrong = absurd wrong
-search_fault rows (fault.Write written) wrong = absurd wrong
-search_fault rows fault.Memory wrong = absurd wrong
-
 -- a count's fault as that of the words' subcommand
 pub count_fault : (asked : Option (List ℕ × List Row)) (rows : List Row) (result : Result Task RunFault) → asked ≡ Some (codes "count", rows) →
     IfErr result (λ found. (found ≡ fault.Usage) × HasNoSettings rows) → IfErr result (IsWordsFault asked)
 count_fault asked rows (Ok found) is wrong = tt
 count_fault asked rows (Err found) is wrong =
-    subst (IsWordsFault asked) (sym wrong.0) (inr (inl (rows, is, wrong.1)))
+    inr (wrong.0, inl (rows, is, wrong.1))
 
 -- where `clap` refuses nothing, the task of the subcommand is that of the words
 answered_from : (words : List (List ℕ)) (asked : Option (List ℕ × List Row)) (result : Result Task RunFault) → refusals_of program_app words ≡ [] → IfOk result (IsTaskOf asked) →
@@ -68,14 +55,20 @@ answered_from words asked (Ok (task.Join text)) none is = (none, is)
 answered_from words asked (Ok (task.Help text)) none is = absurd is
 answered_from words asked (Err found) none is = tt
 
-pub task_answered : (words : List (List ℕ)) (matches : ArgMatches) (result : Result Task RunFault) → AreTaken program_app words matches →
+-- the values of a line of the program that was told
+pub taken_by : (told : App) (words : List (List ℕ)) (found : Line ArgMatches) (matches : ArgMatches) → told ≡ program_app → found ≡ line.Asked matches →
+    IsLineOf told words (AreValues told words) found → (refusals_of program_app words ≡ []) × AreValues program_app words matches
+taken_by told words found matches same is asked =
+    subst (λ (app : App). (refusals_of app words ≡ []) × AreValues app words matches) same
+    (subst (λ (one : Line ArgMatches). IsLineOf told words (AreValues told words) one) is asked)
+
+pub task_answered : (words : List (List ℕ)) (matches : ArgMatches) (result : Result Task RunFault) → (refusals_of program_app words ≡ []) × AreValues program_app words matches →
     IfOk result (IsTaskOf (subcommand_rows_of matches)) → IfOk result (IsAnswered words (asked_by words))
 task_answered words matches result are is =
-    answered_from words (asked_by words) result are.taken
-    (subst (λ (a : Option (List ℕ × List Row)). IfOk result (IsTaskOf a)) are.subcommand is)
+    answered_from words (asked_by words) result are.0 (subst (λ (a : Option (List ℕ × List Row)). IfOk result (IsTaskOf a)) are.1.subcommand is)
 
 -- and so is its fault
-pub task_refused : (words : List (List ℕ)) (matches : ArgMatches) (result : Result Task RunFault) → AreTaken program_app words matches →
+pub task_refused : (words : List (List ℕ)) (matches : ArgMatches) (result : Result Task RunFault) → (refusals_of program_app words ≡ []) × AreValues program_app words matches →
     IfErr result (IsWordsFault (subcommand_rows_of matches)) → IfErr result (IsAskingFault program_app words (IsWordsFault (asked_by words)))
 task_refused words matches (Ok found) are is = tt
-task_refused words matches (Err found) are is = inr (are.taken, subst (λ (a : Option (List ℕ × List Row)). IsWordsFault a found) are.subcommand is)
+task_refused words matches (Err found) are is = inr (are.0, subst (λ (a : Option (List ℕ × List Row)). IsWordsFault a found) are.1.subcommand is)

@@ -2,7 +2,7 @@
 use Rattle.std.specs.Prelude.{◌≡◌, ◌≢◌, ◌⊎◌, ℕ, List, [], Option, Some, codes}
 use Rattle.clap.specs.Words.{Row}
 use Rattle.command_lines.specs.Lines.{AsksForHelp, refusals_of}
-use Rattle.command_lines.specs.Patterns.{HasNoColour, IsBadSpelling, IsSpelled}
+use Rattle.command_lines.specs.Patterns.{IsSpelled, IsSpellingFault}
 use Rattle.command_lines.specs.Texts.{HasNoText, number_of}
 use Rattle.command_lines.specs.Values.{IsNumberOf}
 use Rattle.shape_core.specs.declared.words.Kinds.{Kinds}
@@ -54,20 +54,8 @@ IsAnswered words asked found = (refusals_of program_app words ≡ []) × IsTaskO
 abbrev pub HasNoSettings : List Row → Type 0
 HasNoSettings rows = (settings : Limits) → (kind : Text) → IsCount rows settings kind → AreLimits settings → ⊥
 
--- the values of a subcommand are none that the program knows
-abbrev pub HasBadValues : Option (List ℕ × List Row) → Type 0
-HasBadValues asked =
-    Asks asked (codes "find") HasNoColour ⊎ Asks asked (codes "count") HasNoSettings ⊎ Asks asked (codes "join") HasNoText
-
--- what can be wrong with a subcommand's values: none that the program knows, no pattern's glyphs, or want of memory
+-- what can be wrong with a subcommand's values: they spell no pattern, or are those of no count, or of no text
 abbrev pub IsWordsFault : Option (List ℕ × List Row) → RunFault → Type 0
-IsWordsFault asked fault.Usage = HasBadValues asked
-IsWordsFault asked fault.Memory = Unit {0}
-IsWordsFault asked (fault.Glyph found) = Asks asked (codes "find") (λ rows. IsBadSpelling rows found)
-IsWordsFault asked (fault.Sgf found) = ⊥
-IsWordsFault asked (fault.Record found) = ⊥
-IsWordsFault asked (fault.Board found) = ⊥
-IsWordsFault asked (fault.Harvest found) = ⊥
-IsWordsFault asked (fault.Dict n found) = ⊥
-IsWordsFault asked fault.Read = ⊥
-IsWordsFault asked (fault.Write written) = ⊥
+IsWordsFault asked found =
+    Asks asked (codes "find") (λ rows. IsSpellingFault rows found)
+    ⊎ ((found ≡ fault.Usage) × (Asks asked (codes "count") HasNoSettings ⊎ Asks asked (codes "join") HasNoText))

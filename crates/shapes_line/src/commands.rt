@@ -8,7 +8,7 @@ ghost use Rattle.shapes_line.specs.Commands.{required_word};
 use clap::{Arg, Command, value_parser};
 use command_lines::{
     colour_argument, command_named, diamond_argument, glyphs_argument, option_argument,
-    program_named, text_argument, workers_argument,
+    program_named, text_argument, with_argument, with_command, workers_argument,
 };
 use std::alloc::{AllocError, Global};
 
@@ -81,19 +81,18 @@ fn count_command<'a>(alloc: Global) -> Result<Command<'a>, AllocError>
     ensures app { IfOk result (λ command. app_of command ≡ count_app) }
     ensures local { IfOk result (λ command. (fields_of command).has_globals ≡ false) }
 {
-    command_named(
+    let command = command_named(
         alloc,
         "count",
         "Prints how often each local pattern was there and was played in a collection of games",
         "shapes count [OPTIONS] < GAMES.sgf > DICTIONARY",
         COUNT_NOTES,
-    )
-    .arg(workers_argument(
-        alloc,
-        "How many threads count, from 1 to 64; the text is the same for any number",
-    ))?
-    .arg(bits_argument(alloc))?
-    .arg(text_argument(alloc, TEXT_HELP))
+    );
+    let workers = "How many threads count, from 1 to 64; the text is the same for any number";
+    let command = with_argument(command, workers_argument(alloc, workers))?;
+    let command = with_argument(command, bits_argument(alloc))?;
+    let command = with_argument(command, text_argument(alloc, TEXT_HELP))?;
+    Ok(command)
 }
 
 /// GLYPHS, which have to be given.
@@ -116,30 +115,32 @@ fn find_command<'a>(alloc: Global) -> Result<Command<'a>, AllocError>
     ensures app { IfOk result (λ command. app_of command ≡ find_app) }
     ensures local { IfOk result (λ command. (fields_of command).has_globals ≡ false) }
 {
-    command_named(
+    let command = command_named(
         alloc,
         "find",
         "Prints how often one pattern was there and was played, by a dictionary",
         "shapes find [OPTIONS] GLYPHS COLOUR < DICTIONARY",
         FIND_NOTES,
-    )
-    .arg(needed_glyphs(alloc))?
-    .arg(needed_colour(alloc))?
-    .arg(diamond_argument(alloc))
+    );
+    let command = with_argument(command, needed_glyphs(alloc))?;
+    let command = with_argument(command, needed_colour(alloc))?;
+    let command = with_argument(command, diamond_argument(alloc))?;
+    Ok(command)
 }
 
 fn join_command<'a>(alloc: Global) -> Result<Command<'a>, AllocError>
     ensures app { IfOk result (λ command. app_of command ≡ join_app) }
     ensures local { IfOk result (λ command. (fields_of command).has_globals ≡ false) }
 {
-    command_named(
+    let command = command_named(
         alloc,
         "join",
         "Adds up dictionaries that follow one another",
         "cat DICTIONARY.. | shapes join [OPTIONS] > DICTIONARY",
         JOIN_NOTES,
-    )
-    .arg(text_argument(alloc, TEXT_HELP))
+    );
+    let command = with_argument(command, text_argument(alloc, TEXT_HELP))?;
+    Ok(command)
 }
 
 /// All that the program knows.
@@ -150,15 +151,16 @@ fn join_command<'a>(alloc: Global) -> Result<Command<'a>, AllocError>
 pub fn program<'a>(alloc: Global) -> Result<Command<'a>, AllocError>
     ensures { IfOk result (λ command. app_of command ≡ program_app) }
 {
-    program_named(
+    let command = program_named(
         alloc,
         "shapes",
         "Counts local patterns of Go in collections of games (SGF)",
         "shapes [COMMAND] < INPUT",
         NOTES,
-    )
-    .subcommand(board_command(alloc))?
-    .subcommand(count_command(alloc)?)?
-    .subcommand(find_command(alloc)?)?
-    .subcommand(join_command(alloc)?)
+    );
+    let command = with_command(command, board_command(alloc))?;
+    let command = with_command(command, count_command(alloc)?)?;
+    let command = with_command(command, find_command(alloc)?)?;
+    let command = with_command(command, join_command(alloc)?)?;
+    Ok(command)
 }

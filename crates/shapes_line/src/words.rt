@@ -108,9 +108,7 @@ pub fn read_words(alloc: Global, words: &[String]) -> Result<Task, RunFault>
     ensures fault { IfErr result (IsAskingFault program_app (map string_bytes words.now)
         (IsWordsFault (asked_by (map string_bytes words.now)))) }
 {
-    let command = program(alloc)?;
-    let line = read_line(alloc, command, words)?;
-    match line {
+    match read_line(alloc, program(alloc)?, words)? {
         Line::Asked(matches) => task_of(&matches),
         Line::Told(text) => Ok(Task::Help(text)),
     }

@@ -19,4 +19,4 @@ pub returns-in-Ok-clause-line : goal.returns-in-Ok-clause-line
 returns-in-Ok-clause-line c =
     let app = app_of c.args.program in
     let are = c.in-Ok.ensures.matches (both_first (is_simple app) (is_free_app (built app)) c.requires) in
-    record { taken = c.in-Ok.ensures.kinds c.requires; rows = are.0; subcommand = are.1 }
+    (c.in-Ok.ensures.kinds c.requires, record { rows = are.0; subcommand = are.1 })

@@ -1,0 +1,66 @@
+//! What a program's words ask for, by what it tells `clap` and what it makes of their values.
+ghost use Rattle.std.specs.Prelude.{◌≡◌, ◌⊎◌, List, true, map, string_bytes, IfOk, IfErr};
+ghost use Rattle.clap.specs.Words.{App, Row, app_of, is_simple_and_free, matches_of};
+ghost use Rattle.command_lines.specs.Lines.{IsAskingFault, IsLineOf};
+ghost use Rattle.command_lines.specs.Values.{rows_in};
+ghost use Rattle.engine_core.specs.declared.faults.RunFault.{RunFault};
+ghost use Rattle.engine_core.specs.declared.faults.RunFault.TheVariants as fault;
+
+use crate::lines::{Line, read_line};
+use clap::{ArgMatches, Command};
+use engine_core::RunFault;
+use std::alloc::{AllocError, Global};
+
+/// What the words of a program without subcommands may ask for.
+pub trait FromWords<'a>: Sized + Drop {
+    /// The program, as `clap` is told it.
+    ghost app: { App };
+
+    /// The values ask for this.
+    ghost IsAsked: { List Row → Self → Type 0 };
+
+    /// The values ask for nothing, and this is why.
+    ghost IsWrong: { List Row → RunFault → Type 0 };
+
+    /// All that the program knows. It takes memory.
+    ///
+    /// # Errors
+    ///
+    /// `AllocError` where memory was refused.
+    fn program(alloc: Global) -> Result<Command<'a>, AllocError>
+        ensures { IfOk result (λ command. app_of command ≡ app) };
+
+    /// What values that `clap` takes ask for. It may take memory.
+    ///
+    /// # Errors
+    ///
+    /// Why the values ask for nothing; `Memory` where memory was refused.
+    fn from_values(alloc: Global, matches: &ArgMatches<'a>) -> Result<Self, RunFault>
+        ensures asked { IfOk result (IsAsked (rows_in matches.now)) }
+        ensures fault { IfErr result (λ found. (found ≡ fault.Memory)
+            ⊎ IsWrong (rows_in matches.now) found) };
+
+    /// It has neither groups nor global arguments, and no argument has a rule on another.
+    ghost simple: { is_simple_and_free app ≡ true };
+}
+
+/// What the words after a program's name ask for. It takes memory.
+///
+/// # Errors
+///
+/// `Usage` where `clap` refuses the words; where it takes them, why their values ask for nothing;
+/// `Memory` where memory was refused.
+pub fn read_words<'a, T: FromWords<'a>>(
+    alloc: Global,
+    words: &'a [String],
+) -> Result<Line<T>, RunFault>
+    ensures line { IfOk result (IsLineOf T.app (map string_bytes words.now)
+        (T.IsAsked (matches_of T.app (map string_bytes words.now)))) }
+    ensures fault { IfErr result (IsAskingFault T.app (map string_bytes words.now)
+        (T.IsWrong (matches_of T.app (map string_bytes words.now)))) }
+{
+    match read_line(alloc, T::program(alloc)?, words)? {
+        Line::Asked(matches) => Ok(Line::Asked(T::from_values(alloc, &matches)?)),
+        Line::Told(text) => Ok(Line::Told(text)),
+    }
+}
