@@ -18,7 +18,7 @@ use stamps::{Stamp, first_unlike, stamps_of};
 use std::io;
 use std::process::ExitCode;
 use std::thread::Threads;
-use telling::{tell, tell_changed};
+use telling::{tell, tell_barred, tell_changed};
 use words::Asked;
 
 /// Writes the join of the files, to standard output or to a file that is made once all is judged.
@@ -62,10 +62,7 @@ fn join_files<T: Threads + Sync>(
 ) -> Result<u8, RunFault> {
     let sights = look_at(rt, asked)?;
     if let Some(name) = which_is_barred(asked, &sights) {
-        let _ = eprintln!(rt;
-            "shape_merge: U1 usage: {name} can't be read twice, or is also written"
-        );
-        return Ok(2);
+        return Ok(tell_barred(rt, name));
     }
     let before = stamps_of(rt, &asked.names)?;
     match join(threads, rt, asked) {

@@ -33,6 +33,20 @@ fn tell_unread(rt: &HostRuntime, n: usize, name: &str, written: usize) {
     let _ = eprintln!(rt; "shape_merge: dictionary {n}, {name}: I1 {why}, {written} bytes written");
 }
 
+/// Says that the dictionary of this name can't be joined, and why, as far as the system tells it:
+/// a regular file is one that is written too. The answer is the exit status.
+pub fn tell_barred(rt: &HostRuntime, name: &str) -> u8
+    ensures { result ≡ 2 }
+{
+    let why = match fs::metadata(rt, name) {
+        Ok(found) if found.is_dir() => "is a folder",
+        Ok(found) if found.is_file() => "is also written",
+        _ => "can't be read twice",
+    };
+    let _ = eprintln!(rt; "shape_merge: U1 usage: {name} {why}");
+    2
+}
+
 /// Says that the file of this name and number, from 0, changed while it was joined, and answers the
 /// exit status.
 pub fn tell_changed(rt: &HostRuntime, k: usize, name: &str) -> u8
