@@ -1,11 +1,17 @@
 -- The dictionary of all shares is that of their games.
 use Rattle.std.proofs.Common.{◌≡◌, ℕ, ◌+◌, ◌<◌, ◌==◌, cond, List, [], ◌∷◌, ◌++◌, length, Some, refl, ap, ap₂, sym, subst, ◌∙◌, All, Contains, arith, Bool}
-use Rattle.gather_core.proofs.Common.{sum_by, slice_get, AllByRecursion, AllZip, map-append, All-head, All-tail, recursion_from_All, All-nil, All-append, sum_by-cons, sum_by-append, Kinds, Entry, Contents, IsDictionary, Replayed, kinds_of, there_in, played_in, there_sum, played_sum, first_game, counted_entry, IsDictionaryOf, counts_diamonds, Row, there_of, played_of, first_of, earlier, ArePlayedThere, Held, Added, replayed_of, first_in, IsShareOf, IsShare, all_games, Covers, all_rows, gathered_entry, all_moves, all_added, replayed_games, HaveGames, IsGathered, AreWithin, IsPermutation, IsNonDecreasingBy, AreEntriesOf}
+use Rattle.gather_core.proofs.Common.{sum_by, slice_get, AllByRecursion, AllZip, map-append, All-head, All-tail, recursion_from_All, All-nil, All-append, sum_by-cons, sum_by-append, Kinds, Entry, Contents, IsDictionary, Replayed, kinds_of, there_in, played_in, there_sum, played_sum, first_game, counted_entry, IsDictionaryOf, counts_diamonds, Row, there_of, played_of, first_of, earlier, ArePlayedThere, Held, Added, replayed_of, first_in, IsShareOf, IsShare, all_games, Covers, all_rows, gathered_entry, all_moves, all_added, replayed_games, HaveGames, IsGathered, AreWithin, IsPermutation, IsNonDecreasingBy, IsStrictlyIncreasing, AreEntriesOf, IsShape, All-weaker, entry_of}
 use Rattle.share_core.proofs.Added.{first_append, first_in_append}
 use Rattle.gather_core.proofs.Numbered.{numbers_of, AreBelow, sum_numbered, length-numbered, game_found, Contains-flat_map, first_numbered}
 use Rattle.tally_core.proofs.PlayedPatterns.{CanonicalStays, AroundStays}
 use Rattle.tally_core.proofs.RisingDictionary.{is_dictionary}
 use Rattle.gather_core.proofs.Ordered.{sorted_rises, sorted_shapes, sorted_entry}
+use Rattle.gather_core.proofs.OfRows.{entry_is}
+use Rattle.gather_core.specs.Inner.Words.{IsOfRows}
+use Rattle.range_core.specs.Entries.{IsCountedEntry}
+use Rattle.range_core.specs.Rising.{Rises}
+use Rattle.range_core.proofs.Climbing.{climbs_increasing}
+use Rattle.tally_core.specs.Inner.Entries.{shapes_of}
 
 abbrev AreShares : List (List Added) → List Held → Type 0
 AreShares addeds shares = AllZip IsShareOf addeds shares
@@ -111,28 +117,28 @@ games_each (share ∷ shares) of =
     let rest = games_each shares of.1 in
     (of.0.added ∷ rest.0, (of.0.is_of, rest.1))
 
-module _ (canonical : CanonicalStays) (around : AroundStays) (kinds : Kinds) (games : ℕ) (shares : List Held) (entries sorted : List Entry)
-    (listed : AreEntriesOf (all_rows shares) entries) (same : IsPermutation entries sorted) (up : IsNonDecreasingBy (λ (e : Entry). e.shape) sorted) where
+module _ (canonical : CanonicalStays) (around : AroundStays) (kinds : Kinds) (games : ℕ) (shares : List Held) (entries : List Entry)
+    (rises : IsStrictlyIncreasing (shapes_of entries)) (shapes : All IsShape entries)
+    (found : ArePlayedThere (all_rows shares) → (shape : ℕ) → entry_of shape entries ≡ gathered_entry (all_rows shares) shape) where
   dictionary_of : (addeds : List (List Added)) → HaveGames kinds games addeds shares →
-      IsDictionary (record { games = games; moves = all_moves shares; entries = sorted; counts_diamonds = counts_diamonds kinds })
+      IsDictionary (record { games = games; moves = all_moves shares; entries = entries; counts_diamonds = counts_diamonds kinds })
   dictionary_of addeds have =
       let all = replayed_games (all_added addeds) games in
-      subst (λ m. IsDictionary (record { games = games; moves = m; entries = sorted; counts_diamonds = counts_diamonds kinds })) (sym (moves_gathered kinds games addeds shares have))
-      (subst (λ n. IsDictionary (record { games = n; moves = sum_by (λ (game : Replayed). length game.occasions) all; entries = sorted; counts_diamonds = counts_diamonds kinds }))
+      let among = (all_of kinds games addeds shares have).among in
+      subst (λ m. IsDictionary (record { games = games; moves = m; entries = entries; counts_diamonds = counts_diamonds kinds })) (sym (moves_gathered kinds games addeds shares have))
+      (subst (λ n. IsDictionary (record { games = n; moves = sum_by (λ (game : Replayed). length game.occasions) all; entries = entries; counts_diamonds = counts_diamonds kinds }))
       (length-numbered games (all_added addeds))
-      (is_dictionary canonical around all sorted (sorted_rises (all_rows shares) entries sorted listed same up) kinds
-      (sorted_shapes (all_rows shares) entries sorted listed same)
-      (λ shape. sorted_entry (all_rows shares) entries sorted listed same shape ∙ entry_gathered kinds games addeds shares have shape)
+      (is_dictionary canonical around all entries rises kinds shapes
+      (λ shape. found among shape ∙ entry_gathered kinds games addeds shares have shape)
       (λ shape.
       let there = there_gathered kinds games addeds shares have shape in
       let played = played_gathered kinds games addeds shares have shape in
-      let few = (all_of kinds games addeds shares have).among shape in
+      let few = among shape in
       omega arith)))
 
-  -- what the shares have, added up
-  pub is_gathered : (moves : ℕ) (diamonds : Bool) → All IsShare shares → All (λ (share : Held). share.kinds ≡ kinds) shares → AreWithin games shares → Covers games (all_games shares) →
-      moves ≡ all_moves shares → diamonds ≡ counts_diamonds kinds → IsGathered kinds games shares (record { games = games; moves = moves; entries = sorted; counts_diamonds = diamonds })
-  is_gathered moves diamonds of of_kinds within covers moves_are diamonds_are =
+  gathered_from : (moves : ℕ) (diamonds : Bool) → All IsShare shares → All (λ (share : Held). share.kinds ≡ kinds) shares → AreWithin games shares → Covers games (all_games shares) →
+      moves ≡ all_moves shares → diamonds ≡ counts_diamonds kinds → IsGathered kinds games shares (record { games = games; moves = moves; entries = entries; counts_diamonds = diamonds })
+  gathered_from moves diamonds of of_kinds within covers moves_are diamonds_are =
       let lists = games_each shares (recursion_from_All IsShare shares of) in
       let have : HaveGames kinds games lists.0 shares = record { each = lists.1; of_kinds = of_kinds; within = within; covers = covers } in
       record {
@@ -140,5 +146,22 @@ module _ (canonical : CanonicalStays) (around : AroundStays) (kinds : Kinds) (ga
         games_counted = refl;
         moves = moves_are;
         diamonds = diamonds_are;
-        entries = sorted_entry (all_rows shares) entries sorted listed same;
+        entries = found (all_of kinds games lists.0 shares have).among;
       }
+
+module _ (canonical : CanonicalStays) (around : AroundStays) (kinds : Kinds) (games : ℕ) (shares : List Held) where
+  -- what rows by number are, put in order
+  pub is_gathered : (entries sorted : List Entry) → AreEntriesOf (all_rows shares) entries → IsPermutation entries sorted → IsNonDecreasingBy (λ (e : Entry). e.shape) sorted →
+      (moves : ℕ) (diamonds : Bool) → All IsShare shares → All (λ (share : Held). share.kinds ≡ kinds) shares → AreWithin games shares → Covers games (all_games shares) →
+      moves ≡ all_moves shares → diamonds ≡ counts_diamonds kinds → IsGathered kinds games shares (record { games = games; moves = moves; entries = sorted; counts_diamonds = diamonds })
+  is_gathered entries sorted listed same up =
+      gathered_from canonical around kinds games shares sorted (sorted_rises (all_rows shares) entries sorted listed same up)
+      (sorted_shapes (all_rows shares) entries sorted listed same) (λ among shape. sorted_entry (all_rows shares) entries sorted listed same shape)
+
+  -- what was counted by words, in order
+  pub words_gathered : (entries : List Entry) → IsOfRows (all_rows shares) entries → Rises entries → All IsCountedEntry entries →
+      (moves : ℕ) (diamonds : Bool) → All IsShare shares → All (λ (share : Held). share.kinds ≡ kinds) shares → AreWithin games shares → Covers games (all_games shares) →
+      moves ≡ all_moves shares → diamonds ≡ counts_diamonds kinds → IsGathered kinds games shares (record { games = games; moves = moves; entries = entries; counts_diamonds = diamonds })
+  words_gathered entries of rises counted =
+      gathered_from canonical around kinds games shares entries (climbs_increasing 0 entries rises.0 rises.1)
+      (All-weaker IsCountedEntry IsShape (λ e h. h.0) entries counted) (λ among. entry_is (all_rows shares) entries of rises counted among)

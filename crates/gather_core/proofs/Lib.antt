@@ -5,9 +5,9 @@ mod Stood
 pub mod Gathered
 pub mod Numbered
 pub mod Ordered
-mod ByNumber
 mod Totalled
-mod Ranged
+mod Taken
+mod OfRows
 mod Visits
 pub mod Confirmed
 mod SoughtRows

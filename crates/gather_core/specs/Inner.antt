@@ -5,6 +5,7 @@ pub mod Covering
 pub mod Gathering
 pub mod Leasts
 pub mod Numbers
-pub mod Ranges
+pub mod Taking
 pub mod Totals
 pub mod Visiting
+pub mod Words

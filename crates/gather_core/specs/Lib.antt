@@ -4,4 +4,5 @@ pub mod Agreeing
 pub mod Gathering
 pub mod Confirming
 pub mod GatherFaults
+pub mod Numbering
 pub mod Inner

@@ -6,7 +6,7 @@ ghost use Rattle.gather_core.specs.Inner.Covering.{AreNoted, IsCoverFault};
 ghost use Rattle.harvest_faults.specs.declared.faults.HarvestFault.TheVariants as fault;
 
 use harvest_faults::HarvestFault;
-use share_core::{NumberedShare, Share};
+use share_core::{Share, WordShare};
 use std::alloc::Global;
 
 /// Which games were seen, and the least one that was seen twice.
@@ -61,8 +61,8 @@ fn seen_of(alloc: Global, games: u64, shares: &[Share]) -> Result<Seen, HarvestF
     Ok(seen)
 }
 
-/// The same of numbered shares.
-fn seen_in(alloc: Global, games: u64, shares: &[NumberedShare]) -> Result<Seen, HarvestFault>
+/// The same of shares by words.
+fn seen_in(alloc: Global, games: u64, shares: &[WordShare]) -> Result<Seen, HarvestFault>
     requires { All (λ share. All (λ game. game < games) share.games) shares.now }
     ensures long { IfOk result (λ seen. length seen.games.items ≡ games) }
     ensures noted { IfOk result (AreNoted (all_games shares.now)) }
@@ -104,11 +104,11 @@ pub(crate) fn check_games(alloc: Global, games: u64, shares: &[Share]) -> Result
     judge(&seen, games)
 }
 
-/// The same of numbered shares.
-pub(crate) fn check_numbered(
+/// The same of shares by words.
+pub(crate) fn check_words(
     alloc: Global,
     games: u64,
-    shares: &[NumberedShare],
+    shares: &[WordShare],
 ) -> Result<(), HarvestFault>
     requires { All (λ share. All (λ game. game < games) share.games) shares.now }
     ensures ok { OnOk result (Covers games (all_games shares.now)) }

@@ -13,11 +13,11 @@ mod visiting;
 // the dictionary of their rows
 mod adding_up;
 mod gathering;
-mod gathering_numbered;
+mod gathering_words;
 pub mod laws;
-mod ranges;
+mod taking;
 mod totals;
 
 pub use confirming::confirm_full;
 pub use gathering::gather;
-pub use gathering_numbered::{Room, gather_numbered};
+pub use gathering_words::gather_words;

@@ -4,7 +4,7 @@ ghost use Rattle.shape_core.specs.declared.words.Kinds.TheVariants as kinds;
 ghost use Rattle.slot_table.specs.Passes.{IsPassOf};
 ghost use Rattle.sgf_core.specs.Limit.{most_bytes};
 
-use gather_core::{Room, confirm_full, gather, gather_numbered};
+use gather_core::{confirm_full, gather, gather_words};
 use go_record::Record;
 use harvest_faults::HarvestFault;
 use probe_core::ProbeOrder;
@@ -178,7 +178,7 @@ fn a_mark_of_another_differs(rt: HostRuntime) {
 
 /// Gathers what one worker has counted by words of two games, the games 0 and 1, as that of this
 /// many games.
-fn gather_words<R: Threads + Sync>(
+fn gathered_by_words<R: Threads + Sync>(
     rt: &R,
     alloc: Global,
     first: &Record,
@@ -191,15 +191,13 @@ fn gather_words<R: Threads + Sync>(
         return Err(HarvestFault::Memory);
     };
     let words = words_of(alloc, first, second)?;
-    let share = words.number(&table, &mut pass)?;
-    let room = Room::new(alloc, table.capacity().slots())?;
     let mut shares = Vec::new(alloc);
-    shares.push(share)?;
-    gather_numbered(rt, alloc, Kinds::Squares, games, room, shares)
+    shares.push(words)?;
+    gather_words(rt, alloc, Kinds::Squares, games, &table, &mut pass, shares)
 }
 
 /// Whether both games are gathered by words as those of two games, and not as those of three.
-fn are_numbered<R: Threads + Sync>(
+fn are_gathered<R: Threads + Sync>(
     rt: &R,
     alloc: Global,
     first: &Record,
@@ -210,18 +208,18 @@ fn are_numbered<R: Threads + Sync>(
         entry_of(TAKEN, 1, 1, 0),
         entry_of(ALONE, 1, 1, 1),
     ];
-    let is_right = match gather_words(rt, alloc, first, second, 2)? {
+    let is_right = match gathered_by_words(rt, alloc, first, second, 2)? {
         Some(dictionary) => is_of(&dictionary, 2, 3) && has(&dictionary, &wanted),
         None => false,
     };
-    Ok(gather_words(rt, alloc, first, second, 3)?.is_none() && is_right)
+    Ok(gathered_by_words(rt, alloc, first, second, 3)?.is_none() && is_right)
 }
 
 #[test]
-fn numbered_shares_have_each_game(rt: HostRuntime) -> Result<(), Fail> {
+fn shares_by_words_have_each_game(rt: HostRuntime) -> Result<(), Fail> {
     let alloc = rt.alloc();
     let first = record_of(alloc, TWO_POINTS).ok_or("no record")?;
     let second = record_of(alloc, ONE_POINT).ok_or("no record")?;
-    assert!(rt; are_numbered(&rt, alloc, &first, &second) == Ok(true));
+    assert!(rt; are_gathered(&rt, alloc, &first, &second) == Ok(true));
     Ok(())
 }

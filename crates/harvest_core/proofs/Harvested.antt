@@ -1,6 +1,6 @@
 -- Shares that were worked from an input and have each of its games once: they give its dictionary, and each pattern of that
 -- has a number.
-use Rattle.std.proofs.Common.{◌≡◌, ℕ, ◌+◌, ◌<◌, ◌≤◌, ◌==◌, ◌||◌, nat_lt, eqb, true, false, cond, suc, List, [], ◌∷◌, ◌++◌, length, map, get_or, Some, None, refl, ap, ap₂, sym, subst, ◌∙◌, arith, add-zero, All, Contains}
+use Rattle.std.proofs.Common.{◌≡◌, ℕ, ◌+◌, ◌<◌, ◌≤◌, ◌==◌, ◌||◌, nat_lt, eqb, true, false, cond, zero, suc, List, [], ◌∷◌, ◌++◌, length, map, get_or, Option, Some, None, refl, ap, ap₂, sym, subst, ◌∙◌, arith, add-zero, All, Contains}
 use Rattle.std.specs.Prelude.{slice_get}
 use Rattle.std.specs.List.{AllByRecursion, AllZip, IsDistinct, list_any}
 use Rattle.std.specs.List.Sorted.{IsStrictlyIncreasing}
@@ -30,7 +30,7 @@ use Rattle.tally_core.specs.Inner.Entries.{shapes_of}
 use Rattle.tally_core.proofs.RisingEntries.{each_is_found}
 use Rattle.probe_core.specs.Sequential.{Table, IsNumber}
 use Rattle.slot_table.specs.declared.entries.Happened.{Happened}
-use Rattle.slot_table.specs.History.{content_of, IsLegal}
+use Rattle.slot_table.specs.History.{content_of}
 use Rattle.slot_table.proofs.Contents.{number_below, one_key}
 use Rattle.game_core.specs.Games.{HasReadAll}
 use Rattle.game_core.proofs.OneGame.{games_of, one_game}
@@ -43,7 +43,9 @@ use Rattle.gather_core.specs.Gathering.{AreWithin, HaveGames, IsGathered, gather
 use Rattle.gather_core.proofs.Numbered.{numbers_of}
 use Rattle.gather_core.proofs.Ordered.{there_some}
 use Rattle.gather_core.proofs.Gathered.{dictionary_of_shares}
-use Rattle.harvest_core.specs.Working.{IsGame, IsWorked}
+use Rattle.range_core.specs.Totals.{Total, together, count_at, total_of}
+use Rattle.gather_core.specs.Numbering.{IsNumbered, AreNumbered}
+use Rattle.harvest_core.specs.Working.{IsGame, IsOfInput}
 
 -- ---- the games that were added are those of the input
 -- at its number these games have its record, and it was replayed
@@ -73,13 +75,13 @@ numbers_within games (one ∷ added) at = (slice_get_within games one.game one.a
 
 module _ (bytes : List ℕ) (kinds : Kinds) (trees : List GameTree) (end : ℕ) (written : AreTrees bytes 0 trees end) (none : HasNoTree bytes end) where
   abbrev AreWorked : List Held → Type 0
-  AreWorked shares = AllByRecursion (IsWorked bytes kinds) shares
+  AreWorked shares = AllByRecursion (IsOfInput bytes kinds) shares
 
-  pub added_at : (share : Held) (h : IsWorked bytes kinds share) → AllByRecursion (IsAt (games_of trees)) h.added
+  pub added_at : (share : Held) (h : IsOfInput bytes kinds share) → AllByRecursion (IsAt (games_of trees)) h.added
   added_at share h =
       each_at bytes trees end h.added written none (recursion_from_All (λ (one : Added). IsGame bytes one.game one.actions) h.added h.games) h.is_of.replays
 
-  share_within : (share : Held) → IsWorked bytes kinds share → All (λ game. game < length (games_of trees)) share.games
+  share_within : (share : Held) → IsOfInput bytes kinds share → All (λ game. game < length (games_of trees)) share.games
   share_within share h =
       subst (All (λ game. game < length (games_of trees))) (sym h.is_of.games)
       (All-from_recursion (λ game. game < length (games_of trees)) (numbers_of h.added) (numbers_within (games_of trees) h.added (added_at share h)))
@@ -113,11 +115,11 @@ module _ (bytes : List ℕ) (kinds : Kinds) (trees : List GameTree) (end : ℕ) 
       ap₂ (λ (a b : List ℕ). a ++ b) of.0.is_of.games (games_of_all shares of.1) ∙ sym (map-append (λ (one : Added). one.game) of.0.added (all_added (addeds_of shares of.1)))
 
 -- the games of shares that were worked from an input are below the number of its games
-pub games_within : (bytes : List ℕ) (kinds : Kinds) (shares : List Held) (report : Report) → All (IsWorked bytes kinds) shares → HasReadAll bytes report → AreWithin report.games shares
+pub games_within : (bytes : List ℕ) (kinds : Kinds) (shares : List Held) (report : Report) → All (IsOfInput bytes kinds) shares → HasReadAll bytes report → AreWithin report.games shares
 games_within bytes kinds shares report worked read =
     subst (λ n. AreWithin n shares) (sym read.reported.games)
     (All-from_recursion (λ (share : Held). All (λ game. game < length (games_of read.trees)) share.games) shares
-    (shares_within bytes kinds read.trees read.end read.written read.no_more shares (recursion_from_All (IsWorked bytes kinds) shares worked)))
+    (shares_within bytes kinds read.trees read.end read.written read.no_more shares (recursion_from_All (IsOfInput bytes kinds) shares worked)))
 
 -- ---- in the order of their numbers they are the games of the input, replayed
 replay_found : (games : List Actions) (added : List Added) (game : ℕ) (actions : Actions) → AllByRecursion (IsAt games) added → slice_get games game ≡ Some actions →
@@ -154,11 +156,11 @@ are_replayed games added at covers =
     (λ k actions is. subst (λ g. slice_get games g ≡ Some actions) (let e : k ≡ 0 + k = omega arith in e) is)
 
 -- shares that were worked from an input and have each of its games once have its games, replayed
-pub shares_gathered : (bytes : List ℕ) (kinds : Kinds) (shares : List Held) (report : Report) → All (IsWorked bytes kinds) shares → (read : HasReadAll bytes report) →
+pub shares_gathered : (bytes : List ℕ) (kinds : Kinds) (shares : List Held) (report : Report) → All (IsOfInput bytes kinds) shares → (read : HasReadAll bytes report) →
     Covers report.games (all_games shares) → (addeds : List (List Added)) × HaveGames kinds report.games addeds shares
     × AreReplayed (games_of read.trees) (replayed_games (all_added addeds) report.games)
 shares_gathered bytes kinds shares report worked read covers =
-    let of = recursion_from_All (IsWorked bytes kinds) shares worked in
+    let of = recursion_from_All (IsOfInput bytes kinds) shares worked in
     let addeds = addeds_of bytes kinds read.trees read.end read.written read.no_more shares of in
     let at = all_at bytes kinds read.trees read.end read.written read.no_more shares of in
     let many = read.reported.games in
@@ -176,7 +178,7 @@ shares_gathered bytes kinds shares report worked read covers =
     )
 
 -- and they give its dictionary
-pub harvested : (bytes : List ℕ) (kinds : Kinds) (shares : List Held) (report : Report) (contents : Contents) → All (IsWorked bytes kinds) shares → HasReadAll bytes report →
+pub harvested : (bytes : List ℕ) (kinds : Kinds) (shares : List Held) (report : Report) (contents : Contents) → All (IsOfInput bytes kinds) shares → HasReadAll bytes report →
     Covers report.games (all_games shares) → IsGathered kinds report.games shares contents → IsCounted kinds bytes (record { dictionary = contents; report = report })
 harvested bytes kinds shares report contents worked read covers gathered =
     let all = shares_gathered bytes kinds shares report worked read covers in
@@ -193,6 +195,29 @@ harvested bytes kinds shares report contents worked read covers gathered =
     }
 
 -- ---- the patterns of the dictionary
+-- an entry that is there has a total
+some_total : (total : Total) (other : Option Total) → together (Some total) other ≡ None → ⊥
+some_total total None is = absurd cc
+some_total total (Some other) is = absurd cc
+
+total_some : (one other : Option Total) → (other ≡ None → ⊥) → together one other ≡ None → ⊥
+total_some None other some is = some is
+total_some (Some one) other some is = some_total one other is
+
+among_total : (entries : List Entry) (entry : Entry) → Contains entries entry → total_of entry.shape entries ≡ None → ⊥
+among_total [] entry (place, low, is) none = absurd (omega (arith, low))
+among_total (first ∷ entries) entry (zero, low, is) none =
+    let t : Total = record { there = first.there; played = first.played; first = first.first } in
+    let same : first.shape ≡ entry.shape = ap (λ (e : Entry). e.shape) is in
+    let here : count_at entry.shape first ≡ Some t = Prim.grind (arith, nat_tests, same) in
+    some_total t (total_of entry.shape entries) (ap (λ c. together c (total_of entry.shape entries)) (sym here) ∙ none)
+among_total (first ∷ entries) entry (suc place, low, is) none =
+    total_some (count_at entry.shape first) (total_of entry.shape entries) (among_total entries entry (place, omega (arith, low), is)) none
+
+number_of : (n : ℕ) (seen : List Happened) (shape : ℕ) (total : Option Total) → (total ≡ None → ⊥) → IsNumbered n seen shape total → (p : ℕ) × IsNumber (content_of n seen) shape p
+number_of n seen shape None some numbers = absurd (some refl)
+number_of n seen shape (Some total) some numbers = (numbers.0, numbers.1)
+
 gathered_some : (rows : List Row) (shape : ℕ) (entry : Entry) → gathered_entry rows shape ≡ Some entry → 0 < there_of rows shape
 gathered_some rows shape entry is =
     let e : Entry = record { shape = shape; there = there_of rows shape; played = played_of rows shape; first = first_of rows shape } in
@@ -246,22 +271,37 @@ module _ (n : ℕ) (seen : List Happened) where
   shapes_numbered [] each = tt
   shapes_numbered (entry ∷ rest) each = (each.0, shapes_numbered rest each.1)
 
--- each pattern of that dictionary has a number, and it has at most n patterns
-pub numbered : (n : ℕ) (seen : List Happened) (kinds : Kinds) (games : ℕ) (shares : List Held) (contents : Contents) → IsLegal n seen → Stand n seen (all_rows shares) →
-    IsGathered kinds games shares contents →
-    ((entry : Entry) → Contains contents.entries entry → (p : ℕ) × IsNumber (content_of n seen) entry.shape p) × (length contents.entries ≤ n)
-numbered n seen kinds games shares contents legal stand gathered =
-    let entries = contents.entries in
-    let rows = all_rows shares in
-    let rises = gathered.dictionary.rises in
-    let found : All (λ (entry : Entry). entry_of entry.shape entries ≡ Some entry) entries =
-    All-from_recursion (λ (entry : Entry). entry_of entry.shape entries ≡ Some entry) entries (each_is_found entries rises) in
-    let each : (entry : Entry) → Contains entries entry → (p : ℕ) × IsNumber (content_of n seen) entry.shape p = λ entry among.
-    let is = All-contains (λ (e : Entry). entry_of e.shape entries ≡ Some e) entries entry found among in
-    let row = there_some rows entry.shape (gathered_some rows entry.shape entry (sym (gathered.entries entry.shape) ∙ is)) in
-    (row.0.number, subst (λ shape. IsNumber (content_of n seen) shape row.0.number) row.2 (stand row.0 row.1)) in
+-- where each pattern of a dictionary has a number, it has at most n
+pub few_patterns : (n : ℕ) (seen : List Happened) (entries : List Entry) → IsStrictlyIncreasing (shapes_of entries) →
+    ((entry : Entry) → Contains entries entry → (p : ℕ) × IsNumber (content_of n seen) entry.shape p) → length entries ≤ n
+few_patterns n seen entries rises each =
     let long : length (shapes_of entries) ≡ length entries = length-map entries (λ (entry : Entry). entry.shape) in
     let all = All-weaker (Contains entries) (λ (entry : Entry). (p : ℕ) × IsNumber (content_of n seen) entry.shape p) each entries (All-contains_itself entries) in
     let few = few_numbered n seen (shapes_of entries) rises
     (shapes_numbered n seen entries (recursion_from_All (λ (entry : Entry). (p : ℕ) × IsNumber (content_of n seen) entry.shape p) entries all)) in
-    (each, omega arith)
+    omega arith
+
+-- each pattern of a dictionary is found in it
+pub entry_found : (entries : List Entry) → IsStrictlyIncreasing (shapes_of entries) → (entry : Entry) → Contains entries entry → entry_of entry.shape entries ≡ Some entry
+entry_found entries rises entry among =
+    let found = All-from_recursion (λ (e : Entry). entry_of e.shape entries ≡ Some e) entries (each_is_found entries rises) in
+    All-contains (λ (e : Entry). entry_of e.shape entries ≡ Some e) entries entry found among
+
+-- each pattern of that dictionary has a number, and it has at most n patterns
+pub numbered : (n : ℕ) (seen : List Happened) (kinds : Kinds) (games : ℕ) (shares : List Held) (contents : Contents) → Stand n seen (all_rows shares) →
+    IsGathered kinds games shares contents →
+    ((entry : Entry) → Contains contents.entries entry → (p : ℕ) × IsNumber (content_of n seen) entry.shape p) × (length contents.entries ≤ n)
+numbered n seen kinds games shares contents stand gathered =
+    let entries = contents.entries in
+    let rows = all_rows shares in
+    let rises = gathered.dictionary.rises in
+    let each : (entry : Entry) → Contains entries entry → (p : ℕ) × IsNumber (content_of n seen) entry.shape p = λ entry among.
+    let is = entry_found entries rises entry among in
+    let row = there_some rows entry.shape (gathered_some rows entry.shape entry (sym (gathered.entries entry.shape) ∙ is)) in
+    (row.0.number, subst (λ shape. IsNumber (content_of n seen) shape row.0.number) row.2 (stand row.0 row.1)) in
+    (each, few_patterns n seen entries rises each)
+
+-- the same of what was counted by words
+pub few_numbers : (n : ℕ) (seen : List Happened) (entries : List Entry) → IsStrictlyIncreasing (shapes_of entries) → AreNumbered n seen entries → length entries ≤ n
+few_numbers n seen entries rises numbers = few_patterns n seen entries rises (λ entry among.
+    number_of n seen entry.shape (total_of entry.shape entries) (among_total entries entry among) (numbers entry.shape))

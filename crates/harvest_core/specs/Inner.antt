@@ -1,6 +1,5 @@
 -- What serves the contracts of private functions, and invariants: nothing here has to be believed.
 pub mod Counting
-pub mod Numbering
 pub mod Parts
 pub mod Reading
 pub mod Rounds

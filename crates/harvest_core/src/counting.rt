@@ -7,9 +7,10 @@ use crate::gates::Gate;
 use harvest_faults::HarvestFault;
 use job_core::Job;
 use probe_core::Capacity;
+use range_core::PLACE_RANGES;
 use shape_core::Kinds;
 use share_core::WordShare;
-use std::alloc::Global;
+use std::alloc::{AllocError, Global};
 use std::sync::atomic::{AtomicU64, Ordering};
 
 /// What the workers of one count share.
@@ -38,40 +39,38 @@ pub(crate) struct Counter {
     pub past: u64,
 }
 
-/// How many games of a part a worker takes at most: a quarter more than each would if all took as
-/// many. All together take all games so, and none has much more to number at the end than others.
-fn most_games(games: usize, workers: u8) -> usize {
-    let even = games.div_ceil(usize::from(workers.max(1)));
-    even.saturating_add(even.div_ceil(4))
+/// How many patterns games of this many bytes mostly meet, each game anew: three a byte. There is
+/// no room for more than 2^22 at first.
+fn likely_meetings(bytes: usize) -> usize {
+    bytes.saturating_mul(3).min(1 << 22)
 }
 
-/// As many patterns as games of this many bytes mostly have: 2.3 a byte for some thirty games, and
-/// 0.1 less for each time that they are twice as many, since more of their patterns were met
-/// before. That leaves an eighth: a map without room for more is made anew, twice as large.
-fn likely_patterns(bytes: usize) -> usize {
-    let tenths = 38 - bytes.max(1).ilog2().min(37) as usize;
-    (bytes / 10).saturating_mul(tenths).min(1 << 22)
-}
-
-/// The worker of this number begins, with room for the patterns of as many games as it takes at
-/// most, where there is memory for them. The memory is cleared here, which takes time.
-pub(crate) fn begin_counter<G: Gate>(crowd: &Crowd<'_, '_, G>, number: usize) -> Counter
-    ensures { IsCounter crowd.now.bytes.now crowd.now.kinds result }
+/// The worker of this number begins, with room in its lists for what as many games meet as it is
+/// likely to take, and an eighth more. It takes memory for that.
+///
+/// # Errors
+///
+/// `AllocError` where memory was refused.
+pub(crate) fn begin_counter<G: Gate>(
+    crowd: &Crowd<'_, '_, G>,
+    number: usize,
+) -> Result<Counter, AllocError>
+    ensures { IfOk result (IsCounter crowd.now.bytes.now crowd.now.kinds) }
 {
     let even = crowd.bytes.len() / usize::from(crowd.workers.max(1));
-    let room = likely_patterns(even.saturating_add(even / 4));
-    Counter {
+    let room = likely_meetings(even.saturating_add(even / 8)) / PLACE_RANGES;
+    Ok(Counter {
         number,
-        words: WordShare::begin(crowd.alloc, number, crowd.kinds, room),
+        words: WordShare::begin(crowd.alloc, number, crowd.kinds, room)?,
         past: 0,
-    }
+    })
 }
 
 /// Goes on with the games of a part: counts by words one after another that nobody has taken, until
-/// none is left or the worker has taken as many as it takes at most. `next` is how many were taken,
-/// and may pass their number. Nothing is known of what others take, so a game that does not come
-/// after the worker's own ends it too: then a game is missing, and whoever gathers the shares finds
-/// that. It takes memory for the patterns of its games, and for a game's board and walk.
+/// none is left. `next` is how many were taken, and may pass their number. Nothing is known of what
+/// others take, so a game that does not come after the worker's own ends it too: then a game is
+/// missing, and whoever gathers the shares finds that. It takes memory for the patterns of its
+/// games, and for a game's board and walk.
 ///
 /// # Errors
 ///
@@ -92,7 +91,7 @@ pub(crate) fn count_games<G: Gate>(
         mut words,
         mut past,
     } = counter;
-    for _ in 0..most_games(jobs.len(), crowd.workers) {
+    for _ in 0..jobs.len() {
         let at = next.fetch_add(1, Ordering::SeqCst);
         if at >= jobs.len() as u64 {
             break;

@@ -86,7 +86,7 @@ fn done_by<'a, G: Gate>(
     ensures { IsOutcome crowd.now.bytes.now crowd.now.kinds (2 ^ crowd.now.capacity) result }
 {
     match task {
-        Task::Begin(number) => Ok(Done::Counted(begin_counter(crowd, number))),
+        Task::Begin(number) => Ok(Done::Counted(begin_counter(crowd, number)?)),
         Task::Count(counter) => Ok(Done::Counted(count_games(crowd, jobs, next, counter)?)),
         Task::Read(games) => Ok(Done::Part(read_part(
             crowd.alloc,

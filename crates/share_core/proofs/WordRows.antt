@@ -1,222 +1,163 @@
 -- Entries of patterns as rows without numbers, and what one game more adds to them.
-use Rattle.std.proofs.Common.{◌≡◌, ℕ, ◌+◌, ◌<◌, ◌≤◌, ◌==◌, nat_eq, nat_lt, true, false, cond, List, [], ◌∷◌, ◌++◌, map, Option, Some, None, IfSome, refl, ap, sym, ◌∙◌, arith, inl, All}
-use Rattle.share_core.proofs.Common.{nat_tests, All-head, All-tail, AllByRecursion, sum_by, sum_by-cons, Actions, Kinds, kinds_of, there_in, played_in, Row, earlier, first_of, Held, Added, replayed_of, game_of, first_in, IsShare, IsAdded}
-use Rattle.std.proofs.lemmas.Map.Keys.{IsDistinct-head, IsDistinct-tail}
+use Rattle.std.proofs.Common.{◌≡◌, ℕ, ◌+◌, ◌≤◌, ◌<◌, ◌==◌, nat_lt, Bool, true, false, cond, List, [], ◌∷◌, ◌++◌, length, map, take, get_or, Option, Some, None, refl, ap, ap₂, sym, ◌∙◌, arith, inl, append_assoc}
+use Rattle.share_core.proofs.Common.{nat_tests, sum_by, sum_by-cons, take_more, append-nil, Actions, Kinds, kinds_of, there_in, played_in, Row, earlier, first_of, Held, Meeting, there_among, IsWalk, IsAdded}
 use Rattle.shape_dict.specs.declared.entries.Entry.{Entry}
-use Rattle.shape_dict.specs.Contents.{entry_of}
+use Rattle.range_core.specs.Totals.{Total, together, count_at, total_of}
+use Rattle.range_core.specs.Totals as total
+use Rattle.range_core.proofs.Adding.{together_assoc, total_append, total_one}
+use Rattle.range_core.proofs.Joining.{there_together, played_together, first_together, there_one, played_one, first_one, there_sums, played_sums}
 use Rattle.tally_core.specs.declared.faults.TallyFault.{TallyFault}
 use Rattle.tally_core.specs.declared.faults.TallyFault.TheVariants as tally
-use Rattle.tally_core.specs.GameCounts.{AddsGame, IsAddingFault, AreApart, counted_again, uses_of}
+use Rattle.tally_core.specs.Tally.{IsTallyFault}
+use Rattle.tally_core.specs.Walk.{played_among, IsAmong}
 use Rattle.harvest_faults.specs.Faults.{same_fault}
 use Rattle.share_core.specs.Rows.{there_of, played_of}
 use Rattle.share_core.specs.WordShares.{unnumbered, IsWordFault}
-use Rattle.share_core.proofs.Raised.{earlier_none}
+use Rattle.share_core.specs.Inner.Words.{met_entry, met_entries}
 
--- ---- what the entry of a pattern counts, and its first game
-abbrev count_at : (Row → ℕ) → Option Entry → ℕ
-count_at count None = 0
-count_at count (Some entry) = count (unnumbered entry)
+-- ---- what rows of entries count is what the entries do
+mapped : (f : Row → ℕ) (entries : List Entry) → sum_by f (map unnumbered entries) ≡ sum_by (λ (e : Entry). f (unnumbered e)) entries
+mapped f [] = refl
+mapped f (e ∷ entries) =
+    sum_by-cons f (unnumbered e) (map unnumbered entries) ∙ ap (λ n. f (unnumbered e) + n) (mapped f entries)
+    ∙ sym (sum_by-cons (λ (x : Entry). f (unnumbered x)) e entries)
 
-abbrev pub game_at : Option Entry → Option ℕ
-game_at None = None
-game_at (Some entry) = entry.first
+pub rows_there : (entries : List Entry) (shape : ℕ) → there_of (map unnumbered entries) shape ≡ total.there_of (total_of shape entries)
+rows_there entries shape = mapped (λ (r : Row). cond (r.shape == shape) r.there 0) entries ∙ sym (there_sums shape entries)
 
--- ---- entries of which no two are of one pattern
-none_of : (shape : ℕ) (entries : List Entry) →
-    AllByRecursion (λ other. nat_eq shape other ≡ false) (map (λ (e : Entry). e.shape) entries) → entry_of shape entries ≡ None
-none_of shape [] h = refl
-none_of shape (entry ∷ entries) h = Prim.grind (arith, nat_tests, h.0, none_of shape entries h.1)
+pub rows_played : (entries : List Entry) (shape : ℕ) → played_of (map unnumbered entries) shape ≡ total.played_of (total_of shape entries)
+rows_played entries shape = mapped (λ (r : Row). cond (r.shape == shape) r.played 0) entries ∙ sym (played_sums shape entries)
 
-pub apart_more : (entry : Entry) (entries : List Entry) → AreApart (entry ∷ entries) → AreApart entries
-apart_more entry entries apart = IsDistinct-tail nat_eq entry.shape (map (λ (e : Entry). e.shape) entries) apart
+pub rows_first : (entries : List Entry) (shape : ℕ) → first_of (map unnumbered entries) shape ≡ total.first_of (total_of shape entries)
+rows_first [] shape = refl
+rows_first (e ∷ entries) shape =
+    let c : Total = record { there = e.there; played = e.played; first = e.first } in
+    ap (earlier (cond (e.shape == shape) e.first None)) (rows_first entries shape)
+    ∙ ap (λ f. earlier f (total.first_of (total_of shape entries))) (sym (first_one (e.shape == shape) c))
+    ∙ sym (first_together (count_at shape e) (total_of shape entries))
 
--- no later entry is of the first one's pattern
-pub none_more : (entry : Entry) (entries : List Entry) (shape : ℕ) → AreApart (entry ∷ entries) → (entry.shape == shape) ≡ true →
-    entry_of shape entries ≡ None
-none_more entry entries shape apart same =
-    let is : entry.shape ≡ shape = Prim.grind (arith, nat_tests) in
-    ap (λ s. entry_of s entries) (sym is) ∙ none_of entry.shape entries
-    (IsDistinct-head nat_eq entry.shape (map (λ (e : Entry). e.shape) entries) apart)
+-- ---- what a game has met
+met_push : (game : ℕ) (meetings : List Meeting) (m : Meeting) → met_entries game (meetings ++ m ∷ []) ≡ met_entries game meetings ++ met_entry game m
+met_push game [] m = append-nil (met_entry game m)
+met_push game (x ∷ meetings) m =
+    ap (λ (l : List Entry). met_entry game x ++ l) (met_push game meetings m) ∙ sym (append_assoc (met_entry game x) (met_entries game meetings) (met_entry game m))
 
-count_of : (count : Row → ℕ) (entries : List Entry) (shape : ℕ) → AreApart entries →
-    sum_by (λ (r : Row). cond (r.shape == shape) (count r) 0) (map unnumbered entries) ≡ count_at count (entry_of shape entries)
-count_of count [] shape apart = refl
-count_of count (entry ∷ entries) shape apart =
-    let rest = count_of count entries shape (apart_more entry entries apart) in
-    let counted = λ (r : Row). cond (r.shape == shape) (count r) 0 in
-    let more = sum_by counted (map unnumbered entries) in
-    sum_by-cons counted (unnumbered entry) (map unnumbered entries)
-    ∙ elim (entry.shape == shape) as (λ b. (entry.shape == shape) ≡ b →
-    cond b (count (unnumbered entry)) 0 + more ≡ count_at count (cond b (Some entry) (entry_of shape entries))) [
-      | true ↦ λ same.
-          let none = ap (count_at count) (none_more entry entries shape apart same) in
-          omega (arith, rest, none)
-      | false ↦ λ other. omega (arith, rest)
+pub met_next : (game : ℕ) (meetings : List Meeting) (i : ℕ) (m : Meeting) → i < length meetings → m ≡ get_or meetings i m →
+    met_entries game (take (i + 1) meetings) ≡ met_entries game (take i meetings) ++ met_entry game m
+met_next game meetings i m inside is =
+    ap (met_entries game) (take_more meetings i m inside ∙ ap (λ (x : Meeting). take i meetings ++ x ∷ []) (sym is)) ∙ met_push game (take i meetings) m
+
+-- what the first ones count, and one more
+pub met_total : (shape game : ℕ) (before : Option Total) (meetings : List Meeting) (i : ℕ) (m : Meeting) → i < length meetings → m ≡ get_or meetings i m →
+    together (together before (total_of shape (met_entries game (take i meetings)))) (total_of shape (met_entry game m))
+    ≡ together before (total_of shape (met_entries game (take (i + 1) meetings)))
+met_total shape game before meetings i m inside is =
+    together_assoc before (total_of shape (met_entries game (take i meetings))) (total_of shape (met_entry game m))
+    ∙ ap (together before) (sym (total_append shape (met_entries game (take i meetings)) (met_entry game m)) ∙ ap (total_of shape) (sym (met_next game meetings i m inside is)))
+
+one_there : (game : ℕ) (m : Meeting) (shape : ℕ) → total.there_of (total_of shape (met_entry game m)) ≡ cond (m.shape == shape) m.there 0
+one_there game m shape =
+    let e : Entry = record { shape = m.shape; there = m.there; played = m.played; first = Some game } in
+    let c : Total = record { there = m.there; played = m.played; first = Some game } in
+    elim (nat_lt 0 (m.there + m.played)) as (λ b. nat_lt 0 (m.there + m.played) ≡ b → total.there_of (total_of shape (cond b (e ∷ []) [])) ≡ cond (m.shape == shape) m.there 0) [
+      | true ↦ λ some. ap total.there_of (total_one shape e) ∙ there_one (m.shape == shape) c
+      | false ↦ λ none. Prim.grind (arith, nat_tests)
     ] refl
 
-pub first_is : (entries : List Entry) (shape : ℕ) → AreApart entries →
-    first_of (map unnumbered entries) shape ≡ game_at (entry_of shape entries)
-first_is [] shape apart = refl
-first_is (entry ∷ entries) shape apart =
-    let rest = first_is entries shape (apart_more entry entries apart) in
-    let more = first_of (map unnumbered entries) shape in
-    elim (entry.shape == shape) as (λ b. (entry.shape == shape) ≡ b →
-    earlier (cond b entry.first None) more ≡ game_at (cond b (Some entry) (entry_of shape entries))) [
-      | true ↦ λ same.
-          ap (earlier entry.first) (rest ∙ ap game_at (none_more entry entries shape apart same)) ∙ earlier_none entry.first
-      | false ↦ λ other. rest
+one_played : (game : ℕ) (m : Meeting) (shape : ℕ) → total.played_of (total_of shape (met_entry game m)) ≡ cond (m.shape == shape) m.played 0
+one_played game m shape =
+    let e : Entry = record { shape = m.shape; there = m.there; played = m.played; first = Some game } in
+    let c : Total = record { there = m.there; played = m.played; first = Some game } in
+    elim (nat_lt 0 (m.there + m.played)) as (λ b. nat_lt 0 (m.there + m.played) ≡ b → total.played_of (total_of shape (cond b (e ∷ []) [])) ≡ cond (m.shape == shape) m.played 0) [
+      | true ↦ λ some. ap total.played_of (total_one shape e) ∙ played_one (m.shape == shape) c
+      | false ↦ λ none. Prim.grind (arith, nat_tests)
     ] refl
 
-abbrev Counts : Entry → Type 0
-Counts entry = 0 < entry.there + entry.played
-
-counts_at : (entries : List Entry) (shape : ℕ) → All Counts entries → IfSome (entry_of shape entries) Counts
-counts_at [] shape all = tt
-counts_at (entry ∷ entries) shape all =
-    elim (entry.shape == shape) as (λ b. IfSome (cond b (Some entry) (entry_of shape entries)) Counts) [
-      | true ↦ All-head Counts entry entries all
-      | false ↦ counts_at entries shape (All-tail Counts entry entries all)
+one_first : (game : ℕ) (m : Meeting) (shape : ℕ) → total.first_of (total_of shape (met_entry game m)) ≡ cond (m.shape == shape) (cond (nat_lt 0 (m.there + m.played)) (Some game) None) None
+one_first game m shape =
+    let e : Entry = record { shape = m.shape; there = m.there; played = m.played; first = Some game } in
+    let c : Total = record { there = m.there; played = m.played; first = Some game } in
+    elim (nat_lt 0 (m.there + m.played)) as (λ b. total.first_of (total_of shape (cond b (e ∷ []) [])) ≡ cond (m.shape == shape) (cond b (Some game) None) None) [
+      | true ↦ ap total.first_of (total_one shape e) ∙ first_one (m.shape == shape) c
+      | false ↦ Prim.grind (arith, nat_tests)
     ]
 
--- ---- the first game of a share's games in which a pattern was there
-below_earlier : (game : ℕ) (a b : Option ℕ) → IfSome a (λ n. n < game) → IfSome b (λ n. n < game) →
-    IfSome (earlier a b) (λ n. n < game)
-below_earlier game None b h k = k
-below_earlier game (Some a) None h k = h
-below_earlier game (Some a) (Some b) h k = omega (arith, h, k)
+met_there : (game : ℕ) (meetings : List Meeting) (shape : ℕ) → total.there_of (total_of shape (met_entries game meetings)) ≡ there_among meetings shape
+met_there game [] shape = refl
+met_there game (m ∷ meetings) shape =
+    ap total.there_of (total_append shape (met_entry game m) (met_entries game meetings))
+    ∙ there_together (total_of shape (met_entry game m)) (total_of shape (met_entries game meetings))
+    ∙ ap₂ (λ a b. a + b) (one_there game m shape) (met_there game meetings shape)
+    ∙ sym (sum_by-cons (λ (x : Meeting). cond (x.shape == shape) x.there 0) m meetings)
 
-pub first_below : (kinds : Kinds) (added : List Added) (shape game : ℕ) →
-    All (λ n. n < game) (map (λ (one : Added). one.game) added) →
-    IfSome (first_in kinds added shape) (λ n. n < game)
-first_below kinds [] shape game all = tt
-first_below kinds (one ∷ added) shape game all =
-    let low = All-head (λ n. n < game) one.game (map (λ (a : Added). a.game) added) all in
-    let rest = first_below kinds added shape game (All-tail (λ n. n < game) one.game (map (λ (a : Added). a.game) added) all) in
-    below_earlier game (game_of kinds one shape) (first_in kinds added shape)
-    (elim (nat_lt 0 (there_in (kinds_of kinds) (replayed_of one) shape)) as
-    (λ b. IfSome (cond b (Some one.game) None) (λ n. n < game)) [
-      | true ↦ low
-      | false ↦ tt
-    ]) rest
+met_played : (game : ℕ) (meetings : List Meeting) (shape : ℕ) → total.played_of (total_of shape (met_entries game meetings)) ≡ played_among meetings shape
+met_played game [] shape = refl
+met_played game (m ∷ meetings) shape =
+    ap total.played_of (total_append shape (met_entry game m) (met_entries game meetings))
+    ∙ played_together (total_of shape (met_entry game m)) (total_of shape (met_entries game meetings))
+    ∙ ap₂ (λ a b. a + b) (one_played game m shape) (met_played game meetings shape)
+    ∙ sym (sum_by-cons (λ (x : Meeting). cond (x.shape == shape) x.played 0) m meetings)
 
-neither : (a b : Option ℕ) → earlier a b ≡ None → (a ≡ None) × (b ≡ None)
-neither None b h = (refl, h)
-neither (Some a) None h = absurd cc
-neither (Some a) (Some b) h = absurd cc
+-- the game, if either counts something
+either : (game a b : ℕ) → earlier (cond (nat_lt 0 a) (Some game) None) (cond (nat_lt 0 b) (Some game) None) ≡ cond (nat_lt 0 (a + b)) (Some game) None
+either game a b = Prim.grind (arith, nat_tests)
 
-never_there : (kinds : Kinds) (added : List Added) (shape : ℕ) → first_in kinds added shape ≡ None →
-    sum_by (λ (one : Added). there_in (kinds_of kinds) (replayed_of one) shape) added ≡ 0
-never_there kinds [] shape none = refl
-never_there kinds (one ∷ added) shape none =
-    let there : Added → ℕ = λ (a : Added). there_in (kinds_of kinds) (replayed_of a) shape in
-    let both = neither (game_of kinds one shape) (first_in kinds added shape) none in
-    let rest = never_there kinds added shape both.1 in
-    let not_here : there one ≡ 0 = Prim.grind (arith, nat_tests, both.0) in
-    omega (arith, sum_by-cons there one added, not_here, rest)
+here : (same : Bool) (game there played : ℕ) → cond same (cond (nat_lt 0 (there + played)) (Some game) None) None ≡ cond (nat_lt 0 (cond same there 0 + cond same played 0)) (Some game) None
+here true game there played = refl
+here false game there played = refl
 
--- ---- one pattern, once a game was counted
-module _ (game there played shape : ℕ) (among : played ≤ there) where
-  more_there : (before : Option Entry) →
-      count_at (λ (r : Row). r.there) (counted_again game there played shape before)
-      ≡ count_at (λ (r : Row). r.there) before + there
-  more_there None = Prim.grind (arith, nat_tests)
-  more_there (Some entry) = refl
-
-  more_played : (before : Option Entry) →
-      count_at (λ (r : Row). r.played) (counted_again game there played shape before)
-      ≡ count_at (λ (r : Row). r.played) before + played
-  more_played None = Prim.grind (arith, nat_tests, among)
-  more_played (Some entry) = refl
-
-  -- where it has an entry, this has a game, which is no later
-  same_first : (first : Option ℕ) → IfSome first (λ n. n < game) → (first ≡ None → ⊥) →
-      first ≡ earlier first (cond (nat_lt 0 there) (Some game) None)
-  same_first None low some = absurd (some refl)
-  same_first (Some n) low some =
-      elim (nat_lt 0 there) as (λ b. Some n ≡ earlier (Some n) (cond b (Some game) None)) [
-        | true ↦ ap Some (omega (arith, low))
-        | false ↦ refl
-      ]
-
-  more_first : (before : Option Entry) → IfSome before Counts → IfSome (game_at before) (λ n. n < game) →
-      (game_at before ≡ None → uses_of before ≡ 0) →
-      game_at (counted_again game there played shape before) ≡ earlier (game_at before) (cond (nat_lt 0 there) (Some game) None)
-  more_first None counts low none =
-      elim (nat_lt 0 there) as (λ b. game_at (cond b
-      (Some (record { shape = shape; there = there; played = played; first = Some game })) None) ≡ cond b (Some game) None) [
-        | true ↦ refl
-        | false ↦ refl
-      ]
-  more_first (Some entry) counts low none =
-      same_first entry.first low (λ is. absurd (omega (arith, counts, none is)))
+met_first : (game : ℕ) (meetings : List Meeting) (shape : ℕ) → total.first_of (total_of shape (met_entries game meetings))
+    ≡ cond (nat_lt 0 (there_among meetings shape + played_among meetings shape)) (Some game) None
+met_first game [] shape = refl
+met_first game (m ∷ meetings) shape =
+    let there = cond (m.shape == shape) m.there 0 in
+    let played = cond (m.shape == shape) m.played 0 in
+    let more = there_among meetings shape + played_among meetings shape in
+    let sum : there + played + more ≡ there_among (m ∷ meetings) shape + played_among (m ∷ meetings) shape =
+    omega (arith, sum_by-cons (λ (x : Meeting). cond (x.shape == shape) x.there 0) m meetings, sum_by-cons (λ (x : Meeting). cond (x.shape == shape) x.played 0) m meetings) in
+    ap total.first_of (total_append shape (met_entry game m) (met_entries game meetings))
+    ∙ first_together (total_of shape (met_entry game m)) (total_of shape (met_entries game meetings))
+    ∙ ap₂ earlier (one_first game m shape ∙ here (m.shape == shape) game m.there m.played) (met_first game meetings shape)
+    ∙ either game (there + played) more
+    ∙ ap (λ n. cond (nat_lt 0 n) (Some game) None) sum
 
 -- ---- what a worker had counted by words
 abbrev pub words_of : ℕ → Kinds → List ℕ → ℕ → List Entry → Held
 words_of worker kinds games moves entries =
     record { worker = worker; kinds = kinds; games = games; moves = moves; rows = map unnumbered entries }
 
-both_at : (entry : Option Entry) →
-    uses_of entry ≡ count_at (λ (r : Row). r.there) entry + count_at (λ (r : Row). r.played) entry
-both_at None = refl
-both_at (Some entry) = refl
-
-uses_are : (entries : List Entry) (shape : ℕ) → AreApart entries →
-    uses_of (entry_of shape entries) ≡ there_of (map unnumbered entries) shape + played_of (map unnumbered entries) shape
-uses_are entries shape apart =
-    let there = count_of (λ (r : Row). r.there) entries shape apart in
-    let played = count_of (λ (r : Row). r.played) entries shape apart in
-    omega (arith, there, played, both_at (entry_of shape entries))
-
 -- a game was added to it
-pub words_added : (worker : ℕ) (kinds : Kinds) (games : List ℕ) (total : ℕ) (before after : List Entry)
-    (actions : Actions) (game moves : ℕ) →
-    AreApart before → AreApart after → All Counts before → All (λ n. n < game) games →
-    IsShare (words_of worker kinds games total before) →
-    AddsGame kinds actions game before after moves →
-    IsAdded game actions (words_of worker kinds games total before)
-    (words_of worker kinds (games ++ game ∷ []) (total + moves) after)
-words_added worker kinds games total before after actions game moves apart apart_after counts later share adds =
-    let there_now = λ (s : ℕ). there_in (kinds_of kinds) (record { size = actions.size; occasions = adds.occasions }) s in
-    let played_now = λ (s : ℕ). played_in (kinds_of kinds) (record { size = actions.size; occasions = adds.occasions }) s in
-    let added = share.added in
-    let is_of = share.is_of in
-    record {
-      occasions = adds.occasions;
-      replayed = adds.replayed;
-      worker = refl;
-      kinds = refl;
-      games = refl;
-      moves = ap (λ n. total + n) adds.moves_counted;
-      there = λ shape.
-          let count : Row → ℕ = λ (r : Row). r.there in
-          count_of count after shape apart_after ∙ ap (count_at count) (adds.counted shape)
-          ∙ more_there game (there_now shape) (played_now shape) shape (adds.among shape) (entry_of shape before)
-          ∙ ap (λ n. n + there_now shape) (sym (count_of count before shape apart));
-      played = λ shape.
-          let count : Row → ℕ = λ (r : Row). r.played in
-          count_of count after shape apart_after ∙ ap (count_at count) (adds.counted shape)
-          ∙ more_played game (there_now shape) (played_now shape) shape (adds.among shape) (entry_of shape before)
-          ∙ ap (λ n. n + played_now shape) (sym (count_of count before shape apart));
-      among = adds.among;
-      first = λ shape.
-          let old = first_is before shape apart in
-          let known = sym old ∙ is_of.first shape in
-          let below = rw is_of.games at later in
-          let none : game_at (entry_of shape before) ≡ None → uses_of (entry_of shape before) ≡ 0 = λ is.
-          let never = never_there kinds added shape (sym known ∙ is) in
-          omega (arith, uses_are before shape apart, is_of.there shape, is_of.among shape, never) in
-          first_is after shape apart_after ∙ ap game_at (adds.counted shape)
-          ∙ more_first game (there_now shape) (played_now shape) shape (adds.among shape) (entry_of shape before)
-          (counts_at before shape counts) (rw known (first_below kinds added shape game below)) none
-          ∙ ap (λ f. earlier f (cond (nat_lt 0 (there_now shape)) (Some game) None)) (sym old);
-    }
+pub words_added : (worker : ℕ) (kinds : Kinds) (games : List ℕ) (sum : ℕ) (before after : List Entry) (actions : Actions) (game moves : ℕ) (meetings : List Meeting) →
+    (walk : IsWalk kinds actions meetings moves) → IsAmong meetings → ((shape : ℕ) → total_of shape after ≡ together (total_of shape before) (total_of shape (met_entries game meetings))) →
+    IsAdded game actions (words_of worker kinds games sum before) (words_of worker kinds (games ++ game ∷ []) (sum + moves) after)
+words_added worker kinds games sum before after actions game moves meetings walk among added = record {
+  occasions = walk.occasions;
+  replayed = walk.replayed;
+  worker = refl;
+  kinds = refl;
+  games = refl;
+  moves = ap (λ n. sum + n) walk.moves_counted;
+  there = λ shape.
+      rows_there after shape ∙ ap total.there_of (added shape)
+      ∙ there_together (total_of shape before) (total_of shape (met_entries game meetings))
+      ∙ ap₂ (λ a b. a + b) (sym (rows_there before shape)) (met_there game meetings shape ∙ walk.there shape);
+  played = λ shape.
+      rows_played after shape ∙ ap total.played_of (added shape)
+      ∙ played_together (total_of shape before) (total_of shape (met_entries game meetings))
+      ∙ ap₂ (λ a b. a + b) (sym (rows_played before shape)) (met_played game meetings shape ∙ walk.played shape);
+  among = λ shape. omega (arith, walk.there shape, walk.played shape, among shape);
+  first = λ shape.
+      let same : cond (nat_lt 0 (there_among meetings shape + played_among meetings shape)) (Some game) None
+      ≡ cond (nat_lt 0 (there_in (kinds_of kinds) (record { size = actions.size; occasions = walk.occasions }) shape)) (Some game) None =
+      Prim.grind (arith, nat_tests, walk.there shape, among shape) in
+      rows_first after shape ∙ ap total.first_of (added shape)
+      ∙ first_together (total_of shape before) (total_of shape (met_entries game meetings))
+      ∙ ap₂ earlier (sym (rows_first before shape)) (met_first game meetings shape ∙ same);
+}
 
 -- a game was refused
-pub words_fault : (worker : ℕ) (kinds : Kinds) (games : List ℕ) (total : ℕ) (before : List Entry) (actions : Actions)
-    (found : TallyFault) → AreApart before → IsAddingFault actions before found →
-    IsWordFault actions (words_of worker kinds games total before) (same_fault found)
-words_fault worker kinds games total before actions tally.Memory apart h = tt
-words_fault worker kinds games total before actions tally.Overflow apart h =
-    inl (h.0, omega (arith, h.1, uses_are before h.0 apart))
-words_fault worker kinds games total before actions tally.BadSettings apart h = absurd h
-words_fault worker kinds games total before actions (tally.Sgf found) apart h = absurd h
+pub words_fault : (words : Held) (actions : Actions) (found : TallyFault) → IsTallyFault actions found → IsWordFault actions words (same_fault found)
+words_fault words actions tally.Memory h = tt
+words_fault words actions tally.Overflow h = inl (0, omega (arith, h))
+words_fault words actions tally.BadSettings h = absurd h
+words_fault words actions (tally.Sgf found) h = absurd h

@@ -3,6 +3,6 @@ pub mod Adding
 pub mod Entering
 pub mod Ledgers
 pub mod Making
-pub mod Numbering
 pub mod Raising
 pub mod Rows
+pub mod Words

@@ -1,6 +1,7 @@
 -- The rows of a share: for each number of the table that it met, the number's pattern, how often that was there and was
 -- played, and the least game in which it was there.
-use Rattle.std.specs.Prelude.{◌≡◌, ℕ, ◌<◌, ◌≤◌, ◌==◌, if◌then◌else◌, min, List, [], ◌∷◌, length, sum_by, find, Option, Some, None, slice_index_or, Contains}
+use Rattle.std.specs.Prelude.{◌≡◌, ℕ, ◌<◌, ◌≤◌, ◌==◌, if◌then◌else◌, List, [], ◌∷◌, length, sum_by, find, Option, Some, None, slice_index_or, Contains}
+pub use Rattle.range_core.specs.Totals.{earlier}
 use Rattle.share_core.specs.declared.rows.Row.{Row}
 
 -- how often a pattern was there, all its rows together
@@ -14,12 +15,6 @@ played_of rows shape = sum_by (λ row. if row.shape == shape then row.played els
 -- no pattern was played more often than it was there
 abbrev pub ArePlayedThere : List Row → Type 0
 ArePlayedThere rows = (shape : ℕ) → played_of rows shape ≤ there_of rows shape
-
--- the lesser of two games, where None is no game
-abbrev pub earlier : Option ℕ → Option ℕ → Option ℕ
-earlier None other = other
-earlier (Some game) None = Some game
-earlier (Some game) (Some other) = Some (min game other)
 
 -- the least game in which a pattern was there, all its rows together
 abbrev pub first_of : List Row → ℕ → Option ℕ

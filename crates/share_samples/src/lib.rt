@@ -3,7 +3,7 @@
 #![tactic(auto)]
 
 ghost use Rattle.std.specs.Prelude.{◌≡◌, ◌^◌, ◌<◌, ◌∷◌, [], Some, SomeIff};
-ghost use Rattle.std.specs.Prelude.{IfOk, IfErr, OnOk, IfSome, IfNone, All};
+ghost use Rattle.std.specs.Prelude.{IfOk, IfErr, OnOk, IfSome, IfNone};
 ghost use Rattle.sgf_core.specs.Limit.{most_bytes};
 ghost use Rattle.go_record.specs.Actions.{Actions};
 ghost use Rattle.shape_core.specs.declared.words.Kinds.TheVariants as kinds;
@@ -147,11 +147,10 @@ pub fn add_written<O: ProbeOrder>(
 /// second under 1, or why one was refused.
 pub fn words_of(alloc: Global, first: &Record, second: &Record) -> Result<WordShare, HarvestFault>
     ensures share { IfOk result IsShare }
-    ensures small { IfOk result (λ words. All (λ game. game < most_bytes) words.games) }
     ensures kinds { IfOk result (λ words. words.kinds ≡ kinds.Squares) }
     ensures games { IfOk result (λ words. words.games ≡ 0 ∷ 1 ∷ []) }
 {
-    let mut words = WordShare::begin(alloc, 2, Kinds::Squares, 8);
+    let mut words = WordShare::begin(alloc, 2, Kinds::Squares, 1)?;
     words.add(0, first)?;
     words.add(1, second)?;
     Ok(words)

@@ -32,7 +32,6 @@ pub mod MorePatterns
 pub mod RowLookups
 pub mod Ways
 pub mod WalkedGames
-pub mod CountedAgain
 pub mod WordSets
 pub mod GamesMet
 pub mod SamePositions

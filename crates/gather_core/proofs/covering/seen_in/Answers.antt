@@ -9,6 +9,6 @@ loop-share-preserved c =
     let shares = c.args.shares.now in
     record {
       long = c.note_all.ensures.long ∙ c.loop-share.invariant.long;
-      noted = rw (flat_map_next (λ (s : Held). s.games) shares i c.share-item.result c.loop-share-test.true c.share-item.is, ← c.games.ensures.games)
+      noted = rw (flat_map_next (λ (s : Held). s.games) shares i c.share-item.result c.loop-share-test.true c.share-item.is, ← c.games.ensures)
           (c.note_all.ensures.noted (all_games (take i shares)) c.loop-share.invariant.noted);
     }

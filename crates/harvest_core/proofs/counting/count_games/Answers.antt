@@ -3,7 +3,7 @@ use Rattle.go_record.specs.Actions.{Actions}
 use Rattle.game_core.specs.Games.{IsGameOf, WrittenGame}
 use Rattle.share_core.specs.Adding.{IsAdded}
 use Rattle.harvest_core.specs.Working.{IsGame}
-use Rattle.harvest_core.proofs.ByWords.{counted_more, past_added, all_added}
+use Rattle.harvest_core.proofs.ByWords.{counted_more, past_added}
 use Rattle.harvest_core.proofs.counting.count_games.Goals as goal
 
 pub loop-preserved : goal.loop-preserved
@@ -26,7 +26,6 @@ loop-preserved g c =
     let later : c.loop.past ≤ job.game = omega (arith, number, c.if-game-past.false) in
     let next : c.game-past.result + 1 ≡ job.game + 1 = ap (λ n. n + 1) c.game-past.ensures.number in
     record {
-      counted = counted_more crowd.bytes.now crowd.kinds job.game job.actions old new is added h.counted (omega (arith, h.above, later)) c.in_ok-add.ensures.small;
+      counted = counted_more crowd.bytes.now crowd.kinds job.game job.actions old new is added h.counted (omega (arith, h.above, later));
       above = past_added job.game job.actions old new added (omega (arith, next));
-      earlier = all_added (c.game-past.result + 1) c.loop.past job.game job.actions old new added (omega (arith, next, later)) (omega (arith, next)) h.earlier;
     }

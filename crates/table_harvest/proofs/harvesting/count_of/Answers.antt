@@ -1,12 +1,21 @@
-use Rattle.std.proofs.Common.{refl}
+use Rattle.std.proofs.Common.{ℕ, List, refl, All}
+use Rattle.std.proofs.lemmas.List.Elements.{All-weaker}
+use Rattle.shape_core.specs.declared.words.Kinds.{Kinds}
+use Rattle.share_core.specs.Shares.{Held}
+use Rattle.harvest_core.specs.Working.{IsWorked, IsOfInput}
+use Rattle.harvest_core.proofs.ByWords.{worked_of}
 use Rattle.std.proofs.lemmas.Result.{err_from_is_err_and}
 use Rattle.gather_core.specs.Checking.{all_rows}
 use Rattle.table_harvest.proofs.Concluded.{ungathered}
 use Rattle.harvest_core.proofs.Harvested.{games_within, harvested, numbered}
 use Rattle.table_harvest.proofs.harvesting.count_of.Goals as goal
 
+all_of_input : (bytes : List ℕ) (kinds : Kinds) (shares : List Held) → All (IsWorked bytes kinds) shares → All (IsOfInput bytes kinds) shares
+all_of_input bytes kinds shares all = All-weaker (IsWorked bytes kinds) (IsOfInput bytes kinds) (worked_of bytes kinds) shares all
+
 pub gather-requires-clause-games : goal.gather-requires-clause-games
-gather-requires-clause-games g c = λ κs lives. games_within c.requires.worked.0 c.args.kinds c.args.shares.now c.args.report c.requires.worked.2 c.requires.worked.1
+gather-requires-clause-games g c = λ κs lives.
+    games_within c.requires.worked.0 c.args.kinds c.args.shares.now c.args.report (all_of_input c.requires.worked.0 c.args.kinds c.args.shares.now c.requires.worked.2) c.requires.worked.1
 
 pub returns-in_err-dictionary-clause-fault : goal.returns-in_err-dictionary-clause-fault
 returns-in_err-dictionary-clause-fault g c bytes earlier read worked once together =
@@ -17,9 +26,9 @@ returns-in_err-dictionary-clause-fault g c bytes earlier read worked once togeth
 pub returns-clause-harvest : goal.returns-clause-harvest
 returns-clause-harvest g c bytes read worked =
     let parts = numbered c.args.table.now.slots c.gather.new.pass.seen c.args.kinds c.args.report.games c.args.shares.now c.in_ok-dictionary.dictionary
-    c.gather.ensures.pass.legal c.in_ok-dictionary.ensures.stand c.in_ok-dictionary.ensures.gathered in
+    c.in_ok-dictionary.ensures.stand c.in_ok-dictionary.ensures.gathered in
     record {
-      counted_is = harvested bytes c.args.kinds c.args.shares.now c.args.report c.in_ok-dictionary.dictionary worked read c.in_ok-dictionary.ensures.covers c.in_ok-dictionary.ensures.gathered;
+      counted_is = harvested bytes c.args.kinds c.args.shares.now c.args.report c.in_ok-dictionary.dictionary (all_of_input bytes c.args.kinds c.args.shares.now worked) read c.in_ok-dictionary.ensures.covers c.in_ok-dictionary.ensures.gathered;
       numbered = parts.0;
       few = parts.1;
     }

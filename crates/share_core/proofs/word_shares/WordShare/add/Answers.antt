@@ -1,32 +1,21 @@
-use Rattle.std.proofs.Common.{◌≡◌, ◌+◌, arith}
-use Rattle.share_core.proofs.Common.{err_from_is_err_and}
+use Rattle.std.proofs.Common.{◌≡◌, ◌+◌, List, ap, ◌∙◌, arith}
+use Rattle.range_core.specs.Totals.{together, total_of, all_of}
+use Rattle.share_core.proofs.Common.{Meeting}
+use Rattle.share_core.specs.Inner.Words.{met_entries}
 use Rattle.share_core.proofs.Added.{share_with}
-use Rattle.share_core.proofs.WordRows.{words_added, words_fault}
+use Rattle.share_core.proofs.WordRows.{words_added}
 use Rattle.share_core.proofs.word_shares.WordShare.add.Goals as goal
-
-pub returns-in_err-moves-clause-fault : goal.returns-in_err-moves-clause-fault
-returns-in_err-moves-clause-fault c =
-    let p = err_from_is_err_and c.from_residual.result c.from_residual.ensures.1 in
-    let old = c.self.inside in
-    rw (p.1, p.2, ← c.self.view_is)
-    (words_fault old.worker old.counts.kinds old.games.items old.moves old.counts.entries c.args.game_record.now
-    c.in_err-moves.field-0.0 c.add.ensures.apart c.in_err-moves.ensures.fault)
 
 pub returns-clause-added : goal.returns-clause-added
 returns-clause-added c =
     let old = c.self.inside in
+    let game = c.args.game in
+    let met = c.walk.new.self.meetings in
     let moves : c.in-Some.moves ≡ old.moves + c.in_ok-moves.moves = omega (arith, c.in-Some.ensures) in
-    rw (← c.self.view_is, c.add.ensures.kinds, c.in_ok-push.ensures.items, moves)
-    (words_added old.worker old.counts.kinds old.games.items old.moves old.counts.entries c.add.new.self.entries
-    c.args.game_record.now c.args.game c.in_ok-moves.moves c.add.ensures.apart c.add.ensures.apart_after c.add.ensures.counted
-    (rw (← c.self.view_is) at c.requires.later) (rw (← c.self.view_is) at c.requires.share) c.in_ok-moves.ensures.added)
+    rw (← c.self.view_is, c.walk.ensures.kinds, c.in_ok-push.ensures.items, moves)
+    (words_added old.worker old.walk.kinds old.games.items old.moves (all_of old.lists) (all_of c.append_all.new.lists) c.args.game_record.now game
+    c.in_ok-moves.moves met c.in_ok-moves.ensures.walked c.in_ok-moves.ensures.among
+    (λ shape. c.in_ok-append_all.ensures shape ∙ ap (λ (ms : List Meeting). together (total_of shape (all_of old.lists)) (total_of shape (met_entries game ms))) c.meetings.ensures))
 
 pub returns-clause-share : goal.returns-clause-share
-returns-clause-share c =
-    let old = c.self.inside in
-    let moves : c.in-Some.moves ≡ old.moves + c.in_ok-moves.moves = omega (arith, c.in-Some.ensures) in
-    rw (c.add.ensures.kinds, c.in_ok-push.ensures.items, moves)
-    (share_with (words_added old.worker old.counts.kinds old.games.items old.moves old.counts.entries c.add.new.self.entries
-    c.args.game_record.now c.args.game c.in_ok-moves.moves c.add.ensures.apart c.add.ensures.apart_after c.add.ensures.counted
-    (rw (← c.self.view_is) at c.requires.later) (rw (← c.self.view_is) at c.requires.share) c.in_ok-moves.ensures.added)
-    (rw (← c.self.view_is) at c.requires.share))
+returns-clause-share c = share_with (returns-clause-added c) c.requires.share

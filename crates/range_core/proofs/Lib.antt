@@ -1,0 +1,9 @@
+pub mod Adding
+pub mod Swapping
+pub mod Dealt
+pub mod Climbing
+pub mod Joining
+pub mod ByWords
+pub mod Ways
+pub mod RowTotals
+pub mod Recorded

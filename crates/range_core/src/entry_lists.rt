@@ -1,0 +1,126 @@
+//! Entries in the order in which they were appended.
+ghost use Rattle.std.specs.Prelude.{◌≡◌, IfOk};
+
+use shape_dict::Entry;
+use std::alloc::{AllocError, Global};
+use std::marker::Model;
+
+/// Entries, each of which counts something. A pattern may have several. Contracts see their list.
+#[derive(Drop)]
+pub struct EntryList {
+    entries: Vec<Entry>,
+}
+
+impl Model for EntryList {
+    ghost use Rattle.std.specs.Prelude.{List, All};
+    ghost use Rattle.shape_dict.specs.declared.entries.Entry.{Entry};
+    ghost use Rattle.range_core.specs.Entries.{IsCountedEntry};
+
+    ghost Value = { List Entry };
+
+    ghost view = { λ l. l.entries.items };
+
+    ghost invariant = { λ l. All IsCountedEntry l.entries.items };
+}
+
+impl EntryList {
+    ghost use Rattle.std.specs.Prelude.{◌≡◌, ◌+◌, ◌<◌, ◌++◌, ◌∷◌, [], All, length};
+    ghost use Rattle.std.specs.Prelude.{IfOk, IfSome, IfNone, OnOk, OnErr};
+    ghost use Rattle.range_core.specs.Entries.{IsCountedEntry};
+
+    /// No entries. It takes no memory.
+    pub fn new(alloc: Global) -> EntryList
+        ensures { result ≡ [] }
+    {
+        EntryList {
+            entries: Vec::new(alloc),
+        }
+    }
+
+    /// No entries, and room for this many. It takes 32 bytes for each.
+    ///
+    /// # Errors
+    ///
+    /// `AllocError` where memory was refused.
+    pub fn with_room(alloc: Global, room: usize) -> Result<EntryList, AllocError>
+        ensures { IfOk result (λ list. list ≡ []) }
+    {
+        Ok(EntryList {
+            entries: Vec::with_capacity(alloc, room)?,
+        })
+    }
+
+    /// These entries, each of which must count something.
+    pub(crate) fn of(entries: Vec<Entry>) -> EntryList
+        requires { All IsCountedEntry entries.items }
+        ensures { result ≡ entries.items }
+    {
+        EntryList { entries }
+    }
+
+    /// How many entries there are.
+    #[inline(always)]
+    pub fn len(&self) -> usize
+        ensures { result ≡ length self.now }
+    {
+        self.entries.len()
+    }
+
+    /// How many entries there is memory for.
+    #[inline(always)]
+    pub fn room(&self) -> usize {
+        self.entries.capacity()
+    }
+
+    /// The entries, in their order.
+    #[inline(always)]
+    pub fn as_slice(&self) -> &[Entry]
+        ensures value { result.now ≡ self.now }
+        ensures counted { All IsCountedEntry self.now }
+    {
+        self.entries.as_slice()
+    }
+
+    /// Appends the word of each entry to a list.
+    pub(crate) fn push_words(&self, words: &mut Vec<u64>) -> Result<(), AllocError> {
+        for entry in self.entries.as_slice() {
+            words.push(entry.shape.word().bits())?;
+        }
+        Ok(())
+    }
+
+    /// Appends an entry, which must count something. It takes memory where the room is used up.
+    ///
+    /// # Errors
+    ///
+    /// `AllocError` where memory was refused: nothing changes then.
+    #[inline(always)]
+    pub fn push(&mut self, entry: Entry) -> Result<(), AllocError>
+        requires { 0 < entry.there + entry.played }
+        ensures ok { OnOk result (self.new ≡ self.old ++ entry ∷ []) }
+        ensures err { OnErr result (self.new ≡ self.old) }
+    {
+        // Its word is the least of its images.
+        let _ = entry.shape.word();
+        self.entries.push(entry)?;
+        Ok(())
+    }
+
+    /// Takes the last entry away, where there is one. The memory stays.
+    #[inline(always)]
+    pub(crate) fn pop(&mut self) -> Option<Entry>
+        ensures some { IfSome result (λ last. (self.old ≡ self.new ++ last ∷ [])
+            × (0 < last.there + last.played)) }
+        ensures none { IfNone result ((self.old ≡ []) × (self.new ≡ [])) }
+    {
+        let last = self.entries.pop()?;
+        Some(last)
+    }
+
+    /// Takes all entries away. The memory stays.
+    pub fn clear(&mut self)
+        ensures { self.new ≡ [] }
+    {
+        self.entries.clear();
+    }
+}

@@ -1,0 +1,22 @@
+//! Entries of patterns in lists by ranges, regrouped, added up range by range, and put in order.
+#![tactic(auto)]
+
+mod cuts;
+mod dealing;
+mod entry_lists;
+mod lists;
+mod ordering;
+mod place_lists;
+mod places;
+mod ranges;
+mod record_lists;
+mod records;
+mod sums;
+
+pub use cuts::{Cuts, WORD_RANGES};
+pub use entry_lists::EntryList;
+pub use lists::Lists;
+pub use ordering::entries_in_order;
+pub use place_lists::{PLACE_RANGES, PlaceLists};
+pub use ranges::{Range, ranges_of};
+pub use sums::Sums;

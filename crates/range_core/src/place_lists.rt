@@ -1,0 +1,140 @@
+//! What one worker has met: entries in lists by ranges of the shared table's places.
+ghost use Rattle.std.specs.Prelude.{◌≡◌, ◌+◌, ◌<◌, ℕ, IfOk, OnOk, OnErr};
+ghost use Rattle.range_core.specs.Totals.{total_of, together, count_at};
+
+use crate::lists::Lists;
+use crate::places::{MULTIPLIER, home};
+use crate::record_lists::RecordList;
+use crate::sums::{Sums, places_for};
+use shape_dict::Entry;
+use std::alloc::{AllocError, Global};
+use std::marker::Model;
+
+/// How many ranges by places there are.
+pub const PLACE_RANGES: usize = 512;
+
+/// How many entries a list has room for at least.
+const LEAST_ROOM: usize = 16;
+
+/// The entries that were added up, in a list with this room.
+fn listed(alloc: Global, sums: &Sums, room: usize) -> Result<RecordList, AllocError>
+    ensures { IfOk result (λ list. (shape : ℕ) → total_of shape list ≡ total_of shape sums.now) }
+{
+    let mut list = RecordList::with_room(alloc, room)?;
+    sums.add_to(&mut list)?;
+    Ok(list)
+}
+
+/// A list without room adds up what it has, and has twice the room where more than half is left.
+/// Where that does not go, it stays as it is.
+#[inline(never)]
+fn make_room(alloc: Global, sums: &mut Sums, list: &mut RecordList)
+    ensures { (shape : ℕ) → total_of shape list.new ≡ total_of shape list.old }
+{
+    if sums.clear(places_for(list.len())).is_err() || !list.sum_to(sums) {
+        return;
+    }
+    let room = list.room();
+    let wanted = if sums.len() > room / 2 {
+        room.saturating_mul(2)
+    } else {
+        room
+    };
+    if let Ok(more) = listed(alloc, sums, wanted.max(LEAST_ROOM)) {
+        *list = more;
+    }
+}
+
+/// Appends an entry, which must count something, to a list, for which room is made where it has
+/// none.
+#[inline(always)]
+fn append_to(
+    alloc: Global,
+    sums: &mut Sums,
+    list: &mut RecordList,
+    entry: Entry,
+) -> Result<(), AllocError>
+    requires { 0 < entry.there + entry.played }
+    ensures added { OnOk result ((shape : ℕ) → total_of shape list.new
+        ≡ together (total_of shape list.old) (count_at shape entry)) }
+    ensures err { OnErr result ((shape : ℕ) → total_of shape list.new ≡ total_of shape list.old) }
+{
+    if list.is_full() {
+        make_room(alloc, sums, list);
+    }
+    list.push(entry)?;
+    Ok(())
+}
+
+/// Entries in lists, each of which has the patterns of its own range. Contracts see the lists.
+#[derive(Drop)]
+pub struct PlaceLists {
+    alloc: Global,
+    lists: Vec<RecordList>,
+    sums: Sums,
+}
+
+impl Model for PlaceLists {
+    ghost use Rattle.std.specs.Prelude.{◌≡◌, List, length};
+    ghost use Rattle.shape_dict.specs.declared.entries.Entry.{Entry};
+    ghost use Rattle.range_core.specs.Ranges.{AreDealtBy};
+    ghost use Rattle.range_core.specs.Places.{place_ranges, range_of_place};
+
+    ghost Value = { List (List Entry) };
+
+    ghost view = { λ l. l.lists.items };
+
+    ghost invariant = { λ l. (length l.lists.items ≡ place_ranges)
+        × AreDealtBy range_of_place l.lists.items };
+}
+
+impl PlaceLists {
+    ghost use Rattle.std.specs.Prelude.{◌≡◌, ◌+◌, ◌<◌, ℕ, length, replicate, [], IfOk, OnOk, OnErr};
+    ghost use Rattle.range_core.specs.Totals.{total_of, together, count_at, all_of};
+    ghost use Rattle.range_core.specs.Ranges.{AreDealtBy};
+    ghost use Rattle.range_core.specs.Places.{place_ranges, range_of_place};
+
+    /// No entries, and room for this many in each list. It takes memory for that.
+    ///
+    /// # Errors
+    ///
+    /// `AllocError` where memory was refused.
+    pub fn new(alloc: Global, room: usize) -> Result<PlaceLists, AllocError>
+        ensures { IfOk result (λ lists. lists ≡ replicate place_ranges []) }
+    {
+        Ok(PlaceLists {
+            alloc,
+            lists: Lists::empty(alloc, PLACE_RANGES, room)?.into_vec(),
+            sums: Sums::new(alloc),
+        })
+    }
+
+    /// Appends an entry, which must count something, to the list of its pattern's range. Where that
+    /// list has no room, the entries that it has are added up first. It takes memory where more
+    /// than half of its room is then still in use.
+    ///
+    /// # Errors
+    ///
+    /// `AllocError` where memory was refused: each pattern counts what it counted before.
+    #[inline(always)]
+    pub fn append(&mut self, entry: Entry) -> Result<(), AllocError>
+        requires { 0 < entry.there + entry.played }
+        ensures added { OnOk result ((shape : ℕ) → total_of shape (all_of self.new)
+            ≡ together (total_of shape (all_of self.old)) (count_at shape entry)) }
+        ensures err { OnErr result ((shape : ℕ) → total_of shape (all_of self.new)
+            ≡ total_of shape (all_of self.old)) }
+    {
+        let range = home(MULTIPLIER, entry.shape, PLACE_RANGES);
+        append_to(self.alloc, &mut self.sums, &mut self.lists[range], entry)?;
+        Ok(())
+    }
+
+    /// The lists, in the order of their ranges.
+    pub fn into_lists(self) -> Lists
+        ensures lists { result ≡ self }
+        ensures len { length self ≡ place_ranges }
+        ensures dealt { AreDealtBy range_of_place self }
+    {
+        Lists::of(self.lists)
+    }
+}

@@ -1,0 +1,105 @@
+//! The places of rows, each found by its pattern: open addressing, each place followed by the next.
+ghost use Rattle.std.specs.Prelude.{◌≡◌, ◌+◌, ◌<◌, ℕ, [], not, length, IfSome, OnOk};
+ghost use Rattle.range_core.specs.Entries.{IsShape};
+ghost use Rattle.range_core.specs.Places.{mixed_of, home_of};
+ghost use Rattle.range_core.specs.Inner.Rows.{next_place, is_taken, taken_of, AreRows, IsFound};
+
+use go_board::Colour;
+use shape_core::{Shape, Word, canonical};
+use shape_dict::{Entry, FirstGame};
+use std::alloc::AllocError;
+
+/// What the words of patterns are multiplied by: 2^64 over the golden ratio, made odd, as for the
+/// first places of the shared table. So a range of patterns has a part of that table.
+pub(crate) const MULTIPLIER: u64 = 0x9E37_79B9_7F4A_7C15;
+
+/// What the places of a pattern are taken from.
+#[inline(always)]
+fn mixed(factor: u64, shape: Shape) -> u64
+    ensures { result ≡ mixed_of factor shape }
+{
+    shape.word().bits().wrapping_mul(factor)
+}
+
+/// The first place of a pattern among this number of places.
+#[inline(always)]
+pub(crate) fn home(factor: u64, shape: Shape, places: usize) -> usize
+    requires { 0 < places }
+    ensures value { result ≡ home_of factor places shape }
+    ensures within { result < places }
+{
+    ((u128::from(mixed(factor, shape)) * places as u128) >> 64) as usize
+}
+
+/// The place after another one; the first comes after the last.
+#[inline(always)]
+fn next(place: usize, places: usize) -> usize
+    requires { place < places }
+    ensures value { result ≡ next_place places place }
+    ensures within { result < places }
+{
+    if place + 1 == places { 0 } else { place + 1 }
+}
+
+/// Whether a row counts nothing, and so its place is free.
+#[inline(always)]
+pub(crate) fn is_free(row: &Entry) -> bool
+    ensures { result ≡ not (is_taken row.now) }
+{
+    row.there == 0 && row.played == 0
+}
+
+/// Where a pattern's way leads to, from its first place on: to its row, or to the first free place.
+/// None where no place is free.
+#[inline(always)]
+pub(crate) fn find(factor: u64, rows: &[Entry], shape: Shape) -> Option<usize>
+    requires { AreRows factor rows.now }
+    ensures { IfSome result (IsFound factor rows.now shape) }
+{
+    let places = rows.len();
+    if places == 0 {
+        return None;
+    }
+    let mut place = home(factor, shape, places);
+    for _ in 0..places {
+        let row = rows[place];
+        if row.shape == shape || is_free(&row) {
+            return Some(place);
+        }
+        place = next(place, places);
+    }
+    None
+}
+
+/// The row of a place that is free.
+fn free_row() -> Entry
+    ensures shape { IsShape result }
+    ensures free { result.there + result.played ≡ 0 }
+{
+    let Some(word) = Word::new(0) else {
+        unreachable!()
+    };
+    let shape = canonical(word, Colour::Black);
+    // Its word is the least of its images.
+    let _ = shape.word();
+    Entry {
+        shape,
+        there: 0,
+        played: 0,
+        first: FirstGame::new(None),
+    }
+}
+
+/// Has this many places, all free. It takes memory where there were fewer.
+///
+/// # Errors
+///
+/// `AllocError` where memory was refused: there is no place then.
+pub(crate) fn free_rows(rows: &mut Vec<Entry>, places: usize) -> Result<(), AllocError>
+    ensures rows { (factor : ℕ) → AreRows factor rows.new.items }
+    ensures free { taken_of rows.new.items ≡ [] }
+{
+    rows.clear();
+    rows.resize(places, free_row())?;
+    Ok(())
+}

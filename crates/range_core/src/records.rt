@@ -1,0 +1,52 @@
+//! An entry in 16 bytes, where what it counts is small enough for that.
+ghost use Rattle.std.specs.Prelude.{◌≡◌, IfSome};
+ghost use Rattle.range_core.specs.Inner.Records.{entry_of};
+
+use shape_core::Shape;
+use shape_dict::{Entry, FirstGame};
+
+/// The first games that a record has room for are below this.
+const GAMES: u64 = 1 << 28;
+
+/// How often a pattern was played is below this.
+const PLAYS: u64 = 1 << 12;
+
+/// How often it was there is below this.
+const THERES: u64 = 1 << 24;
+
+/// An entry whose numbers are small: how often its pattern was there, how often it was played, and
+/// its first game, which is known, in one number.
+#[derive(Clone, Copy)]
+pub(crate) struct Record {
+    shape: Shape,
+    sums: u64,
+}
+
+/// The record of an entry. None where it has no first game, or a number is too large.
+#[inline(always)]
+pub(crate) fn packed(entry: &Entry) -> Option<Record>
+    ensures { IfSome result (λ one. entry_of one ≡ entry.now) }
+{
+    let game = entry.first.get()?;
+    if entry.there >= THERES || entry.played >= PLAYS || game >= GAMES {
+        return None;
+    }
+    Some(Record {
+        shape: entry.shape,
+        sums: (entry.there * PLAYS + entry.played) * GAMES + game,
+    })
+}
+
+/// The entry of a record.
+#[inline(always)]
+pub(crate) fn unpacked(one: Record) -> Entry
+    ensures { result ≡ entry_of one }
+{
+    let counts = one.sums / GAMES;
+    Entry {
+        shape: one.shape,
+        there: counts / PLAYS,
+        played: counts % PLAYS,
+        first: FirstGame::new(Some(one.sums % GAMES)),
+    }
+}

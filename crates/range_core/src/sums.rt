@@ -1,0 +1,196 @@
+//! What entries count of each pattern together: a row for each pattern, in a map that is small
+//! enough for a near cache.
+ghost use Rattle.std.specs.Prelude.{◌≡◌, ◌+◌, ◌^◌, ◌≤◌, IfSome, IfNone};
+ghost use Rattle.range_core.specs.Totals.{earlier};
+ghost use Rattle.range_core.specs.Inner.Rows.{summed_row};
+
+use crate::entry_lists::EntryList;
+use crate::place_lists::PLACE_RANGES;
+use crate::places::{MULTIPLIER, find, free_rows, is_free};
+use crate::record_lists::RecordList;
+use shape_dict::{Entry, FirstGame};
+use std::alloc::{AllocError, Global};
+use std::marker::Model;
+
+/// What the words are multiplied by: the patterns of one range by places differ in what is left.
+const FACTOR: u64 = MULTIPLIER.wrapping_mul(PLACE_RANGES as u64);
+
+/// The lesser of two games, where one is known.
+#[inline(always)]
+fn least(one: FirstGame, other: FirstGame) -> FirstGame
+    ensures { result ≡ earlier one other }
+{
+    match (one.get(), other.get()) {
+        (None, _) => other,
+        (Some(_), None) => one,
+        (Some(game), Some(next)) => { if game <= next { one } else { other } }
+    }
+}
+
+/// Two entries of one pattern together. None where a sum passes 2^64 - 1.
+#[inline(always)]
+pub(crate) fn joined(one: &Entry, other: &Entry) -> Option<Entry>
+    ensures some { IfSome result (λ both. both ≡ record other.now {
+      there = one.now.there + other.now.there;
+      played = one.now.played + other.now.played;
+      first = earlier one.now.first other.now.first;
+    }) }
+    ensures none { IfNone result (2 ^ 64
+        ≤ one.now.there + one.now.played + other.now.there + other.now.played) }
+{
+    Some(Entry {
+        shape: other.shape,
+        there: one.there.checked_add(other.there)?,
+        played: one.played.checked_add(other.played)?,
+        first: least(one.first, other.first),
+    })
+}
+
+/// A row that was found for an entry's pattern, or is free, once it counts the entry besides. None
+/// where a sum passes 2^64 - 1.
+#[inline(always)]
+fn summed(row: &Entry, entry: &Entry) -> Option<Entry>
+    ensures { IfSome result (λ more. more ≡ summed_row row.now entry.now) }
+{
+    if is_free(row) {
+        return Some(*entry);
+    }
+    joined(row, entry)
+}
+
+/// How many places there are for this many entries, so that none is without a place.
+pub(crate) fn places_for(entries: usize) -> usize {
+    entries.saturating_add(entries / 3).saturating_add(8)
+}
+
+/// The entries of patterns, each pattern once, with its sums and its least first game. Contracts
+/// see these entries, in the order of their places.
+#[derive(Drop)]
+pub struct Sums {
+    rows: Vec<Entry>,
+    /// How many rows count something.
+    taken: usize,
+    /// How many rows may count something: with more the ways are long.
+    most: usize,
+}
+
+impl Model for Sums {
+    ghost use Rattle.std.specs.Prelude.{List};
+    ghost use Rattle.shape_dict.specs.declared.entries.Entry.{Entry};
+    ghost use Rattle.range_core.specs.Inner.Rows.{sums_factor, taken_of, AreRows};
+
+    ghost Value = { List Entry };
+
+    ghost view = { λ s. taken_of s.rows.items };
+
+    ghost invariant = { λ s. AreRows sums_factor s.rows.items };
+}
+
+impl Sums {
+    ghost use Rattle.std.specs.Prelude.{◌≡◌, ◌++◌, ◌+◌, ◌<◌, ℕ, [], All, IfOk, OnOk};
+    ghost use Rattle.std.specs.Bool.{OnTrue};
+    ghost use Rattle.shape_dict.specs.declared.entries.Entry.{Entry};
+    ghost use Rattle.range_core.specs.Totals.{count_at, together, total_of};
+
+    /// No entries. It takes no memory.
+    pub fn new(alloc: Global) -> Sums
+        ensures { result ≡ [] }
+    {
+        Sums {
+            rows: Vec::new(alloc),
+            taken: 0,
+            most: 0,
+        }
+    }
+
+    /// Forgets all entries, and has this many places. It takes memory where there were fewer.
+    ///
+    /// # Errors
+    ///
+    /// `AllocError` where memory was refused.
+    pub(crate) fn clear(&mut self, places: usize) -> Result<(), AllocError>
+        ensures { self.new ≡ [] }
+    {
+        self.taken = 0;
+        self.most = places - places / 8;
+        free_rows(&mut self.rows, places)
+    }
+
+    /// How many patterns there are.
+    pub fn len(&self) -> usize {
+        self.taken
+    }
+
+    /// Counts an entry to its pattern. The answer is whether it goes: what counts nothing does not,
+    /// nor where a sum passes 2^64 - 1, or no place is left.
+    #[inline(always)]
+    pub(crate) fn add(&mut self, entry: &Entry) -> bool
+        ensures { OnTrue result ((shape : ℕ) → total_of shape self.new
+            ≡ together (total_of shape self.old) (count_at shape entry.now)) }
+    {
+        if self.taken >= self.most {
+            return false;
+        }
+        if is_free(entry) {
+            return false;
+        }
+        let Some(place) = find(FACTOR, self.rows.as_slice(), entry.shape) else {
+            return false;
+        };
+        let row = self.rows[place];
+        let Some(more) = summed(&row, entry) else {
+            return false;
+        };
+        self.taken = self.taken.wrapping_add(is_free(&row) as usize);
+        // Its word is the least of its images.
+        let _ = more.shape.word();
+        self.rows[place] = more;
+        true
+    }
+
+    /// Counts entries, each to its pattern. The answer is whether all goes.
+    pub fn add_all(&mut self, entries: &[Entry]) -> bool
+        ensures { OnTrue result ((shape : ℕ) → total_of shape self.new
+            ≡ together (total_of shape self.old) (total_of shape entries.now)) }
+    {
+        for entry in entries {
+            if !self.add(entry) {
+                return false;
+            }
+        }
+        true
+    }
+
+    /// Appends the entries to a list.
+    ///
+    /// # Errors
+    ///
+    /// `AllocError` where memory was refused: some may have been appended then.
+    pub fn append_to(&self, list: &mut EntryList) -> Result<(), AllocError>
+        ensures { OnOk result (list.new ≡ list.old ++ self.now) }
+    {
+        for row in self.rows.as_slice() {
+            if !is_free(row) {
+                list.push(*row)?;
+            }
+        }
+        Ok(())
+    }
+
+    /// Adds the entries to a list.
+    ///
+    /// # Errors
+    ///
+    /// `AllocError` where memory was refused: some may have been added then.
+    pub(crate) fn add_to(&self, list: &mut RecordList) -> Result<(), AllocError>
+        ensures { OnOk result ((shape : ℕ) → total_of shape list.new
+            ≡ together (total_of shape list.old) (total_of shape self.now)) }
+    {
+        for row in self.rows.as_slice() {
+            if !is_free(row) {
+                list.push(*row)?;
+            }
+        }
+        Ok(())
+    }
+}
