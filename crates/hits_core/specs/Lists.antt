@@ -1,7 +1,7 @@
 -- The patterns that a list of words asks for, what can be wrong with it, and the exit status of each fault.
-use Rattle.std.specs.Prelude.{◌≡◌, ℕ, ◌<◌, ◌≤◌, List, length, Option, IfSome}
+use Rattle.std.specs.Prelude.{◌≡◌, ◌⊎◌, ℕ, ◌<◌, ◌≤◌, List, length, Option, IfSome, Result, MatchResult}
 use Rattle.sgf_core.specs.Limit.{most_bytes}
-use Rattle.engine_core.specs.Runs.{input_of}
+use Rattle.engine_core.specs.Runs.{ReadInput, input_of}
 use Rattle.hits_core.specs.declared.lists.WordsFault.{WordsFault}
 use Rattle.hits_core.specs.declared.lists.WordsFault.TheVariants as fault
 use Rattle.hits_core.specs.Wanted.{is_wanted}
@@ -29,6 +29,12 @@ IsWantedFault rest (fault.BadLine line) = IfSome rest (λ all. HasBadLine (input
 IsWantedFault rest fault.TooLarge = IfSome rest (λ all. most_bytes < length (input_of all))
 IsWantedFault rest fault.Unread = Unit {0}
 IsWantedFault rest fault.Memory = Unit {0}
+
+-- the list was read to its end, or to one byte more than it may have, unless the reader failed or memory was wanting
+abbrev pub HasReadList : {A : Type 0} → Result A WordsFault → Option (List ℕ) → Option (List ℕ) → Type 0
+HasReadList result rest left =
+    MatchResult result (λ _. ReadInput rest left)
+    (λ found. (found ≡ fault.Unread) ⊎ (found ≡ fault.Memory) ⊎ ReadInput rest left)
 
 -- 2 where the list is refused, 6 where it was not read, and 5 where memory was refused
 abbrev pub status_of : WordsFault → ℕ

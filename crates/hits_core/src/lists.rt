@@ -1,6 +1,6 @@
 //! The patterns that a list of words asks for, and what can go wrong.
 ghost use Rattle.std.specs.Prelude.{◌≡◌, IfOk, IfErr};
-ghost use Rattle.hits_core.specs.Lists.{IsWantedOf, IsWantedFault, status_of};
+ghost use Rattle.hits_core.specs.Lists.{HasReadList, IsWantedOf, IsWantedFault, status_of};
 
 use crate::wanted::Wanted;
 use crate::word_lists::{ListFault, words_of};
@@ -29,13 +29,15 @@ pub enum WordsFault {
 
 /// Reads a list of words: a canonical word, as a dictionary has it, stands first in each line, and
 /// what follows a space is skipped. Squares and diamonds may be mixed, and a word may come again.
-/// It takes memory for the list and its words.
+/// Of the reader it takes the bytes up to its end, or 2^28 + 1 of them, and no more, unless the
+/// reader fails or memory is refused. It takes memory for the list and its words.
 ///
 /// # Errors
 ///
 /// `TooLarge` where the list has more than 2^28 bytes, else `BadLine` with the first line that does
 /// not begin with a word; `Unread` where the reader failed, `Memory` where memory was refused.
 pub fn read_wanted<R: Read>(alloc: Global, reader: &mut R) -> Result<Wanted, WordsFault>
+    ensures read { HasReadList result (R.remaining reader.old) (R.remaining reader.new) }
     ensures words { IfOk result (IsWantedOf (R.remaining reader.old)) }
     ensures fault { IfErr result (IsWantedFault (R.remaining reader.old)) }
 {
