@@ -55,7 +55,7 @@ fn shares_of(alloc: Global, counters: Vec<Counter>) -> Result<Vec<WordShare>, Al
 }
 
 /// The dictionary of what was counted by words, of an input that was read. None where a number was
-/// wanting, or where the shares do not go together: a game is missing, or is in two of them.
+/// missing, or a game is in no share or in two.
 fn dictionary_of<R: Threads + Sync>(
     rt: &R,
     alloc: Global,
@@ -87,14 +87,14 @@ fn dictionary_of<R: Threads + Sync>(
 
 /// Counts a collection by several workers over one new table of 2^exponent slots, as many as the
 /// settings say, but no more than there are processors, and three at least. Each takes one game
-/// after another that nobody has taken, counts it by words, and gives its patterns numbers when no
-/// game is left. None where a number was wanting.
+/// after another that nobody has taken, and appends what it meets to its lists. None where a number
+/// was missing.
 ///
-/// Games are read in parts: the first while the workers make room for patterns, each further one
+/// Games are read in parts: the first while the workers make room in their lists, each further one
 /// while the one before is counted. The table is made while the last part is counted. Where a
 /// thread cannot be started, another one does its work. It takes memory for the table, for the
-/// records of two parts, for each worker for the patterns of its games and the board, for the
-/// totals of all numbers, and for the dictionary.
+/// records of two parts, for each worker for what its games meet and for the board, and for the
+/// dictionary.
 ///
 /// # Errors
 ///

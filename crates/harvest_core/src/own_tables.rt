@@ -77,17 +77,17 @@ fn count_alone<R: Threads + Sync>(
 /// own.
 ///
 /// One worker alone needs no table that threads share: this thread counts then, in a map, while
-/// another one walks games for it, threads sort what it has counted, and the gate is not asked.
+/// another one walks games for it, threads sort what it has counted, and the gate is not called.
 /// Several workers, numbered from 0, each take one game after another that nobody has taken, and
-/// count it in a map of their own; the gate is asked before each game. They are as many as the
-/// settings say, but no more than there are processors, and three at least. The games are read in
-/// parts, each while the one before is counted. When no game is left the workers give their
-/// patterns numbers in one table, which has 2^k slots, or fewer for a small input. A worker whose
-/// thread cannot be started works in another one's.
+/// append what it meets to lists of their own; the gate is called before each game. They are as
+/// many as the settings say, but no more than there are processors, and three at least. The games
+/// are read in parts, each while the one before is counted. When no game is left, threads add the
+/// lists up, give the patterns numbers in one table, which has 2^k slots, or fewer for a small
+/// input, and put them in order. A worker whose thread cannot be started works in another one's.
 ///
 /// Where that table had no number for a pattern, this thread counts all once more as one worker
 /// does. It takes memory for the table, for the records of two parts of the games, for each worker
-/// for the patterns of its games, and for the dictionary.
+/// for what its games meet, and for the dictionary.
 ///
 /// # Errors
 ///
