@@ -2,7 +2,7 @@
 use Rattle.std.proofs.Common.{◌≡◌, ℕ, zero, suc, ◌+◌, ◌*◌, ◌^◌, ◌≤◌, ◌⊎◌, List, [], ◌∷◌, length, map, Some, Result, Ok, Err, refl, ap, sym, subst, arith, zero-add, ⊎_elim, All}
 use Rattle.std.specs.Prelude.{sum_by, slice_get}
 use Rattle.std.specs.List.{AllByRecursion}
-use Rattle.std.proofs.lemmas.List.Elements.{recursion_from_All}
+use Rattle.std.proofs.lemmas.List.Elements.{recursion_from_All, All-weaker}
 use Rattle.std.proofs.lemmas.List.Sums.{sum_by-cons}
 use Rattle.std.proofs.lemmas.Option.{same_Some}
 use Rattle.sgf_core.specs.Tree.{GameTree, main_line_of}
@@ -34,10 +34,11 @@ use Rattle.game_core.specs.Games.{HasReadAll}
 use Rattle.job_core.specs.Rising.{Rising, past}
 use Rattle.job_core.proofs.Orders.{rising_down}
 use Rattle.game_core.proofs.OneGame.{games_of}
-use Rattle.harvest_core.specs.Working.{IsGame, IsWorked}
+use Rattle.harvest_core.specs.Working.{IsGame, IsOfInput, IsWorked}
 use Rattle.table_harvest.specs.Working.{IsRefusal}
 use Rattle.harvest_core.specs.Harvest.{IsRead}
 use Rattle.table_harvest.proofs.Sized.{sized}
+use Rattle.harvest_core.proofs.ByWords.{worked_of}
 use Rattle.harvest_core.proofs.Harvested.{IsAt, added_at, shares_gathered}
 use Rattle.table_harvest.proofs.Weighed.{actions_of, AreSized, few_occasions, not_too_large}
 
@@ -122,7 +123,11 @@ from_first games [] at = tt
 from_first games (one ∷ added) at = ((one.game, sym (zero-add one.game), at.0.0), from_first games added at.1)
 
 -- ---- a worker's share
-share_few : (bytes : List ℕ) (kinds : Kinds) (share : Held) (report : Report) → HasReadAll bytes report → (h : IsWorked bytes kinds share) → actions_of h.added ≤ 2 ^ 28
+-- what was worked over a table is of the input
+pub all_of_input : (bytes : List ℕ) (kinds : Kinds) (shares : List Held) → All (IsWorked bytes kinds) shares → All (IsOfInput bytes kinds) shares
+all_of_input bytes kinds shares all = All-weaker (IsWorked bytes kinds) (IsOfInput bytes kinds) (worked_of bytes kinds) shares all
+
+share_few : (bytes : List ℕ) (kinds : Kinds) (share : Held) (report : Report) → HasReadAll bytes report → (h : IsOfInput bytes kinds share) → actions_of h.added ≤ 2 ^ 28
 share_few bytes kinds share report read h =
     let rises = subst (λ games. Rising 0 games (past share.games)) h.is_of.games h.rises in
     let at = added_at bytes kinds read.trees read.end read.written read.no_more share h in
@@ -138,7 +143,7 @@ never_refused bytes kinds (report, read) (game, actions, is, why) =
     let few = game_few bytes game actions is in
     ⊎_elim
     (λ (large : (share : Held) × IsWorked bytes kinds share × IsTooLarge actions share).
-    let h = large.1 in
+    let h = worked_of bytes kinds large.0 large.1 in
     not_too_large h.added large.0 actions (share_sized bytes h.added (recursion_from_All (λ (one : Added). IsGame bytes one.game one.actions) h.added h.games)) h.is_of
     (game_sized bytes game actions is) (share_few bytes kinds large.0 report read h) (omega (arith, few, read.small)) large.2)
     (λ (long : 2 ^ 64 ≤ 5410 * length actions.actions). absurd (omega (arith, long, few, read.small)))
@@ -174,7 +179,7 @@ replayed_few kinds shape (game ∷ games) (one ∷ others) sizes h =
 pub never_large : (bytes : List ℕ) (kinds : Kinds) (shares : List Held) (report : Report) → All (IsWorked bytes kinds) shares → HasReadAll bytes report →
     Covers report.games (all_games shares) → IsLargeSum shares → ⊥
 never_large bytes kinds shares report worked read covers large =
-    let all = shares_gathered bytes kinds shares report worked read covers in
+    let all = shares_gathered bytes kinds shares report (all_of_input bytes kinds shares worked) read covers in
     let games = replayed_games (all_added all.0) report.games in
     let few = input_few bytes report read in
     let each = λ (shape : ℕ). replayed_few kinds shape (games_of read.trees) games (all_sized read.trees) all.2 in

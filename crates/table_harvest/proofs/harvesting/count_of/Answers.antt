@@ -1,17 +1,10 @@
-use Rattle.std.proofs.Common.{ℕ, List, refl, All}
-use Rattle.std.proofs.lemmas.List.Elements.{All-weaker}
-use Rattle.shape_core.specs.declared.words.Kinds.{Kinds}
-use Rattle.share_core.specs.Shares.{Held}
-use Rattle.harvest_core.specs.Working.{IsWorked, IsOfInput}
-use Rattle.harvest_core.proofs.ByWords.{worked_of}
+use Rattle.std.proofs.Common.{refl}
 use Rattle.std.proofs.lemmas.Result.{err_from_is_err_and}
 use Rattle.gather_core.specs.Checking.{all_rows}
 use Rattle.table_harvest.proofs.Concluded.{ungathered}
+use Rattle.table_harvest.proofs.Limited.{all_of_input}
 use Rattle.harvest_core.proofs.Harvested.{games_within, harvested, numbered}
 use Rattle.table_harvest.proofs.harvesting.count_of.Goals as goal
-
-all_of_input : (bytes : List ℕ) (kinds : Kinds) (shares : List Held) → All (IsWorked bytes kinds) shares → All (IsOfInput bytes kinds) shares
-all_of_input bytes kinds shares all = All-weaker (IsWorked bytes kinds) (IsOfInput bytes kinds) (worked_of bytes kinds) shares all
 
 pub gather-requires-clause-games : goal.gather-requires-clause-games
 gather-requires-clause-games g c = λ κs lives.
