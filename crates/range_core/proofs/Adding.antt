@@ -32,7 +32,7 @@ together_comm (Some a) (Some b) =
     let first = earlier_comm a.first b.first in
     Prim.grind (arith)
 
--- the first of three goes behind the second
+-- the first of three moves after the second
 pub together_swap : (a b c : Option Total) → together a (together b c) ≡ together b (together a c)
 together_swap a b c = sym (together_assoc a b c) ∙ ap (λ d. together d c) (together_comm a b) ∙ together_assoc b a c
 
