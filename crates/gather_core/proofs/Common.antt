@@ -43,5 +43,5 @@ pub use Rattle.std.specs.List.Sorted.{IsNonDecreasingBy, IsPermutation, IsStrict
 pub use Rattle.std.specs.Option.{is_some, option_map, option_or}
 pub use Rattle.std.specs.Prelude.{slice_get, slice_set, sum_by}
 pub use Rattle.tally_core.specs.Counts.{Replayed, kinds_of, played_in, there_in}
-pub use Rattle.tally_core.specs.Entries.{IsShape}
+pub use Rattle.range_core.specs.Entries.{IsShape}
 pub use Rattle.tally_core.specs.Games.{IsDictionaryOf, counted_entry, counts_diamonds, first_game, played_sum, there_sum}

@@ -1,7 +1,7 @@
 //! What the rows of a number are together, those of all shares, and a list of that for all numbers.
 ghost use Rattle.std.specs.Prelude.{◌≡◌, ◌^◌, ◌<◌, ◌≤◌, ◌++◌, ℕ, List, None, Some, IfSome, IfNone};
 ghost use Rattle.std.specs.Prelude.{IfOk, IfErr};
-ghost use Rattle.tally_core.specs.Entries.{IsShape};
+ghost use Rattle.range_core.specs.Entries.{IsShape};
 ghost use Rattle.harvest_faults.specs.declared.faults.HarvestFault.TheVariants as fault;
 ghost use Rattle.share_core.specs.declared.rows.Row.{Row};
 ghost use Rattle.share_core.specs.Rows.{row_of, AreBelow, AreOfNumbers};

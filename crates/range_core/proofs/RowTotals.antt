@@ -1,10 +1,11 @@
 -- What rows count of each pattern, where each pattern has one row at most.
-use Rattle.std.proofs.Common.{◌≡◌, ◌≢◌, ℕ, zero, suc, ◌+◌, ◌<◌, ◌==◌, nat_lt, Bool, true, false, cond, List, [], ◌∷◌, ◌++◌, length, take, get_or, slice_set, Option, Some, None, refl, ap, ap₂, sym, ◌∙◌, arith, ⊎_elim}
+use Rattle.std.proofs.Common.{◌≡◌, ◌≢◌, ℕ, zero, suc, ◌+◌, ◌<◌, true, false, cond, List, [], ◌∷◌, ◌++◌, length, take, get_or, slice_set, Option, Some, None, refl, ap, ap₂, sym, ◌∙◌, arith, ⊎_elim}
 use Rattle.std.proofs.lemmas.Bool.{cases_eq}
 use Rattle.std.proofs.lemmas.Bool.Decides.{nat_tests}
 use Rattle.shape_dict.specs.declared.entries.Entry.{Entry}
 use Rattle.range_core.specs.Totals.{Total, earlier, together, count_at, total_of}
-use Rattle.range_core.specs.Inner.Rows.{is_taken, taken_of, row_at, summed_row, AreRows, IsFound}
+use Rattle.range_core.specs.Rows.{is_taken, taken_of, row_at, IsFound}
+use Rattle.range_core.specs.Inner.Sums.{summed_row}
 use Rattle.std.proofs.lemmas.List.{take_more}
 use Rattle.range_core.proofs.Adding.{together_none, together_assoc, count_other}
 

@@ -8,7 +8,7 @@ use Rattle.std.proofs.lemmas.List.{get_or_default, get_or-set_other, length-set}
 use Rattle.std.proofs.lemmas.List.Elements.{All-set, All-append, All-take, All-nil, All-replicate}
 use Rattle.shape_dict.specs.declared.entries.Entry.{Entry}
 use Rattle.range_core.specs.Entries.{IsShape}
-use Rattle.range_core.specs.Inner.Rows.{next_place, way_of, is_taken, taken_of, row_at, IsReached, IsOther, AreRows, IsFound}
+use Rattle.range_core.specs.Rows.{next_place, way_of, is_taken, taken_of, row_at, IsReached, IsOther, AreRows, IsFound}
 
 -- what was read at a place
 pub read_at : (rows : List Entry) (place : ℕ) (row : Entry) → row ≡ slice_index_or rows place row → place < length rows → row ≡ row_at rows place

@@ -42,7 +42,7 @@ impl EntryList {
     /// # Errors
     ///
     /// `AllocError` where memory was refused.
-    pub fn with_room(alloc: Global, room: usize) -> Result<EntryList, AllocError>
+    pub(crate) fn with_room(alloc: Global, room: usize) -> Result<EntryList, AllocError>
         ensures { IfOk result (λ list. list ≡ []) }
     {
         Ok(EntryList {
@@ -60,7 +60,7 @@ impl EntryList {
 
     /// How many entries there are.
     #[inline(always)]
-    pub fn len(&self) -> usize
+    pub(crate) fn len(&self) -> usize
         ensures { result ≡ length self.now }
     {
         self.entries.len()
@@ -68,7 +68,7 @@ impl EntryList {
 
     /// How many entries there is memory for.
     #[inline(always)]
-    pub fn room(&self) -> usize {
+    pub(crate) fn room(&self) -> usize {
         self.entries.capacity()
     }
 
@@ -83,7 +83,7 @@ impl EntryList {
 
     /// Appends the word of each entry to a list.
     pub(crate) fn push_words(&self, words: &mut Vec<u64>) -> Result<(), AllocError> {
-        for entry in self.entries.as_slice() {
+        for entry in self.as_slice() {
             words.push(entry.shape.word().bits())?;
         }
         Ok(())
@@ -95,7 +95,7 @@ impl EntryList {
     ///
     /// `AllocError` where memory was refused: nothing changes then.
     #[inline(always)]
-    pub fn push(&mut self, entry: Entry) -> Result<(), AllocError>
+    pub(crate) fn push(&mut self, entry: Entry) -> Result<(), AllocError>
         requires { 0 < entry.there + entry.played }
         ensures ok { OnOk result (self.new ≡ self.old ++ entry ∷ []) }
         ensures err { OnErr result (self.new ≡ self.old) }

@@ -26,7 +26,7 @@ fn listed(alloc: Global, sums: &Sums, room: usize) -> Result<RecordList, AllocEr
 }
 
 /// A list without room adds up what it has, and has twice the room where more than half is left.
-/// Where that does not go, it stays as it is.
+/// Where its sums have no memory, or one passes 2^64 - 1, it stays as it is.
 #[inline(never)]
 fn make_room(alloc: Global, sums: &mut Sums, list: &mut RecordList)
     ensures { (shape : ℕ) → total_of shape list.new ≡ total_of shape list.old }

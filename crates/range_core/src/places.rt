@@ -2,7 +2,7 @@
 ghost use Rattle.std.specs.Prelude.{◌≡◌, ◌+◌, ◌<◌, ℕ, [], not, length, IfSome, OnOk};
 ghost use Rattle.range_core.specs.Entries.{IsShape};
 ghost use Rattle.range_core.specs.Places.{mixed_of, home_of};
-ghost use Rattle.range_core.specs.Inner.Rows.{next_place, is_taken, taken_of, AreRows, IsFound};
+ghost use Rattle.range_core.specs.Rows.{next_place, is_taken, taken_of, AreRows, IsFound};
 
 use go_board::Colour;
 use shape_core::{Shape, Word, canonical};
@@ -11,7 +11,7 @@ use std::alloc::AllocError;
 
 /// What the words of patterns are multiplied by: 2^64 over the golden ratio, made odd, as for the
 /// first places of the shared table. So a range of patterns has a part of that table.
-pub(crate) const MULTIPLIER: u64 = 0x9E37_79B9_7F4A_7C15;
+pub const MULTIPLIER: u64 = 0x9E37_79B9_7F4A_7C15;
 
 /// What the places of a pattern are taken from.
 #[inline(always)]
@@ -23,7 +23,7 @@ fn mixed(factor: u64, shape: Shape) -> u64
 
 /// The first place of a pattern among this number of places.
 #[inline(always)]
-pub(crate) fn home(factor: u64, shape: Shape, places: usize) -> usize
+pub fn home(factor: u64, shape: Shape, places: usize) -> usize
     requires { 0 < places }
     ensures value { result ≡ home_of factor places shape }
     ensures within { result < places }
@@ -43,7 +43,7 @@ fn next(place: usize, places: usize) -> usize
 
 /// Whether a row counts nothing, and so its place is free.
 #[inline(always)]
-pub(crate) fn is_free(row: &Entry) -> bool
+pub fn is_free(row: &Entry) -> bool
     ensures { result ≡ not (is_taken row.now) }
 {
     row.there == 0 && row.played == 0
@@ -52,7 +52,7 @@ pub(crate) fn is_free(row: &Entry) -> bool
 /// Where a pattern's way leads to, from its first place on: to its row, or to the first free place.
 /// None where no place is free.
 #[inline(always)]
-pub(crate) fn find(factor: u64, rows: &[Entry], shape: Shape) -> Option<usize>
+pub fn find(factor: u64, rows: &[Entry], shape: Shape) -> Option<usize>
     requires { AreRows factor rows.now }
     ensures { IfSome result (IsFound factor rows.now shape) }
 {
@@ -95,7 +95,7 @@ fn free_row() -> Entry
 /// # Errors
 ///
 /// `AllocError` where memory was refused: there is no place then.
-pub(crate) fn free_rows(rows: &mut Vec<Entry>, places: usize) -> Result<(), AllocError>
+pub fn free_rows(rows: &mut Vec<Entry>, places: usize) -> Result<(), AllocError>
     ensures rows { (factor : ℕ) → AreRows factor rows.new.items }
     ensures free { taken_of rows.new.items ≡ [] }
 {

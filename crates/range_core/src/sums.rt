@@ -2,7 +2,7 @@
 //! enough for a near cache.
 ghost use Rattle.std.specs.Prelude.{◌≡◌, ◌+◌, ◌^◌, ◌≤◌, IfSome, IfNone};
 ghost use Rattle.range_core.specs.Totals.{earlier};
-ghost use Rattle.range_core.specs.Inner.Rows.{summed_row};
+ghost use Rattle.range_core.specs.Inner.Sums.{summed_row};
 
 use crate::entry_lists::EntryList;
 use crate::place_lists::PLACE_RANGES;
@@ -77,7 +77,8 @@ pub struct Sums {
 impl Model for Sums {
     ghost use Rattle.std.specs.Prelude.{List};
     ghost use Rattle.shape_dict.specs.declared.entries.Entry.{Entry};
-    ghost use Rattle.range_core.specs.Inner.Rows.{sums_factor, taken_of, AreRows};
+    ghost use Rattle.range_core.specs.Rows.{taken_of, AreRows};
+    ghost use Rattle.range_core.specs.Inner.Sums.{sums_factor};
 
     ghost Value = { List Entry };
 
@@ -117,12 +118,12 @@ impl Sums {
     }
 
     /// How many patterns there are.
-    pub fn len(&self) -> usize {
+    pub(crate) fn len(&self) -> usize {
         self.taken
     }
 
-    /// Counts an entry to its pattern. The answer is whether it goes: what counts nothing does not,
-    /// nor where a sum passes 2^64 - 1, or no place is left.
+    /// Adds an entry to the sums of its pattern. The answer is whether it was added: not what
+    /// counts nothing, nor where a sum passes 2^64 - 1, or no place is left.
     #[inline(always)]
     pub(crate) fn add(&mut self, entry: &Entry) -> bool
         ensures { OnTrue result ((shape : ℕ) → total_of shape self.new
@@ -148,8 +149,8 @@ impl Sums {
         true
     }
 
-    /// Counts entries, each to its pattern. The answer is whether all goes.
-    pub fn add_all(&mut self, entries: &[Entry]) -> bool
+    /// Adds entries, each to the sums of its pattern. The answer is whether all were added.
+    pub(crate) fn add_all(&mut self, entries: &[Entry]) -> bool
         ensures { OnTrue result ((shape : ℕ) → total_of shape self.new
             ≡ together (total_of shape self.old) (total_of shape entries.now)) }
     {

@@ -4,7 +4,7 @@ use Rattle.std.specs.Map.{keys_of}
 use Rattle.std.proofs.lemmas.List.Elements.{All-append, All-cons, All-nil}
 use Rattle.shape_dict.specs.declared.entries.Entry.{Entry}
 use Rattle.tally_core.specs.Inner.Count.{Count}
-use Rattle.tally_core.specs.Entries.{IsShape}
+use Rattle.range_core.specs.Entries.{IsShape}
 use Rattle.tally_core.specs.Inner.Entries.{entry_of_pair, pairs_of}
 
 pub shapes_more : (old new : List Entry) (entry : Entry) → new ≡ old ++ entry ∷ [] → IsShape entry → All IsShape old → All IsShape new

@@ -9,7 +9,7 @@ use Rattle.tally_core.specs.Inner.Count.{Count}
 use Rattle.tally_core.specs.Counts.{Replayed, kinds_of, there_in}
 use Rattle.tally_core.specs.Inner.Counter.{CountsGames}
 use Rattle.tally_core.specs.Games.{there_sum, played_sum, counts_diamonds, IsDictionaryOf}
-use Rattle.tally_core.specs.Entries.{IsShape}
+use Rattle.range_core.specs.Entries.{IsShape}
 use Rattle.tally_core.specs.Inner.Entries.{entered, AreEntered}
 use Rattle.tally_core.specs.Inner.Entries.{shapes_of}
 use Rattle.tally_core.proofs.CountedEntries.{AreCounted}

@@ -30,7 +30,6 @@ pub mod PutTogether
 pub mod NextGame
 pub mod MorePatterns
 pub mod RowLookups
-pub mod Ways
 pub mod WalkedGames
 pub mod WordSets
 pub mod GamesMet

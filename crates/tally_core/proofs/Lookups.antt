@@ -9,7 +9,7 @@ use Rattle.tally_core.specs.Counts.{Replayed, kinds_of, there_in, played_in}
 use Rattle.shape_core.specs.declared.words.Kinds.{Kinds}
 use Rattle.go_record.specs.Actions.{Actions}
 use Rattle.tally_core.specs.Tally.{tallied_entry, IsTally}
-use Rattle.tally_core.specs.Entries.{IsShape}
+use Rattle.range_core.specs.Entries.{IsShape}
 use Rattle.shape_dict.specs.declared.entries.Entry.{Entry}
 use Rattle.shape_dict.specs.Contents.{entry_of}
 use Rattle.tally_core.specs.Inner.Count.{Count}

@@ -13,7 +13,7 @@ use Rattle.shape_dict.specs.Contents.{IsDictionary, diamonds_of, played_in, IsEn
 use Rattle.tally_core.specs.Occasions.{Occasion}
 use Rattle.tally_core.specs.Counts.{Replayed, kinds_of, there_in, patterns_played}
 use Rattle.tally_core.specs.Games.{there_sum, played_sum, counts_diamonds}
-use Rattle.tally_core.specs.Entries.{IsShape}
+use Rattle.range_core.specs.Entries.{IsShape}
 use Rattle.tally_core.proofs.DoubleCounting.{counted_twice}
 use Rattle.tally_core.specs.Inner.Entries.{shapes_of}
 use Rattle.tally_core.proofs.RisingEntries.{stands_once}

@@ -9,7 +9,8 @@ use Rattle.std.proofs.lemmas.Map.Keys.{IsDistinct-cons}
 use Rattle.shape_dict.specs.declared.entries.Entry.{Entry}
 use Rattle.tally_core.specs.Inner.Counter.{count_in, uses_at, one_pattern, used_again, AreCounts, IsCountingFault}
 use Rattle.tally_core.specs.Inner.Entries.{pair_of, pairs_of, counts_of, counted_with}
-use Rattle.tally_core.specs.Inner.Rows.{is_taken, taken_of, row_at, counted_row, AreRows, IsFound}
+use Rattle.range_core.specs.Rows.{is_taken, taken_of, row_at, AreRows, IsFound}
+use Rattle.tally_core.specs.Inner.Rows.{counted_row}
 use Rattle.tally_core.specs.declared.faults.TallyFault.TheVariants as fault
 use Rattle.tally_core.proofs.Lasting.{all-of}
 use Rattle.tally_core.proofs.Used.{again-none, again-uses, first_used-some, used_one}
@@ -62,7 +63,7 @@ pub counted_taken : (row entry : Entry) → 0 < entry.there + entry.played → i
 counted_taken row entry some = Prim.grind (arith, nat_tests)
 
 -- so a pattern was counted again
-pub put_counts : {shift : ℕ} (rows : List Entry) (place : ℕ) (entry row more : Entry) → IsFound shift rows entry.shape place → 0 < entry.there + entry.played → row ≡ row_at rows place →
+pub put_counts : {factor : ℕ} (rows : List Entry) (place : ℕ) (entry row more : Entry) → IsFound factor rows entry.shape place → 0 < entry.there + entry.played → row ≡ row_at rows place →
     more ≡ counted_row row entry → AreCounts (counted_with entry (counts_of rows)) (counts_of (slice_set rows place more))
 put_counts rows place entry row more found some read is =
     rw (is, read)
@@ -72,7 +73,7 @@ put_counts rows place entry row more found some read is =
     (λ key. put_count rows place key new found.within (counted_taken (row_at rows place) entry some) found.same found.only))
 
 -- the sum of its counts passes what fits
-pub put_fault : {shift : ℕ} (rows : List Entry) (place : ℕ) (entry : Entry) → IsFound shift rows entry.shape place →
+pub put_fault : {factor : ℕ} (rows : List Entry) (place : ℕ) (entry : Entry) → IsFound factor rows entry.shape place →
     2 ^ 64 ≤ (row_at rows place).there + (row_at rows place).played + entry.there + entry.played → IsCountingFault 0 (counted_with entry (counts_of rows)) fault.Overflow
 put_fault rows place entry found large =
     let shape = entry.shape in
@@ -109,7 +110,7 @@ none_before (first ∷ rows) (suc i) within only =
     Prim.grind (arith, nat_tests, counts-cons first (take i rows) (row_at rows i).shape, only 0)
 
 -- with one row more its pattern was counted as often as the row says
-pub take_counts : {shift : ℕ} (rows : List Entry) (i : ℕ) → AreRows shift rows → i < length rows →
+pub take_counts : {factor : ℕ} (rows : List Entry) (i : ℕ) → AreRows factor rows → i < length rows →
     AreCounts (counted_with (row_at rows i) (counts_of (take i rows))) (counts_of (take (suc i) rows))
 take_counts rows i are within =
     let row = row_at rows i in
@@ -147,7 +148,7 @@ distinct (first ∷ rows) once =
       | false ↦ λ free. later
     ] refl
 
-pub once_among : {shift : ℕ} (rows : List Entry) → AreRows shift rows → IsDistinct nat_eq (keys_of (pairs_of (taken_of rows)))
+pub once_among : {factor : ℕ} (rows : List Entry) → AreRows factor rows → IsDistinct nat_eq (keys_of (pairs_of (taken_of rows)))
 once_among rows are = distinct rows are.once
 
 -- each row that is taken counts something

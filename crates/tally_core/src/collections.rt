@@ -4,7 +4,7 @@ ghost use Rattle.std.specs.Prelude.{IfSome, IfNone};
 ghost use Rattle.std.specs.List.Sorted.{IsStrictlyIncreasing};
 ghost use Rattle.sgf_core.specs.declared.faults.SgfFault.TheVariants as sgf;
 ghost use Rattle.tally_core.specs.Counted.{IsCounted, HasMore, IsCountFault};
-ghost use Rattle.tally_core.specs.Entries.{IsShape};
+ghost use Rattle.range_core.specs.Entries.{IsShape};
 ghost use Rattle.tally_core.specs.Inner.Counting.{CountsAll, IsEndOf};
 ghost use Rattle.tally_core.specs.declared.counting.Counter.{Counter};
 ghost use Rattle.tally_core.specs.declared.faults.TallyFault.TheVariants as fault;

@@ -44,7 +44,7 @@ impl Counter {
         ensures within { IsWithin 0 result }
     {
         Counter {
-            counts: Counts::with_room(alloc, 0, patterns),
+            counts: Counts::with_room(alloc, patterns),
             moves: 0,
         }
     }

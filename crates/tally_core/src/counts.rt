@@ -4,7 +4,7 @@ ghost use Rattle.tally_core.specs.Inner.Rows.{counted_row};
 
 use crate::faults::TallyFault;
 use crate::meetings::Meeting;
-use crate::places::{find, free_rows, home, is_free};
+use range_core::places::{MULTIPLIER, find, free_rows, home, is_free};
 use shape_core::Shape;
 use shape_dict::Entry;
 use std::alloc::{AllocError, Global};
@@ -21,7 +21,7 @@ const BLOCK: usize = 128;
 /// they are fewer, and how many these are: at the first place, or where that is another pattern's,
 /// at the one after it. No look waits for the one before it. A row may begin in one line of memory
 /// and end in the next, so both its ends are looked at.
-fn likely_places(shift: u64, rows: &[Entry], meetings: &[Meeting]) -> ([usize; BLOCK], usize)
+fn likely_places(rows: &[Entry], meetings: &[Meeting]) -> ([usize; BLOCK], usize)
     requires { 0 < length rows.now }
     ensures block { result.1 ≤ BLOCK }
     ensures within { result.1 ≤ length meetings.now }
@@ -30,7 +30,7 @@ fn likely_places(shift: u64, rows: &[Entry], meetings: &[Meeting]) -> ([usize; B
     let looked = meetings.len().min(BLOCK);
     for i in 0..looked {
         let shape = meetings[i].shape;
-        let place = home(shift, shape, rows.len());
+        let place = home(MULTIPLIER, shape, rows.len());
         let row = rows[place];
         let other = (row.shape != shape) & !is_free(&row);
         places[i] = place + other as usize;
@@ -42,13 +42,13 @@ fn likely_places(shift: u64, rows: &[Entry], meetings: &[Meeting]) -> ([usize; B
 /// places of their patterns tell. The lines of memory of all these places come together, and
 /// `find` finds them in a cache.
 #[inline(never)]
-fn count_new(shift: u64, rows: &[Entry], meetings: &[Meeting]) -> usize
+fn count_new(rows: &[Entry], meetings: &[Meeting]) -> usize
     ensures { result ≤ BLOCK }
 {
     if rows.is_empty() {
         return BLOCK;
     }
-    let (places, looked) = likely_places(shift, rows, meetings);
+    let (places, looked) = likely_places(rows, meetings);
     let mut count = 0;
     for i in 0..looked {
         let row = rows[places[i].min(rows.len() - 1)];
@@ -77,8 +77,6 @@ fn counted(row: &Entry, entry: &Entry) -> Option<Entry>
 #[derive(Drop)]
 pub struct Counts {
     alloc: Global,
-    /// By how much the order of the places is shifted, of 2^64.
-    shift: u64,
     /// Those that count something, and free ones at all other places.
     rows: Vec<Entry>,
     /// How many places are taken.
@@ -91,13 +89,14 @@ impl Model for Counts {
     ghost use Rattle.std.specs.Prelude.{◌≡◌, ℕ, List, length};
     ghost use Rattle.tally_core.specs.Inner.Count.{Count};
     ghost use Rattle.tally_core.specs.Inner.Entries.{pairs_of};
-    ghost use Rattle.tally_core.specs.Inner.Rows.{taken_of, AreRows};
+    ghost use Rattle.range_core.specs.Places.{place_factor};
+    ghost use Rattle.range_core.specs.Rows.{taken_of, AreRows};
 
     ghost Value = { List (ℕ × Count) };
 
     ghost view = { λ c. pairs_of (taken_of c.rows.items) };
 
-    ghost invariant = { λ c. AreRows c.shift c.rows.items
+    ghost invariant = { λ c. AreRows place_factor c.rows.items
         × (c.taken ≡ length (taken_of c.rows.items)) };
 }
 
@@ -108,8 +107,8 @@ impl Counts {
     ghost use Rattle.std.specs.Map.{keys_of};
     ghost use Rattle.tally_core.specs.Inner.Counter.{count_in, AreCounts, IsCountingFault};
     ghost use Rattle.tally_core.specs.Inner.Entries.{entry_of_pair, counts_of, counted_with};
-    ghost use Rattle.tally_core.specs.Inner.Rows.{AreRows};
-    ghost use Rattle.tally_core.specs.Entries.{IsShape};
+    ghost use Rattle.range_core.specs.Rows.{AreRows};
+    ghost use Rattle.range_core.specs.Entries.{IsShape};
 
     /// Nothing was counted yet. It takes no memory.
     pub fn new(alloc: Global) -> Counts
@@ -117,7 +116,6 @@ impl Counts {
     {
         Counts {
             alloc,
-            shift: 0,
             rows: Vec::new(alloc),
             taken: 0,
             expected: 0,
@@ -125,24 +123,24 @@ impl Counts {
     }
 
     /// Nothing was counted yet, and there are this many places. It takes memory for them.
-    fn with_places(alloc: Global, shift: u64, places: usize) -> Result<Counts, AllocError>
+    fn with_places(alloc: Global, places: usize) -> Result<Counts, AllocError>
         ensures { IfOk result (λ counts. counts ≡ []) }
     {
+        let mut rows = Vec::new(alloc);
+        free_rows(&mut rows, places)?;
         Ok(Counts {
             alloc,
-            shift,
-            rows: free_rows(alloc, places)?,
+            rows,
             taken: 0,
             expected: 0,
         })
     }
 
     /// The same as `new`, with places for about this many rows, where there is memory for them.
-    /// Their order is shifted by this much of 2^64.
-    pub fn with_room(alloc: Global, shift: u64, rows: usize) -> Counts
+    pub fn with_room(alloc: Global, rows: usize) -> Counts
         ensures { result ≡ [] }
     {
-        match Counts::with_places(alloc, shift, rows.saturating_mul(4) / 3) {
+        match Counts::with_places(alloc, rows.saturating_mul(4) / 3) {
             Ok(counts) => counts,
             Err(AllocError) => Counts::new(alloc),
         }
@@ -178,7 +176,7 @@ impl Counts {
         ensures { self.new ≡ self.old }
     {
         if at % BLOCK == 0 {
-            self.expected = count_new(self.shift, self.rows.as_slice(), &meetings[at..]);
+            self.expected = count_new(self.rows.as_slice(), &meetings[at..]);
         }
     }
 
@@ -195,7 +193,7 @@ impl Counts {
         if is_free(entry) {
             return Ok(());
         }
-        let Some(place) = find(self.shift, self.rows.as_slice(), entry.shape) else {
+        let Some(place) = find(MULTIPLIER, self.rows.as_slice(), entry.shape) else {
             return Err(TallyFault::Memory);
         };
         let row = self.rows[place];
@@ -213,7 +211,7 @@ impl Counts {
     /// too few. It takes no memory.
     fn enter_all(&mut self, rows: &[Entry]) -> Result<(), AllocError>
         requires none { self.old ≡ [] }
-        requires rows { (shift : ℕ) × AreRows shift rows.now }
+        requires rows { (factor : ℕ) × AreRows factor rows.now }
         ensures { OnOk result
             (AreCounts (counts_of rows.now) (count_in self.new)) }
     {
@@ -231,7 +229,7 @@ impl Counts {
         ensures { AreCounts (count_in self.old) (count_in self.new) }
     {
         let places = self.rows.len().saturating_mul(2).max(FIRST_PLACES);
-        let mut larger = Counts::with_places(self.alloc, self.shift, places)?;
+        let mut larger = Counts::with_places(self.alloc, places)?;
         larger.enter_all(self.rows.as_slice())?;
         *self = larger;
         Ok(())

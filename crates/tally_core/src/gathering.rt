@@ -5,7 +5,7 @@ ghost use Rattle.tally_core.specs.Counts.{Replayed};
 ghost use Rattle.tally_core.specs.Inner.Count.{Count};
 ghost use Rattle.tally_core.specs.Inner.Counter.{CountsGames};
 ghost use Rattle.tally_core.specs.Games.{counts_diamonds, IsDictionaryOf};
-ghost use Rattle.tally_core.specs.Entries.{IsShape};
+ghost use Rattle.range_core.specs.Entries.{IsShape};
 ghost use Rattle.tally_core.specs.Inner.Entries.{AreEntered};
 
 use shape_core::{Kinds, kinds_stay};

@@ -2,7 +2,7 @@
 use Rattle.std.specs.Prelude.{◌≡◌, ◌≢◌, ℕ, ◌+◌, ◌^◌, ◌<◌, ◌≤◌, ◌==◌, ◌⊎◌, if◌then◌else◌, List, sum_by, Option, Some, None, All, Contains}
 use Rattle.std.specs.List.{AllPairs}
 use Rattle.shape_dict.specs.declared.entries.Entry.{Entry}
-use Rattle.tally_core.specs.Entries.{IsShape}
+use Rattle.range_core.specs.Entries.{IsShape}
 use Rattle.share_core.specs.declared.rows.Row.{Row}
 use Rattle.share_core.specs.Rows.{earlier, row_of, first_at, there_of}
 use Rattle.harvest_faults.specs.declared.faults.HarvestFault.{HarvestFault}

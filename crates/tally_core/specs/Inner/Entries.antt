@@ -4,7 +4,7 @@ use Rattle.shape_dict.specs.declared.entries.Entry.{Entry}
 use Rattle.shape_dict.specs.Contents.{entry_of}
 use Rattle.tally_core.specs.Inner.Count.{Count}
 use Rattle.tally_core.specs.Inner.Counter.{count_in, one_pattern, used}
-use Rattle.tally_core.specs.Inner.Rows.{taken_of}
+use Rattle.range_core.specs.Rows.{taken_of}
 
 -- an entry's pattern, and its count
 abbrev pub pair_of : Entry → ℕ × Count

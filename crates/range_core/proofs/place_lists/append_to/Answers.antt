@@ -1,4 +1,4 @@
-use Rattle.std.proofs.Common.{◌≡◌, ℕ, ap, ◌∙◌}
+use Rattle.std.proofs.Common.{ap, ◌∙◌}
 use Rattle.range_core.specs.Totals.{together, total_of, count_at}
 use Rattle.range_core.proofs.place_lists.append_to.Goals.{then-is_full, else-is_full}
 use Rattle.range_core.proofs.place_lists.append_to.Goals as goal

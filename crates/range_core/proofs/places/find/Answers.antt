@@ -1,5 +1,5 @@
 use Rattle.std.proofs.Common.{ap, sym, ◌∙◌, refl, length, subst}
-use Rattle.range_core.specs.Inner.Rows.{next_place, IsOther}
+use Rattle.range_core.specs.Rows.{next_place, IsOther}
 use Rattle.range_core.proofs.Ways.{other_at, passed_more, read_at, way-next}
 use Rattle.range_core.proofs.places.find.Goals as goal
 

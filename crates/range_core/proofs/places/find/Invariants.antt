@@ -1,5 +1,5 @@
 use Rattle.std.proofs.Common.{◌≡◌, ◌<◌, ℕ, length}
-use Rattle.range_core.specs.Inner.Rows.{way_of, IsOther}
+use Rattle.range_core.specs.Rows.{way_of, IsOther}
 use Rattle.range_core.proofs.places.find.Given as goal
 
 abbrev pub invariant-loop : goal.invariant-loop

@@ -2,7 +2,7 @@ use Rattle.std.proofs.Common.{◌≡◌, false, arith}
 use Rattle.std.proofs.lemmas.Bool.Decides.{nat_tests}
 use Rattle.std.proofs.lemmas.List.Elements.{recursion_from_All}
 use Rattle.shape_dict.specs.declared.entries.Entry.{Entry}
-use Rattle.range_core.specs.Inner.Rows.{is_taken}
+use Rattle.range_core.specs.Rows.{is_taken}
 use Rattle.range_core.proofs.Ways.{all_copies, none_taken}
 use Rattle.range_core.proofs.places.free_rows.Goals as goal
 

@@ -1,5 +1,5 @@
 use Rattle.std.proofs.lemmas.List.Sorted.{All-permutation}
-use Rattle.tally_core.specs.Entries.{IsShape}
+use Rattle.range_core.specs.Entries.{IsShape}
 use Rattle.tally_core.proofs.InOrder.{sorted_rises, sorted_entered}
 use Rattle.tally_core.proofs.dictionaries.entries_of.Goals as goal
 

@@ -1,7 +1,8 @@
 use Rattle.std.proofs.Common.{◌≡◌, ◌+◌, ◌<◌, ℕ, List, Bool, false, not, slice_index_or, ap, sym, subst, ◌∙◌, arith}
 use Rattle.std.proofs.lemmas.Bool.Decides.{nat_tests}
 use Rattle.shape_dict.specs.declared.entries.Entry.{Entry}
-use Rattle.range_core.specs.Inner.Rows.{is_taken, row_at, summed_row, sums_factor, IsFound}
+use Rattle.range_core.specs.Rows.{is_taken, row_at, IsFound}
+use Rattle.range_core.specs.Inner.Sums.{sums_factor}
 use Rattle.range_core.proofs.RowTotals.{put_sums, summed_shape, summed_taken}
 use Rattle.range_core.proofs.Ways.{read_at, rows_put}
 use Rattle.range_core.proofs.sums.Sums.add.Goals.{After-word}

@@ -1,8 +1,8 @@
-use Rattle.std.proofs.Common.{◌≡◌, ℕ, Bool, true, false, not, Option, None, take, ap, sym, ◌∙◌, arith}
+use Rattle.std.proofs.Common.{◌≡◌, ℕ, Bool, true, false, not, None, take, ap, sym, ◌∙◌, arith}
 use Rattle.std.proofs.lemmas.Bool.Decides.{nat_tests}
 use Rattle.shape_dict.specs.declared.entries.Entry.{Entry}
-use Rattle.range_core.specs.Totals.{Total, together, total_of, count_at}
-use Rattle.range_core.specs.Inner.Rows.{is_taken, taken_of}
+use Rattle.range_core.specs.Totals.{together, total_of, count_at}
+use Rattle.range_core.specs.Rows.{is_taken, taken_of}
 use Rattle.range_core.proofs.Adding.{together_assoc, together_none}
 use Rattle.range_core.proofs.RowTotals.{count_of, total_next_taken}
 use Rattle.range_core.proofs.sums.Sums.add_to.Goals.{then-not-is_free+in_ok-push, else-not-is_free}

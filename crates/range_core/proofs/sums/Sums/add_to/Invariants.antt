@@ -1,6 +1,6 @@
 use Rattle.std.proofs.Common.{◌≡◌, ℕ, take}
 use Rattle.range_core.specs.Totals.{together, total_of}
-use Rattle.range_core.specs.Inner.Rows.{taken_of}
+use Rattle.range_core.specs.Rows.{taken_of}
 use Rattle.range_core.proofs.sums.Sums.add_to.Given as goal
 
 -- the rows so far were added, but for those that count nothing

@@ -1,5 +1,5 @@
 use Rattle.std.proofs.Common.{◌≡◌, ◌++◌, take}
-use Rattle.range_core.specs.Inner.Rows.{taken_of}
+use Rattle.range_core.specs.Rows.{taken_of}
 use Rattle.range_core.proofs.sums.Sums.append_to.Given as goal
 
 -- the rows so far were appended, but for those that count nothing

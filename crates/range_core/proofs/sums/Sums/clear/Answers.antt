@@ -1,4 +1,4 @@
-use Rattle.range_core.specs.Inner.Rows.{sums_factor}
+use Rattle.range_core.specs.Inner.Sums.{sums_factor}
 use Rattle.range_core.proofs.sums.Sums.clear.Goals as goal
 
 pub invariant_of-self : goal.invariant_of-self

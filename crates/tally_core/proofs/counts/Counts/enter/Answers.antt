@@ -2,9 +2,10 @@ use Rattle.std.proofs.Common.{◌≡◌, ◌+◌, ◌<◌, ◌≤◌, Bool, true
 use Rattle.std.proofs.lemmas.Bool.Decides.{nat_tests}
 use mir.Val.{bool_byte}
 use Rattle.shape_dict.specs.declared.entries.Entry.{Entry}
-use Rattle.tally_core.specs.Inner.Rows.{is_taken, row_at, IsFound}
+use Rattle.range_core.specs.Places.{place_factor}
+use Rattle.range_core.specs.Rows.{is_taken, row_at, IsFound}
 use Rattle.tally_core.proofs.RowLookups.{put_counts, put_fault, put_length, taken_few, counted_taken}
-use Rattle.tally_core.proofs.Ways.{read_at, rows_put}
+use Rattle.range_core.proofs.Ways.{read_at, rows_put}
 use Rattle.tally_core.proofs.counts.Counts.enter.Goals as goal
 
 byte_is : (b : Bool) → bool_byte b ≡ cond b 1 0
@@ -20,15 +21,15 @@ counts_some : (entry : Entry) (free : Bool) → free ≡ not (is_taken entry) �
 counts_some entry free is counts = Prim.grind (arith, nat_tests)
 
 -- what was found and read
-found_row : (shift : ℕ) (rows list : List Entry) (shape place : ℕ) (row : Entry) → list ≡ rows → IsFound shift list shape place → row ≡ slice_index_or rows place row → IsFound shift rows shape place × (row ≡ row_at rows place)
-found_row shift rows list shape place row same found read =
-    let here = subst (λ (seen : List Entry). IsFound shift seen shape place) same found in
+found_row : (factor : ℕ) (rows list : List Entry) (shape place : ℕ) (row : Entry) → list ≡ rows → IsFound factor list shape place → row ≡ slice_index_or rows place row → IsFound factor rows shape place × (row ≡ row_at rows place)
+found_row factor rows list shape place row same found read =
+    let here = subst (λ (seen : List Entry). IsFound factor seen shape place) same found in
     (here, read_at rows place row read here.within)
 
 pub returns-in_default-counted-clause-fault : goal.returns-in_default-counted-clause-fault
 returns-in_default-counted-clause-fault c =
     let rows = c.self.inside.rows.items in
-    let f = found_row c.self.inside.shift rows c.as_slice.result.now c.args.entry.now.shape c.in-Some.place c.index.result.now c.as_slice.ensures.value c.in-Some.ensures c.index.ensures in
+    let f = found_row place_factor rows c.as_slice.result.now c.args.entry.now.shape c.in-Some.place c.index.result.now c.as_slice.ensures.value c.in-Some.ensures c.index.ensures in
     rw (sym c.self.view_is) (put_fault rows c.in-Some.place c.args.entry.now f.0 (rw (← f.1) c.in_default-counted.ensures.none))
 
 pub overflow_add-self : goal.overflow_add-self
@@ -37,7 +38,7 @@ overflow_add-self c = omega (arith, taken_few c.self.inside.rows.items, one_at_m
 pub returns-clause-ok : goal.returns-clause-ok
 returns-clause-ok c =
     let rows = c.self.inside.rows.items in
-    let f = found_row c.self.inside.shift rows c.as_slice.result.now c.args.entry.now.shape c.in-Some.place c.index.result.now c.as_slice.ensures.value c.in-Some.ensures c.index.ensures in
+    let f = found_row place_factor rows c.as_slice.result.now c.args.entry.now.shape c.in-Some.place c.index.result.now c.as_slice.ensures.value c.in-Some.ensures c.index.ensures in
     rw (sym c.self.view_is)
     (put_counts rows c.in-Some.place c.args.entry.now c.index.result.now c.in-Some-counted.more f.0 (counts_some c.args.entry.now c.is_free.result c.is_free.ensures c.if-is_free.false) f.1 c.in-Some-counted.ensures.some)
 
@@ -46,7 +47,7 @@ invariant_of-self c =
     let rows = c.self.inside.rows.items in
     let place = c.in-Some.place in
     let more = c.in-Some-counted.more in
-    let f = found_row c.self.inside.shift rows c.as_slice.result.now c.args.entry.now.shape place c.index.result.now c.as_slice.ensures.value c.in-Some.ensures c.index.ensures in
+    let f = found_row place_factor rows c.as_slice.result.now c.args.entry.now.shape place c.index.result.now c.as_slice.ensures.value c.in-Some.ensures c.index.ensures in
     let is = c.in-Some-counted.ensures.some in
     let taken = ap is_taken is ∙ counted_taken c.index.result.now c.args.entry.now (counts_some c.args.entry.now c.is_free.result c.is_free.ensures c.if-is_free.false) in
     let shape : more.shape ≡ c.args.entry.now.shape = ap (λ (e : Entry). e.shape) is in (

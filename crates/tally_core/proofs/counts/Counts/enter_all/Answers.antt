@@ -3,7 +3,7 @@ use Rattle.shape_dict.specs.declared.entries.Entry.{Entry}
 use Rattle.tally_core.specs.Inner.Counter.{one_pattern, used_again}
 use Rattle.tally_core.specs.Inner.Entries.{counts_of, counted_with}
 use Rattle.tally_core.proofs.RowLookups.{take_counts}
-use Rattle.tally_core.proofs.Ways.{read_at}
+use Rattle.range_core.proofs.Ways.{read_at}
 use Rattle.tally_core.proofs.counts.Counts.enter_all.Goals as goal
 
 pub loop-row-preserved : goal.loop-row-preserved

@@ -2,9 +2,9 @@ use Rattle.std.proofs.Common.{rules, ◌≡◌, ◌+◌, ◌<◌, Bool, true, fa
 use Rattle.std.proofs.lemmas.Fn.{filter_same}
 use Rattle.std.proofs.lemmas.List.Elements.{All-filter}
 use Rattle.shape_dict.specs.declared.entries.Entry.{Entry}
-use Rattle.tally_core.specs.Entries.{IsShape}
+use Rattle.range_core.specs.Entries.{IsShape}
 use Rattle.tally_core.specs.Inner.Entries.{entry_of_pair}
-use Rattle.tally_core.specs.Inner.Rows.{is_taken, taken_of}
+use Rattle.range_core.specs.Rows.{is_taken, taken_of}
 use Rattle.tally_core.proofs.Entered.{entries_of-pairs}
 use Rattle.tally_core.proofs.RowLookups.{once_among, all_count}
 use Rattle.tally_core.proofs.counts.Counts.into_entries.Goals as goal

@@ -3,7 +3,7 @@ use Rattle.std.proofs.lemmas.List.{length-map}
 use Rattle.std.proofs.lemmas.List.Elements.{All-map}
 use Rattle.tally_core.specs.Inner.Count.{Count}
 use Rattle.tally_core.specs.Inner.Entries.{pair_of}
-use Rattle.tally_core.specs.Inner.Rows.{taken_of}
+use Rattle.range_core.specs.Rows.{taken_of}
 use Rattle.tally_core.proofs.RowLookups.{once_among, taken_few, all_count}
 use Rattle.tally_core.proofs.counts.Counts.len.Goals as goal
 

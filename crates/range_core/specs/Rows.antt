@@ -1,9 +1,8 @@
 -- Rows by their patterns: each pattern has a way through the places, and its row stands at one of them, where all places
 -- before it on the way are taken.
-use Rattle.std.specs.Prelude.{◌≡◌, ℕ, zero, suc, ◌+◌, ◌*◌, ◌%◌, ◌^◌, ◌<◌, ◌==◌, nat_lt, Bool, true, List, length, filter, All, None, slice_index_or, if◌then◌else◌}
+use Rattle.std.specs.Prelude.{◌≡◌, ℕ, zero, suc, ◌+◌, ◌<◌, ◌==◌, nat_lt, Bool, true, List, length, filter, All, None, slice_index_or, if◌then◌else◌}
 use Rattle.shape_dict.specs.declared.entries.Entry.{Entry}
 use Rattle.range_core.specs.Entries.{IsShape}
-use Rattle.range_core.specs.Totals.{earlier}
 use Rattle.range_core.specs.Places.{home_of}
 
 -- the place after another one; the first comes after the last
@@ -22,18 +21,6 @@ is_taken row = nat_lt 0 (row.there + row.played)
 -- the rows of the places that are taken
 abbrev pub taken_of : List Entry → List Entry
 taken_of rows = filter is_taken rows
-
--- the row of an entry's pattern, or a free one, once it counts the entry besides
-abbrev pub summed_row : Entry → Entry → Entry
-summed_row row entry = if is_taken row then record entry {
-  there = row.there + entry.there;
-  played = row.played + entry.played;
-  first = earlier row.first entry.first;
-} else entry
-
--- what the words of one range by places are multiplied by
-abbrev pub sums_factor : ℕ
-sums_factor = (0x9E37_79B9_7F4A_7C15 * 512) % 2 ^ 64
 
 -- what is at a place, and past the end nothing
 abbrev pub row_at : List Entry → ℕ → Entry
