@@ -9,6 +9,7 @@ use harvest_core::{Gate, harvest};
 use shape_dict::Text;
 use std::alloc::Global;
 use std::io::{Read, Write};
+use std::sync::Wait;
 use std::thread::Threads;
 use tally_core::{Report, Settings};
 
@@ -21,7 +22,7 @@ const MOST_THREADS: usize = 16;
 /// The text of the dictionary of the input's games, in parts, and how many trees it has of each
 /// sort.
 #[tactic(auto, using(crate::proofs::Order::comes_first))]
-fn counted_text<T: Threads + Sync, G: Gate>(
+fn counted_text<T: Threads + Wait + Sync, G: Gate>(
     rt: &T,
     alloc: Global,
     settings: Settings,
@@ -46,8 +47,9 @@ fn counted_text<T: Threads + Sync, G: Gate>(
 /// threads, as many as there are workers, make the text in parts that are written one after
 /// another. It takes memory for the input, for what `harvest` takes, and for the text.
 ///
-/// The gate is for a test or a display of progress: where several workers count, it learns which of
-/// them is about to count which game. It changes no answer.
+/// The gate is for a test or a display of progress: it learns which worker is about to count which
+/// game. It changes no answer. That the call ends rests on those calls that wait for another thread
+/// keeping their promise, as `harvest` says.
 ///
 /// # Errors
 ///
@@ -59,7 +61,7 @@ fn counted_text<T: Threads + Sync, G: Gate>(
 /// that has it. The input and the settings alone determine which of these comes. Nothing is written
 /// then. `Write` where the writer failed: exactly that number of bytes of the text is out. F2 to
 /// F4, F8 and F9 never come.
-pub fn run_count<T: Threads + Sync, G: Gate, R: Read, W: Write>(
+pub fn run_count<T: Threads + Wait + Sync, G: Gate, R: Read, W: Write>(
     rt: &T,
     alloc: Global,
     settings: Settings,

@@ -1,5 +1,5 @@
 -- Entries that count what rows do, as the entries of a dictionary.
-use Rattle.std.proofs.Common.{◌≡◌, ℕ, ◌+◌, ◌<◌, List, [], ◌∷◌, ◌++◌, map, Option, Some, None, refl, ap, sym, ◌∙◌, arith, All, append_assoc}
+use Rattle.std.proofs.Common.{◌≡◌, ℕ, ◌<◌, List, [], ◌∷◌, ◌++◌, map, Option, Some, None, refl, ap, sym, ◌∙◌, arith, All, append_assoc}
 use Rattle.std.proofs.lemmas.List.Concat.{flat_map-append}
 use Rattle.gather_core.proofs.Common.{nat_tests, Entry, entry_of, Row, there_of, played_of, first_of, ArePlayedThere, gathered_entry, append-nil, map-append, Held, all_rows}
 use Rattle.range_core.specs.Entries.{IsCountedEntry}

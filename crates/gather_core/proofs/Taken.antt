@@ -1,13 +1,20 @@
 -- Ranges by places that were taken, and what threads have taken together.
-use Rattle.std.proofs.Common.{◌≡◌, ℕ, ◌==◌, cond, true, false, List, [], ◌∷◌, ◌++◌, Option, Some, None, IfSome, refl, ap, ap₂, sym, subst, ◌∙◌, arith}
+use Rattle.std.proofs.Common.{◌≡◌, ℕ, ◌==◌, cond, Bool, true, false, List, [], ◌∷◌, ◌++◌, length, replicate, Option, Some, None, IfSome, refl, ap, ap₂, sym, subst, ◌∙◌, arith, append-nil}
 use Rattle.std.proofs.lemmas.List.Concat.{flat_map-append}
+use Rattle.std.proofs.lemmas.List.Elements.{All-nil, All-cons}
 use Rattle.std.proofs.lemmas.Option.{IfSome_then}
 use Rattle.gather_core.proofs.Common.{nat_tests, AllByRecursion, Entry, Happened, IsNumber, Keeps, IsAtMost, IsLegal, content_of, least_at, earlier}
 use Rattle.slot_table.proofs.Contents.{one_number}
 use Rattle.share_core.specs.WordShares.{IsSettled}
 use Rattle.gather_core.specs.Numbering.{IsNumbered, AreNumbered}
+use Rattle.gather_core.specs.declared.taking.Numbering.{Numbering}
+use Rattle.gather_core.specs.Inner.Taking.{AreTaken}
+use Rattle.slot_table.specs.Passes.{Known, IsPassOf}
 use Rattle.range_core.specs.Totals.{Total, together, count_at, total_of, all_of, everything}
-use Rattle.range_core.proofs.Adding.{together_none, together_assoc, together_comm, total_append}
+use Rattle.range_core.specs.Ranges.{AreDealtBy}
+use Rattle.range_core.specs.Words.{word_ranges, range_of_word}
+use Rattle.range_core.proofs.Adding.{together_comm, total_append}
+use Rattle.range_core.proofs.Dealt.{empty_long, empty_dealt, empty_total}
 
 -- what several workers count, and others
 pub everything_append : (shape : ℕ) (some more : List (List (List Entry))) →
@@ -23,17 +30,6 @@ pub both_totals : (some more : List (List (List Entry))) (front back : List (Lis
     (shape : ℕ) → total_of shape (everything (some ++ more)) ≡ total_of shape (all_of (front ++ back))
 both_totals some more front back low high shape =
     everything_append shape some more ∙ ap₂ together (low shape) (high shape) ∙ sym (all_append shape front back)
-
--- a range more was dealt
-pub popped_total : (shape : ℕ) (front : List (List Entry)) (range : List Entry) (all : List (List Entry)) (had new whole : Option Total) → all ≡ front ++ range ∷ [] →
-    new ≡ together had (total_of shape range) → together (total_of shape (all_of all)) had ≡ whole → together (total_of shape (all_of front)) new ≡ whole
-popped_total shape front range all had new whole is more known =
-    let left = total_of shape (all_of front) in
-    let one = total_of shape range in
-    let last : total_of shape (all_of all) ≡ together left one =
-    ap (λ (l : List (List Entry)). total_of shape (all_of l)) is ∙ all_append shape front (range ∷ [])
-    ∙ ap (together left) (total_append shape range [] ∙ together_none one) in
-    ap (together left) (more ∙ together_comm had one) ∙ sym (together_assoc left one had) ∙ ap (λ t. together t had) (sym last) ∙ known
 
 -- ---- numbers
 at_most : (least : Option ℕ) (one other : Option ℕ) → IfSome one (IsAtMost least) → IfSome other (IsAtMost least) → IfSome (earlier one other) (IsAtMost least)
@@ -67,3 +63,49 @@ pub settled_numbered : {n : ℕ} {seen : List Happened} → IsLegal n seen → (
 settled_numbered legal [] all shape = tt
 settled_numbered legal (entry ∷ entries) all shape =
     numbered_both legal shape (count_at shape entry) (total_of shape entries) (one_numbered shape entry all.0) (settled_numbered legal entries all.1 shape)
+
+-- ---- what a thread takes
+-- the lists of one thread
+one_thread : (shape : ℕ) (words : List (List Entry)) → total_of shape (everything (words ∷ [])) ≡ total_of shape (all_of words)
+one_thread shape words = ap (total_of shape) (append-nil (all_of words))
+
+module _ {O : Type 0} (numbering : Numbering O) where
+  abbrev Long : List (List Entry) → Type 0
+  Long words = length words ≡ word_ranges
+
+  abbrev Dealt : List (List Entry) → Type 0
+  Dealt words = AreDealtBy (range_of_word numbering.cuts.now) words
+
+  -- no range was taken yet
+  pub none_taken : (pass : Known O) (words : List (List Entry)) → IsPassOf numbering.table.now pass → words ≡ replicate word_ranges [] → AreTaken numbering [] pass true (words ∷ [])
+  none_taken pass words of is =
+      let none : (shape : ℕ) → total_of shape (everything (words ∷ [])) ≡ None =
+      λ shape. one_thread shape words ∙ ap (λ (l : List (List Entry)). total_of shape (all_of l)) is ∙ empty_total word_ranges shape in
+      record {
+        pass = of;
+        long = All-cons Long words [] (ap length is ∙ empty_long word_ranges) (All-nil Long);
+        dealt = All-cons Dealt words [] (subst Dealt (sym is) (empty_dealt (range_of_word numbering.cuts.now) word_ranges)) (All-nil Dealt);
+        totals = none;
+        numbered = λ told shape. subst (IsNumbered numbering.table.now.slots pass.seen shape) (sym (none shape)) tt;
+      }
+
+  -- one more was: what it counts was dealt, and is numbered where all is
+  pub one_taken : (ranges : List (List Entry)) (range entries : List Entry) (old new : Known O) (was is : Bool) (before after : List (List Entry)) →
+      AreTaken numbering ranges old was (before ∷ []) → IsPassOf numbering.table.now new → Keeps numbering.table.now.slots old.seen new.seen →
+      (is ≡ true → was ≡ true) → (is ≡ true → AreNumbered numbering.table.now.slots new.seen entries) → Long after → Dealt after →
+      ((shape : ℕ) → total_of shape (all_of after) ≡ together (total_of shape (all_of before)) (total_of shape entries)) →
+      ((shape : ℕ) → total_of shape entries ≡ total_of shape range) → AreTaken numbering (range ∷ ranges) new is (after ∷ [])
+  one_taken ranges range entries old new was is before after had pass keeps still numbered long dealt totals same =
+      let so_far = λ (shape : ℕ). total_of shape (everything (before ∷ [])) in
+      let total : (shape : ℕ) → total_of shape (everything (after ∷ [])) ≡ together (so_far shape) (total_of shape entries) =
+      λ shape. one_thread shape after ∙ totals shape ∙ ap (λ t. together t (total_of shape entries)) (sym (one_thread shape before)) in
+      record {
+        pass = pass;
+        long = All-cons Long after [] long (All-nil Long);
+        dealt = All-cons Dealt after [] dealt (All-nil Dealt);
+        totals = λ shape. total shape ∙ ap₂ together (had.totals shape) (same shape)
+            ∙ together_comm (total_of shape (all_of ranges)) (total_of shape range) ∙ sym (total_append shape range (all_of ranges));
+        numbered = λ told shape. subst (IsNumbered numbering.table.now.slots new.seen shape) (sym (total shape))
+            (numbered_both pass.legal shape (so_far shape) (total_of shape entries)
+            (numbered_later shape (so_far shape) keeps (had.numbered (still told) shape)) (numbered told shape));
+      }

@@ -6,7 +6,7 @@ ghost use Rattle.gather_core.specs.Inner.Covering.{AreNoted, IsCoverFault};
 ghost use Rattle.harvest_faults.specs.declared.faults.HarvestFault.TheVariants as fault;
 
 use harvest_faults::HarvestFault;
-use share_core::{Share, WordShare};
+use share_core::Share;
 use std::alloc::Global;
 
 /// Which games were seen, and the least one that was seen twice.
@@ -61,21 +61,6 @@ fn seen_of(alloc: Global, games: u64, shares: &[Share]) -> Result<Seen, HarvestF
     Ok(seen)
 }
 
-/// The same of shares by words.
-fn seen_in(alloc: Global, games: u64, shares: &[WordShare]) -> Result<Seen, HarvestFault>
-    requires { All (λ share. All (λ game. game < games) share.games) shares.now }
-    ensures long { IfOk result (λ seen. length seen.games.items ≡ games) }
-    ensures noted { IfOk result (AreNoted (all_games shares.now)) }
-    ensures fault { IfErr result (λ found. found ≡ fault.Memory) }
-{
-    let games = vec![in alloc; false; games as usize]?;
-    let mut seen = Seen { games, twice: None };
-    for share in shares {
-        note_all(&mut seen, share.games());
-    }
-    Ok(seen)
-}
-
 /// Whether each number below `games` is one of the games that were seen, once, and no other is.
 fn judge(seen: &Seen, games: u64) -> Result<(), HarvestFault>
     requires { length seen.now.games.items ≡ games }
@@ -101,19 +86,5 @@ pub(crate) fn check_games(alloc: Global, games: u64, shares: &[Share]) -> Result
     ensures fault { IfErr result (IsCoverFault games (all_games shares.now)) }
 {
     let seen = seen_of(alloc, games, shares)?;
-    judge(&seen, games)
-}
-
-/// The same of shares by words.
-pub(crate) fn check_words(
-    alloc: Global,
-    games: u64,
-    shares: &[WordShare],
-) -> Result<(), HarvestFault>
-    requires { All (λ share. All (λ game. game < games) share.games) shares.now }
-    ensures ok { OnOk result (Covers games (all_games shares.now)) }
-    ensures fault { IfErr result (IsCoverFault games (all_games shares.now)) }
-{
-    let seen = seen_in(alloc, games, shares)?;
     judge(&seen, games)
 }

@@ -20,4 +20,4 @@ mod totals;
 
 pub use confirming::confirm_full;
 pub use gathering::gather;
-pub use gathering_words::gather_words;
+pub use gathering_words::{GatheredWords, gather_words};

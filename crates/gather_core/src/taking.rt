@@ -1,20 +1,21 @@
 //! Ranges by places, taken by threads: each is added up, its patterns get their numbers, and are
 //! dealt to ranges of words.
-ghost use Rattle.std.specs.Prelude.{◌≡◌, ◌++◌, ℕ, List, length, IfOk, IfErr, IfSome, OnOk};
+ghost use Rattle.std.specs.Prelude.{◌≡◌, ◌++◌, ◌∷◌, [], true, List, length, IfOk, IfErr, IfSome};
+ghost use Rattle.std.specs.Prelude.{OnOk};
 ghost use Rattle.std.specs.Bool.{OnTrue};
 ghost use Rattle.std.specs.Thread.{IsSync};
 ghost use Rattle.shape_dict.specs.declared.entries.Entry.{Entry};
-ghost use Rattle.range_core.specs.Totals.{total_of, together, all_of};
-ghost use Rattle.range_core.specs.Ranges.{AreDealtBy};
-ghost use Rattle.range_core.specs.Words.{word_ranges, range_of_word};
+ghost use Rattle.range_core.specs.Words.{word_ranges};
+ghost use Rattle.slot_table.specs.History.{Keeps};
 ghost use Rattle.slot_table.specs.Passes.{IsPassOf};
 ghost use Rattle.harvest_faults.specs.declared.faults.HarvestFault.TheVariants as fault;
-ghost use Rattle.gather_core.specs.Inner.Taking.{IsTaken};
+ghost use Rattle.gather_core.specs.Inner.Taking.{AreTaken, IsTaken};
 ghost use Rattle.gather_core.specs.Numbering.{AreNumbered};
 
 use harvest_faults::HarvestFault;
 use probe_core::ProbeOrder;
 use range_core::{Cuts, EntryList, Lists, Range, Sums, WORD_RANGES};
+use shape_dict::Entry;
 use share_core::number_entries;
 use slot_table::{Pass, SlotTable};
 use std::alloc::Global;
@@ -22,7 +23,7 @@ use std::thread::{Threads, join};
 
 /// What threads share that take ranges.
 #[derive(Drop)]
-pub(crate) struct Desk<'t, O: ProbeOrder> {
+pub(crate) struct Numbering<'t, O: ProbeOrder> {
     pub alloc: Global,
     pub table: &'t SlotTable<O>,
     /// Where the ranges of words begin.
@@ -37,104 +38,133 @@ pub(crate) struct Desk<'t, O: ProbeOrder> {
 pub(crate) struct Taken<O: ProbeOrder> {
     pub pass: Pass<O>,
     pub lists: Vec<Lists>,
+    /// Whether each pattern has its number in the table.
+    pub numbered: bool,
 }
 
-/// Where a thread puts what it makes of one range after another.
+/// What a thread makes of one range after another.
 #[derive(Drop)]
-struct Hand {
+struct Workspace {
     sums: Sums,
     entries: EntryList,
     words: Lists,
+    /// Whether each pattern so far has its number in the table.
+    numbered: bool,
 }
 
-/// Adds a range up, gives its patterns numbers and deals them to ranges of words. The answer is
-/// whether it goes: a sum that passes 2^64 - 1 does not, nor a pattern for which no number is free.
+/// Gives the patterns of these entries their numbers, unless one was wanting before. The answer is
+/// whether none was and none is.
+fn number_more<O: ProbeOrder>(
+    table: &SlotTable<O>,
+    pass: &mut Pass<O>,
+    entries: &[Entry],
+    numbered: bool,
+) -> bool
+    requires pass { IsPassOf table.now pass.old }
+    ensures pass { IsPassOf table.now pass.new }
+    ensures keeps { Keeps table.now.slots pass.old.seen pass.new.seen }
+    ensures before { result ≡ true → numbered ≡ true }
+    ensures numbered { result ≡ true → AreNumbered table.now.slots pass.new.seen entries.now }
+{
+    // Where one is wanting, the others serve nothing, and would cost their time.
+    if !numbered {
+        return false;
+    }
+    number_entries(table, pass, entries).is_ok()
+}
+
+/// Adds a range up, gives its patterns numbers while there are any, and deals them to ranges of
+/// words. The answer is whether it can be added up: a sum that passes 2^64 - 1 cannot.
 ///
 /// # Errors
 ///
 /// `Memory` where memory was refused.
 fn take_range<O: ProbeOrder>(
-    desk: &Desk<'_, O>,
+    numbering: &Numbering<'_, O>,
     pass: &mut Pass<O>,
-    hand: &mut Hand,
+    work: &mut Workspace,
     range: Range,
 ) -> Result<bool, HarvestFault>
-    requires pass { IsPassOf desk.now.table.now pass.old }
-    requires len { length hand.old.words ≡ word_ranges }
-    requires dealt { AreDealtBy (range_of_word desk.now.cuts.now) hand.old.words }
-    requires numbered { AreNumbered desk.now.table.now.slots pass.old.seen
-        (all_of hand.old.words) }
-    ensures pass { IsPassOf desk.now.table.now pass.new }
-    ensures len { OnOk result (length hand.new.words ≡ word_ranges) }
-    ensures taken { IfOk result (λ goes. OnTrue goes
-        (AreDealtBy (range_of_word desk.now.cuts.now) hand.new.words
-        × ((shape : ℕ) → total_of shape (all_of hand.new.words)
-        ≡ together (total_of shape (all_of hand.old.words)) (total_of shape range)))) }
-    ensures numbered { IfOk result (λ goes. OnTrue goes
-        (AreNumbered desk.now.table.now.slots pass.new.seen (all_of hand.new.words))) }
+    requires { (ranges : List (List Entry))
+        × AreTaken numbering.now ranges pass.old work.old.numbered (work.old.words ∷ []) }
+    ensures pass { IsPassOf numbering.now.table.now pass.new }
+    ensures len { OnOk result (length work.new.words ≡ word_ranges) }
+    ensures taken { (ranges : List (List Entry))
+        → AreTaken numbering.now ranges pass.old work.old.numbered (work.old.words ∷ [])
+        → IfOk result (λ added. OnTrue added (AreTaken numbering.now (range ∷ ranges) pass.new
+        work.new.numbered (work.new.words ∷ []))) }
     ensures fault { IfErr result (λ found. found ≡ fault.Memory) }
 {
-    if !range.sum_up(&mut hand.sums)? {
+    if !range.sum_up(&mut work.sums)? {
         return Ok(false);
     }
     // Its memory serves again for what comes after it.
     drop(range);
-    hand.entries.clear();
-    hand.sums.append_to(&mut hand.entries)?;
-    let Ok(()) = number_entries(desk.table, pass, hand.entries.as_slice()) else {
-        return Ok(false);
-    };
-    hand.words.deal(desk.cuts, &hand.entries)?;
+    work.entries.clear();
+    work.sums.append_to(&mut work.entries)?;
+    let entries = work.entries.as_slice();
+    work.numbered = number_more(numbering.table, pass, entries, work.numbered);
+    work.words.deal(numbering.cuts, &work.entries)?;
     Ok(true)
 }
 
-/// Takes one range after another. None where one does not go.
+/// Takes one range after another. None where one cannot be added up.
 ///
 /// # Errors
 ///
 /// `Memory` where memory was refused.
 fn take_alone<O: ProbeOrder>(
-    desk: &Desk<'_, O>,
+    numbering: &Numbering<'_, O>,
     pass: Pass<O>,
     ranges: Vec<Range>,
 ) -> Result<Option<Taken<O>>, HarvestFault>
-    requires { IsPassOf desk.now.table.now pass }
-    ensures taken { IfOk result (λ found. IfSome found (IsTaken desk.now ranges.items)) }
+    requires { IsPassOf numbering.now.table.now pass }
+    ensures taken { IfOk result (λ found. IfSome found (IsTaken numbering.now ranges.items)) }
     ensures fault { IfErr result (λ found. found ≡ fault.Memory) }
 {
     let mut pass = pass;
     let mut ranges = ranges;
-    let mut hand = Hand {
-        sums: Sums::new(desk.alloc),
-        entries: EntryList::new(desk.alloc),
-        words: Lists::empty(desk.alloc, WORD_RANGES, desk.room)?,
+    let mut work = Workspace {
+        sums: Sums::new(numbering.alloc),
+        entries: EntryList::new(numbering.alloc),
+        words: Lists::empty(numbering.alloc, WORD_RANGES, numbering.room)?,
+        numbered: true,
     };
     while let Some(range) = ranges.pop() {
-        if !take_range(desk, &mut pass, &mut hand, range)? {
+        if !take_range(numbering, &mut pass, &mut work, range)? {
             return Ok(None);
         }
     }
-    let mut lists = Vec::new(desk.alloc);
-    lists.push(hand.words)?;
-    Ok(Some(Taken { pass, lists }))
+    let Workspace {
+        words,
+        numbered,
+        ..
+    } = work;
+    let mut lists = Vec::new(numbering.alloc);
+    lists.push(words)?;
+    Ok(Some(Taken {
+        pass,
+        lists,
+        numbered,
+    }))
 }
 
-/// What two threads have taken, together. None where one of them has nothing. The pass gets the
-/// calls of both.
+/// What two threads have taken, together: numbered where what each has taken is. None where one of
+/// them has nothing. The pass gets the calls of both.
 ///
 /// # Errors
 ///
 /// `Memory` where memory was refused.
 fn both_taken<O: ProbeOrder>(
-    desk: &Desk<'_, O>,
+    numbering: &Numbering<'_, O>,
     low: Option<Taken<O>>,
     high: Option<Taken<O>>,
 ) -> Result<Option<Taken<O>>, HarvestFault>
-    requires low { (ranges : List (List Entry)) × IfSome low (IsTaken desk.now ranges) }
-    requires high { (ranges : List (List Entry)) × IfSome high (IsTaken desk.now ranges) }
-    ensures taken { (front back : List (List Entry)) → IfSome low (IsTaken desk.now front)
-        → IfSome high (IsTaken desk.now back)
-        → IfOk result (λ found. IfSome found (IsTaken desk.now (front ++ back))) }
+    requires low { (ranges : List (List Entry)) × IfSome low (IsTaken numbering.now ranges) }
+    requires high { (ranges : List (List Entry)) × IfSome high (IsTaken numbering.now ranges) }
+    ensures taken { (front back : List (List Entry)) → IfSome low (IsTaken numbering.now front)
+        → IfSome high (IsTaken numbering.now back)
+        → IfOk result (λ found. IfSome found (IsTaken numbering.now (front ++ back))) }
     ensures fault { IfErr result (λ found. found ≡ fault.Memory) }
 {
     let (Some(low), Some(high)) = (low, high) else {
@@ -143,52 +173,62 @@ fn both_taken<O: ProbeOrder>(
     let Taken {
         mut pass,
         mut lists,
+        numbered,
     } = low;
     let Taken {
         pass: theirs,
         lists: mut more,
+        numbered: also,
     } = high;
-    desk.table.absorb(&mut pass, theirs);
+    numbering.table.absorb(&mut pass, theirs);
     lists.append(&mut more)?;
-    Ok(Some(Taken { pass, lists }))
+    Ok(Some(Taken {
+        pass,
+        lists,
+        numbered: numbered && also,
+    }))
 }
 
 /// Takes the ranges of two halves, each in a thread of its own where one can be started.
 #[cycle(taking)]
 fn take_both<R: Threads + Sync, O: ProbeOrder + Send + Sync>(
     rt: &R,
-    desk: &Desk<'_, O>,
+    numbering: &Numbering<'_, O>,
     depth: usize,
     pass: Pass<O>,
     low: Vec<Range>,
     high: Vec<Range>,
 ) -> Result<Option<Taken<O>>, HarvestFault>
-    requires { IsPassOf desk.now.table.now pass }
-    ensures taken { IfOk result (λ found. IfSome found (IsTaken desk.now (low.items ++ high.items))) }
+    requires { IsPassOf numbering.now.table.now pass }
+    ensures taken { IfOk result (λ found. IfSome found
+        (IsTaken numbering.now (low.items ++ high.items))) }
     ensures fault { IfErr result (λ found. found ≡ fault.Memory) }
 {
     let mut pass = pass;
-    let theirs = desk.table.split(&mut pass);
+    let theirs = numbering.table.split(&mut pass);
     let (low, high) = join(
         rt,
         || -> Result<Option<Taken<O>>, HarvestFault>
-            requires { IsSync R.row × IsPassOf desk.now.table.now pass }
-            ensures taken { IfOk result (λ found. IfSome found (IsTaken desk.entry.now low.items)) }
+            requires { IsSync R.row × IsPassOf numbering.now.table.now pass }
+            ensures taken { IfOk result (λ found. IfSome found
+                (IsTaken numbering.entry.now low.items)) }
             ensures fault { IfErr result (λ found. found ≡ fault.Memory) }
-        { take_ranges(rt, desk, depth, pass, low) },
+        { take_ranges(rt, numbering, depth, pass, low) },
         || -> Result<Option<Taken<O>>, HarvestFault>
-            requires { IsSync R.row × IsPassOf desk.now.table.now theirs }
-            ensures taken { IfOk result (λ found. IfSome found (IsTaken desk.entry.now high.items)) }
+            requires { IsSync R.row × IsPassOf numbering.now.table.now theirs }
+            ensures taken { IfOk result (λ found. IfSome found
+                (IsTaken numbering.entry.now high.items)) }
             ensures fault { IfErr result (λ found. found ≡ fault.Memory) }
-        { take_ranges(rt, desk, depth, theirs, high) },
+        { take_ranges(rt, numbering, depth, theirs, high) },
     );
-    both_taken(desk, low?, high?)
+    both_taken(numbering, low?, high?)
 }
 
 /// Takes ranges by places, halves of them in threads of their own where these can be started, and
-/// halves of these, `depth` times. None where a range does not go: a sum passes 2^64 - 1, or no
-/// number is free for a pattern. The pass must be of the table. It takes memory for the entries of
-/// each pattern once more, and gives back that of the ranges one by one.
+/// halves of these, `depth` times. None where a sum passes 2^64 - 1. A pattern for which no number
+/// is free is taken without one, and then not all are numbered. The pass must be of the table. It
+/// takes memory for the entries of each pattern once more, and gives back that of the ranges one by
+/// one.
 ///
 /// # Errors
 ///
@@ -196,19 +236,19 @@ fn take_both<R: Threads + Sync, O: ProbeOrder + Send + Sync>(
 #[cycle(taking)]
 pub(crate) fn take_ranges<R: Threads + Sync, O: ProbeOrder + Send + Sync>(
     rt: &R,
-    desk: &Desk<'_, O>,
+    numbering: &Numbering<'_, O>,
     depth: usize,
     pass: Pass<O>,
     ranges: Vec<Range>,
 ) -> Result<Option<Taken<O>>, HarvestFault>
-    requires { IsPassOf desk.now.table.now pass }
-    ensures taken { IfOk result (λ found. IfSome found (IsTaken desk.now ranges.items)) }
+    requires { IsPassOf numbering.now.table.now pass }
+    ensures taken { IfOk result (λ found. IfSome found (IsTaken numbering.now ranges.items)) }
     ensures fault { IfErr result (λ found. found ≡ fault.Memory) }
 {
     if depth == 0 {
-        return take_alone(desk, pass, ranges);
+        return take_alone(numbering, pass, ranges);
     }
     let mut low = ranges;
     let high = low.split_off(low.len() / 2)?;
-    take_both(rt, desk, depth - 1, pass, low, high)
+    take_both(rt, numbering, depth - 1, pass, low, high)
 }

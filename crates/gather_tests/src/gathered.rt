@@ -1,16 +1,19 @@
-//! Shares put together: games that are there twice or not at all, and what others did to a table.
-ghost use Rattle.std.specs.Prelude.{◌≡◌, ◌∷◌, [], ◌<◌, ◌≤◌};
+//! Shares put together: games that are there twice or not at all, what others did to a table, and a
+//! table that is too small.
+ghost use Rattle.std.specs.Prelude.{◌≡◌, ◌∷◌, [], ◌<◌, ◌≤◌, All, IfOk};
 ghost use Rattle.shape_core.specs.declared.words.Kinds.TheVariants as kinds;
 ghost use Rattle.slot_table.specs.Passes.{IsPassOf};
 ghost use Rattle.sgf_core.specs.Limit.{most_bytes};
+ghost use Rattle.share_core.specs.Shares.{IsShare};
+ghost use Rattle.gather_core.specs.Covering.{all_games};
 
-use gather_core::{confirm_full, gather, gather_words};
+use gather_core::{GatheredWords, confirm_full, gather, gather_words};
 use go_record::Record;
 use harvest_faults::HarvestFault;
 use probe_core::ProbeOrder;
 use shape_core::{Kinds, Word};
 use shape_dict::{Dictionary, Entry};
-use share_core::Share;
+use share_core::{Share, WordShare};
 use share_samples::{
     ALONE, EMPTY, ONE_POINT, TAKEN, TWO_POINTS, entry_of, first_share, record_of, share_of,
     table_of, words_of,
@@ -176,50 +179,70 @@ fn a_mark_of_another_differs(rt: HostRuntime) {
     assert!(rt; gathered_with_a_mark(&rt, rt.alloc()) == Some(differs));
 }
 
-/// Gathers what one worker has counted by words of two games, the games 0 and 1, as that of this
-/// many games.
+/// What two workers have counted by words: one of them these games, the games 0 and 1, and the
+/// other none.
+fn shares_by_words(
+    alloc: Global,
+    first: &Record,
+    second: &Record,
+) -> Result<Vec<WordShare>, HarvestFault>
+    ensures shares { IfOk result (λ shares. All IsShare shares.items) }
+    ensures kinds { IfOk result
+        (λ shares. All (λ share. share.kinds ≡ kinds.Squares) shares.items) }
+    ensures within { IfOk result
+        (λ shares. All (λ share. All (λ game. game < 2) share.games) shares.items) }
+    ensures games { IfOk result (λ shares. all_games shares.items ≡ 0 ∷ 1 ∷ []) }
+{
+    let mut shares = Vec::new(alloc);
+    shares.push(words_of(alloc, first, second)?)?;
+    shares.push(WordShare::begin(alloc, 0, Kinds::Squares, 1)?)?;
+    Ok(shares)
+}
+
+/// Gathers what was counted by words of two games, over a table of 2^exponent numbers.
 fn gathered_by_words<R: Threads + Sync>(
     rt: &R,
     alloc: Global,
     first: &Record,
     second: &Record,
-    games: u64,
-) -> Result<Option<Dictionary>, HarvestFault>
-    requires { 2 ≤ games }
-{
-    let Some((table, mut pass)) = table_of(alloc, 2) else {
+    exponent: u32,
+) -> Result<Option<GatheredWords>, HarvestFault> {
+    let Some((table, mut pass)) = table_of(alloc, exponent) else {
         return Err(HarvestFault::Memory);
     };
-    let words = words_of(alloc, first, second)?;
-    let mut shares = Vec::new(alloc);
-    shares.push(words)?;
-    gather_words(rt, alloc, Kinds::Squares, games, &table, &mut pass, shares)
+    let shares = shares_by_words(alloc, first, second)?;
+    gather_words(rt, alloc, Kinds::Squares, 2, &table, &mut pass, shares)
 }
 
-/// Whether both games are gathered by words as those of two games, and not as those of three.
-fn are_gathered<R: Threads + Sync>(
+/// Whether each pattern of the games of two points and of one has its number, over a table of
+/// 2^exponent numbers. None where the dictionary of both is not gathered.
+fn are_numbered<R: Threads + Sync>(
     rt: &R,
     alloc: Global,
-    first: &Record,
-    second: &Record,
-) -> Result<bool, HarvestFault> {
+    exponent: u32,
+) -> Result<Option<bool>, HarvestFault> {
+    let (Some(first), Some(second)) = (record_of(alloc, TWO_POINTS), record_of(alloc, ONE_POINT))
+    else {
+        return Err(HarvestFault::Memory);
+    };
+    let Some(words) = gathered_by_words(rt, alloc, &first, &second, exponent)? else {
+        return Ok(None);
+    };
     let wanted = [
         entry_of(EMPTY, 2, 1, 0),
         entry_of(TAKEN, 1, 1, 0),
         entry_of(ALONE, 1, 1, 1),
     ];
-    let is_right = match gathered_by_words(rt, alloc, first, second, 2)? {
-        Some(dictionary) => is_of(&dictionary, 2, 3) && has(&dictionary, &wanted),
-        None => false,
-    };
-    Ok(gathered_by_words(rt, alloc, first, second, 3)?.is_none() && is_right)
+    let is_right = is_of(&words.dictionary, 2, 3) && has(&words.dictionary, &wanted);
+    Ok(is_right.then_some(words.numbered))
 }
 
 #[test]
-fn shares_by_words_have_each_game(rt: HostRuntime) -> Result<(), Fail> {
-    let alloc = rt.alloc();
-    let first = record_of(alloc, TWO_POINTS).ok_or("no record")?;
-    let second = record_of(alloc, ONE_POINT).ok_or("no record")?;
-    assert!(rt; are_gathered(&rt, alloc, &first, &second) == Ok(true));
-    Ok(())
+fn each_pattern_of_shares_by_words_has_its_number(rt: HostRuntime) {
+    assert!(rt; are_numbered(&rt, rt.alloc(), 2) == Ok(Some(true)));
+}
+
+#[test]
+fn a_table_without_a_number_left_costs_no_pattern(rt: HostRuntime) {
+    assert!(rt; are_numbered(&rt, rt.alloc(), 1) == Ok(Some(false)));
 }

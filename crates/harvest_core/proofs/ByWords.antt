@@ -1,5 +1,5 @@
 -- What workers have counted of an input by words, game by game.
-use Rattle.std.proofs.Common.{◌≡◌, ℕ, ◌+◌, ◌≤◌, List, [], ◌∷◌, ◌++◌, ap, sym, subst, ◌∙◌, arith, All}
+use Rattle.std.proofs.Common.{ℕ, ◌≤◌, List, [], ◌∷◌, ◌++◌, sym, subst, ◌∙◌}
 use Rattle.std.proofs.lemmas.List.Elements.{All-push}
 use Rattle.go_record.specs.Actions.{Actions}
 use Rattle.shape_core.specs.declared.words.Kinds.{Kinds}
@@ -19,20 +19,16 @@ rises_more game actions old new added above rises =
 
 -- a game was added, and what was counted is still of games of the input
 pub counted_more : (bytes : List ℕ) (kinds : Kinds) (game : ℕ) (actions : Actions) (old new : Held) → IsGame bytes game actions →
-    IsAdded game actions old new → IsOfInput bytes kinds old → past old.games ≤ game → IsOfInput bytes kinds new
-counted_more bytes kinds game actions old new is added h above =
+    IsAdded game actions old new → IsOfInput bytes kinds old → IsOfInput bytes kinds new
+counted_more bytes kinds game actions old new is added h =
     let one : Added = record { game = game; actions = actions; occasions = added.occasions } in
     record {
       kinds_are = added.kinds ∙ h.kinds_are;
       added = h.added ++ one ∷ [];
       is_of = share_of_more h.added game actions old new added h.is_of;
       games = All-push (λ (a : Added). IsGame bytes a.game a.actions) h.added one h.games is;
-      rises = rises_more game actions old new added above h.rises;
     }
-
-pub past_added : {last : ℕ} (game : ℕ) (actions : Actions) (old new : Held) → IsAdded game actions old new → game + 1 ≤ last → past new.games ≤ last
-past_added game actions old new added up = (let e = ap past added.games ∙ past_on old.games game in omega (arith, e, up))
 
 -- what was worked over a table is of the input
 pub worked_of : (bytes : List ℕ) (kinds : Kinds) (share : Held) → IsWorked bytes kinds share → IsOfInput bytes kinds share
-worked_of bytes kinds share h = record { kinds_are = h.kinds_are; added = h.added; is_of = h.is_of; games = h.games; rises = h.rises }
+worked_of bytes kinds share h = record { kinds_are = h.kinds_are; added = h.added; is_of = h.is_of; games = h.games }

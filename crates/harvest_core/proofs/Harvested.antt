@@ -1,6 +1,6 @@
 -- Shares that were worked from an input and have each of its games once: they give its dictionary, and each pattern of that
--- has a number.
-use Rattle.std.proofs.Common.{◌≡◌, ℕ, ◌+◌, ◌<◌, ◌≤◌, ◌==◌, ◌||◌, nat_lt, eqb, true, false, cond, zero, suc, List, [], ◌∷◌, ◌++◌, length, map, get_or, Option, Some, None, refl, ap, ap₂, sym, subst, ◌∙◌, arith, add-zero, All, Contains}
+-- has a number where their rows stand in a table.
+use Rattle.std.proofs.Common.{◌≡◌, ℕ, ◌+◌, ◌<◌, ◌≤◌, ◌==◌, ◌||◌, nat_lt, eqb, true, false, cond, suc, List, [], ◌∷◌, ◌++◌, length, map, get_or, Some, None, refl, ap, ap₂, sym, subst, ◌∙◌, arith, add-zero, All, Contains}
 use Rattle.std.specs.Prelude.{slice_get}
 use Rattle.std.specs.List.{AllByRecursion, AllZip, IsDistinct, list_any}
 use Rattle.std.specs.List.Sorted.{IsStrictlyIncreasing}
@@ -43,8 +43,6 @@ use Rattle.gather_core.specs.Gathering.{AreWithin, HaveGames, IsGathered, gather
 use Rattle.gather_core.proofs.Numbered.{numbers_of}
 use Rattle.gather_core.proofs.Ordered.{there_some}
 use Rattle.gather_core.proofs.Gathered.{dictionary_of_shares}
-use Rattle.range_core.specs.Totals.{Total, together, count_at, total_of}
-use Rattle.gather_core.specs.Numbering.{IsNumbered, AreNumbered}
 use Rattle.harvest_core.specs.Working.{IsGame, IsOfInput}
 
 -- ---- the games that were added are those of the input
@@ -195,29 +193,6 @@ harvested bytes kinds shares report contents worked read covers gathered =
     }
 
 -- ---- the patterns of the dictionary
--- an entry that is there has a total
-some_total : (total : Total) (other : Option Total) → together (Some total) other ≡ None → ⊥
-some_total total None is = absurd cc
-some_total total (Some other) is = absurd cc
-
-total_some : (one other : Option Total) → (other ≡ None → ⊥) → together one other ≡ None → ⊥
-total_some None other some is = some is
-total_some (Some one) other some is = some_total one other is
-
-among_total : (entries : List Entry) (entry : Entry) → Contains entries entry → total_of entry.shape entries ≡ None → ⊥
-among_total [] entry (place, low, is) none = absurd (omega (arith, low))
-among_total (first ∷ entries) entry (zero, low, is) none =
-    let t : Total = record { there = first.there; played = first.played; first = first.first } in
-    let same : first.shape ≡ entry.shape = ap (λ (e : Entry). e.shape) is in
-    let here : count_at entry.shape first ≡ Some t = Prim.grind (arith, nat_tests, same) in
-    some_total t (total_of entry.shape entries) (ap (λ c. together c (total_of entry.shape entries)) (sym here) ∙ none)
-among_total (first ∷ entries) entry (suc place, low, is) none =
-    total_some (count_at entry.shape first) (total_of entry.shape entries) (among_total entries entry (place, omega (arith, low), is)) none
-
-number_of : (n : ℕ) (seen : List Happened) (shape : ℕ) (total : Option Total) → (total ≡ None → ⊥) → IsNumbered n seen shape total → (p : ℕ) × IsNumber (content_of n seen) shape p
-number_of n seen shape None some numbers = absurd (some refl)
-number_of n seen shape (Some total) some numbers = (numbers.0, numbers.1)
-
 gathered_some : (rows : List Row) (shape : ℕ) (entry : Entry) → gathered_entry rows shape ≡ Some entry → 0 < there_of rows shape
 gathered_some rows shape entry is =
     let e : Entry = record { shape = shape; there = there_of rows shape; played = played_of rows shape; first = first_of rows shape } in
@@ -300,8 +275,3 @@ numbered n seen kinds games shares contents stand gathered =
     let row = there_some rows entry.shape (gathered_some rows entry.shape entry (sym (gathered.entries entry.shape) ∙ is)) in
     (row.0.number, subst (λ shape. IsNumber (content_of n seen) shape row.0.number) row.2 (stand row.0 row.1)) in
     (each, few_patterns n seen entries rises each)
-
--- the same of what was counted by words
-pub few_numbers : (n : ℕ) (seen : List Happened) (entries : List Entry) → IsStrictlyIncreasing (shapes_of entries) → AreNumbered n seen entries → length entries ≤ n
-few_numbers n seen entries rises numbers = few_patterns n seen entries rises (λ entry among.
-    number_of n seen entry.shape (total_of entry.shape entries) (among_total entries entry among) (numbers entry.shape))

@@ -1,2 +1,6 @@
 pub mod Harvested
 pub mod ByWords
+mod Dealt
+mod Joined
+mod Many
+mod Working

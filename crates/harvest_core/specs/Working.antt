@@ -23,15 +23,14 @@ pub record IsPatternOfGame (bytes : List ℕ) (kinds : Kinds) (game shape : ℕ)
 abbrev pub IsPatternIn : List ℕ → Kinds → ℕ → Type 0
 IsPatternIn bytes kinds shape = (game : ℕ) × IsPatternOfGame bytes kinds game shape
 
--- a share is of games of the input, each once, since their numbers rise
+-- a share is of games of the input
 pub record IsOfInput (bytes : List ℕ) (kinds : Kinds) (share : Held) : Type 0 where
   pub kinds_are : share.kinds ≡ kinds
   pub added : List Added
   pub is_of : IsShareOf added share
   pub games : All (λ one. IsGame bytes one.game one.actions) added
-  pub rises : Rising 0 share.games (past share.games)
 
--- the same, and its rows are of patterns of such games
+-- the same, each game is there once, since their numbers rise, and its rows are of patterns of such games
 pub record IsWorked (bytes : List ℕ) (kinds : Kinds) (share : Held) : Type 0 where
   pub kinds_are : share.kinds ≡ kinds
   pub added : List Added

@@ -1,12 +1,12 @@
-//! A whole collection counted by one worker or several, with at most 2^k patterns.
+//! A whole collection counted by workers, with at most 2^k patterns.
 #![tactic(auto)]
 
-mod by_words;
-mod counting;
 mod gates;
+mod gathering;
 mod own_tables;
-mod parts;
-mod rounds;
+mod reading;
+mod threads;
+mod workers;
 
 pub use gates::{FreeGate, Gate};
 pub use own_tables::harvest;

@@ -1,27 +1,27 @@
-//! A whole collection, counted with nothing of anybody else's: by several workers over a table that
-//! likely has room for its patterns, or by one in a map.
+//! A whole collection, counted with nothing of anybody else's.
 ghost use Rattle.std.specs.Prelude.{◌≡◌, ◌⊎◌, ◌^◌, ◌<◌, ◌≤◌, length, IfOk, IfErr, IsErrAnd};
 ghost use Rattle.sgf_core.specs.Limit.{most_bytes};
 ghost use Rattle.sgf_core.specs.declared.faults.SgfFault.TheVariants as sgf;
-ghost use Rattle.tally_core.specs.Counted.{HasMore};
+ghost use Rattle.tally_core.specs.Counted.{HasMore, IsCounted};
 ghost use Rattle.harvest_faults.specs.declared.faults.HarvestFault.TheVariants as fault;
 ghost use Rattle.harvest_core.specs.Harvest.{IsCountedWithin, IsHarvestRefused};
 
-use crate::by_words::count_by_words;
 use crate::gates::Gate;
+use crate::gathering::{Harvested, count_by_words};
+use crate::reading::{Numbering, numbering_of};
 use harvest_faults::HarvestFault;
+use probe_core::Capacity;
 use shape_core::Kinds;
+use shape_dict::Dictionary;
+use share_core::number_entries;
 use std::alloc::Global;
+use std::sync::Wait;
 use std::thread::Threads;
-use tally_core::{Counted, Settings, count_within, first_beyond, one_first_beyond};
+use tally_core::{Counted, Settings, count_plain, first_beyond, one_first_beyond};
 
 /// How many slots a table has for each byte of the input. A move takes six bytes, and some 25
 /// points then have a new pattern of each kind, so few inputs need more.
 const SLOTS_A_BYTE: usize = 16;
-
-/// In how many threads the entries of a count by one worker are put in order. Their parts are of
-/// unlike sizes: with one for each of four processors, some wait for the largest.
-const ALONE_THREADS: usize = 8;
 
 /// The exponent of a table that mostly has room for the patterns of this many bytes, but at most
 /// this one.
@@ -36,8 +36,7 @@ fn likely_exponent(bytes: usize, most: u32) -> u32
 /// which they are first more and the first game that has it, unless it cannot be read.
 fn first_too_many(alloc: Global, kinds: Kinds, most: usize, bytes: &[u8]) -> HarvestFault
     requires { HasMore kinds bytes.now most }
-    ensures large { most_bytes < length bytes.now → result ≡ fault.Sgf sgf.TooLarge }
-    ensures refused { IsHarvestRefused most bytes.now kinds result }
+    ensures { IsHarvestRefused most bytes.now kinds result }
 {
     one_first_beyond();
     match first_beyond(alloc, kinds, most, bytes) {
@@ -50,44 +49,66 @@ fn first_too_many(alloc: Global, kinds: Kinds, most: usize, bytes: &[u8]) -> Har
     }
 }
 
-/// The same as `harvest`, by this thread in a map that nobody shares.
-fn count_alone<R: Threads + Sync>(
-    rt: &R,
+/// What was counted of a collection, where it has at most this many patterns.
+///
+/// # Errors
+///
+/// `Full` with the pattern with which they are first more, and the first game that has it; `Memory`
+/// where memory was refused.
+fn within(
     alloc: Global,
-    settings: Settings,
+    kinds: Kinds,
+    most: usize,
     bytes: &[u8],
+    counted: Counted,
 ) -> Result<Counted, HarvestFault>
-    ensures large { most_bytes < length bytes.now
-        → IfErr result (λ found. found ≡ fault.Sgf sgf.TooLarge) }
-    ensures harvest { IfOk result
-        (IsCountedWithin (2 ^ settings.k) settings.kinds bytes.now) }
-    ensures fault { IfErr result (IsHarvestRefused (2 ^ settings.k) bytes.now settings.kinds) }
+    requires { IsCounted kinds bytes.now counted }
+    ensures counted { IfOk result (IsCountedWithin most kinds bytes.now) }
+    ensures fault { IfErr result (IsHarvestRefused most bytes.now kinds) }
 {
-    let most = 1 << settings.k();
-    let kinds = settings.kinds();
-    match count_within(rt, alloc, kinds, most, ALONE_THREADS, bytes)? {
-        Some(counted) => Ok(counted),
-        None => Err(first_too_many(alloc, kinds, most, bytes)),
+    if counted.dictionary.entries().len() > most {
+        return Err(first_too_many(alloc, kinds, most, bytes));
     }
+    Ok(counted)
 }
 
-/// Counts a whole collection by one worker or several, with at most 2^k patterns, where the
-/// settings have the number of workers, the exponent k and the kinds of pattern. It answers what
-/// `count_plain` answers, whatever the gate, the number of workers and their turns. This project's
-/// own.
+/// Numbers the patterns of a dictionary in a new table of 2^k slots.
 ///
-/// One worker alone needs no table that threads share: this thread counts then, in a map, while
-/// another one walks games for it, threads sort what it has counted, and the gate is not called.
-/// Several workers, numbered from 0, each take one game after another that nobody has taken, and
-/// append what it meets to lists of their own; the gate is called before each game. They are as
-/// many as the settings say, but no more than there are processors, and three at least. The games
-/// are read in parts, each while the one before is counted. When no game is left, threads add the
-/// lists up, give the patterns numbers in one table, which has 2^k slots, or fewer for a small
-/// input, and put them in order. A worker whose thread cannot be started works in another one's.
+/// # Errors
 ///
-/// Where that table had no number for a pattern, this thread counts all once more as one worker
-/// does. It takes memory for the table, for the records of two parts of the games, for each worker
-/// for what its games meet, and for the dictionary.
+/// `Memory` where memory for the table was refused.
+fn number_again(alloc: Global, k: u32, dictionary: &Dictionary) -> Result<(), HarvestFault>
+    requires { k ≤ 22 }
+    ensures { IfErr result (λ found. found ≡ fault.Memory) }
+{
+    let Some(capacity) = Capacity::new(k) else {
+        return Err(HarvestFault::BadSettings);
+    };
+    let Numbering { table, mut pass } = numbering_of(alloc, capacity)?;
+    let _ = number_entries(&table, &mut pass, dictionary.entries());
+    Ok(())
+}
+
+/// Counts a whole collection by workers, with at most 2^k patterns, where the settings have the
+/// number of workers, the exponent k and the kinds of pattern. It answers what `count_plain`
+/// answers, whatever the gate, the number of workers and their turns. This project's own.
+///
+/// As many threads count as the settings have workers, and this one, but no more than there are
+/// processors, and two at least. They are numbered from 0. This one is 0: it reads, and puts a job
+/// of each game into a queue, from which the others draw. It counts the games for which the queue
+/// has no room, and draws with the others when all is read. Each appends what its games meet to
+/// lists of its own; the gate is called before each game. Each game is counted once, as all ends of
+/// the queue prove together. Where a thread cannot be started, the others draw its games. When no
+/// game is left, threads add the lists up, give the patterns numbers in one table, which has 2^k
+/// slots, or fewer for a small input, and put them in order. Where that table had no number for a
+/// pattern, this thread numbers all of them once more, in a table of 2^k slots; nothing is counted
+/// twice.
+///
+/// Calls at the queue may wait for a thread that is in the middle of one, and each thread waits for
+/// items until it has drawn an end: that this call ends rests on the calls that wait keeping their
+/// promise, which no clause says. It takes memory for the tables, for the queue and the records of
+/// the games in it, 128 at most, for each thread for what its games meet and for a board, and for
+/// the dictionary.
 ///
 /// # Errors
 ///
@@ -96,7 +117,7 @@ fn count_alone<R: Threads + Sync>(
 /// else `Full` where it has more than 2^k patterns. `Full` names the pattern with which the
 /// patterns, in the order of the games and of their walks, are first more than 2^k, and the first
 /// game that has it. No other fault comes.
-pub fn harvest<R: Threads + Sync, G: Gate>(
+pub fn harvest<R: Threads + Wait + Sync, G: Gate>(
     rt: &R,
     alloc: Global,
     settings: Settings,
@@ -109,11 +130,24 @@ pub fn harvest<R: Threads + Sync, G: Gate>(
         (IsCountedWithin (2 ^ settings.k) settings.kinds bytes.now) }
     ensures fault { IfErr result (IsHarvestRefused (2 ^ settings.k) bytes.now settings.kinds) }
 {
-    if settings.workers() > 1 {
-        let likely = likely_exponent(bytes.len(), u32::from(settings.k()));
-        if let Some(counted) = count_by_words(rt, alloc, settings, likely, bytes, gate)? {
-            return Ok(counted);
+    let kinds = settings.kinds();
+    let k = u32::from(settings.k());
+    let most = 1 << settings.k();
+    let likely = likely_exponent(bytes.len(), k);
+    match count_by_words(rt, alloc, settings, likely, bytes, gate) {
+        Ok(Some(harvested)) => {
+            let Harvested { counted, numbered } = harvested;
+            let counted = within(alloc, kinds, most, bytes, counted)?;
+            if !numbered && likely < k {
+                number_again(alloc, k, &counted.dictionary)?;
+            }
+            Ok(counted)
         }
+        // No input is so large; but no clause says so here.
+        Ok(None) | Err(HarvestFault::Overflow) => {
+            let counted = count_plain(alloc, kinds, bytes)?;
+            within(alloc, kinds, most, bytes, counted)
+        }
+        Err(fault) => Err(fault),
     }
-    count_alone(rt, alloc, settings, bytes)
 }

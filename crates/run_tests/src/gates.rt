@@ -56,7 +56,7 @@ fn text_over_new<R: Threads + Wait + Sync, G: Gate>(
 }
 
 /// The same by `harvest`.
-fn text_of_harvest<R: Threads + Sync, G: Gate>(
+fn text_of_harvest<R: Threads + Wait + Sync, G: Gate>(
     rt: &R,
     alloc: Global,
     workers: u8,
@@ -188,7 +188,11 @@ impl Gate for Notes {
 }
 
 /// What a gate notes while three workers count this collection.
-fn noted<R: Threads + Sync>(rt: &R, alloc: Global, bytes: &[u8]) -> Result<(u64, u64), Fail> {
+fn noted<R: Threads + Wait + Sync>(
+    rt: &R,
+    alloc: Global,
+    bytes: &[u8],
+) -> Result<(u64, u64), Fail> {
     let gate = Notes {
         told: AtomicU64::new(0),
         strange: AtomicU64::new(0),

@@ -7,11 +7,12 @@ use engine_core::{RunFault, own_words};
 use shapes_line::read_words;
 use std::io;
 use std::process::ExitCode;
+use std::sync::Wait;
 use std::thread::Threads;
 use tasks::{Answer, do_task, status_after};
 
 /// Fetches the words and does what they say. The threads that count are started through `threads`.
-fn run<T: Threads + Sync>(rt: &HostRuntime, threads: &T) -> Result<Answer, RunFault> {
+fn run<T: Threads + Wait + Sync>(rt: &HostRuntime, threads: &T) -> Result<Answer, RunFault> {
     let words = own_words(rt)?;
     let task = read_words(rt.alloc(), &words)?;
     do_task(threads, rt.alloc(), task, &mut rt.stdin(), &mut rt.stdout())

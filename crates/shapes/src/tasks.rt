@@ -8,6 +8,7 @@ use harvest_core::FreeGate;
 use shapes_line::Task;
 use std::alloc::Global;
 use std::io::{Read, Write};
+use std::sync::Wait;
 use std::thread::Threads;
 use tally_core::Report;
 
@@ -34,13 +35,14 @@ impl Answer {
 
 /// Does a task: `board`, `count`, `find` and `join` by their engines, each with the reader and the
 /// writer, and they read what their engines read; of help the text is written, and nothing is read.
-/// The threads that count are started through `threads`.
+/// The threads that count are started through `threads`. That a count ends rests on the calls that
+/// wait for another thread keeping their promise.
 ///
 /// # Errors
 ///
 /// Those of the engine, and what is out then is what the engine says. `Write` where a text of help
 /// was not written whole.
-pub fn do_task<T: Threads + Sync, R: Read, W: Write>(
+pub fn do_task<T: Threads + Wait + Sync, R: Read, W: Write>(
     threads: &T,
     alloc: Global,
     task: Task,

@@ -127,9 +127,10 @@ from_first games (one ∷ added) at = ((one.game, sym (zero-add one.game), at.0.
 pub all_of_input : (bytes : List ℕ) (kinds : Kinds) (shares : List Held) → All (IsWorked bytes kinds) shares → All (IsOfInput bytes kinds) shares
 all_of_input bytes kinds shares all = All-weaker (IsWorked bytes kinds) (IsOfInput bytes kinds) (worked_of bytes kinds) shares all
 
-share_few : (bytes : List ℕ) (kinds : Kinds) (share : Held) (report : Report) → HasReadAll bytes report → (h : IsOfInput bytes kinds share) → actions_of h.added ≤ 2 ^ 28
-share_few bytes kinds share report read h =
-    let rises = subst (λ games. Rising 0 games (past share.games)) h.is_of.games h.rises in
+share_few : (bytes : List ℕ) (kinds : Kinds) (share : Held) (report : Report) → HasReadAll bytes report → (h : IsOfInput bytes kinds share) → Rising 0 share.games (past share.games) →
+    actions_of h.added ≤ 2 ^ 28
+share_few bytes kinds share report read h up =
+    let rises = subst (λ games. Rising 0 games (past share.games)) h.is_of.games up in
     let at = added_at bytes kinds read.trees read.end read.written read.no_more share h in
     omega (arith, rising_few (games_of read.trees) 0 h.added (past share.games) rises (from_first (games_of read.trees) h.added at), input_few bytes report read)
 
@@ -145,7 +146,7 @@ never_refused bytes kinds (report, read) (game, actions, is, why) =
     (λ (large : (share : Held) × IsWorked bytes kinds share × IsTooLarge actions share).
     let h = worked_of bytes kinds large.0 large.1 in
     not_too_large h.added large.0 actions (share_sized bytes h.added (recursion_from_All (λ (one : Added). IsGame bytes one.game one.actions) h.added h.games)) h.is_of
-    (game_sized bytes game actions is) (share_few bytes kinds large.0 report read h) (omega (arith, few, read.small)) large.2)
+    (game_sized bytes game actions is) (share_few bytes kinds large.0 report read h large.1.rises) (omega (arith, few, read.small)) large.2)
     (λ (long : 2 ^ 64 ≤ 5410 * length actions.actions). absurd (omega (arith, long, few, read.small)))
     why
 

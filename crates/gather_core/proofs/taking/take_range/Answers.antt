@@ -1,20 +1,33 @@
-use Rattle.std.proofs.Common.{List, ap, sym, subst, ◌∙◌, All}
-use Rattle.std.proofs.lemmas.List.Elements.{recursion_from_All}
+use Rattle.std.proofs.Common.{◌≡◌, ℕ, List, [], ◌++◌, length, ap, subst, ◌∙◌}
+use Rattle.std.proofs.lemmas.Bool.{OnTrue_at}
+use Rattle.std.proofs.lemmas.List.Elements.{All-head}
 use Rattle.gather_core.proofs.Common.{Entry}
-use Rattle.range_core.specs.Totals.{total_of, all_of}
-use Rattle.share_core.specs.WordShares.{IsSettled}
-use Rattle.gather_core.specs.Numbering.{IsNumbered}
-use Rattle.gather_core.proofs.Taken.{numbered_later, numbered_both, settled_numbered}
+use Rattle.range_core.specs.Totals.{total_of}
+use Rattle.range_core.specs.Ranges.{AreDealtBy}
+use Rattle.range_core.specs.Words.{word_ranges, range_of_word}
+use Rattle.gather_core.specs.Numbering.{AreNumbered}
+use Rattle.gather_core.proofs.Taken.{one_taken}
 use Rattle.gather_core.proofs.taking.take_range.Goals as goal
 
-pub returns-clause-numbered : goal.returns-clause-numbered
-returns-clause-numbered g c shape =
-    let n = c.args.desk.now.table.now.slots in
-    let seen = c.number_entries.new.pass.seen in
-    let legal = c.number_entries.ensures.pass.legal in
+pub deal-requires-clause-len : goal.deal-requires-clause-len
+deal-requires-clause-len g c =
+    All-head (λ (words : List (List Entry)). length words ≡ word_ranges) c.args.work.now.words [] c.requires.1.long
+
+pub deal-requires-clause-dealt : goal.deal-requires-clause-dealt
+deal-requires-clause-dealt g c =
+    All-head (AreDealtBy (range_of_word c.args.numbering.now.cuts.now)) c.args.work.now.words [] c.requires.1.dealt
+
+pub returns-clause-taken : goal.returns-clause-taken
+returns-clause-taken g c ranges had =
+    let numbering = c.args.numbering.now in
     let entries = c.append_to.new.list in
-    let settled = subst (All (IsSettled n seen)) c.as_slice.ensures.value c.in-Ok.ensures.settled in
-    let old = total_of shape (all_of c.args.hand.now.words) in
-    subst (IsNumbered n seen shape) (sym (c.in_ok-deal.ensures.totals shape))
-    (numbered_both legal shape old (total_of shape entries) (numbered_later shape old c.number_entries.ensures.calls.later.keeps (c.requires.numbered shape))
-    (settled_numbered legal entries (recursion_from_All (IsSettled n seen) entries settled) shape))
+    let known = c.number_more-work.new.pass in
+    let all = c.number_more-work.result in
+    let more = c.number_more-work.ensures in
+    let same : (shape : ℕ) → total_of shape entries ≡ total_of shape c.args.range =
+    λ shape. ap (total_of shape) (c.in_ok-append_to.ensures ∙ ap (λ (l : List Entry). l ++ c.sum_up.new.sums) c.clear.ensures)
+    ∙ OnTrue_at c.if-not-branch.false c.in_ok-sum_up.ensures shape in
+    one_taken numbering ranges c.args.range entries c.args.pass.now known c.args.work.now.numbered all c.args.work.now.words c.deal.new.self
+    had more.pass more.keeps more.before
+    (λ told. subst (AreNumbered numbering.table.now.slots known.seen) c.as_slice-entries.ensures.value (more.numbered told))
+    c.in_ok-deal.ensures.len c.in_ok-deal.ensures.dealt c.in_ok-deal.ensures.totals same

@@ -1,0 +1,6 @@
+use Rattle.harvest_core.specs.Inner.Working.{GoesOn}
+use Rattle.harvest_core.proofs.workers.Worker.work.Given as goal
+
+-- what was drawn so far was counted
+abbrev pub invariant-loop : goal.invariant-loop
+invariant-loop g l = GoesOn l.fn.crowd l.fn.self l.worker

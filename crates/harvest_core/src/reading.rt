@@ -1,0 +1,148 @@
+//! The thread that reads: it puts a job of each game into the queue, and counts too.
+ghost use Rattle.std.specs.Prelude.{◌≡◌, true, ℕ, List, IfOk, IfErr, OnOk};
+ghost use Rattle.game_core.specs.Games.{HasReadAll};
+ghost use Rattle.job_core.specs.declared.items.Item.TheVariants as item;
+ghost use Rattle.job_core.specs.Rule.{MayPut};
+ghost use Rattle.job_core.specs.Inner.Rule.{IsInStep};
+ghost use Rattle.slot_table.specs.Passes.{IsPassOf};
+ghost use Rattle.harvest_faults.specs.declared.faults.HarvestFault.TheVariants as fault;
+ghost use Rattle.harvest_core.specs.Inner.Reading.{IsReadFault};
+ghost use Rattle.harvest_core.specs.Inner.Working.{HasCounted, IsAtWork, GoesOn};
+ghost use Rattle.harvest_core.specs.Inner.Dealt.{IsOffered, IsDealt, IsNewReader, IsReadingOf};
+
+use crate::gates::Gate;
+use crate::workers::{Crowd, Worker};
+use harvest_faults::HarvestFault;
+use job_core::{Games, Item, Job};
+use probe_core::{Capacity, OddRuns};
+use slot_table::{Pass, SlotTable};
+use std::alloc::Global;
+use std::sync::Wait;
+use tally_core::Report;
+
+/// The table that numbers all patterns, and its first pass.
+#[derive(Drop)]
+pub(crate) struct Numbering {
+    pub table: SlotTable<OddRuns>,
+    pub pass: Pass<OddRuns>,
+}
+
+/// A table of this capacity of which no number is taken.
+///
+/// # Errors
+///
+/// `Memory` where memory was refused.
+pub(crate) fn numbering_of(alloc: Global, capacity: Capacity) -> Result<Numbering, HarvestFault>
+    ensures pass { IfOk result (λ made. IsPassOf made.table made.pass) }
+    ensures fault { IfErr result (λ found. found ≡ fault.Memory) }
+{
+    let (table, pass) = SlotTable::new(alloc, OddRuns { capacity })?;
+    Ok(Numbering { table, pass })
+}
+
+/// Puts a job into the queue, and counts its game here where the queue is full.
+fn offer<'a, R: Wait, G: Gate>(
+    rt: &R,
+    crowd: &Crowd<'_, 'a>,
+    gate: &G,
+    own: &mut Worker<'_, 'a>,
+    job: Job<'a>,
+)
+    requires bytes { job.bytes ≡ crowd.now.bytes.now }
+    requires job { MayPut own.old.desk (item.Job job) }
+    requires counted { (games : List ℕ) × HasCounted crowd.now games own.old.counted }
+    ensures { IsOffered crowd.now job.entry own.old own.new }
+{
+    match own.desk.put(rt, Item::Job(job)) {
+        Ok(()) => (),
+        Err(Item::Job(back)) => own.count(crowd, gate, &back),
+        Err(Item::End) => (),
+    }
+}
+
+/// Deals out all games that are left: each is put into the queue, or counted here.
+///
+/// # Errors
+///
+/// `Sgf` with the input's first fault of syntax; `Memory` where memory was refused.
+fn deal_all<'a, R: Wait, G: Gate>(
+    rt: &R,
+    crowd: &Crowd<'_, 'a>,
+    gate: &G,
+    games: &mut Games<'a>,
+    own: &mut Worker<'_, 'a>,
+) -> Result<(), HarvestFault>
+    requires bytes { games.old.bytes ≡ crowd.now.bytes.now }
+    requires step { IsInStep games.old own.old.desk }
+    requires dealt { IsDealt crowd.now games.old.report.games own.old }
+    ensures desk { own.new.desk ≡ record own.old.desk { put = own.new.desk.put } }
+    ensures dealt { IsDealt crowd.now games.new.report.games own.new }
+    ensures all { OnOk result (HasReadAll crowd.now.bytes.now games.new.report) }
+    ensures fault { IfErr result (IsReadFault crowd.now.bytes.now) }
+{
+    loop {
+        match games.next_job(crowd.alloc)? {
+            Some(job) => offer(rt, crowd, gate, own, job),
+            None => return Ok(()),
+        }
+    }
+}
+
+/// Puts an end for each thread that counts, also for this one. Where the queue is full this thread
+/// makes room: it draws an item itself and counts its game, since no other may be there to draw.
+/// Should that item be an end, one more is put.
+fn close<R: Wait, G: Gate>(rt: &R, crowd: &Crowd<'_, '_>, gate: &G, own: &mut Worker<'_, '_>)
+    requires writes { own.old.desk.writes ≡ true }
+    requires work { IsAtWork crowd.now own.old }
+    ensures { GoesOn crowd.now own.old own.new }
+{
+    let mut left = usize::from(crowd.workers);
+    for _ in rt.forever() {
+        if left == 0 {
+            break;
+        }
+        if own.desk.put(rt, Item::End).is_ok() {
+            left -= 1;
+        } else if own.turn(rt, crowd, gate) {
+            left = left.saturating_add(1);
+        }
+    }
+}
+
+/// The result of the thread that reads.
+#[derive(Drop)]
+pub(crate) struct Reading<'q, 'a> {
+    pub own: Worker<'q, 'a>,
+    /// What the trees are that were read.
+    pub report: Report,
+    /// The table, or why not all trees were read.
+    pub numbering: Result<Numbering, HarvestFault>,
+}
+
+/// Reads all games and deals them out, puts an end for each thread, makes the table while the
+/// others count, and counts with them until it draws an end. It waits for the workers.
+pub(crate) fn read<'q, 'a, R: Wait, G: Gate>(
+    rt: &R,
+    crowd: &Crowd<'_, 'a>,
+    gate: &G,
+    games: Games<'a>,
+    own: Worker<'q, 'a>,
+) -> Reading<'q, 'a>
+    requires bytes { games.bytes ≡ crowd.now.bytes.now }
+    requires own { IsNewReader crowd.now games own }
+    ensures { IsReadingOf crowd.now own.entry.desk result }
+{
+    let mut games = games;
+    let mut own = own;
+    let outcome = deal_all(rt, crowd, gate, &mut games, &mut own);
+    close(rt, crowd, gate, &mut own);
+    let numbering = match outcome {
+        Ok(()) => numbering_of(crowd.alloc, crowd.capacity),
+        Err(fault) => Err(fault),
+    };
+    Reading {
+        own: own.work(rt, crowd, gate),
+        report: games.report(),
+        numbering,
+    }
+}
