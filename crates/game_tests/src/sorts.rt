@@ -1,10 +1,9 @@
-//! What threads put in order, and counts of no more patterns than wanted, from outside.
+//! What threads put in order, from outside.
 use go_board::Colour;
-use shape_core::{Kinds, Shape, Word, canonical};
+use shape_core::{Shape, Word, canonical};
 use shape_dict::{Entry, FirstGame, put_in_order};
 use std::process::Abort;
 use std::test::Fail;
-use tally_core::count_within;
 
 /// Enough entries for threads.
 const MANY: u64 = 5000;
@@ -61,16 +60,5 @@ fn first_games_and_those_before_them(rt: HostRuntime) -> Result<(), Fail> {
     // The last that can be told is 2^64 - 2.
     assert!(&rt; fifth.moved(u64::MAX - 5).and_then(|last| last.get()) == Some(u64::MAX - 1));
     assert!(&rt; fifth.moved(u64::MAX - 4) == None);
-    Ok(())
-}
-
-#[test]
-fn no_more_patterns_than_wanted(rt: HostRuntime) -> Result<(), Fail> {
-    // The first game has one pattern, and the second two others.
-    let input = b"(;SZ[1];B[aa])(;SZ[2:1];B[aa];W[ba])";
-    let three = count_within(&rt, rt.alloc(), Kinds::Squares, 3, 2, input)?;
-    assert!(&rt; three.is_some_and(|counted| counted.dictionary.entries().len() == 3));
-    let two = count_within(&rt, rt.alloc(), Kinds::Squares, 2, 2, input)?;
-    assert!(&rt; two.is_none());
     Ok(())
 }

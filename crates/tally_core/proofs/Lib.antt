@@ -28,7 +28,6 @@ pub mod Gathered
 pub mod PlayedThere
 pub mod PutTogether
 pub mod NextGame
-pub mod MorePatterns
 pub mod RowLookups
 pub mod WalkedGames
 pub mod WordSets

@@ -1,11 +1,11 @@
-//! Games that are read and walked, some at a time, before they are counted.
+//! Games that are read and walked before they are counted.
 ghost use Rattle.std.specs.Prelude.{◌≡◌, ◌<◌, ◌≤◌, ◌^◌, ℕ, length, None, IfOk, IfErr, IfSome};
 ghost use Rattle.std.specs.Prelude.{IfNone, OnOk, false};
 ghost use Rattle.sgf_core.specs.declared.faults.SgfFault.TheVariants as sgf;
 ghost use Rattle.game_core.specs.Reading.{HasNoGame};
 ghost use Rattle.tally_core.specs.Counted.{IsCountFault};
 ghost use Rattle.tally_core.specs.Faults.{reading_fault};
-ghost use Rattle.tally_core.specs.Inner.Walkers.{IsNextWalked, HasWalked};
+ghost use Rattle.tally_core.specs.Inner.Walkers.{IsNextWalked};
 ghost use Rattle.tally_core.specs.declared.faults.TallyFault.TheVariants as tally_fault;
 ghost use Rattle.sgf_core.specs.Limit.{most_bytes};
 
@@ -97,34 +97,5 @@ impl<'a> Walker<'a> {
             moves,
             meetings,
         }))
-    }
-
-    /// Walks games until they have this many meetings together or none is left, and lists them in
-    /// place of those that were listed. The answer is whether some may be left.
-    pub fn walk_on(
-        &mut self,
-        most: usize,
-        walked: &mut Vec<WalkedGame<'a>>,
-    ) -> Result<bool, TallyFault>
-        requires small { length self.old.games.bytes ≤ most_bytes }
-        requires no_fault { self.old.games.fault ≡ None }
-        requires some { 0 < most }
-        ensures kinds { self.new.walk.kinds ≡ self.old.walk.kinds }
-        ensures walked { IfOk result
-            (HasWalked self.old.walk.kinds self.old.games self.new.games walked.new.items) }
-        ensures fault { IfErr result (IsCountFault self.old.games.bytes) }
-        ensures met { IfErr result (λ found. IfSome self.new.games.fault
-            (λ met. found ≡ reading_fault met)) }
-    {
-        walked.clear();
-        let mut met: usize = 0;
-        'game: while met < most {
-            let Some(game) = self.next()? else {
-                return Ok(false);
-            };
-            met = met.saturating_add(game.meetings.len());
-            walked.push(game)?;
-        }
-        Ok(true)
     }
 }

@@ -1,7 +1,5 @@
 -- What a counter holds once some games of a collection were counted.
-use Rattle.std.specs.Prelude.{◌≡◌, ℕ, ◌*◌, ◌^◌, ◌<◌, ◌≤◌, nat_eq, List, map, length}
-use Rattle.std.specs.List.{IsDistinct}
-use Rattle.std.specs.Map.{keys_of}
+use Rattle.std.specs.Prelude.{◌≡◌, ℕ, ◌*◌, ◌≤◌, List, map, length}
 use Rattle.sgf_core.specs.Tree.{GameTree}
 use Rattle.game_core.specs.Collection.{AreTrees, record_of_tree, games_among}
 use Rattle.game_core.specs.Games.{HasReadAll}
@@ -40,11 +38,3 @@ pub record CountsAll (kinds : Kinds) (bytes : List ℕ) (report : Report) (count
 pub record IsEndOf (counter : Counter) (moves : ℕ) (entries : List Entry) : Type 0 where
   pub moves_left : counter.moves ≡ moves
   pub entered : AreEntered (count_in counter.counts) entries
-
--- some games of an input were counted, and they have more patterns than this
-pub record CountsMore (kinds : Kinds) (bytes : List ℕ) (most : ℕ) (counter : Counter) : Type 0 where
-  pub number : ℕ
-  pub up_to : CountsUpTo kinds bytes number counter
-  pub more : most < length counter.counts
-  pub once : IsDistinct nat_eq (keys_of counter.counts)
-  pub small : length counter.counts < 2 ^ 63

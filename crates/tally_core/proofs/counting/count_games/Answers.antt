@@ -5,8 +5,8 @@ use Rattle.tally_core.specs.Inner.Counting.{CountsUpTo}
 use Rattle.tally_core.proofs.NextGame.{counts_all}
 use Rattle.tally_core.proofs.counting.count_games.Goals as goal
 
-pub returns-in_default-clause-counted : goal.returns-in_default-clause-counted
-returns-in_default-clause-counted c =
+pub returns-clause-counted : goal.returns-clause-counted
+returns-clause-counted c =
     let kinds = c.args.walker.now.walk.kinds in
     let bytes = c.args.walker.now.games.bytes in
     let after = c.next.new.self.games in
