@@ -4,6 +4,7 @@ pub mod Dealt
 pub mod Climbing
 pub mod Joining
 pub mod ByWords
+pub mod Apart
 pub mod Ways
 pub mod RowTotals
 pub mod Recorded

@@ -50,28 +50,6 @@ impl EntryList {
         })
     }
 
-    /// These entries, each of which must count something.
-    pub(crate) fn of(entries: Vec<Entry>) -> EntryList
-        requires { All IsCountedEntry entries.items }
-        ensures { result ≡ entries.items }
-    {
-        EntryList { entries }
-    }
-
-    /// How many entries there are.
-    #[inline(always)]
-    pub(crate) fn len(&self) -> usize
-        ensures { result ≡ length self.now }
-    {
-        self.entries.len()
-    }
-
-    /// How many entries there is memory for.
-    #[inline(always)]
-    pub(crate) fn room(&self) -> usize {
-        self.entries.capacity()
-    }
-
     /// The entries, in their order.
     #[inline(always)]
     pub fn as_slice(&self) -> &[Entry]
@@ -81,12 +59,12 @@ impl EntryList {
         self.entries.as_slice()
     }
 
-    /// Appends the word of each entry to a list.
-    pub(crate) fn push_words(&self, words: &mut Vec<u64>) -> Result<(), AllocError> {
-        for entry in self.as_slice() {
-            words.push(entry.shape.word().bits())?;
-        }
-        Ok(())
+    /// The entries, in their order.
+    pub(crate) fn into_vec(self) -> Vec<Entry>
+        ensures value { result.items ≡ self }
+        ensures counted { All IsCountedEntry self }
+    {
+        self.entries
     }
 
     /// Appends an entry, which must count something. It takes memory where the room is used up.

@@ -6,6 +6,7 @@ mod dealing;
 mod entry_lists;
 mod lists;
 mod ordering;
+mod pieces;
 mod place_lists;
 pub mod places;
 mod ranges;
