@@ -1,4 +1,6 @@
-//! The examples of the pages of `sgf_core`, `go_board`, `go_record`, `game_core` and `tally_core`.
+//! The examples of the pages of `sgf_core`, `go_board`, `go_record`, `game_core`, `batch_core` and
+//! `tally_core`.
+use batch_core::{push_text, report_of};
 use game_core::{Games, GamesFault};
 use go_board::{Board, Colour, Point, Size, Stone};
 use go_record::{Kind, Record, read_record, replay};
@@ -74,6 +76,17 @@ fn game_core(rt: HostRuntime) -> Result<(), Fail> {
     assert!(rt; next_game(rt.alloc(), &mut games) == Ok(Some((0, 0, 14))));
     assert!(rt; next_game(rt.alloc(), &mut games) == Ok(None));
     assert!(rt; games.report().others == 1);
+    Ok(())
+}
+
+#[test]
+fn batch_core(rt: HostRuntime) -> Result<(), Fail> {
+    let alloc = rt.alloc();
+    let mut texts = Vec::new(alloc);
+    push_text(&mut texts, b"(;SZ[1];B[aa])")?;
+    push_text(&mut texts, b"(;GM[2]) and (;SZ[2];B[ab])")?;
+    let report = report_of(alloc, texts.as_slice())?;
+    assert!(rt; (report.games, report.others) == (2, 1));
     Ok(())
 }
 

@@ -1,5 +1,5 @@
 //! The examples of the pages of `probe_core`, `slot_table` and `job_core`.
-use job_core::{Desk, Games, Item, new_queue};
+use job_core::{Endpoint, Games, Item, new_queue};
 use probe_core::{Answer, Capacity, Key, OddStep, SoloTable};
 use slot_table::SlotTable;
 use std::alloc::Global;
@@ -33,10 +33,10 @@ fn slot_table(rt: HostRuntime) -> Result<(), Fail> {
 fn hand_first<R: Wait>(rt: &R, alloc: Global, input: &[u8]) -> Result<Option<u64>, TallyFault> {
     let mut games = Games::new(input)?;
     let (queue, pass) = new_queue(alloc, 1)?;
-    let mut desk = Desk::open(&queue, pass, input);
-    let mut own = desk.another();
+    let mut endpoint = Endpoint::open(&queue, pass, input);
+    let mut own = endpoint.another();
     if let Some(job) = games.next_job(alloc)? {
-        let _ = desk.put(rt, Item::Job(job));
+        let _ = endpoint.put(rt, Item::Job(job));
     }
     match own.draw(rt) {
         Some(Item::Job(job)) => Ok(Some(job.game())),

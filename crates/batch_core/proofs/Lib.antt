@@ -1,0 +1,5 @@
+pub mod Squares
+pub mod Shifted
+pub mod Records
+pub mod Parting
+pub mod Joined

@@ -1,0 +1,28 @@
+//! Laws of texts that are put together, each the contract of a function that does nothing.
+ghost use Rattle.std.specs.Prelude.{◌≡◌, ℕ, List, ◌++◌, map};
+ghost use Rattle.sgf_core.specs.Tree.{GameTree};
+ghost use Rattle.go_record.specs.Actions.{Actions};
+ghost use Rattle.game_core.specs.Collection.{record_of_tree, games_among};
+ghost use Rattle.batch_core.specs.Batch.{joined, AreAllTrees, AreGamesOf};
+
+/// The games of texts that are put together to one input are those of the texts, one after another.
+/// By the grammar the input can be read to its end where each of the texts can; that the reader
+/// takes at most 2^28 bytes is not part of this.
+pub fn games_of_joined()
+    ensures apart { (texts : List (List ℕ)) (games : List Actions) (trees : List GameTree)
+        → AreGamesOf texts games → AreAllTrees (joined texts) trees
+        → games_among (map record_of_tree trees) ≡ games }
+    ensures together { (texts : List (List ℕ)) (games : List Actions) → AreGamesOf texts games
+        → (trees : List GameTree) × AreAllTrees (joined texts) trees
+        × (games_among (map record_of_tree trees) ≡ games) }
+{}
+
+/// Texts have one list of games, and the games of two lists of texts, one after the other, are
+/// those of one list and then those of the other.
+pub fn games_come_together()
+    ensures one { (texts : List (List ℕ)) (games others : List Actions)
+        → AreGamesOf texts games → AreGamesOf texts others → games ≡ others }
+    ensures both { (texts others : List (List ℕ)) (games more : List Actions)
+        → AreGamesOf texts games → AreGamesOf others more
+        → AreGamesOf (texts ++ others) (games ++ more) }
+{}

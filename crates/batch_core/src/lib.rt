@@ -1,0 +1,8 @@
+//! Texts of games, put together to one input.
+#![tactic(auto)]
+
+mod laws;
+mod texts;
+
+pub use laws::{games_come_together, games_of_joined};
+pub use texts::{push_text, report_of};
