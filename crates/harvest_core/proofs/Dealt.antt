@@ -3,12 +3,12 @@ use Rattle.std.proofs.Common.{◌≡◌, ℕ, ◌+◌, ◌==◌, ◌⊎◌, nat_
 use Rattle.std.proofs.lemmas.Bool.Decides.{nat_tests}
 use Rattle.std.proofs.lemmas.List.Sums.{sum_by_push}
 use Rattle.game_core.specs.Games.{WrittenGame}
-use Rattle.job_core.specs.declared.hands.Hand.{Hand}
+use Rattle.job_core.specs.declared.knowledge.Knowledge.{Knowledge}
 use Rattle.job_core.specs.declared.items.Item.TheVariants.{Job}
 use Rattle.job_core.specs.Rule.{putting}
 use Rattle.job_core.proofs.Sums.{times_append}
 use Rattle.gather_core.specs.Covering.{times_of}
-use Rattle.harvest_core.specs.declared.workers.Crowd.{Crowd}
+use Rattle.harvest_core.specs.declared.workers.Shared.{Shared}
 use Rattle.harvest_core.specs.declared.workers.Worker.{Worker}
 use Rattle.harvest_core.specs.Inner.Working.{HasCounted, IsAtWork, GoesOn}
 use Rattle.harvest_core.specs.Inner.Dealt.{IsOnceEach, CountsGame, IsOffered, IsDealt}
@@ -43,63 +43,63 @@ once_back : (high : ℕ) (put back : List ℕ) → IsOnceEach high (put ++ back)
 once_back high put back once = once_more high (put ++ back) (put ++ (back ++ high ∷ []))
     (λ game. (let both = times_append game put (back ++ high ∷ []) in let was = times_append game put back in let last = times_push back high game in omega (arith, both, was, last))) once
 
-pub dealt_more : (crowd : Crowd) (job : WrittenGame) (before after : Worker) (high next : ℕ) → job.game ≡ high → next ≡ high + 1 →
-    IsOffered crowd job before after → IsDealt crowd high before → IsDealt crowd next after
-dealt_more crowd job before after high next is more offered h = ⊎_elim
-    (λ (put : (after.desk ≡ putting before.desk (Job job)) × (after.counted ≡ before.counted)). (let all : IsDealt crowd next after = record {
+pub dealt_more : (shared : Shared) (job : WrittenGame) (before after : Worker) (high next : ℕ) → job.game ≡ high → next ≡ high + 1 →
+    IsOffered shared job before after → IsDealt shared high before → IsDealt shared next after
+dealt_more shared job before after high next is more offered h = ⊎_elim
+    (λ (put : (after.endpoint ≡ putting before.endpoint (Job job)) × (after.counted ≡ before.counted)). (let all : IsDealt shared next after = record {
       back = h.back;
-      counted = subst (HasCounted crowd h.back) (sym put.1) h.counted;
-      once = subst (λ n. IsOnceEach n (after.desk.put ++ h.back)) (sym more)
-          (subst (λ (list : List ℕ). IsOnceEach (high + 1) (list ++ h.back)) (ap (λ g. before.desk.put ++ g ∷ []) (sym is) ∙ ap (λ (v : Hand). v.put) (sym put.0)) (once_put high before.desk.put h.back h.once));
+      counted = subst (HasCounted shared h.back) (sym put.1) h.counted;
+      once = subst (λ n. IsOnceEach n (after.endpoint.put ++ h.back)) (sym more)
+          (subst (λ (list : List ℕ). IsOnceEach (high + 1) (list ++ h.back)) (ap (λ g. before.endpoint.put ++ g ∷ []) (sym is) ∙ ap (λ (v : Knowledge). v.put) (sym put.0)) (once_put high before.endpoint.put h.back h.once));
     } in all))
-    (λ (here : (after.desk ≡ before.desk) × CountsGame crowd job.game before after). (let all : IsDealt crowd next after = record {
+    (λ (here : (after.endpoint ≡ before.endpoint) × CountsGame shared job.game before after). (let all : IsDealt shared next after = record {
       back = h.back ++ job.game ∷ [];
       counted = here.1 h.back h.counted;
-      once = subst (λ n. IsOnceEach n (after.desk.put ++ (h.back ++ job.game ∷ []))) (sym more)
-          (subst (λ (list : List ℕ). IsOnceEach (high + 1) (list ++ (h.back ++ job.game ∷ []))) (ap (λ (v : Hand). v.put) (sym here.0))
-          (subst (λ g. IsOnceEach (high + 1) (before.desk.put ++ (h.back ++ g ∷ []))) (sym is) (once_back high before.desk.put h.back h.once)));
+      once = subst (λ n. IsOnceEach n (after.endpoint.put ++ (h.back ++ job.game ∷ []))) (sym more)
+          (subst (λ (list : List ℕ). IsOnceEach (high + 1) (list ++ (h.back ++ job.game ∷ []))) (ap (λ (v : Knowledge). v.put) (sym here.0))
+          (subst (λ g. IsOnceEach (high + 1) (before.endpoint.put ++ (h.back ++ g ∷ []))) (sym is) (once_back high before.endpoint.put h.back h.once)));
     } in all))
     offered
 
--- the desk of either
-pub desk_of_offered : (crowd : Crowd) (job : WrittenGame) (before after : Worker) → IsOffered crowd job before after →
-    (after.desk ≡ putting before.desk (Job job)) ⊎ (after.desk ≡ before.desk)
-desk_of_offered crowd job before after offered = ⊎_elim
-    (λ (put : (after.desk ≡ putting before.desk (Job job)) × (after.counted ≡ before.counted)). inl put.0)
-    (λ (here : (after.desk ≡ before.desk) × CountsGame crowd job.game before after). inr here.0)
+-- the endpoint of either
+pub endpoint_of_offered : (shared : Shared) (job : WrittenGame) (before after : Worker) → IsOffered shared job before after →
+    (after.endpoint ≡ putting before.endpoint (Job job)) ⊎ (after.endpoint ≡ before.endpoint)
+endpoint_of_offered shared job before after offered = ⊎_elim
+    (λ (put : (after.endpoint ≡ putting before.endpoint (Job job)) × (after.counted ≡ before.counted)). inl put.0)
+    (λ (here : (after.endpoint ≡ before.endpoint) × CountsGame shared job.game before after). inr here.0)
     offered
 
--- a desk that has put something, and nothing else of it has changed
-abbrev pub HasPut : Hand → Hand → Type 0
+-- an endpoint that has put something, and nothing else of it has changed
+abbrev pub HasPut : Knowledge → Knowledge → Type 0
 HasPut before after = after ≡ record before { put = after.put }
 
-pub put_more : (job : WrittenGame) (first before after : Hand) → HasPut first before → (after ≡ putting before (Job job)) ⊎ (after ≡ before) → HasPut first after
+pub put_more : (job : WrittenGame) (first before after : Knowledge) → HasPut first before → (after ≡ putting before (Job job)) ⊎ (after ≡ before) → HasPut first after
 put_more job first before after so_far offered =
     let step : HasPut before after = ⊎_elim
-    (λ (put : after ≡ putting before (Job job)). put ∙ ap (λ (list : List ℕ). (let v : Hand = record before { put = list } in v)) (sym (ap (λ (v : Hand). v.put) put)))
-    (λ (back : after ≡ before). back ∙ ap (λ (list : List ℕ). (let v : Hand = record before { put = list } in v)) (sym (ap (λ (v : Hand). v.put) back)))
+    (λ (put : after ≡ putting before (Job job)). put ∙ ap (λ (list : List ℕ). (let v : Knowledge = record before { put = list } in v)) (sym (ap (λ (v : Knowledge). v.put) put)))
+    (λ (back : after ≡ before). back ∙ ap (λ (list : List ℕ). (let v : Knowledge = record before { put = list } in v)) (sym (ap (λ (v : Knowledge). v.put) back)))
     offered in
-    step ∙ ap (λ (v : Hand). (let w : Hand = record v { put = after.put } in w)) so_far
+    step ∙ ap (λ (v : Knowledge). (let w : Knowledge = record v { put = after.put } in w)) so_far
 
 -- ---- all games were dealt out, and then it drew
-module _ (crowd : Crowd) (first : Hand) (dealt : Worker) (high : ℕ) (put : HasPut first dealt.desk) (none : first.drawn ≡ []) (h : IsDealt crowd high dealt) where
-  counted_so_far : HasCounted crowd (h.back ++ dealt.desk.drawn) dealt.counted
+module _ (shared : Shared) (first : Knowledge) (dealt : Worker) (high : ℕ) (put : HasPut first dealt.endpoint) (none : first.drawn ≡ []) (h : IsDealt shared high dealt) where
+  counted_so_far : HasCounted shared (h.back ++ dealt.endpoint.drawn) dealt.counted
   counted_so_far =
-      let nothing : h.back ++ dealt.desk.drawn ≡ h.back = ap (λ (v : Hand). h.back ++ v.drawn) put ∙ ap (λ (list : List ℕ). h.back ++ list) none ∙ append-nil h.back in
-      subst (λ games. HasCounted crowd games dealt.counted) (sym nothing) h.counted
+      let nothing : h.back ++ dealt.endpoint.drawn ≡ h.back = ap (λ (v : Knowledge). h.back ++ v.drawn) put ∙ ap (λ (list : List ℕ). h.back ++ list) none ∙ append-nil h.back in
+      subst (λ games. HasCounted shared games dealt.counted) (sym nothing) h.counted
 
-  pub dealt_at_work : first.bytes ≡ crowd.bytes.now → IsAtWork crowd dealt
-  dealt_at_work is = record { bytes_are = ap (λ (v : Hand). v.bytes) put ∙ is; back = h.back; counted = counted_so_far }
+  pub dealt_at_work : first.bytes ≡ shared.bytes.now → IsAtWork shared dealt
+  dealt_at_work is = record { bytes_are = ap (λ (v : Knowledge). v.bytes) put ∙ is; back = h.back; counted = counted_so_far }
 
-  module _ (last : Worker) (on : GoesOn crowd dealt last) where
-    pub desk_of_reading : last.desk ≡ record first { put = last.desk.put; drawn = last.desk.drawn; ends_put = last.desk.ends_put; ends_drawn = last.desk.ends_drawn }
-    desk_of_reading =
-        on.desk
-        ∙ ap (λ (v : Hand). (let w : Hand = record v { drawn = last.desk.drawn; ends_put = last.desk.ends_put; ends_drawn = last.desk.ends_drawn } in w)) put
-        ∙ ap (λ (list : List ℕ). (let w : Hand = record first { put = list; drawn = last.desk.drawn; ends_put = last.desk.ends_put; ends_drawn = last.desk.ends_drawn } in w)) (sym (ap (λ (v : Hand). v.put) on.desk))
+  module _ (last : Worker) (on : GoesOn shared dealt last) where
+    pub endpoint_of_reading : last.endpoint ≡ record first { put = last.endpoint.put; drawn = last.endpoint.drawn; ends_put = last.endpoint.ends_put; ends_drawn = last.endpoint.ends_drawn }
+    endpoint_of_reading =
+        on.endpoint
+        ∙ ap (λ (v : Knowledge). (let w : Knowledge = record v { drawn = last.endpoint.drawn; ends_put = last.endpoint.ends_put; ends_drawn = last.endpoint.ends_drawn } in w)) put
+        ∙ ap (λ (list : List ℕ). (let w : Knowledge = record first { put = list; drawn = last.endpoint.drawn; ends_put = last.endpoint.ends_put; ends_drawn = last.endpoint.ends_drawn } in w)) (sym (ap (λ (v : Knowledge). v.put) on.endpoint))
 
-    pub counted_in_reading : HasCounted crowd (h.back ++ last.desk.drawn) last.counted
+    pub counted_in_reading : HasCounted shared (h.back ++ last.endpoint.drawn) last.counted
     counted_in_reading = on.counted h.back counted_so_far
 
-    pub once_in_reading : IsOnceEach high (last.desk.put ++ h.back)
-    once_in_reading = subst (λ (list : List ℕ). IsOnceEach high (list ++ h.back)) (sym (ap (λ (v : Hand). v.put) on.desk)) h.once
+    pub once_in_reading : IsOnceEach high (last.endpoint.put ++ h.back)
+    once_in_reading = subst (λ (list : List ℕ). IsOnceEach high (list ++ h.back)) (sym (ap (λ (v : Knowledge). v.put) on.endpoint)) h.once

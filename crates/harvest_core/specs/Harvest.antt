@@ -15,6 +15,12 @@ pub record IsCountedWithin (n : ℕ) (kinds : Kinds) (bytes : List ℕ) (counted
   pub counted_is : IsCounted kinds bytes counted
   pub few : length counted.dictionary.entries ≤ n
 
+-- why an input was not counted, of whatever many patterns: memory was refused; or it is too large or has a fault of syntax
+abbrev pub IsCountRefused : List ℕ → HarvestFault → Type 0
+IsCountRefused bytes fault.Memory = Unit {0}
+IsCountRefused bytes (fault.Sgf found) = IsCountFault bytes (tally.Sgf found)
+IsCountRefused bytes found = ⊥
+
 -- all trees of the input can be read
 abbrev pub IsRead : List ℕ → Type 0
 IsRead bytes = (report : Report) × HasReadAll bytes report

@@ -1,5 +1,5 @@
 -- What serves the contracts of private functions, and invariants: nothing here has to be believed.
-pub mod Crew
+pub mod Threads
 pub mod Dealt
 pub mod Reading
 pub mod Working

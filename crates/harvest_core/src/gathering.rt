@@ -5,23 +5,24 @@ ghost use Rattle.sgf_core.specs.Limit.{most_bytes};
 ghost use Rattle.sgf_core.specs.declared.faults.SgfFault.TheVariants as sgf;
 ghost use Rattle.tally_core.specs.Counted.{IsCounted};
 ghost use Rattle.harvest_faults.specs.declared.faults.HarvestFault.TheVariants as fault;
-ghost use Rattle.harvest_core.specs.Inner.Crew.{IsEnded};
-ghost use Rattle.harvest_core.specs.Inner.Reading.{IsCrewFault};
+ghost use Rattle.harvest_core.specs.Inner.Threads.{IsEnded};
+ghost use Rattle.harvest_core.specs.Harvest.{IsCountRefused};
+ghost use Rattle.harvest_core.specs.Inner.Reading.{IsThreadFault};
 
 use crate::gates::Gate;
 use crate::reading::Numbering;
 use crate::threads::{Ended, count_all};
-use crate::workers::Crowd;
+use crate::workers::Shared;
 use gather_core::{GatheredWords, gather_words};
 use harvest_faults::HarvestFault;
-use job_core::{Desk, Games, new_queue};
+use job_core::{Endpoint, Games, new_queue};
 use probe_core::Capacity;
 use shape_core::Kinds;
 use std::alloc::Global;
 use std::sync::Wait;
 use std::thread;
 use std::thread::Threads;
-use tally_core::{Counted, Settings};
+use tally_core::{Counted, count_plain};
 
 /// How many threads count at least: one reads, and the other counts meanwhile.
 const LEAST_THREADS: u8 = 2;
@@ -84,11 +85,11 @@ fn dictionary_of<R: Threads + Sync>(
     }))
 }
 
-/// Counts a collection by words in several threads: as many as the settings have workers, and this
-/// one, but no more than there are processors, and two at least. This one reads, and puts a job of
-/// each game into a queue, from which the others draw; it counts what the queue has no room for,
-/// and draws too when all is read. Their patterns get numbers in one new table of 2^exponent slots,
-/// which is made meanwhile. None where a sum of all threads passes 2^64 - 1.
+/// Counts a collection by words in several threads: as many as there are workers, and this one, but
+/// no more than there are processors, and two at least. This one reads, and puts a job of each game
+/// into a queue, from which the others draw; it counts what the queue has no room for, and draws
+/// too when all is read. Their patterns get numbers in one new table of 2^exponent slots, which is
+/// made meanwhile. None where a sum of all threads passes 2^64 - 1.
 ///
 /// It takes memory for the queue, for the records of the games in it, for the table, for each
 /// thread for what its games meet and for the board, and for the dictionary.
@@ -100,7 +101,8 @@ fn dictionary_of<R: Threads + Sync>(
 pub(crate) fn count_by_words<R: Threads + Wait + Sync, G: Gate>(
     rt: &R,
     alloc: Global,
-    settings: Settings,
+    kinds: Kinds,
+    workers: u8,
     exponent: u32,
     bytes: &[u8],
     gate: &G,
@@ -109,23 +111,60 @@ pub(crate) fn count_by_words<R: Threads + Wait + Sync, G: Gate>(
     ensures large { most_bytes < length bytes.now
         → IsErrAnd result (λ found. found ≡ fault.Sgf sgf.TooLarge) }
     ensures counted { IfOk result (λ found. IfSome found
-        (λ harvested. IsCounted settings.kinds bytes.now harvested.counted)) }
-    ensures fault { IfErr result (IsCrewFault bytes.now) }
+        (λ harvested. IsCounted kinds bytes.now harvested.counted)) }
+    ensures fault { IfErr result (IsThreadFault bytes.now) }
 {
     let Some(capacity) = Capacity::new(exponent) else {
         return Err(HarvestFault::BadSettings);
     };
     let games = Games::new(bytes)?;
     let (queue, seat) = new_queue(alloc, PLACES)?;
-    let kinds = settings.kinds();
-    let crowd = Crowd {
+    let shared = Shared {
         alloc,
         capacity,
         kinds,
-        workers: threads_for(rt, settings.workers()),
+        workers: threads_for(rt, workers),
         bytes,
         queue: &queue,
     };
-    let ended = count_all(rt, &crowd, gate, games, Desk::open(&queue, seat, bytes))?;
+    let ended = count_all(
+        rt,
+        &shared,
+        gate,
+        games,
+        Endpoint::open(&queue, seat, bytes),
+    )?;
     dictionary_of(rt, alloc, kinds, ended)
+}
+
+/// The same, where no sum is too large: should one be, this thread counts alone.
+///
+/// # Errors
+///
+/// `Sgf` with S4 where the input has more than 2^28 bytes, else with its first fault of syntax;
+/// `Memory` where memory was refused.
+pub(crate) fn count_in_threads<R: Threads + Wait + Sync, G: Gate>(
+    rt: &R,
+    alloc: Global,
+    kinds: Kinds,
+    workers: u8,
+    exponent: u32,
+    bytes: &[u8],
+    gate: &G,
+) -> Result<Harvested, HarvestFault>
+    requires { exponent ≤ 22 }
+    ensures large { most_bytes < length bytes.now
+        → IsErrAnd result (λ found. (found ≡ fault.Memory) ⊎ (found ≡ fault.Sgf sgf.TooLarge)) }
+    ensures counted { IfOk result (λ harvested. IsCounted kinds bytes.now harvested.counted) }
+    ensures fault { IfErr result (IsCountRefused bytes.now) }
+{
+    match count_by_words(rt, alloc, kinds, workers, exponent, bytes, gate) {
+        Ok(Some(harvested)) => Ok(harvested),
+        // No input is so large; but no clause says so here.
+        Ok(None) | Err(HarvestFault::Overflow) => Ok(Harvested {
+            counted: count_plain(alloc, kinds, bytes)?,
+            numbered: false,
+        }),
+        Err(fault) => Err(fault),
+    }
 }

@@ -1,4 +1,4 @@
-//! A whole collection counted by workers, with at most 2^k patterns.
+//! A whole collection counted by workers.
 #![tactic(auto)]
 
 mod gates;
@@ -9,4 +9,4 @@ mod threads;
 mod workers;
 
 pub use gates::{FreeGate, Gate};
-pub use own_tables::harvest;
+pub use own_tables::{harvest, harvest_all};

@@ -4,10 +4,10 @@ ghost use Rattle.sgf_core.specs.Limit.{most_bytes};
 ghost use Rattle.sgf_core.specs.declared.faults.SgfFault.TheVariants as sgf;
 ghost use Rattle.tally_core.specs.Counted.{HasMore, IsCounted};
 ghost use Rattle.harvest_faults.specs.declared.faults.HarvestFault.TheVariants as fault;
-ghost use Rattle.harvest_core.specs.Harvest.{IsCountedWithin, IsHarvestRefused};
+ghost use Rattle.harvest_core.specs.Harvest.{IsCountedWithin, IsCountRefused, IsHarvestRefused};
 
 use crate::gates::Gate;
-use crate::gathering::{Harvested, count_by_words};
+use crate::gathering::{Harvested, count_in_threads};
 use crate::reading::{Numbering, numbering_of};
 use harvest_faults::HarvestFault;
 use probe_core::Capacity;
@@ -17,7 +17,7 @@ use share_core::number_entries;
 use std::alloc::Global;
 use std::sync::Wait;
 use std::thread::Threads;
-use tally_core::{Counted, Settings, count_plain, first_beyond, one_first_beyond};
+use tally_core::{Counted, Settings, first_beyond, one_first_beyond};
 
 /// How many slots a table has for each byte of the input. A move takes six bytes, and some 25
 /// points then have a new pattern of each kind, so few inputs need more.
@@ -134,20 +134,45 @@ pub fn harvest<R: Threads + Wait + Sync, G: Gate>(
     let k = u32::from(settings.k());
     let most = 1 << settings.k();
     let likely = likely_exponent(bytes.len(), k);
-    match count_by_words(rt, alloc, settings, likely, bytes, gate) {
-        Ok(Some(harvested)) => {
-            let Harvested { counted, numbered } = harvested;
-            let counted = within(alloc, kinds, most, bytes, counted)?;
-            if !numbered && likely < k {
-                number_again(alloc, k, &counted.dictionary)?;
-            }
-            Ok(counted)
-        }
-        // No input is so large; but no clause says so here.
-        Ok(None) | Err(HarvestFault::Overflow) => {
-            let counted = count_plain(alloc, kinds, bytes)?;
-            within(alloc, kinds, most, bytes, counted)
-        }
-        Err(fault) => Err(fault),
+    let Harvested { counted, numbered } = count_in_threads(
+        rt,
+        alloc,
+        kinds,
+        settings.workers(),
+        likely,
+        bytes,
+        gate,
+    )?;
+    let counted = within(alloc, kinds, most, bytes, counted)?;
+    if !numbered && likely < k {
+        number_again(alloc, k, &counted.dictionary)?;
     }
+    Ok(counted)
+}
+
+/// Counts a whole collection by workers, however many patterns it has, and gives no pattern a
+/// number. It answers what `count_plain` answers, whatever the gate, the number of workers and
+/// their turns. Threads, waiting and memory are those of `harvest`, but for the table. This
+/// project's own.
+///
+/// # Errors
+///
+/// `Memory` where memory was refused; `Sgf` with S4 where the input has more than 2^28 bytes, else
+/// with its first fault of syntax. No other fault comes.
+pub fn harvest_all<R: Threads + Wait + Sync, G: Gate>(
+    rt: &R,
+    alloc: Global,
+    kinds: Kinds,
+    workers: u8,
+    bytes: &[u8],
+    gate: &G,
+) -> Result<Counted, HarvestFault>
+    ensures large { most_bytes < length bytes.now
+        → IsErrAnd result (λ found. (found ≡ fault.Memory) ⊎ (found ≡ fault.Sgf sgf.TooLarge)) }
+    ensures harvest { IfOk result (IsCounted kinds bytes.now) }
+    ensures fault { IfErr result (IsCountRefused bytes.now) }
+{
+    // A table in which no pattern but one finds a number costs nothing.
+    let harvested = count_in_threads(rt, alloc, kinds, workers, 0, bytes, gate)?;
+    Ok(harvested.counted)
 }

@@ -6,12 +6,12 @@ ghost use Rattle.job_core.specs.Rule.{MayPut};
 ghost use Rattle.job_core.specs.Inner.Rule.{IsInStep};
 ghost use Rattle.slot_table.specs.Passes.{IsPassOf};
 ghost use Rattle.harvest_faults.specs.declared.faults.HarvestFault.TheVariants as fault;
-ghost use Rattle.harvest_core.specs.Inner.Reading.{IsReadFault};
+ghost use Rattle.harvest_core.specs.Harvest.{IsCountRefused};
 ghost use Rattle.harvest_core.specs.Inner.Working.{HasCounted, IsAtWork, GoesOn};
 ghost use Rattle.harvest_core.specs.Inner.Dealt.{IsOffered, IsDealt, IsNewReader, IsReadingOf};
 
 use crate::gates::Gate;
-use crate::workers::{Crowd, Worker};
+use crate::workers::{Shared, Worker};
 use harvest_faults::HarvestFault;
 use job_core::{Games, Item, Job};
 use probe_core::{Capacity, OddRuns};
@@ -43,19 +43,19 @@ pub(crate) fn numbering_of(alloc: Global, capacity: Capacity) -> Result<Numberin
 /// Puts a job into the queue, and counts its game here where the queue is full.
 fn offer<'a, R: Wait, G: Gate>(
     rt: &R,
-    crowd: &Crowd<'_, 'a>,
+    shared: &Shared<'_, 'a>,
     gate: &G,
     own: &mut Worker<'_, 'a>,
     job: Job<'a>,
 )
-    requires bytes { job.bytes ≡ crowd.now.bytes.now }
-    requires job { MayPut own.old.desk (item.Job job) }
-    requires counted { (games : List ℕ) × HasCounted crowd.now games own.old.counted }
-    ensures { IsOffered crowd.now job.entry own.old own.new }
+    requires bytes { job.bytes ≡ shared.now.bytes.now }
+    requires job { MayPut own.old.endpoint (item.Job job) }
+    requires counted { (games : List ℕ) × HasCounted shared.now games own.old.counted }
+    ensures { IsOffered shared.now job.entry own.old own.new }
 {
-    match own.desk.put(rt, Item::Job(job)) {
+    match own.endpoint.put(rt, Item::Job(job)) {
         Ok(()) => (),
-        Err(Item::Job(back)) => own.count(crowd, gate, &back),
+        Err(Item::Job(back)) => own.count(shared, gate, &back),
         Err(Item::End) => (),
     }
 }
@@ -67,22 +67,22 @@ fn offer<'a, R: Wait, G: Gate>(
 /// `Sgf` with the input's first fault of syntax; `Memory` where memory was refused.
 fn deal_all<'a, R: Wait, G: Gate>(
     rt: &R,
-    crowd: &Crowd<'_, 'a>,
+    shared: &Shared<'_, 'a>,
     gate: &G,
     games: &mut Games<'a>,
     own: &mut Worker<'_, 'a>,
 ) -> Result<(), HarvestFault>
-    requires bytes { games.old.bytes ≡ crowd.now.bytes.now }
-    requires step { IsInStep games.old own.old.desk }
-    requires dealt { IsDealt crowd.now games.old.report.games own.old }
-    ensures desk { own.new.desk ≡ record own.old.desk { put = own.new.desk.put } }
-    ensures dealt { IsDealt crowd.now games.new.report.games own.new }
-    ensures all { OnOk result (HasReadAll crowd.now.bytes.now games.new.report) }
-    ensures fault { IfErr result (IsReadFault crowd.now.bytes.now) }
+    requires bytes { games.old.bytes ≡ shared.now.bytes.now }
+    requires step { IsInStep games.old own.old.endpoint }
+    requires dealt { IsDealt shared.now games.old.report.games own.old }
+    ensures endpoint { own.new.endpoint ≡ record own.old.endpoint { put = own.new.endpoint.put } }
+    ensures dealt { IsDealt shared.now games.new.report.games own.new }
+    ensures all { OnOk result (HasReadAll shared.now.bytes.now games.new.report) }
+    ensures fault { IfErr result (IsCountRefused shared.now.bytes.now) }
 {
     loop {
-        match games.next_job(crowd.alloc)? {
-            Some(job) => offer(rt, crowd, gate, own, job),
+        match games.next_job(shared.alloc)? {
+            Some(job) => offer(rt, shared, gate, own, job),
             None => return Ok(()),
         }
     }
@@ -91,19 +91,19 @@ fn deal_all<'a, R: Wait, G: Gate>(
 /// Puts an end for each thread that counts, also for this one. Where the queue is full this thread
 /// makes room: it draws an item itself and counts its game, since no other may be there to draw.
 /// Should that item be an end, one more is put.
-fn close<R: Wait, G: Gate>(rt: &R, crowd: &Crowd<'_, '_>, gate: &G, own: &mut Worker<'_, '_>)
-    requires writes { own.old.desk.writes ≡ true }
-    requires work { IsAtWork crowd.now own.old }
-    ensures { GoesOn crowd.now own.old own.new }
+fn close<R: Wait, G: Gate>(rt: &R, shared: &Shared<'_, '_>, gate: &G, own: &mut Worker<'_, '_>)
+    requires writes { own.old.endpoint.writes ≡ true }
+    requires work { IsAtWork shared.now own.old }
+    ensures { GoesOn shared.now own.old own.new }
 {
-    let mut left = usize::from(crowd.workers);
+    let mut left = usize::from(shared.workers);
     for _ in rt.forever() {
         if left == 0 {
             break;
         }
-        if own.desk.put(rt, Item::End).is_ok() {
+        if own.endpoint.put(rt, Item::End).is_ok() {
             left -= 1;
-        } else if own.turn(rt, crowd, gate) {
+        } else if own.turn(rt, shared, gate) {
             left = left.saturating_add(1);
         }
     }
@@ -123,25 +123,25 @@ pub(crate) struct Reading<'q, 'a> {
 /// others count, and counts with them until it draws an end. It waits for the workers.
 pub(crate) fn read<'q, 'a, R: Wait, G: Gate>(
     rt: &R,
-    crowd: &Crowd<'_, 'a>,
+    shared: &Shared<'_, 'a>,
     gate: &G,
     games: Games<'a>,
     own: Worker<'q, 'a>,
 ) -> Reading<'q, 'a>
-    requires bytes { games.bytes ≡ crowd.now.bytes.now }
-    requires own { IsNewReader crowd.now games own }
-    ensures { IsReadingOf crowd.now own.entry.desk result }
+    requires bytes { games.bytes ≡ shared.now.bytes.now }
+    requires own { IsNewReader shared.now games own }
+    ensures { IsReadingOf shared.now own.entry.endpoint result }
 {
     let mut games = games;
     let mut own = own;
-    let outcome = deal_all(rt, crowd, gate, &mut games, &mut own);
-    close(rt, crowd, gate, &mut own);
+    let outcome = deal_all(rt, shared, gate, &mut games, &mut own);
+    close(rt, shared, gate, &mut own);
     let numbering = match outcome {
-        Ok(()) => numbering_of(crowd.alloc, crowd.capacity),
+        Ok(()) => numbering_of(shared.alloc, shared.capacity),
         Err(fault) => Err(fault),
     };
     Reading {
-        own: own.work(rt, crowd, gate),
+        own: own.work(rt, shared, gate),
         report: games.report(),
         numbering,
     }

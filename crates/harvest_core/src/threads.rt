@@ -4,15 +4,15 @@ ghost use Rattle.job_core.specs.Which.{id_of};
 ghost use Rattle.job_core.specs.Rule.{all_parts};
 ghost use Rattle.harvest_core.specs.Inner.Working.{IsDropFault};
 ghost use Rattle.harvest_core.specs.Inner.Dealt.{IsNewReader, IsReadingOf};
-ghost use Rattle.harvest_core.specs.Inner.Crew.{reader_of, IsFresh, IsBackOf, HasTaken};
-ghost use Rattle.harvest_core.specs.Inner.Crew.{IsJoinable, IsEnded};
-ghost use Rattle.harvest_core.specs.Inner.Reading.{IsCrewFault};
+ghost use Rattle.harvest_core.specs.Inner.Threads.{reader_of, IsFresh, IsBackOf, HasTaken};
+ghost use Rattle.harvest_core.specs.Inner.Threads.{IsJoinable, IsEnded};
+ghost use Rattle.harvest_core.specs.Inner.Reading.{IsThreadFault};
 
 use crate::gates::Gate;
 use crate::reading::{Numbering, Reading, read};
-use crate::workers::{Crowd, Worker};
+use crate::workers::{Shared, Worker};
 use harvest_faults::HarvestFault;
-use job_core::{Desk, Games};
+use job_core::{Endpoint, Games};
 use share_core::WordShare;
 use std::alloc::AllocError;
 use std::sync::Wait;
@@ -30,19 +30,19 @@ pub(crate) struct Ended {
     pub report: Report,
 }
 
-/// The workers beside the thread that reads, each with a part of this desk.
+/// The workers beside the thread that reads, each with a part of this endpoint.
 fn workers_beside<'q, 'a>(
-    crowd: &Crowd<'q, 'a>,
-    desk: &mut Desk<'q, 'a>,
+    shared: &Shared<'q, 'a>,
+    endpoint: &mut Endpoint<'q, 'a>,
 ) -> Result<Vec<Worker<'q, 'a>>, AllocError>
-    requires { desk.old ≡ reader_of crowd.now all_parts }
-    ensures desk { desk.new ≡ reader_of crowd.now desk.new.parts }
-    ensures parts { IfOk result (λ workers. desk.new.parts + length workers.items ≡ all_parts) }
-    ensures fresh { IfOk result (λ workers. All (IsFresh crowd.now) workers.items) }
+    requires { endpoint.old ≡ reader_of shared.now all_parts }
+    ensures endpoint { endpoint.new ≡ reader_of shared.now endpoint.new.parts }
+    ensures parts { IfOk result (λ workers. endpoint.new.parts + length workers.items ≡ all_parts) }
+    ensures fresh { IfOk result (λ workers. All (IsFresh shared.now) workers.items) }
 {
-    let mut workers = Vec::new(crowd.alloc);
-    for number in 1..usize::from(crowd.workers) {
-        workers.push(Worker::begin(crowd, number, desk.another()))?;
+    let mut workers = Vec::new(shared.alloc);
+    for number in 1..usize::from(shared.workers) {
+        workers.push(Worker::begin(shared, number, endpoint.another()))?;
     }
     Ok(workers)
 }
@@ -51,66 +51,66 @@ fn workers_beside<'q, 'a>(
 /// started. One for which none can be draws nothing but its end, after another one's.
 fn count_beside<'q, 'a, R: Threads + Wait + Sync, G: Gate>(
     rt: &R,
-    crowd: &Crowd<'_, '_>,
+    shared: &Shared<'_, '_>,
     gate: &G,
     workers: Vec<Worker<'q, 'a>>,
 ) -> Result<Vec<Worker<'q, 'a>>, AllocError>
-    requires { All (IsFresh crowd.now) workers.items }
-    ensures back { IfOk result (λ all. All (IsBackOf crowd.now) all.items) }
+    requires { All (IsFresh shared.now) workers.items }
+    ensures back { IfOk result (λ all. All (IsBackOf shared.now) all.items) }
     ensures each { IfOk result (λ all. length all.items ≡ length workers.entry.items) }
 {
     let one = |worker| -> _
-        requires { IsFresh crowd.now worker }
-        ensures { IsBackOf crowd.entry.now result }
-    { Worker::work(worker, rt, crowd, gate) };
+        requires { IsFresh shared.now worker }
+        ensures { IsBackOf shared.entry.now result }
+    { Worker::work(worker, rt, shared, gate) };
     thread::map_vec(rt, workers, &one)
 }
 
-/// Takes up the desks of all workers: their shares.
+/// Takes up the endpoints of all workers: their shares.
 ///
 /// # Errors
 ///
 /// The fault of a worker that could not count a game; `Memory` where memory was refused.
 fn take_up<'q, 'a>(
-    crowd: &Crowd<'q, 'a>,
-    desk: &mut Desk<'q, 'a>,
+    shared: &Shared<'q, 'a>,
+    endpoint: &mut Endpoint<'q, 'a>,
     all: Vec<Worker<'q, 'a>>,
 ) -> Result<Vec<WordShare>, HarvestFault>
-    requires queue { desk.old.queue ≡ id_of crowd.now.queue.now }
-    requires back { All (IsBackOf crowd.now) all.items }
-    ensures taken { IfOk result (λ shares. HasTaken crowd.now desk.old (length all.entry.items)
-        [] desk.new shares.items) }
+    requires queue { endpoint.old.queue ≡ id_of shared.now.queue.now }
+    requires back { All (IsBackOf shared.now) all.items }
+    ensures taken { IfOk result (λ shares. HasTaken shared.now endpoint.old (length all.entry.items)
+        [] endpoint.new shares.items) }
     ensures fault { IfErr result IsDropFault }
 {
-    let mut shares = Vec::new(crowd.alloc);
+    let mut shares = Vec::new(shared.alloc);
     for back in all {
         let Worker {
-            desk: theirs,
+            endpoint: theirs,
             counted,
             ..
         } = back;
-        desk.take_up(theirs);
+        endpoint.take_up(theirs);
         shares.push(counted?)?;
     }
     Ok(shares)
 }
 
 /// What workers have counted, and the thread that reads. Each game of the input is in these shares
-/// once, as the desks tell together.
+/// once, as the endpoints tell together.
 ///
 /// # Errors
 ///
 /// `Sgf` with the input's first fault of syntax; `Overflow` where a count might be too large;
 /// `Memory` where memory was refused.
 fn joined<'q, 'a>(
-    crowd: &Crowd<'q, 'a>,
+    shared: &Shared<'q, 'a>,
     reading: Reading<'q, 'a>,
     all: Vec<Worker<'q, 'a>>,
 ) -> Result<Ended, HarvestFault>
-    requires reading { IsJoinable crowd.now (length all.items) reading }
-    requires back { All (IsBackOf crowd.now) all.items }
-    ensures ended { IfOk result (IsEnded crowd.now.bytes.now crowd.now.kinds) }
-    ensures fault { IfErr result (IsCrewFault crowd.now.bytes.now) }
+    requires reading { IsJoinable shared.now (length all.items) reading }
+    requires back { All (IsBackOf shared.now) all.items }
+    ensures ended { IfOk result (IsEnded shared.now.bytes.now shared.now.kinds) }
+    ensures fault { IfErr result (IsThreadFault shared.now.bytes.now) }
 {
     let Reading {
         own,
@@ -118,11 +118,15 @@ fn joined<'q, 'a>(
         numbering,
     } = reading;
     let numbering = numbering?;
-    let Worker { desk, counted, .. } = own;
-    let mut desk = desk;
-    let mut shares = take_up(crowd, &mut desk, all)?;
+    let Worker {
+        endpoint,
+        counted,
+        ..
+    } = own;
+    let mut endpoint = endpoint;
+    let mut shares = take_up(shared, &mut endpoint, all)?;
     shares.push(counted?)?;
-    desk.settle();
+    endpoint.settle();
     Ok(Ended {
         numbering,
         shares,
@@ -130,8 +134,8 @@ fn joined<'q, 'a>(
     })
 }
 
-/// Counts all games of an input by words in as many threads as the crowd has, and makes a table
-/// meanwhile. The reader and the desk must be new.
+/// Counts all games of an input by words in as many threads as are asked for, and makes a table
+/// meanwhile. The reader and the endpoint must be new.
 ///
 /// # Errors
 ///
@@ -139,31 +143,31 @@ fn joined<'q, 'a>(
 /// `Memory` where memory was refused.
 pub(crate) fn count_all<'q, 'a, R: Threads + Wait + Sync, G: Gate>(
     rt: &R,
-    crowd: &Crowd<'q, 'a>,
+    shared: &Shared<'q, 'a>,
     gate: &G,
     games: Games<'a>,
-    desk: Desk<'q, 'a>,
+    endpoint: Endpoint<'q, 'a>,
 ) -> Result<Ended, HarvestFault>
-    requires desk { desk ≡ reader_of crowd.now all_parts }
-    requires games { (games.bytes ≡ crowd.now.bytes.now) × (games.report.games ≡ 0) }
-    ensures ended { IfOk result (IsEnded crowd.now.bytes.now crowd.now.kinds) }
-    ensures fault { IfErr result (IsCrewFault crowd.now.bytes.now) }
+    requires endpoint { endpoint ≡ reader_of shared.now all_parts }
+    requires games { (games.bytes ≡ shared.now.bytes.now) × (games.report.games ≡ 0) }
+    ensures ended { IfOk result (IsEnded shared.now.bytes.now shared.now.kinds) }
+    ensures fault { IfErr result (IsThreadFault shared.now.bytes.now) }
 {
-    let mut desk = desk;
-    let workers = workers_beside(crowd, &mut desk)?;
-    let own = Worker::begin(crowd, 0, desk);
+    let mut endpoint = endpoint;
+    let workers = workers_beside(shared, &mut endpoint)?;
+    let own = Worker::begin(shared, 0, endpoint);
     let (all, reading) = thread::join(
         rt,
         move || -> Result<Vec<Worker<'_, '_>>, AllocError>
-            requires { All (IsFresh crowd.now) workers.items }
-            ensures back { IfOk result (λ all. All (IsBackOf crowd.entry.now) all.items) }
+            requires { All (IsFresh shared.now) workers.items }
+            ensures back { IfOk result (λ all. All (IsBackOf shared.entry.now) all.items) }
             ensures each { IfOk result (λ all. length all.items ≡ length workers.entry.items) }
-        { count_beside(rt, crowd, gate, workers) },
+        { count_beside(rt, shared, gate, workers) },
         move || -> Reading<'_, '_>
-            requires bytes { games.bytes ≡ crowd.now.bytes.now }
-            requires own { IsNewReader crowd.now games own }
-            ensures { IsReadingOf crowd.entry.now own.entry.desk result }
-        { read(rt, crowd, gate, games, own) },
+            requires bytes { games.bytes ≡ shared.now.bytes.now }
+            requires own { IsNewReader shared.now games own }
+            ensures { IsReadingOf shared.entry.now own.entry.endpoint result }
+        { read(rt, shared, gate, games, own) },
     );
-    joined(crowd, reading, all?)
+    joined(shared, reading, all?)
 }

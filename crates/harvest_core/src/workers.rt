@@ -1,7 +1,7 @@
 //! A worker: it draws jobs and counts their games by words, until it draws an end.
 use crate::gates::Gate;
 use harvest_faults::HarvestFault;
-use job_core::{Desk, Item, Job, Jobs};
+use job_core::{Endpoint, Item, Job, Jobs};
 use probe_core::Capacity;
 use range_core::PLACE_RANGES;
 use shape_core::Kinds;
@@ -12,7 +12,7 @@ use std::thread;
 
 /// What the threads of one count share.
 #[derive(Drop)]
-pub(crate) struct Crowd<'q, 'a> {
+pub(crate) struct Shared<'q, 'a> {
     pub alloc: Global,
     /// How many numbers the table has that is made beside the count.
     pub capacity: Capacity,
@@ -32,7 +32,7 @@ pub(crate) struct Worker<'q, 'a> {
     /// Workers are numbered from 0, which is the thread that reads.
     pub number: usize,
     /// Where it draws its jobs; at the thread that reads, where that puts them too.
-    pub desk: Desk<'q, 'a>,
+    pub endpoint: Endpoint<'q, 'a>,
     /// What it has counted, or why a game of it was not. Then nothing more is counted.
     pub counted: Result<WordShare, HarvestFault>,
 }
@@ -48,22 +48,26 @@ impl<'q, 'a> Worker<'q, 'a> {
     ghost use Rattle.harvest_core.specs.Inner.Working.{HasCounted, IsAtWork, GoesOn};
     ghost use Rattle.harvest_core.specs.Inner.Dealt.{CountsGame};
 
-    /// The worker of this number begins at this desk. It takes memory for room in its lists, for
-    /// what as many games meet as it is likely to draw, and an eighth more; where that is refused,
-    /// the worker has the fault.
-    pub(crate) fn begin(crowd: &Crowd<'_, '_>, number: usize, desk: Desk<'q, 'a>) -> Worker<'q, 'a>
-        ensures desk { result.desk ≡ desk.entry }
-        ensures counted { HasCounted crowd.now [] result.counted }
+    /// The worker of this number begins at this endpoint. It takes memory for room in its lists,
+    /// for what as many games meet as it is likely to draw, and an eighth more; where that is
+    /// refused, the worker has the fault.
+    pub(crate) fn begin(
+        shared: &Shared<'_, '_>,
+        number: usize,
+        endpoint: Endpoint<'q, 'a>,
+    ) -> Worker<'q, 'a>
+        ensures endpoint { result.endpoint ≡ endpoint.entry }
+        ensures counted { HasCounted shared.now [] result.counted }
     {
-        let even = crowd.bytes.len() / usize::from(crowd.workers.max(1));
+        let even = shared.bytes.len() / usize::from(shared.workers.max(1));
         let room = likely_meetings(even.saturating_add(even / 8)) / PLACE_RANGES;
-        let counted = match WordShare::begin(crowd.alloc, number, crowd.kinds, room) {
+        let counted = match WordShare::begin(shared.alloc, number, shared.kinds, room) {
             Ok(words) => Ok(words),
             Err(_refused) => Err(HarvestFault::Memory),
         };
         Worker {
             number,
-            desk,
+            endpoint,
             counted,
         }
     }
@@ -72,13 +76,13 @@ impl<'q, 'a> Worker<'q, 'a> {
     /// be counted, the job is dropped. It takes memory for the patterns of the game, and for its
     /// board and walk; where that is refused, or a count might be too large, the worker has the
     /// fault from then on.
-    pub(crate) fn count<G: Gate>(&mut self, crowd: &Crowd<'_, '_>, gate: &G, job: &Job<'_>)
-        requires job { job.now.bytes ≡ crowd.now.bytes.now }
-        requires counted { (games : List ℕ) × HasCounted crowd.now games self.old.counted }
-        ensures desk { self.new.desk ≡ self.old.desk }
-        ensures counted { CountsGame crowd.now job.now.game self.old self.new }
+    pub(crate) fn count<G: Gate>(&mut self, shared: &Shared<'_, '_>, gate: &G, job: &Job<'_>)
+        requires job { job.now.bytes ≡ shared.now.bytes.now }
+        requires counted { (games : List ℕ) × HasCounted shared.now games self.old.counted }
+        ensures endpoint { self.new.endpoint ≡ self.old.endpoint }
+        ensures counted { CountsGame shared.now job.now.game self.old self.new }
     {
-        let _ = crowd;
+        let _ = shared;
         let Ok(words) = &mut self.counted else {
             return;
         };
@@ -90,13 +94,18 @@ impl<'q, 'a> Worker<'q, 'a> {
 
     /// Draws an item and counts its game. It answers whether the item was an end. While the queue
     /// is empty it lets other threads run.
-    pub(crate) fn turn<R: Wait, G: Gate>(&mut self, rt: &R, crowd: &Crowd<'_, '_>, gate: &G) -> bool
-        requires work { IsAtWork crowd.now self.old }
-        ensures on { GoesOn crowd.now self.old self.new }
-        ensures end { IsTrue result → 0 < self.new.desk.ends_drawn }
+    pub(crate) fn turn<R: Wait, G: Gate>(
+        &mut self,
+        rt: &R,
+        shared: &Shared<'_, '_>,
+        gate: &G,
+    ) -> bool
+        requires work { IsAtWork shared.now self.old }
+        ensures on { GoesOn shared.now self.old self.new }
+        ensures end { IsTrue result → 0 < self.new.endpoint.ends_drawn }
     {
-        match self.desk.draw(rt) {
-            Some(Item::Job(job)) => self.count(crowd, gate, &job),
+        match self.endpoint.draw(rt) {
+            Some(Item::Job(job)) => self.count(shared, gate, &job),
             Some(Item::End) => return true,
             None => thread::yield_now(),
         }
@@ -108,16 +117,16 @@ impl<'q, 'a> Worker<'q, 'a> {
     pub(crate) fn work<R: Wait, G: Gate>(
         self,
         rt: &R,
-        crowd: &Crowd<'_, '_>,
+        shared: &Shared<'_, '_>,
         gate: &G,
     ) -> Worker<'q, 'a>
-        requires work { IsAtWork crowd.now self }
-        ensures on { GoesOn crowd.now self.entry result }
-        ensures end { 0 < result.desk.ends_drawn }
+        requires work { IsAtWork shared.now self }
+        ensures on { GoesOn shared.now self.entry result }
+        ensures end { 0 < result.endpoint.ends_drawn }
     {
         let mut worker = self;
         for _ in rt.forever() {
-            if worker.turn(rt, crowd, gate) {
+            if worker.turn(rt, shared, gate) {
                 break;
             }
         }

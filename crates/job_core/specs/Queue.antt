@@ -4,7 +4,7 @@ use mathlib.Core.Option.{some}
 use lib.ListN.{get_elem?}
 use Rattle.job_core.specs.declared.items.Item.{Item}
 use Rattle.job_core.specs.declared.items.Item.TheVariants.{Job, End}
-use Rattle.job_core.specs.declared.hands.Hand.{Hand}
+use Rattle.job_core.specs.declared.knowledge.Knowledge.{Knowledge}
 use Rattle.job_core.specs.Rising.{Rising, past}
 use Rattle.job_core.specs.Times.{times_of}
 use Rattle.job_core.specs.Rule.{blank, all_parts}
@@ -35,20 +35,20 @@ JobsFirst (Job job ∷ items) = JobsFirst items
 JobsFirst (End ∷ items) = (games_in items ≡ []) × JobsFirst items
 
 -- all games that a pass drew, itself and by those that it took up
-abbrev pub all_drawn : Hand → List ℕ
+abbrev pub all_drawn : Knowledge → List ℕ
 all_drawn v = v.drawn ++ v.taken
 
 -- how often a pass put a game
-abbrev pub times_put : ℕ → Hand → ℕ
+abbrev pub times_put : ℕ → Knowledge → ℕ
 times_put game v = times_of v.put game
 
 -- how often a pass drew a game, itself and by those that it took up
-abbrev pub times_drawn : ℕ → Hand → ℕ
+abbrev pub times_drawn : ℕ → Knowledge → ℕ
 times_drawn game v = times_of (all_drawn v) game
 
 -- what each pass knows: where it has a part, it names the input; it drew rising games below `low`; one pass alone puts,
 -- and knows what was put; and where it has no part, it put and drew nothing
-pub record Fits (bytes : List ℕ) (low writer : ℕ) (put : List ℕ) (port : ℕ) (v : Hand) : Type 0 where
+pub record Fits (bytes : List ℕ) (low writer : ℕ) (put : List ℕ) (port : ℕ) (v : Knowledge) : Type 0 where
   pub named : 0 < v.parts → v.named ≡ true
   pub bytes_are : 0 < v.parts → v.bytes ≡ bytes
   pub rises : Rising 0 v.drawn low
@@ -58,24 +58,24 @@ pub record Fits (bytes : List ℕ) (low writer : ℕ) (put : List ℕ) (port : �
 
 -- nothing is lost: the parts of all passes are all parts; each game was put, by all passes together, as often as it was
 -- drawn and is queued, and so for ends; and jobs come before ends, so that once an end was drawn no job is queued
-pub record LosesNothing (items : List Item) (views : List Hand) : Type 0 where
-  pub parts : sum_by (λ (v : Hand). v.parts) views ≡ all_parts
+pub record LosesNothing (items : List Item) (views : List Knowledge) : Type 0 where
+  pub parts : sum_by (λ (v : Knowledge). v.parts) views ≡ all_parts
   pub games : (game : ℕ) → sum_by (times_put game) views
       ≡ sum_by (times_drawn game) views + times_of (games_in items) game
-  pub ends : sum_by (λ (v : Hand). v.ends_put) views ≡ sum_by (λ (v : Hand). v.ends_drawn) views + ends_in items
+  pub ends : sum_by (λ (v : Knowledge). v.ends_put) views ≡ sum_by (λ (v : Knowledge). v.ends_drawn) views + ends_in items
   pub jobs_first : JobsFirst items
-  pub ended : 0 < sum_by (λ (v : Hand). v.ends_drawn) views → games_in items ≡ []
+  pub ended : 0 < sum_by (λ (v : Knowledge). v.ends_drawn) views → games_in items ≡ []
 
 -- the queued games rise, each is above every game drawn, and none is above the last put; and nothing is lost
-pub record Keeps (items : List Item) (views : List Hand) : Type 0 where
+pub record Keeps (items : List Item) (views : List Knowledge) : Type 0 where
   pub bytes : List ℕ
   pub low : ℕ
   pub writer : ℕ
   pub put : List ℕ
   pub queued : Queued bytes low items (past put)
-  pub fits : (port : ℕ) (v : Hand) → get_elem? views port ≡ some v → Fits bytes low writer put port v
+  pub fits : (port : ℕ) (v : Knowledge) → get_elem? views port ≡ some v → Fits bytes low writer put port v
   pub whole : LosesNothing items views
 
 -- the rule: the queue is new and its one pass names no input, or it keeps its order and loses nothing
-abbrev pub Holds : List Item → List Hand → Type 0
+abbrev pub Holds : List Item → List Knowledge → Type 0
 Holds items views = ((items ≡ []) × (views ≡ blank ∷ [])) ⊎ Keeps items views

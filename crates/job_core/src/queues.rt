@@ -9,8 +9,8 @@ ghost use Rattle.job_core.specs.Rule.{putting, drawing, taking_up, Draws, MayPut
 ghost use Rattle.job_core.specs.Queue.{all_drawn};
 ghost use Rattle.job_core.specs.Times.{times_of};
 
-use crate::hands::{Cut, Input, Jobs, Joined, Names, Puts, Seat, Settles, Takes};
 use crate::items::Item;
+use crate::knowledge::{Cut, Input, Jobs, Joined, Names, Puts, Seat, Settles, Takes};
 use std::alloc::Global;
 use std::marker::{Brand, Model};
 use std::sync::Wait;
@@ -57,64 +57,65 @@ fn open<'a>(queue: &Jobs<'a>, pass: &mut Seat<'a>, bytes: &[u8])
 ///
 /// Contracts see at which `queue` it is, and what the pass knows: its `parts`, the `bytes` of the
 /// input, whether it `writes`, the games that it `put`, those that it has `drawn`, those that were
-/// drawn at desks that it took up, `taken`, and how many ends it put and all these drew, `ends_put`
-/// and `ends_drawn`.
+/// drawn at endpoints that it took up, `taken`, and how many ends it put and all these drew,
+/// `ends_put` and `ends_drawn`.
 ///
-/// The parts of all desks of a queue are 1024, and each has one at least. A desk that is dropped
-/// takes its parts along, so a desk has all 1024 only where each that was made of it came back.
+/// The parts of all endpoints of a queue are 1024, and each has one at least. An endpoint that is
+/// dropped takes its parts along, so an endpoint has all 1024 only where each that was made of it
+/// came back.
 #[derive(Drop)]
-pub struct Desk<'q, 'a> {
+pub struct Endpoint<'q, 'a> {
     queue: &'q Jobs<'a>,
     pass: Seat<'a>,
 }
 
-impl<'q, 'a> Model for Desk<'q, 'a> {
-    ghost use Rattle.job_core.specs.declared.hands.Hand.{Hand};
-    ghost use Rattle.job_core.specs.Inner.Rule.{hand_of, IsAtDesk};
+impl<'q, 'a> Model for Endpoint<'q, 'a> {
+    ghost use Rattle.job_core.specs.declared.knowledge.Knowledge.{Knowledge};
+    ghost use Rattle.job_core.specs.Inner.Rule.{knowledge_of, IsAtEndpoint};
 
-    ghost Value = { Hand };
+    ghost Value = { Knowledge };
 
-    ghost view = { λ desk. hand_of desk.pass };
+    ghost view = { λ endpoint. knowledge_of endpoint.pass };
 
-    ghost invariant = { λ desk. IsAtDesk desk.queue.now desk.pass };
+    ghost invariant = { λ endpoint. IsAtEndpoint endpoint.queue.now endpoint.pass };
 }
 
-impl<'q, 'a> Desk<'q, 'a> {
-    /// The reader's desk at a new queue, for the jobs of this input, with all parts. It takes no
-    /// memory.
+impl<'q, 'a> Endpoint<'q, 'a> {
+    /// The reader's endpoint at a new queue, for the jobs of this input, with all parts. It takes
+    /// no memory.
     ///
     /// The pass must be the first of the queue, and new.
-    pub fn open(queue: &'q Jobs<'a>, pass: Seat<'a>, bytes: &'a [u8]) -> Desk<'q, 'a>
+    pub fn open(queue: &'q Jobs<'a>, pass: Seat<'a>, bytes: &'a [u8]) -> Endpoint<'q, 'a>
         requires { IsPassOf queue.now pass × (view pass ≡ blank) }
         ensures { result ≡ reader (id_of queue.now) bytes.now [] }
     {
         let mut pass = pass;
         open(queue, &mut pass, bytes);
-        Desk { queue, pass }
+        Endpoint { queue, pass }
     }
 
-    /// A worker's desk at the same queue. It gets one part of this one, which must have more. It
-    /// takes no memory.
-    pub fn another(&mut self) -> Desk<'q, 'a>
+    /// A worker's endpoint at the same queue. It gets one part of this one, which must have more.
+    /// It takes no memory.
+    pub fn another(&mut self) -> Endpoint<'q, 'a>
         requires { 1 < self.old.parts }
         ensures lent { self.new ≡ record self.old { parts = self.old.parts - 1 } }
         ensures theirs { result ≡ worker self.old.queue self.old.bytes [] }
     {
         let pass = self.queue.another::<Cut>(&mut self.pass);
-        Desk {
+        Endpoint {
             queue: self.queue,
             pass,
         }
     }
 
-    /// A worker's desk at the same queue comes back: this one has the parts of both, and knows what
-    /// was drawn at both. It takes no memory.
-    pub fn take_up(&mut self, theirs: Desk<'q, 'a>)
+    /// A worker's endpoint at the same queue comes back: this one has the parts of both, and knows
+    /// what was drawn at both. It takes no memory.
+    pub fn take_up(&mut self, theirs: Endpoint<'q, 'a>)
         requires queue { theirs.queue ≡ self.old.queue }
         requires draws { theirs.writes ≡ false }
         ensures { self.new ≡ taking_up self.old theirs.entry }
     {
-        let Desk { queue: _, pass } = theirs;
+        let Endpoint { queue: _, pass } = theirs;
         self.queue.absorb::<Joined>(&mut self.pass, pass);
     }
 
@@ -125,7 +126,7 @@ impl<'q, 'a> Desk<'q, 'a> {
     ///
     /// # Errors
     ///
-    /// The item itself, where the queue is full; then the desk is as it was.
+    /// The item itself, where the queue is full; then the endpoint is as it was.
     pub fn put<R: Wait>(&mut self, rt: &R, item: Item<'a>) -> Result<(), Item<'a>>
         requires { MayPut self.old item }
         ensures { MatchResult result (λ _. self.new ≡ putting self.old item.entry)
@@ -135,9 +136,9 @@ impl<'q, 'a> Desk<'q, 'a> {
     }
 
     /// Draws an item, or answers None where it finds the queue empty. A job that is drawn is of the
-    /// input of the queue, and its game is above all that this desk drew before. The items come in
-    /// the queue's own order, that of first in, first out, of which no clause speaks. It takes no
-    /// memory, and may wait for a thread that is in the middle of a call.
+    /// input of the queue, and its game is above all that this endpoint drew before. The items come
+    /// in the queue's own order, that of first in, first out, of which no clause speaks. It takes
+    /// no memory, and may wait for a thread that is in the middle of a call.
     pub fn draw<R: Wait>(&mut self, rt: &R) -> Option<Item<'a>>
         ensures { MatchOption result (self.new ≡ self.old)
             (λ x. (self.new ≡ drawing self.old x) × Draws self.old x) }
@@ -145,9 +146,9 @@ impl<'q, 'a> Desk<'q, 'a> {
         self.queue.pop_as::<Takes, R>(rt, &mut self.pass)
     }
 
-    /// What a desk with all parts knows of the whole queue: no game was drawn more often than it
-    /// was put, and once an end was drawn, each game was drawn just as often. It changes nothing,
-    /// and takes no memory.
+    /// What an endpoint with all parts knows of the whole queue: no game was drawn more often than
+    /// it was put, and once an end was drawn, each game was drawn just as often. It changes
+    /// nothing, and takes no memory.
     pub fn settle(&mut self)
         requires { self.old.parts ≡ all_parts }
         ensures same { self.new ≡ self.old }

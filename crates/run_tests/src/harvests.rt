@@ -6,7 +6,7 @@ ghost use Rattle.job_core.specs.Rule.{worker};
 use crate::jobs::{put_until_full, puts_an_end};
 use harvest_core::{FreeGate, Gate, harvest};
 use harvest_faults::HarvestFault;
-use job_core::{Desk, Games, new_queue};
+use job_core::{Endpoint, Games, new_queue};
 use probe_core::{Capacity, Linear, OddRuns, OddStep, ProbeOrder};
 use sgf_core::SgfFault;
 use shape_core::{Kinds, Word};
@@ -161,9 +161,9 @@ fn draw_to_the_end<'q, 'a, R: Abort + Wait, O: ProbeOrder>(
 ) -> Returned<'q, 'a, O>
     requires { IsPassOf worker.table.now worker.pass }
     ensures pass { IsPassOf worker.entry.table.now result.pass }
-    ensures desk { result.desk ≡ record worker.entry.desk {
-      drawn = result.desk.drawn;
-      ends_drawn = worker.entry.desk.ends_drawn + 1;
+    ensures endpoint { result.endpoint ≡ record worker.entry.endpoint {
+      drawn = result.endpoint.drawn;
+      ends_drawn = worker.entry.endpoint.ends_drawn + 1;
     } }
 {
     let number = worker.number;
@@ -173,24 +173,24 @@ fn draw_to_the_end<'q, 'a, R: Abort + Wait, O: ProbeOrder>(
     back
 }
 
-/// A worker beside these, who counts squares with a part of the desk and of the pass.
+/// A worker beside these, who counts squares with a part of the endpoint and of the pass.
 fn worker_beside<'q, 'a, 't, O: ProbeOrder>(
-    desk: &mut Desk<'q, 'a>,
+    endpoint: &mut Endpoint<'q, 'a>,
     table: &'t SlotTable<O>,
     pass: &mut Pass<O>,
     number: usize,
     workers: usize,
 ) -> Worker<'q, 'a, 't, O, FreeGate>
     requires pass { IsPassOf table.now pass.old }
-    requires parts { 1 < desk.old.parts }
+    requires parts { 1 < endpoint.old.parts }
     ensures still { IsPassOf table.now pass.new }
-    ensures lent { desk.new ≡ record desk.old { parts = desk.old.parts - 1 } }
-    ensures desk { result.desk ≡ worker desk.old.queue desk.old.bytes [] }
+    ensures lent { endpoint.new ≡ record endpoint.old { parts = endpoint.old.parts - 1 } }
+    ensures endpoint { result.endpoint ≡ worker endpoint.old.queue endpoint.old.bytes [] }
     ensures table { result.table.now ≡ table.now }
     ensures pass { IsPassOf table.now result.pass }
 {
     Worker {
-        desk: desk.another(),
+        endpoint: endpoint.another(),
         table,
         pass: table.split(pass),
         gate: &FreeGate,
@@ -200,23 +200,23 @@ fn worker_beside<'q, 'a, 't, O: ProbeOrder>(
     }
 }
 
-/// More workers draw to their ends, one after another, and no game is left for them. Their desks
-/// and passes come back.
+/// More workers draw to their ends, one after another, and no game is left for them. Their
+/// endpoints and passes come back.
 fn draw_ends<R: Abort + Wait, O: ProbeOrder>(
     rt: &R,
     alloc: Global,
-    desk: &mut Desk<'_, '_>,
+    endpoint: &mut Endpoint<'_, '_>,
     table: &SlotTable<O>,
     pass: &mut Pass<O>,
     workers: usize,
 )
     requires pass { IsPassOf table.now pass.old }
-    requires parts { 1 < desk.old.parts }
+    requires parts { 1 < endpoint.old.parts }
 {
     for number in 1..workers {
-        let worker = worker_beside(desk, table, pass, number, workers);
+        let worker = worker_beside(endpoint, table, pass, number, workers);
         let back = draw_to_the_end(rt, alloc, worker, &[], 0);
-        desk.take_up(back.desk);
+        endpoint.take_up(back.endpoint);
         table.absorb(pass, back.pass);
     }
 }
@@ -232,15 +232,15 @@ fn work_in_turn<R: Abort + Wait>(
     let (table, mut pass) = SlotTable::new(alloc, OddStep { capacity })?;
     let mut games = Games::new(bytes)?;
     let (queue, seat) = new_queue(alloc, 128)?;
-    let mut desk = Desk::open(&queue, seat, bytes);
-    let own = worker_beside(&mut desk, &table, &mut pass, 0, workers);
-    assert!(rt; put_until_full(rt, alloc, &mut desk, &mut games)?.is_none());
+    let mut endpoint = Endpoint::open(&queue, seat, bytes);
+    let own = worker_beside(&mut endpoint, &table, &mut pass, 0, workers);
+    assert!(rt; put_until_full(rt, alloc, &mut endpoint, &mut games)?.is_none());
     for _ in 0..workers {
-        assert!(rt; puts_an_end(rt, &mut desk));
+        assert!(rt; puts_an_end(rt, &mut endpoint));
     }
     let mut back = draw_to_the_end(rt, alloc, own, &[0, 1, 2, 3], 6);
-    draw_ends(rt, alloc, &mut desk, &table, &mut pass, workers);
-    assert!(rt; back.desk.draw(rt).is_none());
+    draw_ends(rt, alloc, &mut endpoint, &table, &mut pass, workers);
+    assert!(rt; back.endpoint.draw(rt).is_none());
     Ok(())
 }
 

@@ -3,7 +3,7 @@ ghost use Rattle.std.specs.Prelude.{◌≡◌, ◌<◌, true, OnOk};
 ghost use Rattle.job_core.specs.Rule.{MayPut, putting};
 ghost use Rattle.job_core.specs.Inner.Rule.{IsInStep};
 
-use job_core::{Desk, Games, Item, Job, new_queue};
+use job_core::{Endpoint, Games, Item, Job, new_queue};
 use sgf_core::SgfFault;
 use std::alloc::{AllocError, Global};
 use std::process::Abort;
@@ -97,15 +97,15 @@ fn a_fault_comes_after_the_games_before_it(rt: HostRuntime) -> Result<(), TallyF
 pub(crate) fn put_until_full<'a, R: Wait>(
     rt: &R,
     alloc: Global,
-    desk: &mut Desk<'_, 'a>,
+    endpoint: &mut Endpoint<'_, 'a>,
     games: &mut Games<'a>,
 ) -> Result<Option<Item<'a>>, TallyFault>
-    requires { IsInStep games.old desk.old }
-    ensures step { OnOk result (IsInStep games.new desk.new) }
-    ensures same { OnOk result (desk.new ≡ record desk.old { put = desk.new.put }) }
+    requires { IsInStep games.old endpoint.old }
+    ensures step { OnOk result (IsInStep games.new endpoint.new) }
+    ensures same { OnOk result (endpoint.new ≡ record endpoint.old { put = endpoint.new.put }) }
 {
     while let Some(job) = games.next_job(alloc)? {
-        match desk.put(rt, Item::Job(job)) {
+        match endpoint.put(rt, Item::Job(job)) {
             Ok(()) => (),
             Err(back) => return Ok(Some(back)),
         }
@@ -122,50 +122,50 @@ fn number(item: Option<Item<'_>>) -> Option<u64> {
 }
 
 /// Puts an end, and says whether there was room.
-pub(crate) fn puts_an_end<R: Wait>(rt: &R, desk: &mut Desk<'_, '_>) -> bool
-    requires { desk.old.writes ≡ true }
-    ensures { desk.new ≡ record desk.old { ends_put = desk.new.ends_put } }
+pub(crate) fn puts_an_end<R: Wait>(rt: &R, endpoint: &mut Endpoint<'_, '_>) -> bool
+    requires { endpoint.old.writes ≡ true }
+    ensures { endpoint.new ≡ record endpoint.old { ends_put = endpoint.new.ends_put } }
 {
-    desk.put(rt, Item::End).is_ok()
+    endpoint.put(rt, Item::End).is_ok()
 }
 
 /// Draws the game of the next job, where the next item is one.
-fn draw_game<R: Wait>(rt: &R, desk: &mut Desk<'_, '_>) -> Option<u64>
-    ensures { desk.new ≡ record desk.old {
-      drawn = desk.new.drawn;
-      ends_drawn = desk.new.ends_drawn;
+fn draw_game<R: Wait>(rt: &R, endpoint: &mut Endpoint<'_, '_>) -> Option<u64>
+    ensures { endpoint.new ≡ record endpoint.old {
+      drawn = endpoint.new.drawn;
+      ends_drawn = endpoint.new.ends_drawn;
     } }
 {
-    number(desk.draw(rt))
+    number(endpoint.draw(rt))
 }
 
 /// Draws the next item, and says whether it was an end.
-fn draws_an_end<R: Wait>(rt: &R, desk: &mut Desk<'_, '_>) -> bool
-    ensures { desk.new ≡ record desk.old {
-      drawn = desk.new.drawn;
-      ends_drawn = desk.new.ends_drawn;
+fn draws_an_end<R: Wait>(rt: &R, endpoint: &mut Endpoint<'_, '_>) -> bool
+    ensures { endpoint.new ≡ record endpoint.old {
+      drawn = endpoint.new.drawn;
+      ends_drawn = endpoint.new.ends_drawn;
     } }
 {
-    matches!(desk.draw(rt), Some(Item::End))
+    matches!(endpoint.draw(rt), Some(Item::End))
 }
 
 /// Draws, and says whether the queue was empty.
-fn draws_nothing<R: Wait>(rt: &R, desk: &mut Desk<'_, '_>) -> bool
-    ensures { desk.new ≡ record desk.old {
-      drawn = desk.new.drawn;
-      ends_drawn = desk.new.ends_drawn;
+fn draws_nothing<R: Wait>(rt: &R, endpoint: &mut Endpoint<'_, '_>) -> bool
+    ensures { endpoint.new ≡ record endpoint.old {
+      drawn = endpoint.new.drawn;
+      ends_drawn = endpoint.new.ends_drawn;
     } }
 {
-    desk.draw(rt).is_none()
+    endpoint.draw(rt).is_none()
 }
 
 /// A worker draws the jobs of a queue that was full, and the end, which the reader puts.
-fn empty<R: Abort + Wait>(rt: &R, desk: &mut Desk<'_, '_>, own: &mut Desk<'_, '_>)
-    requires { desk.old.writes ≡ true }
+fn empty<R: Abort + Wait>(rt: &R, endpoint: &mut Endpoint<'_, '_>, own: &mut Endpoint<'_, '_>)
+    requires { endpoint.old.writes ≡ true }
 {
     assert!(rt; draw_game(rt, own) == Some(0));
-    assert!(rt; puts_an_end(rt, desk));
-    assert!(rt; !puts_an_end(rt, desk));
+    assert!(rt; puts_an_end(rt, endpoint));
+    assert!(rt; !puts_an_end(rt, endpoint));
     for game in 1..128 {
         assert!(rt; draw_game(rt, own) == Some(game));
     }
@@ -177,18 +177,18 @@ fn empty<R: Abort + Wait>(rt: &R, desk: &mut Desk<'_, '_>, own: &mut Desk<'_, '_
 fn fill_and_empty<'a, R: Abort + Wait>(
     rt: &R,
     alloc: Global,
-    desk: &mut Desk<'_, 'a>,
+    endpoint: &mut Endpoint<'_, 'a>,
     games: &mut Games<'a>,
 ) -> Result<(), TallyFault>
-    requires step { IsInStep games.old desk.old }
-    requires parts { 1 < desk.old.parts }
+    requires step { IsInStep games.old endpoint.old }
+    requires parts { 1 < endpoint.old.parts }
 {
-    let mut own = desk.another();
+    let mut own = endpoint.another();
     assert!(rt; draws_nothing(rt, &mut own));
-    let back = number(put_until_full(rt, alloc, desk, games)?);
+    let back = number(put_until_full(rt, alloc, endpoint, games)?);
     assert!(rt; back == Some(128));
     assert!(rt; games.report().games == 129);
-    empty(rt, desk, &mut own);
+    empty(rt, endpoint, &mut own);
     Ok(())
 }
 
@@ -196,8 +196,8 @@ fn fill_and_empty<'a, R: Abort + Wait>(
 fn open_and_fill<R: Abort + Wait>(rt: &R, alloc: Global, bytes: &[u8]) -> Result<(), TallyFault> {
     let mut games = Games::new(bytes)?;
     let (queue, pass) = new_queue(alloc, 128)?;
-    let mut desk = Desk::open(&queue, pass, bytes);
-    fill_and_empty(rt, alloc, &mut desk, &mut games)
+    let mut endpoint = Endpoint::open(&queue, pass, bytes);
+    fill_and_empty(rt, alloc, &mut endpoint, &mut games)
 }
 
 #[test]
@@ -207,7 +207,8 @@ fn a_full_queue_hands_the_item_back(rt: HostRuntime) -> Result<(), Fail> {
     Ok(())
 }
 
-/// A worker's desk draws the one job and the end, and comes back: the reader's has all parts again.
+/// A worker's endpoint draws the one job and the end, and comes back: the reader's has all parts
+/// again.
 fn draw_and_come_back<R: Abort + Wait>(
     rt: &R,
     alloc: Global,
@@ -215,35 +216,35 @@ fn draw_and_come_back<R: Abort + Wait>(
 ) -> Result<(), TallyFault> {
     let mut games = Games::new(bytes)?;
     let (queue, pass) = new_queue(alloc, 2)?;
-    let mut desk = Desk::open(&queue, pass, bytes);
-    let mut own = desk.another();
-    assert!(rt; put_until_full(rt, alloc, &mut desk, &mut games)?.is_none());
-    assert!(rt; puts_an_end(rt, &mut desk));
-    assert!(rt; !puts_an_end(rt, &mut desk));
+    let mut endpoint = Endpoint::open(&queue, pass, bytes);
+    let mut own = endpoint.another();
+    assert!(rt; put_until_full(rt, alloc, &mut endpoint, &mut games)?.is_none());
+    assert!(rt; puts_an_end(rt, &mut endpoint));
+    assert!(rt; !puts_an_end(rt, &mut endpoint));
     assert!(rt; draw_game(rt, &mut own) == Some(0));
     assert!(rt; draws_an_end(rt, &mut own));
-    desk.take_up(own);
-    desk.settle();
-    assert!(rt; draws_nothing(rt, &mut desk));
-    assert!(rt; puts_an_end(rt, &mut desk));
-    assert!(rt; draws_an_end(rt, &mut desk));
+    endpoint.take_up(own);
+    endpoint.settle();
+    assert!(rt; draws_nothing(rt, &mut endpoint));
+    assert!(rt; puts_an_end(rt, &mut endpoint));
+    assert!(rt; draws_an_end(rt, &mut endpoint));
     Ok(())
 }
 
 #[test]
-fn a_desk_comes_back(rt: HostRuntime) -> Result<(), Fail> {
+fn a_endpoint_comes_back(rt: HostRuntime) -> Result<(), Fail> {
     draw_and_come_back(&rt, rt.alloc(), b"(;SZ[1];B[aa])")?;
     Ok(())
 }
 
 /// Puts an item once there is room.
-fn put_at_last<'a, R: Wait>(rt: &R, desk: &mut Desk<'_, 'a>, item: Item<'a>)
-    requires { MayPut desk.old item }
-    ensures { desk.new ≡ putting desk.old item.entry }
+fn put_at_last<'a, R: Wait>(rt: &R, endpoint: &mut Endpoint<'_, 'a>, item: Item<'a>)
+    requires { MayPut endpoint.old item }
+    ensures { endpoint.new ≡ putting endpoint.old item.entry }
 {
     let mut item = item;
     for _ in rt.forever() {
-        match desk.put(rt, item) {
+        match endpoint.put(rt, item) {
             Ok(()) => break,
             Err(back) => item = back,
         }
@@ -255,16 +256,16 @@ fn put_at_last<'a, R: Wait>(rt: &R, desk: &mut Desk<'_, 'a>, item: Item<'a>)
 fn put_all<'a, R: Wait>(
     rt: &R,
     alloc: Global,
-    desk: &mut Desk<'_, 'a>,
+    endpoint: &mut Endpoint<'_, 'a>,
     games: &mut Games<'a>,
 ) -> Result<u64, TallyFault>
-    requires { IsInStep games.old desk.old }
+    requires { IsInStep games.old endpoint.old }
 {
     while let Some(job) = games.next_job(alloc)? {
-        put_at_last(rt, desk, Item::Job(job));
+        put_at_last(rt, endpoint, Item::Job(job));
     }
-    put_at_last(rt, desk, Item::End);
-    put_at_last(rt, desk, Item::End);
+    put_at_last(rt, endpoint, Item::End);
+    put_at_last(rt, endpoint, Item::End);
     Ok(games.report().games)
 }
 
@@ -272,11 +273,11 @@ fn put_all<'a, R: Wait>(
 fn draw_all<R: Wait>(
     rt: &R,
     alloc: Global,
-    desk: &mut Desk<'_, '_>,
+    endpoint: &mut Endpoint<'_, '_>,
 ) -> Result<Vec<u64>, TallyFault> {
     let mut drawn = Vec::new(alloc);
     for _ in rt.forever() {
-        match desk.draw(rt) {
+        match endpoint.draw(rt) {
             Some(Item::Job(job)) => keep(&mut drawn, job.game())?,
             Some(Item::End) => break,
             None => thread::yield_now(),
@@ -305,8 +306,8 @@ fn all_of(mut left: Vec<u64>, right: &[u64]) -> Result<Vec<u64>, TallyFault> {
 fn draw_by_two<R: Threads + Wait + Sync>(
     rt: &R,
     alloc: Global,
-    mut one: Desk<'_, '_>,
-    mut other: Desk<'_, '_>,
+    mut one: Endpoint<'_, '_>,
+    mut other: Endpoint<'_, '_>,
 ) -> Result<Vec<u64>, TallyFault> {
     let (left, right) = thread::join(
         rt,
@@ -331,19 +332,19 @@ fn both(
 fn put_and_draw<'a, R: Threads + Wait + Sync>(
     rt: &R,
     alloc: Global,
-    mut desk: Desk<'_, 'a>,
+    mut endpoint: Endpoint<'_, 'a>,
     mut games: Games<'a>,
 ) -> Result<(u64, Vec<u64>), TallyFault>
-    requires step { IsInStep games desk }
-    requires parts { 2 < desk.parts }
+    requires step { IsInStep games endpoint }
+    requires parts { 2 < endpoint.parts }
 {
-    let one = desk.another();
-    let other = desk.another();
+    let one = endpoint.another();
+    let other = endpoint.another();
     let (read, drawn) = thread::join(
         rt,
         move || -> Result<u64, TallyFault>
-            requires { IsInStep games desk }
-        { put_all(rt, alloc, &mut desk, &mut games) },
+            requires { IsInStep games endpoint }
+        { put_all(rt, alloc, &mut endpoint, &mut games) },
         move || draw_by_two(rt, alloc, one, other),
     );
     both(read, drawn)
@@ -357,7 +358,7 @@ fn drawn_by_two<R: Threads + Wait + Sync>(
 ) -> Result<(u64, Vec<u64>), TallyFault> {
     let games = Games::new(bytes)?;
     let (queue, pass) = new_queue(alloc, 128)?;
-    put_and_draw(rt, alloc, Desk::open(&queue, pass, bytes), games)
+    put_and_draw(rt, alloc, Endpoint::open(&queue, pass, bytes), games)
 }
 
 /// Whether each number is that of its place.

@@ -21,7 +21,7 @@ use Rattle.table_harvest.specs.InTable.{IsInTable, IsFullOf}
 use Rattle.table_harvest.specs.Working.{IsCallIn}
 use Rattle.table_harvest.specs.Harvest.{HasHarvested, IsHarvestFault, IsRefusedAlone}
 use Rattle.table_harvest.specs.Inner.Parted.{refusals_of}
-use Rattle.table_harvest.specs.Inner.Crew.{StandsAmong, AgreesWithTable}
+use Rattle.table_harvest.specs.Inner.Threads.{StandsAmong, AgreesWithTable}
 use Rattle.table_harvest.proofs.InTable.{call_in_kept, still_in_table, contains_cons}
 use Rattle.table_harvest.proofs.Together.{rest_contains}
 

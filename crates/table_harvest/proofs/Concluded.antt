@@ -30,7 +30,7 @@ use Rattle.share_core.specs.Rows.{row_of, first_at}
 use Rattle.share_core.specs.Shares.{Held}
 use Rattle.slot_table.proofs.Contents.{one_key}
 use Rattle.gather_core.proofs.Confirmed.{more_patterns}
-use Rattle.table_harvest.specs.declared.taking.Crop.{Crop}
+use Rattle.table_harvest.specs.declared.taking.Results.{Results}
 use Rattle.table_harvest.specs.InTable.{HasGameBy}
 use Rattle.table_harvest.specs.Inner.Parted.{shares_of, refusals_of}
 use Rattle.table_harvest.specs.Inner.Reading.{IsOnceEach}
@@ -256,8 +256,8 @@ refused_for n bytes kinds earlier after (fault.Sgf found) other read h = absurd 
 refused_for n bytes kinds earlier after (fault.Marks number of_shares of_table) other read h = absurd h
 
 -- no game was refused, and this is what the shares give
-pub told_none : {O : Type 0} (n : ℕ) (crop : Crop O) (before after : Known O) (result : Result Counted HarvestFault) → refusals_of crop.worked.items ≡ [] →
-    IfErr result (IsGatherFault n crop.report.games (shares_of crop.worked.items) before after) →
-    MatchResult result (λ (_ : Counted). refusals_of crop.worked.items ≡ []) (IsTold n crop after)
-told_none n crop before after (Ok counted) none h = none
-told_none n crop before after (Err found) none h = (before, inr (inr (none, h)))
+pub told_none : {O : Type 0} (n : ℕ) (results : Results O) (before after : Known O) (result : Result Counted HarvestFault) → refusals_of results.worked.items ≡ [] →
+    IfErr result (IsGatherFault n results.report.games (shares_of results.worked.items) before after) →
+    MatchResult result (λ (_ : Counted). refusals_of results.worked.items ≡ []) (IsTold n results after)
+told_none n results before after (Ok counted) none h = none
+told_none n results before after (Err found) none h = (before, inr (inr (none, h)))

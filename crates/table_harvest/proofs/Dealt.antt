@@ -5,7 +5,7 @@ use Rattle.std.proofs.lemmas.List.Sums.{sum_by-append, sum_by_push}
 use Rattle.std.specs.Result.{result_err}
 use Rattle.job_core.specs.Rising.{past}
 use Rattle.job_core.proofs.Orders.{past_on}
-use Rattle.job_core.specs.declared.hands.Hand.{Hand}
+use Rattle.job_core.specs.declared.knowledge.Knowledge.{Knowledge}
 use Rattle.job_core.specs.declared.items.Item.TheVariants.{Job}
 use Rattle.game_core.specs.Games.{WrittenGame}
 use Rattle.job_core.specs.Rule.{putting}
@@ -47,14 +47,14 @@ dealt_none put worked high zero none games ok game =
 once_more : (high : ℕ) (some more after : List ℕ) → ((game : ℕ) → times_of after game ≡ times_of (some ++ more) game + cond (high == game) 1 0) → IsOnceEach high (some ++ more) → IsOnceEach (high + 1) after
 once_more high some more after step once game = step game ∙ ap (λ n. n + cond (high == game) 1 0) (once game) ∙ number_below high game
 
-pub dealt_more : (job : WrittenGame) (before after : Hand) (old new : Worked) (high next : ℕ) → job.game ≡ high → next ≡ high + 1 →
+pub dealt_more : (job : WrittenGame) (before after : Knowledge) (old new : Worked) (high next : ℕ) → job.game ≡ high → next ≡ high + 1 →
     ((after ≡ putting before (Job job)) × (new ≡ old)) ⊎ ((after ≡ before) × IsCounted job.game old new) →
     AreDealt high before.put old → AreDealt next after.put new
 dealt_more job before after old new high next is more offered dealt none = subst (λ n. IsOnceEach n (after.put ++ new.share.games)) (sym more) (⊎_elim
     (λ (put : (after ≡ putting before (Job job)) × (new ≡ old)).
     once_more high before.put old.share.games (after.put ++ new.share.games)
     (λ game.
-    let list : after.put ≡ before.put ++ job.game ∷ [] = ap (λ (v : Hand). v.put) put.0 in
+    let list : after.put ≡ before.put ++ job.game ∷ [] = ap (λ (v : Knowledge). v.put) put.0 in
     let games : new.share.games ≡ old.share.games = ap (λ (w : Worked). w.share.games) put.1 in
     let both = times_both after.put new.share.games game in
     let was = times_both before.put old.share.games game in
@@ -66,7 +66,7 @@ dealt_more job before after old new high next is more offered dealt none = subst
     (λ (counted : (after ≡ before) × IsCounted job.game old new). counted_more job.game before after old new high is counted.0 none dealt counted.1)
     offered)
   where
-    counted_more : (g : ℕ) (before after : Hand) (old new : Worked) (high : ℕ) → g ≡ high → after ≡ before → new.refused ≡ None → AreDealt high before.put old → IsCounted g old new →
+    counted_more : (g : ℕ) (before after : Knowledge) (old new : Worked) (high : ℕ) → g ≡ high → after ≡ before → new.refused ≡ None → AreDealt high before.put old → IsCounted g old new →
         IsOnceEach (high + 1) (after.put ++ new.share.games)
     counted_more g before after old new high is same none dealt counted = ⊎_elim
         (λ (added : (new.share.games ≡ old.share.games ++ g ∷ []) × (old.refused ≡ None) × (new.refused ≡ None)).
@@ -74,7 +74,7 @@ dealt_more job before after old new high next is more offered dealt none = subst
         (λ game.
         let both = times_both after.put new.share.games game in
         let was = times_both before.put old.share.games game in
-        let one = ap (λ (v : Hand). times_of v.put game) same in
+        let one = ap (λ (v : Knowledge). times_of v.put game) same in
         let other = ap (λ (xs : List ℕ). times_of xs game) added.0 ∙ times_push old.share.games g game in
         let last = ap (λ k. (let one : ℕ = cond (k == game) 1 0 in one)) is in
         omega (arith, both, was, one, other, last))
@@ -89,8 +89,8 @@ dealt_more job before after old new high next is more offered dealt none = subst
         counted
 
 -- a job was put, or its game was counted here
-abbrev IsOffered : WrittenGame → Hand → Worked → Hand → Worked → Type 0
-IsOffered job desk one after two = ((after ≡ putting desk (Job job)) × (two ≡ one)) ⊎ ((after ≡ desk) × IsCounted job.game one two)
+abbrev IsOffered : WrittenGame → Knowledge → Worked → Knowledge → Worked → Type 0
+IsOffered job endpoint one after two = ((after ≡ putting endpoint (Job job)) × (two ≡ one)) ⊎ ((after ≡ endpoint) × IsCounted job.game one two)
 
 -- the number after the games that were counted here is at most that of the next game
 counted_below : (number : ℕ) (one two : Worked) → IsCounted number one two → past one.share.games ≤ number → past two.share.games ≤ number + 1
@@ -104,11 +104,11 @@ counted_below number one two counted below = ⊎_elim
     not)
     counted
 
-pub below_next : (job : WrittenGame) (desk : Hand) (one : Worked) (after : Hand) (two : Worked) (high next : ℕ) → job.game ≡ high → next ≡ high + 1 →
-    IsOffered job desk one after two → past one.share.games ≤ high → past two.share.games ≤ next
-below_next job desk one after two high next is up offered below = ⊎_elim
-    (λ (put : (after ≡ putting desk (Job job)) × (two ≡ one)). omega (arith, ap (λ (w : Worked). past w.share.games) put.1, up, below))
-    (λ (here : (after ≡ desk) × IsCounted job.game one two). omega (arith, counted_below job.game one two here.1 (omega (arith, is, below)), is, up))
+pub below_next : (job : WrittenGame) (endpoint : Knowledge) (one : Worked) (after : Knowledge) (two : Worked) (high next : ℕ) → job.game ≡ high → next ≡ high + 1 →
+    IsOffered job endpoint one after two → past one.share.games ≤ high → past two.share.games ≤ next
+below_next job endpoint one after two high next is up offered below = ⊎_elim
+    (λ (put : (after ≡ putting endpoint (Job job)) × (two ≡ one)). omega (arith, ap (λ (w : Worked). past w.share.games) put.1, up, below))
+    (λ (here : (after ≡ endpoint) × IsCounted job.game one two). omega (arith, counted_below job.game one two here.1 (omega (arith, is, below)), is, up))
     offered
 
 -- what holds where a call answers well holds where it has no fault

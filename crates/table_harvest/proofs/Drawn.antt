@@ -4,7 +4,7 @@ use Rattle.std.proofs.lemmas.List.Elements.{Contains-push, Contains-append_left}
 use Rattle.shape_core.specs.declared.words.Kinds.{Kinds}
 use Rattle.game_core.specs.Games.{WrittenGame}
 use Rattle.job_core.specs.Rising.{Rising, past}
-use Rattle.job_core.specs.declared.hands.Hand.{Hand}
+use Rattle.job_core.specs.declared.knowledge.Knowledge.{Knowledge}
 use Rattle.job_core.specs.declared.items.Item.TheVariants.{Job, End}
 use Rattle.job_core.specs.Rule.{drawing, Draws}
 use Rattle.job_core.proofs.Turns.{drawn_rises}
@@ -31,11 +31,11 @@ pub record IsCountedBy {O : Type 0} (n : ℕ) (bytes : List ℕ) (kinds : Kinds)
   pub refusal : (found : HarvestFault) → one.refused ≡ None → two.refused ≡ Some found → IsRefusedGame n after.seen bytes game one.share two.share found
 
 -- what was drawn so far, were an end drawn now
-abbrev pub HasSoFar : {O : Type 0} → ℕ → Kinds → Known O → Known O → Hand → Worked → Hand → Type 0
+abbrev pub HasSoFar : {O : Type 0} → ℕ → Kinds → Known O → Known O → Knowledge → Worked → Knowledge → Type 0
 HasSoFar n kinds before after old worked v = HasDrawn n kinds before after old worked (drawing v End)
 
 -- nothing was drawn yet
-pub drawn_none : {O : Type 0} (n : ℕ) (kinds : Kinds) (before : Known O) (old : Hand) (worked : Worked) → worked.share.games ≡ [] → worked.share.rows ≡ [] → worked.refused ≡ None →
+pub drawn_none : {O : Type 0} (n : ℕ) (kinds : Kinds) (before : Known O) (old : Knowledge) (worked : Worked) → worked.share.games ≡ [] → worked.share.rows ≡ [] → worked.refused ≡ None →
     HasSoFar n kinds before before old worked old
 drawn_none n kinds before old worked games rows none = record {
   drawn = [];
@@ -55,7 +55,7 @@ rising_last : (low : ℕ) (games : List ℕ) (last high : ℕ) → Rising low (g
 rising_last low [] last high r = r.0
 rising_last low (game ∷ games) last high r = omega (arith, r.0, rising_last (suc game) games last high r.1)
 
-module _ {O : Type 0} (n : ℕ) (kinds : Kinds) (before mid after : Known O) (old : Hand) (one two : Worked) (v : Hand) (job : WrittenGame) where
+module _ {O : Type 0} (n : ℕ) (kinds : Kinds) (before mid after : Known O) (old : Knowledge) (one two : Worked) (v : Knowledge) (job : WrittenGame) where
   -- the game that is drawn is above those of the share
   pub drawn_above : Draws v (Job job) → HasSoFar n kinds before mid old one v → past one.share.games ≤ job.game
   drawn_above draws h =
@@ -114,7 +114,7 @@ module _ {O : Type 0} (n : ℕ) (kinds : Kinds) (before mid after : Known O) (ol
       record {
         drawn = h.drawn ++ g ∷ [];
         all = ap (λ (xs : List ℕ). xs ++ g ∷ []) h.all ∙ append_assoc old.drawn h.drawn (g ∷ []);
-        same = ap (λ (x : Hand). (let y : Hand = record x { drawn = v.drawn ++ g ∷ [] } in y)) h.same;
+        same = ap (λ (x : Knowledge). (let y : Knowledge = record x { drawn = v.drawn ++ g ∷ [] } in y)) h.same;
         rest = [];
         first = ap (λ (xs : List ℕ). xs ++ g ∷ []) (h.first ∙ ap (λ (xs : List ℕ). one.share.games ++ xs) rest ∙ append-nil one.share.games) ∙ sym games ∙ sym (append-nil two.share.games);
         whole = λ _. refl;
@@ -131,7 +131,7 @@ module _ {O : Type 0} (n : ℕ) (kinds : Kinds) (before mid after : Known O) (ol
       record {
         drawn = h.drawn ++ g ∷ [];
         all = ap (λ (xs : List ℕ). xs ++ g ∷ []) h.all ∙ append_assoc old.drawn h.drawn (g ∷ []);
-        same = ap (λ (x : Hand). (let y : Hand = record x { drawn = v.drawn ++ g ∷ [] } in y)) h.same;
+        same = ap (λ (x : Knowledge). (let y : Knowledge = record x { drawn = v.drawn ++ g ∷ [] } in y)) h.same;
         rest = h.rest ++ g ∷ [];
         first = ap (λ (xs : List ℕ). xs ++ g ∷ []) h.first ∙ append_assoc one.share.games h.rest (g ∷ []);
         whole = λ none. absurd (let clash : Some found ≡ None = sym some ∙ none in cc);
@@ -150,7 +150,7 @@ module _ {O : Type 0} (n : ℕ) (kinds : Kinds) (before mid after : Known O) (ol
       record {
         drawn = h.drawn ++ g ∷ [];
         all = ap (λ (xs : List ℕ). xs ++ g ∷ []) h.all ∙ append_assoc old.drawn h.drawn (g ∷ []);
-        same = ap (λ (x : Hand). (let y : Hand = record x { drawn = v.drawn ++ g ∷ [] } in y)) h.same;
+        same = ap (λ (x : Knowledge). (let y : Knowledge = record x { drawn = v.drawn ++ g ∷ [] } in y)) h.same;
         rest = g ∷ [];
         first = ap (λ (xs : List ℕ). xs ++ g ∷ []) (h.first ∙ ap (λ (xs : List ℕ). one.share.games ++ xs) rest ∙ append-nil one.share.games ∙ sym games);
         whole = λ is. absurd (let clash : Some found ≡ None = sym some ∙ is in cc);
@@ -161,7 +161,7 @@ module _ {O : Type 0} (n : ℕ) (kinds : Kinds) (before mid after : Known O) (ol
       }
 
   -- one job more was drawn, and its game counted
-  pub drawn_more : (w : Hand) → IsCountedBy n old.bytes kinds job.game mid after one two → w ≡ drawing v (Job job) → Draws v (Job job) → HasSoFar n kinds before mid old one v →
+  pub drawn_more : (w : Knowledge) → IsCountedBy n old.bytes kinds job.game mid after one two → w ≡ drawing v (Job job) → Draws v (Job job) → HasSoFar n kinds before mid old one v →
       HasSoFar n kinds before after old two w
   drawn_more w counted is draws h = subst (HasSoFar n kinds before after old two) (sym is) (⊎_elim
       (λ (more : (two.share.games ≡ one.share.games ++ job.game ∷ []) × (one.refused ≡ None) × (two.refused ≡ None)). added counted more.0 more.1 more.2 draws h)

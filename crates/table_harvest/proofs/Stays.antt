@@ -3,7 +3,7 @@ use Rattle.std.proofs.Common.{◌≡◌, ℕ, ◌⊎◌, List, ap, sym, subst, �
 use Rattle.shape_core.specs.declared.words.Kinds.{Kinds}
 use Rattle.slot_table.specs.Passes.{Numbers}
 use Rattle.game_core.specs.Games.{WrittenGame}
-use Rattle.job_core.specs.declared.hands.Hand.{Hand}
+use Rattle.job_core.specs.declared.knowledge.Knowledge.{Knowledge}
 use Rattle.job_core.specs.declared.items.Item.TheVariants.{Job}
 use Rattle.job_core.specs.Rule.{putting}
 use Rattle.table_harvest.specs.declared.workers.Worker.{Worker}
@@ -13,28 +13,28 @@ use Rattle.table_harvest.specs.Working.{CallsIn}
 use Rattle.table_harvest.proofs.CallsIn.{more_in_input}
 use Rattle.table_harvest.proofs.InTable.{goes_on}
 
--- a desk that has put something, and nothing else of it has changed
-abbrev pub HasPut : Hand → Hand → Type 0
+-- an endpoint that has put something, and nothing else of it has changed
+abbrev pub HasPut : Knowledge → Knowledge → Type 0
 HasPut before after = after ≡ record before { put = after.put }
 
 -- a job was put, or came back
-pub has_put : (job : WrittenGame) (before after : Hand) → (after ≡ putting before (Job job)) ⊎ (after ≡ before) → HasPut before after
+pub has_put : (job : WrittenGame) (before after : Knowledge) → (after ≡ putting before (Job job)) ⊎ (after ≡ before) → HasPut before after
 has_put job before after offered = ⊎_elim
-    (λ (put : after ≡ putting before (Job job)). put ∙ ap (λ (list : List ℕ). (let v : Hand = record before { put = list } in v)) (sym (ap (λ (v : Hand). v.put) put)))
-    (λ (back : after ≡ before). back ∙ ap (λ (list : List ℕ). (let v : Hand = record before { put = list } in v)) (sym (ap (λ (v : Hand). v.put) back)))
+    (λ (put : after ≡ putting before (Job job)). put ∙ ap (λ (list : List ℕ). (let v : Knowledge = record before { put = list } in v)) (sym (ap (λ (v : Knowledge). v.put) put)))
+    (λ (back : after ≡ before). back ∙ ap (λ (list : List ℕ). (let v : Knowledge = record before { put = list } in v)) (sym (ap (λ (v : Knowledge). v.put) back)))
     offered
 
 -- the thread has put and called, and nothing else of it has changed
 abbrev pub HasOffered : {O G : Type 0} → Worker O G → Worker O G → Type 0
-HasOffered before after = after ≡ record before { desk = record before.desk { put = after.desk.put }; pass = after.pass }
+HasOffered before after = after ≡ record before { endpoint = record before.endpoint { put = after.endpoint.put }; pass = after.pass }
 
-pub offered_more : {O G : Type 0} (first before after : Worker O G) → HasOffered first before → after ≡ record before { desk = after.desk; pass = after.pass } → HasPut before.desk after.desk → HasOffered first after
+pub offered_more : {O G : Type 0} (first before after : Worker O G) → HasOffered first before → after ≡ record before { endpoint = after.endpoint; pass = after.pass } → HasPut before.endpoint after.endpoint → HasOffered first after
 offered_more {O = O} {G = G} first before after so_far step put =
-    let desk : after.desk ≡ record first.desk { put = after.desk.put } =
-    put ∙ ap (λ (w : Worker O G). (let v : Hand = record w.desk { put = after.desk.put } in v)) so_far in
+    let endpoint : after.endpoint ≡ record first.endpoint { put = after.endpoint.put } =
+    put ∙ ap (λ (w : Worker O G). (let v : Knowledge = record w.endpoint { put = after.endpoint.put } in v)) so_far in
     step
-    ∙ ap (λ (w : Worker O G). (let x : Worker O G = record w { desk = after.desk; pass = after.pass } in x)) so_far
-    ∙ ap (λ (v : Hand). (let x : Worker O G = record first { desk = v; pass = after.pass } in x)) desk
+    ∙ ap (λ (w : Worker O G). (let x : Worker O G = record w { endpoint = after.endpoint; pass = after.pass } in x)) so_far
+    ∙ ap (λ (v : Knowledge). (let x : Worker O G = record first { endpoint = v; pass = after.pass } in x)) endpoint
 
 -- its calls since are of the input
 pub offered_calls : {O G : Type 0} (bytes other : List ℕ) (kinds : Kinds) (first before after : Worker O G) → HasOffered first before → other ≡ bytes →

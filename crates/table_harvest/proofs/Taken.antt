@@ -7,7 +7,7 @@ use Rattle.shape_core.specs.declared.words.Kinds.{Kinds}
 use Rattle.slot_table.specs.declared.entries.Happened.{Happened}
 use Rattle.slot_table.specs.Passes.{Numbers, Known, IsPassOf, Met, calls_of}
 use Rattle.slot_table.proofs.Meetings.{met_calls}
-use Rattle.job_core.specs.declared.hands.Hand.{Hand}
+use Rattle.job_core.specs.declared.knowledge.Knowledge.{Knowledge}
 use Rattle.job_core.specs.Rule.{taking_up, all_parts}
 use Rattle.game_core.specs.Games.{HasReadAll}
 use Rattle.slot_table.specs.Stakes.{IsAsMuch}
@@ -22,11 +22,11 @@ use Rattle.table_harvest.specs.declared.working.Worked.{Worked}
 use Rattle.table_harvest.specs.InTable.{IsInTable}
 use Rattle.table_harvest.specs.Working.{IsCallIn}
 use Rattle.table_harvest.specs.Inner.Parted.{shares_of, refusals_of}
-use Rattle.table_harvest.specs.Inner.Crew.{StandsAmong, AgreesWithTable, IsBackOf, HasTaken, IsJoinable, IsCrop, workers_of, stakes_back, numbers_back}
-use Rattle.harvest_core.specs.Inner.Reading.{IsReadFault}
+use Rattle.table_harvest.specs.Inner.Threads.{StandsAmong, AgreesWithTable, IsBackOf, HasTaken, IsJoinable, AreResults, workers_of, stakes_back, numbers_back}
+use Rattle.harvest_core.specs.Harvest.{IsCountRefused}
 use Rattle.table_harvest.specs.Inner.Reading.{IsOnceEach, AreDealt}
 use Rattle.table_harvest.specs.declared.reading.Reading.{Reading}
-use Rattle.table_harvest.specs.declared.taking.Crop.{Crop}
+use Rattle.table_harvest.specs.declared.taking.Results.{Results}
 use Rattle.table_harvest.proofs.CallsIn.{calls_in_input}
 use Rattle.table_harvest.specs.Inner.Working.{IsWorkOf}
 use Rattle.table_harvest.proofs.InTable.{still_in_table, call_in_kept}
@@ -62,7 +62,7 @@ module _ {O : Type 0} (table : Numbers O) (bytes : List ℕ) (kinds : Kinds) (ea
             record { stands = i.stands; marked = i.marked; calls_stand = λ rows e none. absurd (let low = none.1 in omega arith); full = i.full });
       }
 
--- ---- what the desks drew
+-- ---- what the endpoints drew
 refusals_more : (worked : List Worked) (one : Worked) → refusals_of (worked ++ one ∷ []) ≡ refusals_of worked ++ cons_option one.refused []
 refusals_more worked one = filter_map-append (λ (w : Worked). w.refused) worked (one ∷ [])
 
@@ -119,11 +119,11 @@ module _ {O G : Type 0} (before own after : Worker O G) (all rest : List (Return
   pub same_table : own.table.now ≡ before.table.now
   same_table = ap (λ w. w.table.now) h.own_is
 
-  pub their_queue : one.desk.queue ≡ own.desk.queue
-  their_queue = ap (λ (v : Hand). v.queue) h.back.0.desk ∙ sym (ap (λ (w : Worker O G). w.desk.queue) h.own_is)
+  pub their_queue : one.endpoint.queue ≡ own.endpoint.queue
+  their_queue = ap (λ (v : Knowledge). v.queue) h.back.0.endpoint ∙ sym (ap (λ (w : Worker O G). w.endpoint.queue) h.own_is)
 
-  pub their_writes : one.desk.writes ≡ false
-  their_writes = ap (λ (v : Hand). v.writes) h.back.0.desk
+  pub their_writes : one.endpoint.writes ≡ false
+  their_writes = ap (λ (v : Knowledge). v.writes) h.back.0.endpoint
 
   pub their_pass : IsPassOf own.table.now one.pass
   their_pass = subst (λ (t : Numbers O). IsPassOf t one.pass) (sym same_table) h.back.0.pass
@@ -131,52 +131,52 @@ module _ {O G : Type 0} (before own after : Worker O G) (all rest : List (Return
   pub own_pass : IsPassOf own.table.now own.pass
   own_pass = subst (λ (t : Numbers O). IsPassOf t own.pass) (sym same_table) h.counted.is_of
 
-  desk_stays : after.desk ≡ taking_up own.desk one.desk →
-      after.desk ≡ record before.desk { parts = after.desk.parts; taken = after.desk.taken; ends_drawn = after.desk.ends_drawn }
-  desk_stays is =
-      let D = taking_up own.desk one.desk in
-      let same : D ≡ record before.desk { parts = D.parts; taken = D.taken; ends_drawn = D.ends_drawn } =
-      ap (λ (w : Worker O G). (let v : Hand = record w.desk { parts = D.parts; taken = D.taken; ends_drawn = D.ends_drawn } in v)) h.own_is in
-      is ∙ same ∙ ap (λ (d : Hand). (let v : Hand = record before.desk { parts = d.parts; taken = d.taken; ends_drawn = d.ends_drawn } in v)) (sym is)
+  endpoint_stays : after.endpoint ≡ taking_up own.endpoint one.endpoint →
+      after.endpoint ≡ record before.endpoint { parts = after.endpoint.parts; taken = after.endpoint.taken; ends_drawn = after.endpoint.ends_drawn }
+  endpoint_stays is =
+      let D = taking_up own.endpoint one.endpoint in
+      let same : D ≡ record before.endpoint { parts = D.parts; taken = D.taken; ends_drawn = D.ends_drawn } =
+      ap (λ (w : Worker O G). (let v : Knowledge = record w.endpoint { parts = D.parts; taken = D.taken; ends_drawn = D.ends_drawn } in v)) h.own_is in
+      is ∙ same ∙ ap (λ (d : Knowledge). (let v : Knowledge = record before.endpoint { parts = d.parts; taken = d.taken; ends_drawn = d.ends_drawn } in v)) (sym is)
 
-  pub taken_one : after ≡ record own { desk = after.desk; pass = after.pass } → after.desk ≡ taking_up own.desk one.desk →
+  pub taken_one : after ≡ record own { endpoint = after.endpoint; pass = after.pass } → after.endpoint ≡ taking_up own.endpoint one.endpoint →
       IsPassOf own.table.now after.pass → Met own.table.now.slots own.pass one.pass after.pass →
       HasTaken before all rest after (worked ++ one.worked ∷ [])
-  taken_one step desk is met =
+  taken_one step endpoint is met =
       let table = before.table.now in
       let n = table.slots in
       let back = h.back.0 in
       let met_here : Met n own.pass one.pass after.pass = subst (λ (t : Numbers O). Met t.slots own.pass one.pass after.pass) same_table met in
       let is_here : IsPassOf table after.pass = subst (λ (t : Numbers O). IsPassOf t after.pass) same_table is in
-      let their_parts : one.desk.parts ≡ 1 = ap (λ (v : Hand). v.parts) back.desk in
-      let their_ends : one.desk.ends_drawn ≡ 1 = ap (λ (v : Hand). v.ends_drawn) back.desk in
-      let their_taken : one.desk.taken ≡ [] = ap (λ (v : Hand). v.taken) back.desk in
-      let parts : after.desk.parts ≡ own.desk.parts + one.desk.parts = ap (λ (v : Hand). v.parts) desk in
-      let ends : after.desk.ends_drawn ≡ own.desk.ends_drawn + one.desk.ends_drawn = ap (λ (v : Hand). v.ends_drawn) desk in
-      let list : after.desk.taken ≡ own.desk.taken ++ (one.desk.drawn ++ []) =
-      ap (λ (v : Hand). v.taken) desk ∙ ap (λ (xs : List ℕ). own.desk.taken ++ (one.desk.drawn ++ xs)) their_taken in
+      let their_parts : one.endpoint.parts ≡ 1 = ap (λ (v : Knowledge). v.parts) back.endpoint in
+      let their_ends : one.endpoint.ends_drawn ≡ 1 = ap (λ (v : Knowledge). v.ends_drawn) back.endpoint in
+      let their_taken : one.endpoint.taken ≡ [] = ap (λ (v : Knowledge). v.taken) back.endpoint in
+      let parts : after.endpoint.parts ≡ own.endpoint.parts + one.endpoint.parts = ap (λ (v : Knowledge). v.parts) endpoint in
+      let ends : after.endpoint.ends_drawn ≡ own.endpoint.ends_drawn + one.endpoint.ends_drawn = ap (λ (v : Knowledge). v.ends_drawn) endpoint in
+      let list : after.endpoint.taken ≡ own.endpoint.taken ++ (one.endpoint.drawn ++ []) =
+      ap (λ (v : Knowledge). v.taken) endpoint ∙ ap (λ (xs : List ℕ). own.endpoint.taken ++ (one.endpoint.drawn ++ xs)) their_taken in
       record {
-        own_is = step ∙ ap (λ (w : Worker O G). (let x : Worker O G = record w { desk = after.desk; pass = after.pass } in x)) h.own_is
-            ∙ ap (λ (d : Hand). (let x : Worker O G = record before { desk = d; pass = after.pass } in x)) (desk_stays desk);
+        own_is = step ∙ ap (λ (w : Worker O G). (let x : Worker O G = record w { endpoint = after.endpoint; pass = after.pass } in x)) h.own_is
+            ∙ ap (λ (d : Knowledge). (let x : Worker O G = record before { endpoint = d; pass = after.pass } in x)) (endpoint_stays endpoint);
         keeps = record {
           numbers = λ key p number. met_here.keeps_one.numbers key p (h.keeps.numbers key p number);
           marks = λ p game at_most. met_here.keeps_one.marks p game (h.keeps.marks p game at_most);
         };
-        counted = agrees_more table before.desk.bytes before.kinds (calls_of before.pass) own.pass one.pass after.pass worked one.worked met_here is_here back.pass back.calls back.in_table h.counted;
+        counted = agrees_more table before.endpoint.bytes before.kinds (calls_of before.pass) own.pass one.pass after.pass worked one.worked met_here is_here back.pass back.calls back.in_table h.counted;
         stake = ap (λ (s : List ℕ). s ++ stakes_back rest) met_here.stake ∙ append_assoc own.pass.stake one.pass.stake (stakes_back rest) ∙ h.stake;
         parts = (let p = h.parts in omega (arith, p, parts, their_parts));
         ends = (let e = h.ends in omega (arith, e, ends, their_ends));
-        taken = taken_more worked one.worked own.desk.taken after.desk.taken one.desk.drawn back.rest list back.drawn back.whole h.taken;
+        taken = taken_more worked one.worked own.endpoint.taken after.endpoint.taken one.endpoint.drawn back.rest list back.drawn back.whole h.taken;
         many = (let m = h.many in omega (arith, m, length-append worked (one.worked ∷ [])));
         numbers = ap (λ (ns : List ℕ). ns ++ numbers_back rest) (workers_more worked one.worked) ∙ append_assoc (workers_of worked) (one.worked.share.worker ∷ []) (numbers_back rest) ∙ h.numbers;
-        worked_is = All-push (IsWorkOf before.desk.bytes before.kinds) worked one.worked h.worked_is back.worked_is;
+        worked_is = All-push (IsWorkOf before.endpoint.bytes before.kinds) worked one.worked h.worked_is back.worked_is;
         back = h.back.1;
       }
 
 -- ---- before and after
 -- nothing is taken up yet
-pub taken_none : {O G : Type 0} (own : Worker O G) (all : List (Returned O)) → IsPassOf own.table.now own.pass → own.desk.taken ≡ [] →
-    AllByRecursion (IsBackOf own.table.now own.desk.queue own.desk.bytes own.kinds) all → HasTaken own all all own []
+pub taken_none : {O G : Type 0} (own : Worker O G) (all : List (Returned O)) → IsPassOf own.table.now own.pass → own.endpoint.taken ≡ [] →
+    AllByRecursion (IsBackOf own.table.now own.endpoint.queue own.endpoint.bytes own.kinds) all → HasTaken own all all own []
 taken_none own all is none back = record {
   own_is = refl;
   keeps = record { numbers = λ key p number. number; marks = λ p game at_most. at_most };
@@ -192,7 +192,7 @@ taken_none own all is none back = record {
   taken = λ fine game. ap (λ (xs : List ℕ). times_of xs game) none;
   many = omega arith;
   numbers = refl;
-  worked_is = All-nil (IsWorkOf own.desk.bytes own.kinds);
+  worked_is = All-nil (IsWorkOf own.endpoint.bytes own.kinds);
   back = back;
 }
 
@@ -201,8 +201,8 @@ module _ {O G : Type 0} (stake given : List ℕ) (lent : ℕ) (reading : Reading
   table_is : reading.own.table.now ≡ j.before.table.now
   table_is = ap (λ (w : Worker O G). w.table.now) j.reading_is.own_is
 
-  bytes_are : reading.own.desk.bytes ≡ j.before.desk.bytes
-  bytes_are = ap (λ (w : Worker O G). w.desk.bytes) j.reading_is.own_is
+  bytes_are : reading.own.endpoint.bytes ≡ j.before.endpoint.bytes
+  bytes_are = ap (λ (w : Worker O G). w.endpoint.bytes) j.reading_is.own_is
 
   kinds_are : reading.own.kinds ≡ j.before.kinds
   kinds_are = ap (λ (w : Worker O G). w.kinds) j.reading_is.own_is
@@ -211,9 +211,9 @@ module _ {O G : Type 0} (stake given : List ℕ) (lent : ℕ) (reading : Reading
   size_of = reading.own.table.now.slots
 
   -- what the thread that reads has counted, and its calls
-  mine_is : IsWorkOf reading.own.desk.bytes reading.own.kinds reading.worked
+  mine_is : IsWorkOf reading.own.endpoint.bytes reading.own.kinds reading.worked
   mine_is = subst (λ (bs : List ℕ). IsWorkOf bs reading.own.kinds reading.worked) (sym bytes_are)
-      (subst (λ ks. IsWorkOf j.before.desk.bytes ks reading.worked) (sym kinds_are) j.reading_is.worked_is)
+      (subst (λ ks. IsWorkOf j.before.endpoint.bytes ks reading.worked) (sym kinds_are) j.reading_is.worked_is)
 
   mine_in_table : IsInTable size_of reading.own.pass.seen j.reading_is.table.0 reading.worked
   mine_in_table = subst (λ (t : Numbers O). IsInTable t.slots reading.own.pass.seen j.reading_is.table.0 reading.worked) (sym table_is) j.reading_is.table.2
@@ -221,27 +221,27 @@ module _ {O G : Type 0} (stake given : List ℕ) (lent : ℕ) (reading : Reading
   made_is : calls_of reading.own.pass ≡ j.reading_is.table.0
   made_is = j.reading_is.table.1.calls ∙ ap (λ (es : List Happened). es ++ j.reading_is.table.0) j.begun
 
-  mine_in_input : (e : Happened) → Contains (calls_of reading.own.pass) e → IsCallIn size_of reading.own.pass.seen reading.own.desk.bytes reading.own.kinds e
+  mine_in_input : (e : Happened) → Contains (calls_of reading.own.pass) e → IsCallIn size_of reading.own.pass.seen reading.own.endpoint.bytes reading.own.kinds e
   mine_in_input e there =
-      subst (λ (t : Numbers O). IsCallIn t.slots reading.own.pass.seen reading.own.desk.bytes reading.own.kinds e) (sym table_is)
+      subst (λ (t : Numbers O). IsCallIn t.slots reading.own.pass.seen reading.own.endpoint.bytes reading.own.kinds e) (sym table_is)
       (subst (λ (bs : List ℕ). IsCallIn j.before.table.now.slots reading.own.pass.seen bs reading.own.kinds e) (sym bytes_are)
-      (subst (λ ks. IsCallIn j.before.table.now.slots reading.own.pass.seen j.before.desk.bytes ks e) (sym kinds_are)
-      (calls_in_input j.before.table.now.slots j.before.desk.bytes j.before.kinds j.before.pass reading.own.pass j.begun j.reading_is.calls e there)))
+      (subst (λ ks. IsCallIn j.before.table.now.slots reading.own.pass.seen j.before.endpoint.bytes ks e) (sym kinds_are)
+      (calls_in_input j.before.table.now.slots j.before.endpoint.bytes j.before.kinds j.before.pass reading.own.pass j.begun j.reading_is.calls e there)))
 
   -- all agree with the table
-  all_agree : AgreesWithTable reading.own.table.now reading.own.desk.bytes reading.own.kinds [] own.pass (worked ++ reading.worked ∷ [])
+  all_agree : AgreesWithTable reading.own.table.now reading.own.endpoint.bytes reading.own.kinds [] own.pass (worked ++ reading.worked ∷ [])
   all_agree = record {
     is_of = h.counted.is_of;
     calls = λ e there. inr (⊎_elim
         (λ (mine : Contains (calls_of reading.own.pass) e). (
-          call_in_kept size_of reading.own.pass.seen own.pass.seen reading.own.desk.bytes reading.own.kinds h.keeps e (mine_in_input e mine),
+          call_in_kept size_of reading.own.pass.seen own.pass.seen reading.own.endpoint.bytes reading.own.kinds h.keeps e (mine_in_input e mine),
           record {
             one = reading.worked;
             among = Contains-push worked reading.worked;
             stands = λ rows. mine_in_table.calls_stand rows e (subst (λ (es : List Happened). Contains es e) made_is mine);
           },
         ))
-        (λ (theirs : IsCallIn size_of own.pass.seen reading.own.desk.bytes reading.own.kinds e × StandsAmong worked e). (theirs.0, among_more worked reading.worked e theirs.1))
+        (λ (theirs : IsCallIn size_of own.pass.seen reading.own.endpoint.bytes reading.own.kinds e × StandsAmong worked e). (theirs.0, among_more worked reading.worked e theirs.1))
         (h.counted.calls e there));
     kept = λ e none. absurd (let low = none.1 in omega arith);
     in_table = All-push (IsInTable size_of own.pass.seen []) worked reading.worked h.counted.in_table
@@ -250,7 +250,7 @@ module _ {O G : Type 0} (stake given : List ℕ) (lent : ℕ) (reading : Reading
   }
 
   -- some end was drawn, where all was read
-  pub ends_drawn : length all ≡ lent → (reading.fault ≡ Some fault.Memory → ⊥) → 0 < own.desk.ends_drawn
+  pub ends_drawn : length all ≡ lent → (reading.fault ≡ Some fault.Memory → ⊥) → 0 < own.endpoint.ends_drawn
   ends_drawn many fine =
       let e = h.ends in
       let w = (j.whole fine).2 in
@@ -258,53 +258,53 @@ module _ {O G : Type 0} (stake given : List ℕ) (lent : ℕ) (reading : Reading
       omega (arith, e, many, some)
 
   -- and all parts are back
-  pub all_parts_back : length all ≡ lent → (reading.fault ≡ Some fault.Memory → ⊥) → own.desk.parts ≡ all_parts
+  pub all_parts_back : length all ≡ lent → (reading.fault ≡ Some fault.Memory → ⊥) → own.endpoint.parts ≡ all_parts
   all_parts_back many fine =
       let p = h.parts in
       let w = (j.whole fine).1 in
-      let same : reading.own.desk.parts ≡ j.before.desk.parts = ap (λ (w : Worker O G). w.desk.parts) j.reading_is.own_is in
+      let same : reading.own.endpoint.parts ≡ j.before.endpoint.parts = ap (λ (w : Worker O G). w.endpoint.parts) j.reading_is.own_is in
       omega (arith, p, w, same, many)
 
-  own_drawn : own.desk.drawn ≡ []
+  own_drawn : own.endpoint.drawn ≡ []
   own_drawn =
-      ap (λ (w : Worker O G). w.desk.drawn) h.own_is ∙ ap (λ (w : Worker O G). w.desk.drawn) j.reading_is.own_is ∙ ap (λ (v : Hand). v.drawn) j.desk
+      ap (λ (w : Worker O G). w.endpoint.drawn) h.own_is ∙ ap (λ (w : Worker O G). w.endpoint.drawn) j.reading_is.own_is ∙ ap (λ (v : Knowledge). v.drawn) j.endpoint
 
   -- each game of the input is in one share once
-  once_each : ((game : ℕ) → times_of own.desk.put game ≡ times_of (own.desk.drawn ++ own.desk.taken) game) → AreDealt reading.report.games reading.own.desk.put reading.worked →
+  once_each : ((game : ℕ) → times_of own.endpoint.put game ≡ times_of (own.endpoint.drawn ++ own.endpoint.taken) game) → AreDealt reading.report.games reading.own.endpoint.put reading.worked →
       refusals_of (worked ++ reading.worked ∷ []) ≡ [] → IsOnceEach reading.report.games (all_games (shares_of (worked ++ reading.worked ∷ [])))
   once_each settled dealt none game =
       let fine = none_refused worked reading.worked none in
       let more = games_more worked reading.worked game in
       let taken = h.taken fine.0 game in
-      let both = times_both reading.own.desk.put reading.worked.share.games game in
+      let both = times_both reading.own.endpoint.put reading.worked.share.games game in
       let once = dealt fine.1 game in
-      let put : times_of reading.own.desk.put game ≡ times_of own.desk.put game = ap (λ (w : Worker O G). times_of w.desk.put game) (sym h.own_is) in
-      let drawn : times_of (own.desk.drawn ++ own.desk.taken) game ≡ times_of own.desk.taken game = ap (λ (xs : List ℕ). times_of (xs ++ own.desk.taken) game) own_drawn in
+      let put : times_of reading.own.endpoint.put game ≡ times_of own.endpoint.put game = ap (λ (w : Worker O G). times_of w.endpoint.put game) (sym h.own_is) in
+      let drawn : times_of (own.endpoint.drawn ++ own.endpoint.taken) game ≡ times_of own.endpoint.taken game = ap (λ (xs : List ℕ). times_of (xs ++ own.endpoint.taken) game) own_drawn in
       let all_put = settled game in
       sym (sym once ∙ both ∙ ap (λ n. n + times_of reading.worked.share.games game) (put ∙ all_put ∙ drawn ∙ taken) ∙ sym more)
 
   -- what all threads have come to
-  pub crop_is : (crop : Crop O) → stakes_back all ≡ given → crop.worked.items ≡ worked ++ reading.worked ∷ [] → crop.pass ≡ own.pass → crop.fault ≡ reading.fault → crop.report ≡ reading.report →
-      (reading.fault ≡ None → (game : ℕ) → times_of own.desk.put game ≡ times_of (own.desk.drawn ++ own.desk.taken) game) →
-      IsCrop reading.own.table.now reading.own.desk.bytes reading.own.kinds stake crop
-  crop_is crop back items pass fault_is report settled = record {
-    worked_is = subst (All (IsWorkOf reading.own.desk.bytes reading.own.kinds)) (sym items) (All-push (IsWorkOf reading.own.desk.bytes reading.own.kinds) worked reading.worked h.worked_is mine_is);
-    counted = subst (λ (p : Known O). AgreesWithTable reading.own.table.now reading.own.desk.bytes reading.own.kinds [] p crop.worked.items) (sym pass)
-        (subst (λ (ws : List Worked). AgreesWithTable reading.own.table.now reading.own.desk.bytes reading.own.kinds [] own.pass ws) (sym items) all_agree);
+  pub results_are : (results : Results O) → stakes_back all ≡ given → results.worked.items ≡ worked ++ reading.worked ∷ [] → results.pass ≡ own.pass → results.fault ≡ reading.fault → results.report ≡ reading.report →
+      (reading.fault ≡ None → (game : ℕ) → times_of own.endpoint.put game ≡ times_of (own.endpoint.drawn ++ own.endpoint.taken) game) →
+      AreResults reading.own.table.now reading.own.endpoint.bytes reading.own.kinds stake results
+  results_are results back items pass fault_is report settled = record {
+    worked_is = subst (All (IsWorkOf reading.own.endpoint.bytes reading.own.kinds)) (sym items) (All-push (IsWorkOf reading.own.endpoint.bytes reading.own.kinds) worked reading.worked h.worked_is mine_is);
+    counted = subst (λ (p : Known O). AgreesWithTable reading.own.table.now reading.own.endpoint.bytes reading.own.kinds [] p results.worked.items) (sym pass)
+        (subst (λ (ws : List Worked). AgreesWithTable reading.own.table.now reading.own.endpoint.bytes reading.own.kinds [] own.pass ws) (sym items) all_agree);
     stake_is = λ fine.
         let whole = (j.whole (λ is. fine (fault_is ∙ is))).0 in
-        let same : crop.pass.stake ≡ j.before.pass.stake ++ given =
+        let same : results.pass.stake ≡ j.before.pass.stake ++ given =
         ap (λ (p : Known O). p.stake) pass ∙ sym (append-nil own.pass.stake) ∙ h.stake ∙ ap₂ (λ (a b : List ℕ). a ++ b) j.reading_is.calls.later.stake back in
         subst (λ (s : List ℕ). IsAsMuch s stake) (sym same) whole;
     covers = λ fine none.
         let read : reading.fault ≡ None = sym fault_is ∙ fine in
-        let dealt : AreDealt reading.report.games reading.own.desk.put reading.worked = subst (λ o. IfNone o (AreDealt reading.report.games reading.own.desk.put reading.worked)) read j.reading_is.dealt in
-        subst (λ (r : Report). IsOnceEach r.games (all_games (shares_of crop.worked.items))) (sym report)
+        let dealt : AreDealt reading.report.games reading.own.endpoint.put reading.worked = subst (λ o. IfNone o (AreDealt reading.report.games reading.own.endpoint.put reading.worked)) read j.reading_is.dealt in
+        subst (λ (r : Report). IsOnceEach r.games (all_games (shares_of results.worked.items))) (sym report)
         (subst (λ (ws : List Worked). IsOnceEach reading.report.games (all_games (shares_of ws))) (sym items)
         (once_each (settled read) dealt (sym (ap refusals_of items) ∙ none)));
-    all = subst (λ o. IfNone o (HasReadAll reading.own.desk.bytes crop.report)) (sym fault_is)
-        (subst (λ (r : Report). IfNone reading.fault (HasReadAll reading.own.desk.bytes r)) (sym report)
+    all = subst (λ o. IfNone o (HasReadAll reading.own.endpoint.bytes results.report)) (sym fault_is)
+        (subst (λ (r : Report). IfNone reading.fault (HasReadAll reading.own.endpoint.bytes r)) (sym report)
         (subst (λ (bs : List ℕ). IfNone reading.fault (HasReadAll bs reading.report)) (sym bytes_are) j.reading_is.all));
-    fault_is = subst (λ o. IfSome o (IsReadFault reading.own.desk.bytes)) (sym fault_is)
-        (subst (λ (bs : List ℕ). IfSome reading.fault (IsReadFault bs)) (sym bytes_are) j.reading_is.fault_is);
+    fault_is = subst (λ o. IfSome o (IsCountRefused reading.own.endpoint.bytes)) (sym fault_is)
+        (subst (λ (bs : List ℕ). IfSome reading.fault (IsCountRefused bs)) (sym bytes_are) j.reading_is.fault_is);
   }

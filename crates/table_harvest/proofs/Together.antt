@@ -20,7 +20,7 @@ use Rattle.table_harvest.specs.InTable.{StandsIn, HasItsRows, IsInTable}
 use Rattle.table_harvest.specs.Working.{IsCallIn, IsRefused}
 use Rattle.harvest_core.specs.Harvest.{IsRead}
 use Rattle.table_harvest.specs.Inner.Parted.{shares_of, refusals_of}
-use Rattle.table_harvest.specs.Inner.Crew.{StandsAmong, AgreesWithTable}
+use Rattle.table_harvest.specs.Inner.Threads.{StandsAmong, AgreesWithTable}
 use Rattle.table_harvest.specs.Inner.Harvest.{AreTogether}
 use Rattle.table_harvest.proofs.InTable.{contains_cons}
 use Rattle.table_harvest.proofs.Limited.{never_refused}

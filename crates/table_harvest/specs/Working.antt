@@ -3,7 +3,7 @@ use Rattle.std.specs.Prelude.{◌≡◌, ℕ, ◌+◌, ◌≤◌, ◌^◌, ◌*�
 use Rattle.go_record.specs.Actions.{Actions}
 use Rattle.shape_core.specs.declared.words.Kinds.{Kinds}
 use Rattle.job_core.specs.Rising.{Rising, past}
-use Rattle.job_core.specs.declared.hands.Hand.{Hand}
+use Rattle.job_core.specs.declared.knowledge.Knowledge.{Knowledge}
 use Rattle.share_core.specs.declared.rows.Row.{Row}
 use Rattle.harvest_faults.specs.declared.faults.HarvestFault.{HarvestFault}
 use Rattle.harvest_faults.specs.declared.faults.HarvestFault.TheVariants as fault
@@ -84,7 +84,7 @@ pub record IsRefusedGame (n : ℕ) (seen : List Happened) (bytes : List ℕ) (ga
 -- a worker drew these games and one end in one call, and its share has the first of them: all where nothing was refused. Its
 -- pass entered patterns of these games alone and marked these games alone, each at numbers of its own patterns; each row of its
 -- share is of a pattern of one of them; and where a game was refused, it is the first that the share has not
-pub record HasDrawn {O : Type 0} (n : ℕ) (kinds : Kinds) (before after : Known O) (old : Hand) (worked : Worked) (new : Hand) : Type 0 where
+pub record HasDrawn {O : Type 0} (n : ℕ) (kinds : Kinds) (before after : Known O) (old : Knowledge) (worked : Worked) (new : Knowledge) : Type 0 where
   pub drawn : List ℕ
   pub all : new.drawn ≡ old.drawn ++ drawn
   pub same : new ≡ record old { drawn = new.drawn; ends_drawn = old.ends_drawn + 1 }
@@ -97,12 +97,12 @@ pub record HasDrawn {O : Type 0} (n : ℕ) (kinds : Kinds) (before after : Known
   pub refusal : (found : HarvestFault) → worked.refused ≡ Some found → (game : ℕ) × (dropped : List ℕ) × (rest ≡ game ∷ dropped)
       × ((share : Held) × IsRefusedGame n after.seen old.bytes game share worked.share found)
 
--- what a worker's loop hands back, which worked at this table for these kinds under this number, and had this desk and this
+-- what a worker's loop hands back, which worked at this table for these kinds under this number, and had this endpoint and this
 -- pass before: its pass is of the table, its share is of games of the input, and what it drew, counted and called goes together
-pub record IsReturned {O : Type 0} (table : Numbers O) (kinds : Kinds) (number : ℕ) (desk : Hand) (pass : Known O) (back : Returned O) : Type 0 where
+pub record IsReturned {O : Type 0} (table : Numbers O) (kinds : Kinds) (number : ℕ) (endpoint : Knowledge) (pass : Known O) (back : Returned O) : Type 0 where
   pub pass_is : IsPassOf table back.pass
   pub number_is : back.worked.share.worker ≡ number
-  pub worked_is : IsWorked desk.bytes kinds back.worked.share
-  pub refused_is : IsRefused desk.bytes kinds back.worked.refused
-  pub drawn : HasDrawn table.slots kinds pass back.pass desk back.worked back.desk
+  pub worked_is : IsWorked endpoint.bytes kinds back.worked.share
+  pub refused_is : IsRefused endpoint.bytes kinds back.worked.refused
+  pub drawn : HasDrawn table.slots kinds pass back.pass endpoint back.worked back.endpoint
   pub in_table : IsInTableSince table.slots pass back.pass back.worked

@@ -20,19 +20,19 @@ ghost use Rattle.table_harvest.specs.Working.{IsRefusal};
 ghost use Rattle.harvest_core.specs.Harvest.{IsRead};
 ghost use Rattle.table_harvest.specs.Harvest.{IsHarvest, IsHarvestFault, IsRefusedAlone};
 ghost use Rattle.table_harvest.specs.Harvest.{HasHarvested};
-ghost use Rattle.table_harvest.specs.Inner.Crew.{IsCrop};
+ghost use Rattle.table_harvest.specs.Inner.Threads.{AreResults};
 ghost use Rattle.table_harvest.specs.Inner.Parted.{refusals_of};
 ghost use Rattle.table_harvest.specs.Inner.Reading.{IsOnceEach};
 ghost use Rattle.table_harvest.specs.Inner.Harvest.{AreTogether, IsExplained, IsTold};
 
 use crate::parting::{Parted, part, want_memory, worst};
-use crate::taking::Crop;
-use crate::threads::Crew;
+use crate::taking::Results;
+use crate::threads::Caller;
 use crate::workers::Worker;
 use gather_core::{confirm_full, gather};
 use harvest_core::Gate;
 use harvest_faults::HarvestFault;
-use job_core::{Desk, Games, new_queue};
+use job_core::{Endpoint, Games, new_queue};
 use probe_core::ProbeOrder;
 use shape_core::Kinds;
 use share_core::Share;
@@ -105,30 +105,30 @@ fn conclude<R: Threads + Sync, O: ProbeOrder>(
     table: &SlotTable<O>,
     pass: &mut Pass<O>,
     bytes: &[u8],
-    crop: Crop<O>,
+    results: Results<O>,
 ) -> Result<Counted, HarvestFault>
     requires pass { IsPassOf table.now pass.old }
-    requires crop { (stake : List ℕ) × IsCrop table.now bytes.now kinds stake crop }
+    requires results { (stake : List ℕ) × AreResults table.now bytes.now kinds stake results }
     ensures pass { IsPassOf table.now pass.new }
     ensures calls { HasHarvested table.now.slots bytes.now kinds pass.old pass.new }
-    ensures stake { pass.new.stake ≡ pass.old.stake ++ crop.pass.stake }
+    ensures stake { pass.new.stake ≡ pass.old.stake ++ results.pass.stake }
     ensures alone { IsAlone pass.new }
-    ensures memory { Contains (refusals_of crop.worked.items) fault.Memory
+    ensures memory { Contains (refusals_of results.worked.items) fault.Memory
         → result ≡ Err fault.Memory }
-    ensures input { IfSome crop.fault (λ found. (result ≡ Err found)
+    ensures input { IfSome results.fault (λ found. (result ≡ Err found)
         ⊎ (result ≡ Err fault.Memory)) }
-    ensures refused { crop.fault ≡ None → MatchResult result
-        (λ _. refusals_of crop.worked.items ≡ []) (IsTold table.now.slots crop pass.new) }
+    ensures refused { results.fault ≡ None → MatchResult result
+        (λ _. refusals_of results.worked.items ≡ []) (IsTold table.now.slots results pass.new) }
     ensures harvest { IfOk result (IsHarvest table.now.slots pass.new.seen kinds bytes.now) }
     ensures fault { IfErr result
         (IsHarvestFault table.now.slots bytes.now kinds (calls_of pass.old) pass.new) }
 {
-    let Crop {
+    let Results {
         worked,
         report,
         fault,
         pass: theirs,
-    } = crop;
+    } = results;
     let _ = bytes;
     table.absorb(pass, theirs);
     let Parted { shares, refusals } = part(alloc, worked)?;
@@ -218,7 +218,7 @@ where
     let games = Games::new(bytes)?;
     let (queue, seat) = new_queue(alloc, places_for(settings.workers()))?;
     let own = Worker {
-        desk: Desk::open(&queue, seat, bytes),
+        endpoint: Endpoint::open(&queue, seat, bytes),
         table,
         pass: table.split(pass),
         gate,
@@ -226,6 +226,6 @@ where
         workers: usize::from(settings.workers()),
         kinds: settings.kinds(),
     };
-    let crop = Crew::begin(games, own).run(rt, alloc)?;
-    conclude(rt, alloc, settings.kinds(), table, pass, bytes, crop)
+    let results = Caller::begin(games, own).run(rt, alloc)?;
+    conclude(rt, alloc, settings.kinds(), table, pass, bytes, results)
 }

@@ -14,14 +14,14 @@ ghost use Rattle.harvest_faults.specs.declared.faults.HarvestFault.TheVariants a
 ghost use Rattle.table_harvest.specs.InTable.{IsInTableSince, GoesOnInTable};
 ghost use Rattle.harvest_core.specs.Working.{IsWorked};
 ghost use Rattle.table_harvest.specs.Working.{IsRefused, IsCounted, CallsIn};
-ghost use Rattle.harvest_core.specs.Inner.Reading.{IsReadFault};
+ghost use Rattle.harvest_core.specs.Harvest.{IsCountRefused};
 ghost use Rattle.table_harvest.specs.Inner.Reading.{AreDealt, IsReadingOf};
 
 use crate::workers::Worker;
 use crate::working::Worked;
 use harvest_core::Gate;
 use harvest_faults::HarvestFault;
-use job_core::{Desk, Games, Item, Job};
+use job_core::{Endpoint, Games, Item, Job};
 use probe_core::ProbeOrder;
 use std::alloc::Global;
 use std::sync::Wait;
@@ -36,12 +36,12 @@ fn offer<'a, R: Wait, O: ProbeOrder, G: Gate>(
     job: Job<'a>,
 )
     requires pass { IsPassOf own.old.table.now own.old.pass }
-    requires job { MayPut own.old.desk (item.Job job) }
-    ensures same { own.new ≡ record own.old { desk = own.new.desk; pass = own.new.pass } }
+    requires job { MayPut own.old.endpoint (item.Job job) }
+    ensures same { own.new ≡ record own.old { endpoint = own.new.endpoint; pass = own.new.pass } }
     ensures pass { IsPassOf own.old.table.now own.new.pass }
-    ensures offered { ((own.new.desk ≡ putting own.old.desk (item.Job job.entry))
+    ensures offered { ((own.new.endpoint ≡ putting own.old.endpoint (item.Job job.entry))
         × (worked.new ≡ worked.old))
-        ⊎ ((own.new.desk ≡ own.old.desk) × IsCounted job.entry.game worked.old worked.new) }
+        ⊎ ((own.new.endpoint ≡ own.old.endpoint) × IsCounted job.entry.game worked.old worked.new) }
     ensures worker { worked.new.share.worker ≡ worked.old.share.worker }
     ensures worked { (kinds : Kinds) → IsWorked job.entry.bytes kinds worked.old.share
         → past worked.old.share.games ≤ job.entry.game
@@ -55,7 +55,7 @@ fn offer<'a, R: Wait, O: ProbeOrder, G: Gate>(
     ensures table { GoesOnInTable own.old.table.now.slots own.old.pass own.new.pass
         worked.old worked.new }
 {
-    match own.desk.put(rt, Item::Job(job)) {
+    match own.endpoint.put(rt, Item::Job(job)) {
         Ok(()) => (),
         Err(Item::Job(back)) => worked.count(own.table, &mut own.pass, own.gate, &back),
         Err(Item::End) => (),
@@ -79,13 +79,13 @@ fn read_all<'a, R: Wait, O: ProbeOrder, G: Gate>(
     worked: &mut Worked,
 ) -> Result<(), HarvestFault>
     requires pass { IsPassOf own.old.table.now own.old.pass }
-    requires step { IsInStep games.old own.old.desk }
-    requires none { (games.old.report.games ≡ 0) × (own.old.desk.put ≡ []) }
+    requires step { IsInStep games.old own.old.endpoint }
+    requires none { (games.old.report.games ≡ 0) × (own.old.endpoint.put ≡ []) }
     requires begun { (worked.old.share.games ≡ []) × (worked.old.share.rows ≡ [])
         × (worked.old.refused ≡ None) }
     requires worked { IsWorked games.old.bytes own.old.kinds worked.old.share }
     ensures same { own.new ≡ record own.old {
-      desk = record own.old.desk { put = own.new.desk.put };
+      endpoint = record own.old.endpoint { put = own.new.endpoint.put };
       pass = own.new.pass;
     } }
     ensures pass { IsPassOf own.old.table.now own.new.pass }
@@ -96,8 +96,8 @@ fn read_all<'a, R: Wait, O: ProbeOrder, G: Gate>(
         own.old.pass own.new.pass }
     ensures table { IsInTableSince own.old.table.now.slots own.old.pass own.new.pass worked.new }
     ensures all { OnOk result (HasReadAll games.old.bytes games.new.report) }
-    ensures dealt { OnOk result (AreDealt games.new.report.games own.new.desk.put worked.new) }
-    ensures fault { IfErr result (IsReadFault games.old.bytes) }
+    ensures dealt { OnOk result (AreDealt games.new.report.games own.new.endpoint.put worked.new) }
+    ensures fault { IfErr result (IsCountRefused games.old.bytes) }
 {
     loop {
         match games.next_job(alloc)? {
@@ -111,12 +111,12 @@ fn read_all<'a, R: Wait, O: ProbeOrder, G: Gate>(
 }
 
 /// Puts an end, and tries again while the queue is full.
-fn put_end<R: Wait>(rt: &R, desk: &mut Desk<'_, '_>)
-    requires { desk.old.writes ≡ true }
-    ensures { desk.new ≡ putting desk.old item.End }
+fn put_end<R: Wait>(rt: &R, endpoint: &mut Endpoint<'_, '_>)
+    requires { endpoint.old.writes ≡ true }
+    ensures { endpoint.new ≡ putting endpoint.old item.End }
 {
     for _ in rt.forever() {
-        if desk.put(rt, Item::End).is_ok() {
+        if endpoint.put(rt, Item::End).is_ok() {
             break;
         }
         thread::yield_now();
@@ -124,16 +124,16 @@ fn put_end<R: Wait>(rt: &R, desk: &mut Desk<'_, '_>)
 }
 
 /// Puts an end for each worker, and no other item.
-pub(crate) fn close<R: Wait>(rt: &R, desk: &mut Desk<'_, '_>, workers: usize)
-    requires { desk.old.writes ≡ true }
-    ensures { desk.new ≡ record desk.old { ends_put = desk.old.ends_put + workers } }
+pub(crate) fn close<R: Wait>(rt: &R, endpoint: &mut Endpoint<'_, '_>, workers: usize)
+    requires { endpoint.old.writes ≡ true }
+    ensures { endpoint.new ≡ record endpoint.old { ends_put = endpoint.old.ends_put + workers } }
 {
     for _ in 0..workers {
-        put_end(rt, desk);
+        put_end(rt, endpoint);
     }
 }
 
-/// The result of the thread that reads, with its desk and pass.
+/// The result of the thread that reads, with its endpoint and pass.
 #[derive(Drop)]
 pub(crate) struct Reading<'q, 'a, 't, O: ProbeOrder, G: Gate> {
     pub worked: Worked,
@@ -151,16 +151,16 @@ pub(crate) fn read_games<'q, 'a, 't, R: Wait, O: ProbeOrder, G: Gate>(
     workers: usize,
 ) -> Reading<'q, 'a, 't, O, G>
     requires pass { IsPassOf own.table.now own.pass }
-    requires step { IsInStep games own.desk }
-    requires none { (games.report.games ≡ 0) × (own.desk.put ≡ []) }
+    requires step { IsInStep games own.endpoint }
+    requires none { (games.report.games ≡ 0) × (own.endpoint.put ≡ []) }
     ensures reading { IsReadingOf games.entry.bytes own.entry result }
-    ensures ends { result.own.desk.ends_put ≡ own.entry.desk.ends_put + workers }
+    ensures ends { result.own.endpoint.ends_put ≡ own.entry.endpoint.ends_put + workers }
 {
     let mut games = games;
     let mut own = own;
     let mut worked = Worked::begin(alloc, 0, own.kinds);
     let outcome = read_all(rt, alloc, &mut games, &mut own, &mut worked);
-    close(rt, &mut own.desk, workers);
+    close(rt, &mut own.endpoint, workers);
     Reading {
         worked,
         report: games.report(),

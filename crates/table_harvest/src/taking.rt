@@ -1,7 +1,7 @@
-//! What workers hand back is taken up: their games, what their desks drew and what their passes
+//! What workers hand back is taken up: their games, what their endpoints drew and what their passes
 //! called.
 ghost use Rattle.std.specs.Prelude.{[], OnOk};
-ghost use Rattle.table_harvest.specs.Inner.Crew.{HasTaken};
+ghost use Rattle.table_harvest.specs.Inner.Threads.{HasTaken};
 
 use crate::workers::{Returned, Worker};
 use crate::working::Worked;
@@ -14,7 +14,7 @@ use tally_core::Report;
 
 /// The workers' results, and one pass that has the calls of all of them.
 #[derive(Drop)]
-pub(crate) struct Crop<O> {
+pub(crate) struct Results<O> {
     pub worked: Vec<Worked>,
     pub report: Report,
     pub fault: Option<HarvestFault>,
@@ -33,10 +33,10 @@ pub(crate) fn take_up<'q, 'a, O: ProbeOrder, G: Gate>(
     for back in all {
         let Returned {
             worked: one,
-            desk,
+            endpoint,
             pass,
         } = back;
-        own.desk.take_up(desk);
+        own.endpoint.take_up(endpoint);
         own.table.absorb(&mut own.pass, pass);
         worked.push(one)?;
     }

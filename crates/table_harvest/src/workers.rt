@@ -4,7 +4,7 @@ ghost use Rattle.table_harvest.specs.Working.{IsReturned};
 
 use crate::working::Worked;
 use harvest_core::Gate;
-use job_core::{Desk, Item};
+use job_core::{Endpoint, Item};
 use probe_core::ProbeOrder;
 use shape_core::Kinds;
 use slot_table::{Pass, SlotTable};
@@ -12,11 +12,11 @@ use std::alloc::Global;
 use std::sync::Wait;
 use std::thread;
 
-/// What one thread works with: its desk at the queue, the table with a pass, and the gate.
+/// What one thread works with: its endpoint at the queue, the table with a pass, and the gate.
 #[derive(Drop)]
 pub struct Worker<'q, 'a, 't, O: ProbeOrder, G: Gate> {
     /// Where it draws its jobs; at the thread that reads, where that puts them.
-    pub desk: Desk<'q, 'a>,
+    pub endpoint: Endpoint<'q, 'a>,
     /// The table that numbers the patterns.
     pub table: &'t SlotTable<O>,
     /// Its pass of that table.
@@ -31,18 +31,18 @@ pub struct Worker<'q, 'a, 't, O: ProbeOrder, G: Gate> {
     pub kinds: Kinds,
 }
 
-/// What a worker hands back: what it has counted, its desk and its pass.
+/// What a worker hands back: what it has counted, its endpoint and its pass.
 #[derive(Drop)]
 pub struct Returned<'q, 'a, O> {
     pub worked: Worked,
-    pub desk: Desk<'q, 'a>,
+    pub endpoint: Endpoint<'q, 'a>,
     pub pass: Pass<O>,
 }
 
 /// A worker's loop: it draws jobs from the queue and counts their games, and ends at its first end.
-/// It puts nothing, and its pass enters and marks nothing but for the games that it drew; desk and
-/// pass come back. While the queue is empty it lets other threads run. Once a game was refused it
-/// goes on drawing and drops what it draws. It waits for the reader.
+/// It puts nothing, and its pass enters and marks nothing but for the games that it drew; endpoint
+/// and pass come back. While the queue is empty it lets other threads run. Once a game was refused
+/// it goes on drawing and drops what it draws. It waits for the reader.
 ///
 /// The pass must be of the table. It takes memory for the share, and for a game's board and walk.
 pub fn work<'q, 'a, R: Wait, O: ProbeOrder, G: Gate>(
@@ -52,10 +52,10 @@ pub fn work<'q, 'a, R: Wait, O: ProbeOrder, G: Gate>(
 ) -> Returned<'q, 'a, O>
     requires { IsPassOf worker.table.now worker.pass }
     ensures { IsReturned worker.entry.table.now worker.entry.kinds worker.entry.number
-        worker.entry.desk worker.entry.pass result }
+        worker.entry.endpoint worker.entry.pass result }
 {
     let Worker {
-        desk,
+        endpoint,
         table,
         pass,
         gate,
@@ -63,15 +63,19 @@ pub fn work<'q, 'a, R: Wait, O: ProbeOrder, G: Gate>(
         kinds,
         ..
     } = worker;
-    let mut desk = desk;
+    let mut endpoint = endpoint;
     let mut pass = pass;
     let mut worked = Worked::begin(alloc, number, kinds);
     for _ in rt.forever() {
-        match desk.draw(rt) {
+        match endpoint.draw(rt) {
             Some(Item::Job(job)) => worked.count(table, &mut pass, gate, &job),
             Some(Item::End) => break,
             None => thread::yield_now(),
         }
     }
-    Returned { worked, desk, pass }
+    Returned {
+        worked,
+        endpoint,
+        pass,
+    }
 }

@@ -10,7 +10,7 @@ use Rattle.gather_core.specs.Checking.{all_rows, Stand}
 use Rattle.gather_core.specs.Confirming.{IsConfirmation}
 use Rattle.gather_core.specs.GatherFaults.{IsGatherFault}
 use Rattle.table_harvest.specs.declared.working.Worked.{Worked}
-use Rattle.table_harvest.specs.declared.taking.Crop.{Crop}
+use Rattle.table_harvest.specs.declared.taking.Results.{Results}
 use Rattle.table_harvest.specs.InTable.{AreFirstsMarked, StandsIn}
 use Rattle.table_harvest.specs.Inner.Parted.{shares_of, refusals_of, IsWorst}
 
@@ -34,10 +34,10 @@ pub record IsFirstTold (n : ℕ) (seen : List Happened) (worked : List Worked) (
 
 -- why all threads give no dictionary, for what a pass had seen before the shares were looked at, and after: memory was refused;
 -- or a game was; or none was, and all shares do not go together
-abbrev pub IsToldOf : {O : Type 0} → ℕ → Crop O → Known O → Known O → HarvestFault → Type 0
-IsToldOf n crop before after found = (found ≡ fault.Memory) ⊎ (IsFirstTold n after.seen crop.worked.items found
-    ⊎ ((refusals_of crop.worked.items ≡ []) × IsGatherFault n crop.report.games (shares_of crop.worked.items) before after found))
+abbrev pub IsToldOf : {O : Type 0} → ℕ → Results O → Known O → Known O → HarvestFault → Type 0
+IsToldOf n results before after found = (found ≡ fault.Memory) ⊎ (IsFirstTold n after.seen results.worked.items found
+    ⊎ ((refusals_of results.worked.items ≡ []) × IsGatherFault n results.report.games (shares_of results.worked.items) before after found))
 
 -- the same, whatever the pass had seen before the shares were looked at
-abbrev pub IsTold : {O : Type 0} → ℕ → Crop O → Known O → HarvestFault → Type 0
-IsTold {O = O} n crop after found = (before : Known O) × IsToldOf n crop before after found
+abbrev pub IsTold : {O : Type 0} → ℕ → Results O → Known O → HarvestFault → Type 0
+IsTold {O = O} n results after found = (before : Known O) × IsToldOf n results before after found

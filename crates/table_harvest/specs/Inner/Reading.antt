@@ -3,7 +3,7 @@ use Rattle.std.specs.Prelude.{◌≡◌, ℕ, nat_lt, if◌then◌else◌, List,
 use Rattle.slot_table.specs.Passes.{IsPassOf}
 use Rattle.game_core.specs.Games.{HasReadAll}
 use Rattle.gather_core.specs.Covering.{times_of}
-use Rattle.harvest_core.specs.Inner.Reading.{IsReadFault}
+use Rattle.harvest_core.specs.Harvest.{IsCountRefused}
 use Rattle.table_harvest.specs.declared.reading.Reading.{Reading}
 use Rattle.table_harvest.specs.declared.workers.Worker.{Worker}
 use Rattle.table_harvest.specs.declared.working.Worked.{Worked}
@@ -20,10 +20,10 @@ IsOnceEach high games = (game : ℕ) → times_of games game ≡ (if nat_lt game
 abbrev pub AreDealt : ℕ → List ℕ → Worked → Type 0
 AreDealt high put worked = worked.refused ≡ None → IsOnceEach high (put ++ worked.share.games)
 
--- what the thread that reads has come to, which had this desk and pass before
+-- what the thread that reads has come to, which had this endpoint and pass before
 pub record IsReadingOf {O G : Type 0} (bytes : List ℕ) (before : Worker O G) (reading : Reading O G) : Type 0 where
   pub own_is : reading.own ≡ record before {
-    desk = record before.desk { put = reading.own.desk.put; ends_put = reading.own.desk.ends_put };
+    endpoint = record before.endpoint { put = reading.own.endpoint.put; ends_put = reading.own.endpoint.ends_put };
     pass = reading.own.pass;
   }
   pub pass : IsPassOf before.table.now reading.own.pass
@@ -32,5 +32,5 @@ pub record IsReadingOf {O G : Type 0} (bytes : List ℕ) (before : Worker O G) (
   pub calls : CallsIn before.table.now.slots bytes before.kinds before.pass reading.own.pass
   pub table : IsInTableSince before.table.now.slots before.pass reading.own.pass reading.worked
   pub all : IfNone reading.fault (HasReadAll bytes reading.report)
-  pub dealt : IfNone reading.fault (AreDealt reading.report.games reading.own.desk.put reading.worked)
-  pub fault_is : IfSome reading.fault (IsReadFault bytes)
+  pub dealt : IfNone reading.fault (AreDealt reading.report.games reading.own.endpoint.put reading.worked)
+  pub fault_is : IfSome reading.fault (IsCountRefused bytes)

@@ -3,4 +3,4 @@ use Rattle.harvest_core.proofs.reading.close.Given as goal
 
 -- what was drawn so far was counted
 abbrev pub invariant-loop : goal.invariant-loop
-invariant-loop g l = GoesOn l.fn.crowd l.fn.own l.own
+invariant-loop g l = GoesOn l.fn.shared l.fn.own l.own

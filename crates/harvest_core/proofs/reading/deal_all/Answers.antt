@@ -4,7 +4,7 @@ use Rattle.job_core.specs.declared.items.Item.TheVariants.{Job}
 use Rattle.job_core.specs.Rule.{putting}
 use Rattle.job_core.specs.Inner.Rule.{IsInStep}
 use Rattle.job_core.proofs.Turns.{in_step_put, in_step_back}
-use Rattle.harvest_core.proofs.Dealt.{dealt_more, desk_of_offered, put_more}
+use Rattle.harvest_core.proofs.Dealt.{dealt_more, endpoint_of_offered, put_more}
 use Rattle.harvest_core.proofs.reading.deal_all.Goals as goal
 
 pub loop-job-preserved : goal.loop-job-preserved
@@ -17,13 +17,13 @@ loop-job-preserved g c =
     let h = c.loop-job.invariant in
     let next : IsNextGame before after job = subst (λ o. IfSome o (IsNextGame before after)) c.in-Some.is c.in_ok-job.ensures.job in
     let same = c.next_job.ensures.bytes in
-    let desk = desk_of_offered c.args.crowd.now job old new c.offer.ensures in
+    let endpoint = endpoint_of_offered c.args.shared.now job old new c.offer.ensures in
     record {
       bytes = same ∙ h.bytes;
-      desk = put_more job c.args.own.now.desk old.desk new.desk h.desk desk;
+      endpoint = put_more job c.args.own.now.endpoint old.endpoint new.endpoint h.endpoint endpoint;
       step = ⊎_elim
-          (λ (put : new.desk ≡ putting old.desk (Job job)). in_step_put before after old.desk new.desk job same h.step next put)
-          (λ (back : new.desk ≡ old.desk). in_step_back before after new.desk job same (subst (IsInStep before) (sym back) h.step) next)
-          desk;
-      dealt = dealt_more c.args.crowd.now job old new before.report.games after.report.games next.game next.counted c.offer.ensures h.dealt;
+          (λ (put : new.endpoint ≡ putting old.endpoint (Job job)). in_step_put before after old.endpoint new.endpoint job same h.step next put)
+          (λ (back : new.endpoint ≡ old.endpoint). in_step_back before after new.endpoint job same (subst (IsInStep before) (sym back) h.step) next)
+          endpoint;
+      dealt = dealt_more c.args.shared.now job old new before.report.games after.report.games next.game next.counted c.offer.ensures h.dealt;
     }

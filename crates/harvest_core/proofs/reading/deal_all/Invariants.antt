@@ -7,9 +7,9 @@ use Rattle.harvest_core.proofs.reading.deal_all.Given as goal
 abbrev pub invariant-loop-job : goal.invariant-loop-job
 invariant-loop-job g l = record {
   bytes : l.games.bytes ≡ l.fn.games.bytes;
-  desk : l.own.desk ≡ record l.fn.own.desk { put = l.own.desk.put };
-  step : IsInStep l.games l.own.desk;
-  dealt : IsDealt l.fn.crowd l.games.report.games l.own;
+  endpoint : l.own.endpoint ≡ record l.fn.own.endpoint { put = l.own.endpoint.put };
+  step : IsInStep l.games l.own.endpoint;
+  dealt : IsDealt l.fn.shared l.games.report.games l.own;
 }
 
 -- each turn reads a game, and an input has at most 2 ^ 28 of them

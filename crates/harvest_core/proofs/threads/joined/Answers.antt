@@ -5,30 +5,30 @@ use Rattle.gather_core.specs.Covering.{all_games, Covers}
 use Rattle.harvest_core.specs.Working.{IsOfInput}
 use Rattle.harvest_core.specs.Inner.Working.{IsShareOfGames}
 use Rattle.harvest_core.specs.Inner.Dealt.{HasNumbering}
-use Rattle.harvest_core.specs.Inner.Crew.{HasTaken}
+use Rattle.harvest_core.specs.Inner.Threads.{HasTaken}
 use Rattle.harvest_core.proofs.Joined.{some_end, covers_all}
 use Rattle.harvest_core.proofs.threads.joined.Goals as goal
 
 pub returns-clause-ended : goal.returns-clause-ended
 returns-clause-ended c =
-    let crowd = c.args.crowd.now in
+    let shared = c.args.shared.now in
     let reading = c.args.reading in
     let many = length c.args.all.items in
     let j = c.requires.reading in
-    let own = c.take_up.new.desk in
+    let own = c.take_up.new.endpoint in
     let shares = c.in_ok-shares.shares.items in
     let mine = c.in_ok-counted.field-0 in
-    let h : HasTaken crowd reading.own.desk many [] own shares = c.in_ok-shares.ensures.taken in
-    let of : IsShareOfGames crowd (j.reading_is.back ++ reading.own.desk.drawn) mine =
-    subst (λ r. IfOk r (IsShareOfGames crowd (j.reading_is.back ++ reading.own.desk.drawn))) c.in_ok-counted.was j.reading_is.counted.0 in
-    let made : HasNumbering crowd.bytes.now reading c.in_ok-numbering.numbering =
-    subst (λ r. IfOk r (HasNumbering crowd.bytes.now reading)) c.in_ok-numbering.was j.reading_is.numbering in
+    let h : HasTaken shared reading.own.endpoint many [] own shares = c.in_ok-shares.ensures.taken in
+    let of : IsShareOfGames shared (j.reading_is.back ++ reading.own.endpoint.drawn) mine =
+    subst (λ r. IfOk r (IsShareOfGames shared (j.reading_is.back ++ reading.own.endpoint.drawn))) c.in_ok-counted.was j.reading_is.counted.0 in
+    let made : HasNumbering shared.bytes.now reading c.in_ok-numbering.numbering =
+    subst (λ r. IfOk r (HasNumbering shared.bytes.now reading)) c.in_ok-numbering.was j.reading_is.numbering in
     let items : c.push.new.self.items ≡ shares ++ mine ∷ [] = c.in_ok-push.ensures.items in
-    let P = IsOfInput crowd.bytes.now crowd.kinds in
+    let P = IsOfInput shared.bytes.now shared.kinds in
     record {
       pass = made.pass;
       shares = subst (All P) (sym items) (All-push P shares mine h.shares_are of.of_input);
       report = made.all;
       covers = subst (λ (all : List Held). Covers reading.report.games (all_games all)) (sym items)
-          (covers_all crowd many reading own shares j h mine of (c.settle.ensures.all (some_end crowd many reading own shares j h)));
+          (covers_all shared many reading own shares j h mine of (c.settle.ensures.all (some_end shared many reading own shares j h)));
     }

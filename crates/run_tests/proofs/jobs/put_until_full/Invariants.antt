@@ -3,7 +3,7 @@ use Rattle.job_core.specs.Inner.Rule.{IsInStep}
 use Rattle.run_tests.proofs.jobs.put_until_full.Given as goal
 
 abbrev pub invariant-loop-job : goal.invariant-loop-job
-invariant-loop-job g l = record { step : IsInStep l.games l.desk; same : l.desk ≡ record l.fn.desk { put = l.desk.put } }
+invariant-loop-job g l = record { step : IsInStep l.games l.endpoint; same : l.endpoint ≡ record l.fn.endpoint { put = l.endpoint.put } }
 
 abbrev pub decreases-loop-job : goal.decreases-loop-job
 decreases-loop-job g l = 2 ^ 28 - l.games.report.games

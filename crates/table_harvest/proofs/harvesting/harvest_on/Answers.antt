@@ -16,13 +16,13 @@ returns-clause-calls g c =
 pub returns-clause-stake : goal.returns-clause-stake
 returns-clause-stake g c fine =
     let old = c.args.pass.now in
-    let crop = c.in_ok-crop.crop in
+    let results = c.in_ok-results.results in
     let mid : c.split.new.pass.stake ≡ halved old.stake = ap (λ (p : Known _). p.stake) c.split.ensures.same in
     let given : c.begin.result.begun.value.stake ≡ half_of old.stake = ap (λ (p : Known _). p.stake) c.begin.ensures.begun ∙ c.split.ensures.stake in
-    let back : IsAsMuch crop.pass.stake (half_of old.stake) = subst (IsAsMuch crop.pass.stake) given (c.in_ok-crop.ensures.crop.stake_is
+    let back : IsAsMuch results.pass.stake (half_of old.stake) = subst (IsAsMuch results.pass.stake) given (c.in_ok-results.ensures.results.stake_is
     (λ is. ⊎_elim (λ one. fine one) (λ one. fine one) (subst (λ o. IfSome o (λ found. (c.conclude.result ≡ Err found) ⊎ (c.conclude.result ≡ Err fault.Memory))) is c.conclude.ensures.input))) in
-    subst (λ (s : List ℕ). IsAsMuch s old.stake) (sym (c.conclude.ensures.stake ∙ ap (λ (s : List ℕ). s ++ crop.pass.stake) mid))
-    (c.stakes_come_together.ensures.halves old.stake crop.pass.stake back)
+    subst (λ (s : List ℕ). IsAsMuch s old.stake) (sym (c.conclude.ensures.stake ∙ ap (λ (s : List ℕ). s ++ results.pass.stake) mid))
+    (c.stakes_come_together.ensures.halves old.stake results.pass.stake back)
 
 pub returns-clause-alone : goal.returns-clause-alone
 returns-clause-alone g c whole none =

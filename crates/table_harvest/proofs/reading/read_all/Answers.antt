@@ -30,7 +30,7 @@ loop-job-init g c =
       bytes = refl;
       step = c.requires.step;
       above = (let e : past worked.share.games ≡ past [] = ap past begun.0 in omega (arith, e));
-      dealt = dealt_none own.desk.put worked c.args.games.now.report.games none.0 none.1 begun.0;
+      dealt = dealt_none own.endpoint.put worked c.args.games.now.report.games none.0 none.1 begun.0;
       worker = refl;
       worked = c.requires.worked;
       refused = subst (IsRefused c.args.games.now.bytes own.kinds) (sym begun.2) tt;
@@ -55,19 +55,19 @@ loop-job-preserved g c =
     let table = ap (λ w. w.table.now) h.same in
     let worked = subst (λ (bs : List ℕ). IsWorked bs kinds c.loop-job.worked.share) (sym bytes) h.worked in
     record {
-      same = offered_more begun old new h.same offer.same (has_put job old.desk new.desk (⊎_elim
-          (λ (put : (new.desk ≡ putting old.desk (Job job)) × (c.offer.new.worked ≡ c.loop-job.worked)). inl put.0)
-          (λ (back : (new.desk ≡ old.desk) × IsCounted job.game c.loop-job.worked c.offer.new.worked). inr back.0)
+      same = offered_more begun old new h.same offer.same (has_put job old.endpoint new.endpoint (⊎_elim
+          (λ (put : (new.endpoint ≡ putting old.endpoint (Job job)) × (c.offer.new.worked ≡ c.loop-job.worked)). inl put.0)
+          (λ (back : (new.endpoint ≡ old.endpoint) × IsCounted job.game c.loop-job.worked c.offer.new.worked). inr back.0)
           offer.offered));
       pass = subst (λ (t : Numbers _). IsPassOf t new.pass) table offer.pass;
       bytes = same ∙ h.bytes;
       step = ⊎_elim
-          (λ (put : (new.desk ≡ putting old.desk (Job job)) × (c.offer.new.worked ≡ c.loop-job.worked)). in_step_put before after old.desk new.desk job same h.step next put.0)
-          (λ (back : (new.desk ≡ old.desk) × IsCounted job.game c.loop-job.worked c.offer.new.worked).
-          in_step_back before after new.desk job same (subst (IsInStep before) (sym back.0) h.step) next)
+          (λ (put : (new.endpoint ≡ putting old.endpoint (Job job)) × (c.offer.new.worked ≡ c.loop-job.worked)). in_step_put before after old.endpoint new.endpoint job same h.step next put.0)
+          (λ (back : (new.endpoint ≡ old.endpoint) × IsCounted job.game c.loop-job.worked c.offer.new.worked).
+          in_step_back before after new.endpoint job same (subst (IsInStep before) (sym back.0) h.step) next)
           offer.offered;
-      above = below_next job old.desk c.loop-job.worked new.desk c.offer.new.worked before.report.games after.report.games next.game next.counted offer.offered h.above;
-      dealt = dealt_more job old.desk new.desk c.loop-job.worked c.offer.new.worked before.report.games after.report.games next.game next.counted offer.offered h.dealt;
+      above = below_next job old.endpoint c.loop-job.worked new.endpoint c.offer.new.worked before.report.games after.report.games next.game next.counted offer.offered h.above;
+      dealt = dealt_more job old.endpoint new.endpoint c.loop-job.worked c.offer.new.worked before.report.games after.report.games next.game next.counted offer.offered h.dealt;
       worker = offer.worker ∙ h.worker;
       worked = subst (λ (bs : List ℕ). IsWorked bs kinds c.offer.new.worked.share) bytes (offer.worked kinds worked (omega (arith, h.above, next.game)));
       refused = subst (λ (bs : List ℕ). IsRefused bs kinds c.offer.new.worked.refused) bytes
@@ -82,7 +82,7 @@ returns-in-None-clause-dealt g c =
     let before = c.loop-job.games in
     let after = c.next_job.new.self in
     let none : HasNoGame before after = subst (λ o. IfNone o (HasNoGame before after)) c.in-None.is c.in_ok-job.ensures.none in
-    subst (λ high. AreDealt high c.loop-job.own.desk.put c.loop-job.worked) (sym none.games) c.loop-job.invariant.dealt
+    subst (λ high. AreDealt high c.loop-job.own.endpoint.put c.loop-job.worked) (sym none.games) c.loop-job.invariant.dealt
 
 pub returns-then-wants_memory-clause-calls : goal.returns-then-wants_memory-clause-calls
 returns-then-wants_memory-clause-calls g c =

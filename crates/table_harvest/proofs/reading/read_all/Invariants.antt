@@ -13,12 +13,12 @@ abbrev pub invariant-loop-job : goal.invariant-loop-job
 invariant-loop-job g l =
     let before = l.fn.own in
     record {
-      same : l.own ≡ record before { desk = record before.desk { put = l.own.desk.put }; pass = l.own.pass };
+      same : l.own ≡ record before { endpoint = record before.endpoint { put = l.own.endpoint.put }; pass = l.own.pass };
       pass : IsPassOf before.table.now l.own.pass;
       bytes : l.games.bytes ≡ l.fn.games.bytes;
-      step : IsInStep l.games l.own.desk;
+      step : IsInStep l.games l.own.endpoint;
       above : past l.worked.share.games ≤ l.games.report.games;
-      dealt : AreDealt l.games.report.games l.own.desk.put l.worked;
+      dealt : AreDealt l.games.report.games l.own.endpoint.put l.worked;
       worker : l.worked.share.worker ≡ l.fn.worked.share.worker;
       worked : IsWorked l.fn.games.bytes before.kinds l.worked.share;
       refused : IsRefused l.fn.games.bytes before.kinds l.worked.refused;

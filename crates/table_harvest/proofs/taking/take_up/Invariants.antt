@@ -1,6 +1,6 @@
 use Rattle.std.proofs.Common.{◌≡◌, length}
 use Rattle.std.specs.Vec.Iter.{into_iter_items, into_iter_len}
-use Rattle.table_harvest.specs.Inner.Crew.{HasTaken}
+use Rattle.table_harvest.specs.Inner.Threads.{HasTaken}
 use Rattle.table_harvest.proofs.taking.take_up.Given as goal
 
 -- what came back so far is taken up

@@ -13,8 +13,8 @@ invariant-loop g l =
     record {
       pass : IsPassOf worker.table.now l.pass;
       number : l.worked.share.worker ≡ worker.number;
-      worked : IsWorked worker.desk.bytes worker.kinds l.worked.share;
-      refused : IsRefused worker.desk.bytes worker.kinds l.worked.refused;
-      drawn : HasSoFar worker.table.now.slots worker.kinds worker.pass l.pass worker.desk l.worked l.desk;
+      worked : IsWorked worker.endpoint.bytes worker.kinds l.worked.share;
+      refused : IsRefused worker.endpoint.bytes worker.kinds l.worked.refused;
+      drawn : HasSoFar worker.table.now.slots worker.kinds worker.pass l.pass worker.endpoint l.worked l.endpoint;
       in_table : IsInTableSince worker.table.now.slots worker.pass l.pass l.worked;
     }

@@ -9,12 +9,12 @@ use Rattle.harvest_core.proofs.workers.Worker.count.Goals as goal
 
 pub returns-in_default-add-clause-counted : goal.returns-in_default-add-clause-counted
 returns-in_default-add-clause-counted g c games h =
-    let crowd = c.args.crowd.now in
+    let shared = c.args.shared.now in
     let job = c.args.job.now in
     let old = c.in-Ok.words in
     let new = c.add.new.self in
-    let of : IsShareOfGames crowd games old = subst (λ r. IfOk r (IsShareOfGames crowd games)) c.in-Ok.is h.0 in
-    let is : IsGame crowd.bytes.now job.game job.actions = record {
+    let of : IsShareOfGames shared games old = subst (λ r. IfOk r (IsShareOfGames shared games)) c.in-Ok.is h.0 in
+    let is : IsGame shared.bytes.now job.game job.actions = record {
       at = job.at;
       end = job.end;
       is_of = subst (λ bs. IsGameOf bs job.game job.at job.end job.actions) c.requires.job c.record.ensures.game;
@@ -22,7 +22,7 @@ returns-in_default-add-clause-counted g c games h =
     let added : IsAdded job.game job.actions old new = subst (λ k. IsAdded k job.actions old new) c.game-2.ensures.number
     (subst (λ (a : Actions). IsAdded c.game-2.result a old new) c.record.ensures.value c.in_default-add.ensures.added) in (
       record {
-        of_input = counted_more crowd.bytes.now crowd.kinds job.game job.actions old new is added of.of_input;
+        of_input = counted_more shared.bytes.now shared.kinds job.game job.actions old new is added of.of_input;
         games_are = added.games ∙ ap (λ (xs : List ℕ). xs ++ job.game ∷ []) of.games_are;
       },
       tt,

@@ -3,4 +3,4 @@ use Rattle.harvest_core.proofs.workers.Worker.work.Given as goal
 
 -- what was drawn so far was counted
 abbrev pub invariant-loop : goal.invariant-loop
-invariant-loop g l = GoesOn l.fn.crowd l.fn.self l.worker
+invariant-loop g l = GoesOn l.fn.shared l.fn.self l.worker

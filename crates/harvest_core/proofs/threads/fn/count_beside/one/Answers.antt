@@ -1,15 +1,15 @@
 use Rattle.std.proofs.Common.{[], ◌++◌, ap, sym, subst, ◌∙◌}
-use Rattle.job_core.specs.declared.hands.Hand.{Hand}
+use Rattle.job_core.specs.declared.knowledge.Knowledge.{Knowledge}
 use Rattle.harvest_core.specs.Inner.Working.{HasCounted}
 use Rattle.harvest_core.proofs.threads.fn.count_beside.one.Goals as goal
 
 pub returns : goal.returns
 returns g c =
-    let crowd = c.captures.crowd.now in
+    let shared = c.captures.shared.now in
     let before = c.args.worker in
     let after = c.work.result in
     let on = c.work.ensures.on in
     record {
-      desk = on.desk ∙ ap (λ (v : Hand). (let w : Hand = record v { drawn = after.desk.drawn; ends_put = after.desk.ends_put; ends_drawn = after.desk.ends_drawn } in w)) c.requires.desk;
-      counted = on.counted [] (subst (λ (v : Hand). HasCounted crowd ([] ++ v.drawn) before.counted) (sym c.requires.desk) c.requires.counted);
+      endpoint = on.endpoint ∙ ap (λ (v : Knowledge). (let w : Knowledge = record v { drawn = after.endpoint.drawn; ends_put = after.endpoint.ends_put; ends_drawn = after.endpoint.ends_drawn } in w)) c.requires.endpoint;
+      counted = on.counted [] (subst (λ (v : Knowledge). HasCounted shared ([] ++ v.drawn) before.counted) (sym c.requires.endpoint) c.requires.counted);
     }

@@ -11,49 +11,49 @@ use Rattle.slot_table.specs.Passes.{Numbers, Known, IsPassOf, calls_of}
 use Rattle.slot_table.specs.Stakes.{IsAsMuch}
 use Rattle.game_core.specs.Games.{HasReadAll}
 use Rattle.job_core.specs.Rule.{reader, worker, all_parts}
-use Rattle.job_core.specs.declared.hands.Hand.{Hand}
+use Rattle.job_core.specs.declared.knowledge.Knowledge.{Knowledge}
 use Rattle.gather_core.specs.Covering.{all_games, times_of}
 use Rattle.harvest_faults.specs.declared.faults.HarvestFault.TheVariants as fault
-use Rattle.table_harvest.specs.declared.threads.Crew.{Crew}
+use Rattle.table_harvest.specs.declared.threads.Caller.{Caller}
 use Rattle.table_harvest.specs.declared.threads.BackTo.{BackTo}
 use Rattle.table_harvest.specs.declared.reading.Reading.{Reading}
-use Rattle.table_harvest.specs.declared.taking.Crop.{Crop}
+use Rattle.table_harvest.specs.declared.taking.Results.{Results}
 use Rattle.table_harvest.specs.declared.workers.Worker.{Worker}
 use Rattle.table_harvest.specs.declared.workers.Returned.{Returned}
 use Rattle.table_harvest.specs.declared.working.Worked.{Worked}
 use Rattle.table_harvest.specs.InTable.{IsInTable, HasItsRows, StandsIn}
 use Rattle.table_harvest.specs.Working.{IsCallIn}
 use Rattle.table_harvest.specs.Inner.Working.{IsWorkOf}
-use Rattle.harvest_core.specs.Inner.Reading.{IsReadFault}
+use Rattle.harvest_core.specs.Harvest.{IsCountRefused}
 use Rattle.table_harvest.specs.Inner.Reading.{IsOnceEach, IsReadingOf}
 use Rattle.table_harvest.specs.Inner.Parted.{shares_of, refusals_of}
 
 -- ---- before the workers begin
--- a worker's desk and pass, of this table, queue and input, which have called and drawn nothing
-pub record IsFresh {O : Type 0} (table : Numbers O) (queue : TableId) (bytes : List ℕ) (desk : Hand) (pass : Known O) : Type 0 where
+-- a worker's endpoint and pass, of this table, queue and input, which have called and drawn nothing
+pub record IsFresh {O : Type 0} (table : Numbers O) (queue : TableId) (bytes : List ℕ) (endpoint : Knowledge) (pass : Known O) : Type 0 where
   pub is_of : IsPassOf table pass
   pub calls : calls_of pass ≡ []
-  pub desk_is : desk ≡ worker queue bytes []
+  pub endpoint_is : endpoint ≡ worker queue bytes []
 
 -- the thread that reads works for this table, queue and input, and has called and read nothing; it has given these stakes and
 -- this number of parts away
-pub record IsCrew {O G : Type 0} (table : Numbers O) (queue : TableId) (bytes : List ℕ) (kinds : Kinds) (given : List ℕ) (lent : ℕ) (crew : Crew O G) : Type 0 where
-  pub table_is : crew.own.table.now ≡ table
-  pub pass : IsPassOf table crew.own.pass
-  pub calls : calls_of crew.own.pass ≡ []
-  pub stake : IsAsMuch (crew.own.pass.stake ++ given) crew.begun.value.stake
-  pub desk : crew.own.desk ≡ record (reader queue bytes []) { parts = crew.own.desk.parts }
-  pub parts : crew.own.desk.parts + lent ≡ all_parts
-  pub kinds_are : crew.own.kinds ≡ kinds
-  pub games : crew.games.bytes ≡ bytes
-  pub none : crew.games.report.games ≡ 0
-  pub workers : (1 ≤ crew.own.workers) × (crew.own.workers ≤ 64)
+pub record IsCaller {O G : Type 0} (table : Numbers O) (queue : TableId) (bytes : List ℕ) (kinds : Kinds) (given : List ℕ) (lent : ℕ) (caller : Caller O G) : Type 0 where
+  pub table_is : caller.own.table.now ≡ table
+  pub pass : IsPassOf table caller.own.pass
+  pub calls : calls_of caller.own.pass ≡ []
+  pub stake : IsAsMuch (caller.own.pass.stake ++ given) caller.begun.value.stake
+  pub endpoint : caller.own.endpoint ≡ record (reader queue bytes []) { parts = caller.own.endpoint.parts }
+  pub parts : caller.own.endpoint.parts + lent ≡ all_parts
+  pub kinds_are : caller.own.kinds ≡ kinds
+  pub games : caller.games.bytes ≡ bytes
+  pub none : caller.games.report.games ≡ 0
+  pub workers : (1 ≤ caller.own.workers) × (caller.own.workers ≤ 64)
 
--- the return of a worker of this table, queue and input is promised, whose desk and pass were fresh
+-- the return of a worker of this table, queue and input is promised, whose endpoint and pass were fresh
 pub record IsHandleOf {O : Type 0} (table : Numbers O) (queue : TableId) (bytes : List ℕ) (kinds : Kinds) (handle : PromisedHandle (Returned O) (BackTo O)) : Type 0 where
   pub table_is : handle.promise.table.now ≡ table
   pub kinds_are : handle.promise.kinds ≡ kinds
-  pub fresh : IsFresh table queue bytes handle.promise.desk.value handle.promise.pass.value
+  pub fresh : IsFresh table queue bytes handle.promise.endpoint.value handle.promise.pass.value
 
 -- the stakes that were given away, in order
 abbrev pub stakes_of : {O : Type 0} → List (PromisedHandle (Returned O) (BackTo O)) → List ℕ
@@ -69,9 +69,9 @@ promised_of (handle ∷ handles) = handle.promise.number ∷ promised_of handles
 -- what a worker of this table, queue and input hands back, which had called and drawn nothing before
 pub record IsBackOf {O : Type 0} (table : Numbers O) (queue : TableId) (bytes : List ℕ) (kinds : Kinds) (back : Returned O) : Type 0 where
   pub pass : IsPassOf table back.pass
-  pub desk : back.desk ≡ record (worker queue bytes []) { drawn = back.desk.drawn; ends_drawn = 1 }
+  pub endpoint : back.endpoint ≡ record (worker queue bytes []) { drawn = back.endpoint.drawn; ends_drawn = 1 }
   pub rest : List ℕ
-  pub drawn : back.desk.drawn ≡ back.worked.share.games ++ rest
+  pub drawn : back.endpoint.drawn ≡ back.worked.share.games ++ rest
   pub whole : back.worked.refused ≡ None → rest ≡ []
   pub worked_is : IsWorkOf bytes kinds back.worked
   pub calls : (e : Happened) → Contains (calls_of back.pass) e → IsCallIn table.slots back.pass.seen bytes kinds e
@@ -110,42 +110,42 @@ pub record AgreesWithTable {O : Type 0} (table : Numbers O) (bytes : List ℕ) (
 -- the thread that reads has taken back what some workers hand back, and these are left
 pub record HasTaken {O G : Type 0} (before : Worker O G) (all left : List (Returned O)) (own : Worker O G) (worked : List Worked) : Type 0 where
   pub own_is : own ≡ record before {
-    desk = record before.desk { parts = own.desk.parts; taken = own.desk.taken; ends_drawn = own.desk.ends_drawn };
+    endpoint = record before.endpoint { parts = own.endpoint.parts; taken = own.endpoint.taken; ends_drawn = own.endpoint.ends_drawn };
     pass = own.pass;
   }
   pub keeps : Keeps before.table.now.slots before.pass.seen own.pass.seen
-  pub counted : AgreesWithTable before.table.now before.desk.bytes before.kinds (calls_of before.pass) own.pass worked
+  pub counted : AgreesWithTable before.table.now before.endpoint.bytes before.kinds (calls_of before.pass) own.pass worked
   pub stake : own.pass.stake ++ stakes_back left ≡ before.pass.stake ++ stakes_back all
-  pub parts : own.desk.parts + length left ≡ before.desk.parts + length all
-  pub ends : own.desk.ends_drawn + length left ≡ before.desk.ends_drawn + length all
-  pub taken : refusals_of worked ≡ [] → (game : ℕ) → times_of own.desk.taken game ≡ times_of (all_games (shares_of worked)) game
+  pub parts : own.endpoint.parts + length left ≡ before.endpoint.parts + length all
+  pub ends : own.endpoint.ends_drawn + length left ≡ before.endpoint.ends_drawn + length all
+  pub taken : refusals_of worked ≡ [] → (game : ℕ) → times_of own.endpoint.taken game ≡ times_of (all_games (shares_of worked)) game
   pub many : length worked + length left ≡ length all
   pub numbers : workers_of worked ++ numbers_back left ≡ numbers_back all
-  pub worked_is : All (IsWorkOf before.desk.bytes before.kinds) worked
-  pub back : AllByRecursion (IsBackOf before.table.now before.desk.queue before.desk.bytes before.kinds) left
+  pub worked_is : All (IsWorkOf before.endpoint.bytes before.kinds) worked
+  pub back : AllByRecursion (IsBackOf before.table.now before.endpoint.queue before.endpoint.bytes before.kinds) left
 
 -- the thread that reads has come to this beside workers that promised to return, with these stakes and as many: it had called
 -- nothing before it read. Unless memory was refused, these are as many as were asked for, and nothing else was given away
 pub record IsJoinable {O G : Type 0} (stake given : List ℕ) (lent : ℕ) (reading : Reading O G) : Type 0 where
   pub before : Worker O G
   pub begun : calls_of before.pass ≡ []
-  pub reading_is : IsReadingOf before.desk.bytes before reading
-  pub desk : before.desk ≡ record (reader before.desk.queue before.desk.bytes []) { parts = before.desk.parts }
+  pub reading_is : IsReadingOf before.endpoint.bytes before reading
+  pub endpoint : before.endpoint ≡ record (reader before.endpoint.queue before.endpoint.bytes []) { parts = before.endpoint.parts }
   pub some : 1 ≤ before.workers
   pub whole : reading.fault ≢ Some fault.Memory →
-      IsAsMuch (before.pass.stake ++ given) stake × (before.desk.parts + lent ≡ all_parts) × (lent ≡ before.workers)
+      IsAsMuch (before.pass.stake ++ given) stake × (before.endpoint.parts + lent ≡ all_parts) × (lent ≡ before.workers)
 
 -- the results of all threads, for this table, input and kinds; what their passes had together at the beginning
-pub record IsCrop {O : Type 0} (table : Numbers O) (bytes : List ℕ) (kinds : Kinds) (stake : List ℕ) (crop : Crop O) : Type 0 where
-  pub worked_is : All (IsWorkOf bytes kinds) crop.worked.items
-  pub counted : AgreesWithTable table bytes kinds [] crop.pass crop.worked.items
-  pub stake_is : crop.fault ≢ Some fault.Memory → IsAsMuch crop.pass.stake stake
-  pub covers : crop.fault ≡ None → refusals_of crop.worked.items ≡ [] → IsOnceEach crop.report.games (all_games (shares_of crop.worked.items))
-  pub all : IfNone crop.fault (HasReadAll bytes crop.report)
-  pub fault_is : IfSome crop.fault (IsReadFault bytes)
+pub record AreResults {O : Type 0} (table : Numbers O) (bytes : List ℕ) (kinds : Kinds) (stake : List ℕ) (results : Results O) : Type 0 where
+  pub worked_is : All (IsWorkOf bytes kinds) results.worked.items
+  pub counted : AgreesWithTable table bytes kinds [] results.pass results.worked.items
+  pub stake_is : results.fault ≢ Some fault.Memory → IsAsMuch results.pass.stake stake
+  pub covers : results.fault ≡ None → refusals_of results.worked.items ≡ [] → IsOnceEach results.report.games (all_games (shares_of results.worked.items))
+  pub all : IfNone results.fault (HasReadAll bytes results.report)
+  pub fault_is : IfSome results.fault (IsCountRefused bytes)
 
 -- as many workers as were asked for have counted, and the thread that reads: the shares are those of the workers 1, 2 and so
 -- on, and the last is that of the thread that reads, 0; or memory was refused
-abbrev pub AreAsked : {O : Type 0} → ℕ → Crop O → Type 0
-AreAsked workers crop = (crop.fault ≡ Some fault.Memory)
-    ⊎ ((length crop.worked.items ≡ workers + 1) × (workers_of crop.worked.items ≡ count_from 1 workers ++ 0 ∷ []))
+abbrev pub AreAsked : {O : Type 0} → ℕ → Results O → Type 0
+AreAsked workers results = (results.fault ≡ Some fault.Memory)
+    ⊎ ((length results.worked.items ≡ workers + 1) × (workers_of results.worked.items ≡ count_from 1 workers ++ 0 ∷ []))

@@ -25,7 +25,7 @@ impl Model for QueueName {
 /// all that was put and drawn; the games that it put, if it may put any, and those that it drew;
 /// those that passes drew which it took up, in no order; how many ends it put, and how many it and
 /// those drew. No value of it is made.
-pub struct Hand {
+pub struct Knowledge {
     pub queue: QueueName,
     pub parts: u64,
     pub named: bool,
@@ -44,7 +44,7 @@ pub struct Hand {
 /// no job comes after an end.
 pub struct InTurn;
 
-impl<'a> Protocol<Item<'a>, Hand> for InTurn {
+impl<'a> Protocol<Item<'a>, Knowledge> for InTurn {
     ghost use Rattle.job_core.specs.Rule.{blank};
     ghost use Rattle.job_core.specs.Queue.{Holds};
 
@@ -54,43 +54,43 @@ impl<'a> Protocol<Item<'a>, Hand> for InTurn {
 }
 
 /// A queue of jobs, which threads share.
-pub type Jobs<'a> = RuledArrayQueue<Item<'a>, Hand, InTurn>;
+pub type Jobs<'a> = RuledArrayQueue<Item<'a>, Knowledge, InTurn>;
 
 /// A pass of a queue of jobs.
-pub type Seat<'a> = Pass<Item<'a>, Hand>;
+pub type Seat<'a> = Pass<Item<'a>, Knowledge>;
 
 /// An item is put.
 pub(crate) struct Puts;
 
-impl<'a> Outcome<Item<'a>, Hand> for Puts {
+impl<'a> Outcome<Item<'a>, Knowledge> for Puts {
     ghost use Rattle.std.specs.Prelude.{◌≡◌};
     ghost use Rattle.job_core.specs.Rule.{putting};
 
     ghost then = { λ v x w. w ≡ putting v x };
 }
 
-impl<'a> Lesson<Item<'a>, Hand> for Puts {
+impl<'a> Lesson<Item<'a>, Knowledge> for Puts {
     ghost fact = { λ v items. ⊤ };
 }
 
 /// An item is drawn.
 pub(crate) struct Takes;
 
-impl<'a> Outcome<Item<'a>, Hand> for Takes {
+impl<'a> Outcome<Item<'a>, Knowledge> for Takes {
     ghost use Rattle.std.specs.Prelude.{◌≡◌};
     ghost use Rattle.job_core.specs.Rule.{drawing, Draws};
 
     ghost then = { λ v x w. (w ≡ drawing v x) × Draws v x };
 }
 
-impl<'a> Lesson<Item<'a>, Hand> for Takes {
+impl<'a> Lesson<Item<'a>, Knowledge> for Takes {
     ghost fact = { λ v items. ⊤ };
 }
 
 /// What the pass learns that has all parts.
 pub(crate) struct Settles;
 
-impl<'a> Lesson<Item<'a>, Hand> for Settles {
+impl<'a> Lesson<Item<'a>, Knowledge> for Settles {
     ghost use Rattle.job_core.specs.Inner.Rule.{IsSettled};
 
     ghost fact = { λ v items. IsSettled v };
@@ -121,7 +121,7 @@ pub(crate) struct Names<B> {
     input: PhantomData<B>,
 }
 
-impl<B: Input> Split<Hand> for Names<B> {
+impl<B: Input> Split<Knowledge> for Names<B> {
     ghost use Rattle.std.specs.Prelude.{[]};
     ghost use Rattle.job_core.specs.Rule.{reader, spent};
 
@@ -133,7 +133,7 @@ impl<B: Input> Split<Hand> for Names<B> {
 /// A part of a pass goes to a worker's.
 pub(crate) struct Cut;
 
-impl Split<Hand> for Cut {
+impl Split<Knowledge> for Cut {
     ghost use Rattle.std.specs.Prelude.{[]};
     ghost use Rattle.job_core.specs.Rule.{lending, worker};
 
@@ -145,7 +145,7 @@ impl Split<Hand> for Cut {
 /// A pass is taken up by another, with its parts and what it drew.
 pub(crate) struct Joined;
 
-impl Join<Hand> for Joined {
+impl Join<Knowledge> for Joined {
     ghost use Rattle.job_core.specs.Rule.{taking_up, spent};
 
     ghost both = { taking_up };

@@ -1,13 +1,13 @@
 use Rattle.std.proofs.Common.{◌≡◌, subst, sym}
-use Rattle.job_core.specs.declared.hands.Hand.{Hand}
+use Rattle.job_core.specs.declared.knowledge.Knowledge.{Knowledge}
 use Rattle.job_core.specs.Rule.{all_parts}
 use Rattle.job_core.specs.Inner.Rule.{IsSettled}
 use Rattle.job_core.proofs.Rules.{settled}
 use Rattle.job_core.proofs.Accounts.{draws_none}
-use Rattle.job_core.proofs.queues.Desk.settle.Goals as goal
+use Rattle.job_core.proofs.queues.Endpoint.settle.Goals as goal
 
 pub learn_as-requires-clause-rule : goal.learn_as-requires-clause-rule
-learn_as-requires-clause-rule c = settled _ _ c.self.invariant.named (subst (λ (v : Hand). v.parts ≡ all_parts) (sym c.self.view_is) c.requires)
+learn_as-requires-clause-rule c = settled _ _ c.self.invariant.named (subst (λ (v : Knowledge). v.parts ≡ all_parts) (sym c.self.view_is) c.requires)
 
 pub returns-clause-all : goal.returns-clause-all
 returns-clause-all c = (subst IsSettled c.self.view_is c.learn_as.ensures.rule.1).all
