@@ -1,0 +1,4 @@
+pub mod Parts
+pub mod Spills
+pub mod Status
+pub mod Inner

@@ -1,0 +1,111 @@
+//! One part counted, and its dictionary kept.
+ghost use Rattle.std.specs.Prelude.{◌≡◌, ◌^◌, ◌<◌, ℕ, List, OnOk, IfOk};
+ghost use Rattle.shape_dict.specs.Text.{IsSmall};
+ghost use Rattle.batch_core.specs.Batch.{joined};
+ghost use Rattle.tally_parts.specs.Parts.{kinds_for, IsDictionaryOfTexts};
+ghost use Rattle.tally_parts.specs.Inner.Joining.{AreAllGood, IsKept};
+
+use crate::faults::PartsFault;
+use crate::plans::{Plan, kinds_for};
+use crate::spills::Spills;
+use batch_core::games_of_joined;
+use engine_core::write_parts;
+use harvest_core::{FreeGate, harvest_all};
+use shape_dict::{Dictionary, Entry, Text};
+use std::alloc::Global;
+use std::sync::Wait;
+use std::thread::Threads;
+
+/// How many threads make a text of a dictionary at most.
+const MOST_THREADS: usize = 16;
+
+/// How many threads make a text of a dictionary at least: counting is over then.
+const LEAST_THREADS: usize = 4;
+
+/// How many threads make a text of a dictionary.
+pub(crate) fn threads_for(plan: Plan) -> usize {
+    usize::from(plan.workers).clamp(LEAST_THREADS, MOST_THREADS)
+}
+
+/// The counts of an entry are below 2^64.
+fn counts_fit(entry: Entry)
+    ensures { entry.there < 2 ^ 64 }
+{
+    let _ = entry.there;
+}
+
+/// The numbers of a dictionary are below 2^64.
+fn numbers_fit(dictionary: &Dictionary)
+    ensures { IsSmall dictionary.now }
+{
+    let _games = dictionary.games();
+    let _moves = dictionary.moves();
+    let entries = dictionary.entries();
+    let _count = entries.len();
+    for entry in entries {
+        counts_fit(*entry);
+    }
+}
+
+/// The dictionary of the games of a part: of all its texts, in their order.
+///
+/// # Errors
+///
+/// `Count` with F6 where memory was refused. No other fault comes, since each text can be read.
+pub(crate) fn count_part<R: Threads + Wait + Sync>(
+    rt: &R,
+    alloc: Global,
+    plan: Plan,
+    part: &[u8],
+) -> Result<Dictionary, PartsFault>
+    ensures counted { (texts : List (List ℕ)) → AreAllGood texts → part.now ≡ joined texts
+        → IfOk result (IsDictionaryOfTexts (kinds_for plan.text) texts) }
+    ensures small { IfOk result IsSmall }
+{
+    // The games of the part are those of its texts.
+    games_of_joined();
+    match harvest_all(
+        rt,
+        alloc,
+        kinds_for(plan.text),
+        plan.workers,
+        part,
+        &FreeGate,
+    ) {
+        Ok(counted) => {
+            numbers_fit(&counted.dictionary);
+            Ok(counted.dictionary)
+        }
+        Err(fault) => Err(PartsFault::Count(fault)),
+    }
+}
+
+/// Keeps a text of a dictionary that leaves nothing of it out.
+///
+/// # Errors
+///
+/// `Memory` where memory for the text was refused; `Spill` where it could not be written or kept.
+pub(crate) fn spill<R: Threads + Sync, S: Spills>(
+    rt: &R,
+    alloc: Global,
+    plan: Plan,
+    dictionary: &Dictionary,
+    spills: &mut S,
+) -> Result<(), PartsFault>
+    ensures kept { OnOk result (IsKept (S.number spills.old) (S.bytes spills.old) (S.number spills.new)
+        (S.bytes spills.new) dictionary.now) }
+{
+    let Ok(parts) = dictionary.parts(rt, alloc, Text::Three, threads_for(plan)) else {
+        return Err(PartsFault::Memory);
+    };
+    let Ok(mut draft) = spills.begin() else {
+        return Err(PartsFault::Spill);
+    };
+    let Ok(()) = write_parts(&mut draft, parts.as_slice()) else {
+        return Err(PartsFault::Spill);
+    };
+    match spills.keep(draft) {
+        Ok(()) => Ok(()),
+        Err(_) => Err(PartsFault::Spill),
+    }
+}

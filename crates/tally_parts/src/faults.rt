@@ -1,0 +1,61 @@
+//! What can go wrong when collections are counted in parts.
+ghost use Rattle.std.specs.Prelude.{◌≡◌};
+ghost use Rattle.tally_parts.specs.Status.{status_of};
+ghost use Rattle.tally_parts.specs.declared.faults.PartsFault.TheVariants.{Memory};
+
+use harvest_faults::HarvestFault;
+use merge_core::MergeFault;
+use std::alloc::{AllocError, AllocFailed};
+use thiserror::Error;
+
+/// Why no dictionary of all games was written, or not the whole one.
+#[derive(Clone, Copy, Debug, PartialEq, Eq, Error)]
+pub enum PartsFault {
+    /// Memory was refused.
+    #[error("M1 no memory")]
+    Memory,
+    /// No dictionary is wanted, by what its texts are.
+    #[error("no dictionary is wanted")]
+    Unwanted,
+    /// A part was not counted, though each of its texts can be read.
+    #[error("{0}")]
+    Count(HarvestFault),
+    /// The dictionary of a part could not be kept.
+    #[error("I2 the dictionary of a part could not be kept")]
+    Spill,
+    /// The parts' dictionaries were not joined.
+    #[error("{0}")]
+    Merge(MergeFault),
+    /// A write failed.
+    #[error("I2 write failed after {written} bytes")]
+    Write { written: usize },
+}
+
+/// The exit status of a fault: 1 where no dictionary is wanted, 5 no memory, 6 read or write
+/// failed.
+pub fn status_of(fault: &PartsFault) -> u8
+    ensures { result ≡ status_of fault.now }
+{
+    match fault {
+        PartsFault::Unwanted => 1,
+        PartsFault::Memory | PartsFault::Count(_) | PartsFault::Merge(MergeFault::Memory { .. }) =>
+            5,
+        PartsFault::Spill | PartsFault::Merge(_) | PartsFault::Write { .. } => 6,
+    }
+}
+
+impl From<AllocError> for PartsFault {
+    ghost from_gives = { λ _ fault. fault ≡ Memory };
+
+    fn from(_: AllocError) -> PartsFault {
+        PartsFault::Memory
+    }
+}
+
+impl<T: Drop> From<AllocFailed<T>> for PartsFault {
+    ghost from_gives = { λ _ fault. fault ≡ Memory };
+
+    fn from(_: AllocFailed<T>) -> PartsFault {
+        PartsFault::Memory
+    }
+}

@@ -1,0 +1,27 @@
+//! How collections are counted.
+ghost use Rattle.std.specs.Prelude.{◌≡◌};
+ghost use Rattle.tally_parts.specs.Parts.{kinds_for};
+
+use shape_core::Kinds;
+use shape_dict::Text;
+
+/// How collections are counted.
+#[derive(Clone, Copy, Debug, PartialEq, Eq)]
+pub struct Plan {
+    /// Which text of the dictionary is written.
+    pub text: Text,
+    /// How many workers count.
+    pub workers: u8,
+    /// How many bytes of texts are counted together. A text that is larger is counted alone.
+    pub most: usize,
+}
+
+/// The kinds of pattern that a text has: text 1 has squares alone, and the others diamonds too.
+pub(crate) fn kinds_for(text: Text) -> Kinds
+    ensures { result ≡ kinds_for text }
+{
+    match text {
+        Text::One => Kinds::Squares,
+        Text::Two | Text::Three => Kinds::Both,
+    }
+}

@@ -1,0 +1,175 @@
+//! From texts of games to a text of the dictionary of all their games.
+ghost use Rattle.std.specs.Prelude.{◌≡◌, ◌≤◌, ℕ, List, false, length, OnOk, IfErr};
+ghost use Rattle.std.specs.Io.KnownBytes.{Appends};
+ghost use Rattle.merge_core.specs.Merge.{AreInputs};
+ghost use Rattle.shape_dict.specs.Text.{text_of};
+ghost use Rattle.tally_parts.specs.Parts.{IsTallyText, IsFrontOut, kinds_for};
+ghost use Rattle.tally_parts.specs.Inner.Joining.{ArePartsKept, IsSpilledSoFar, IsCut};
+ghost use Rattle.tally_parts.specs.Inner.Joining.{IsTextOut, IsTextCut};
+
+use crate::counting::{count_part, spill, threads_for};
+use crate::faults::PartsFault;
+use crate::filling::{Feed, fill};
+use crate::plans::Plan;
+use crate::spills::Spills;
+use crate::texts::Texts;
+use batch_core::games_come_together;
+use engine_core::{RunFault, write_parts};
+use merge_core::{Form, run_merge};
+use shape_dict::{Dictionary, texts_are_distinct};
+use std::alloc::Global;
+use std::io::Write;
+use std::sync::Wait;
+use std::thread::Threads;
+use tally_core::dictionaries_join;
+
+/// Writes the dictionary of texts that are all in one part.
+///
+/// # Errors
+///
+/// `Memory` where memory for the text was refused; `Write` where the writer failed.
+fn write_alone<R: Threads + Sync, W: Write>(
+    rt: &R,
+    alloc: Global,
+    plan: Plan,
+    dictionary: &Dictionary,
+    writer: &mut W,
+) -> Result<(), PartsFault>
+    ensures done { OnOk result (Appends (W.contents writer.old) (W.contents writer.new)
+        (text_of plan.text dictionary.now)) }
+    ensures fault { IfErr result (λ _. IsCut (text_of plan.text dictionary.now)
+        (W.contents writer.old) (W.contents writer.new)) }
+{
+    let Ok(parts) = dictionary.parts(rt, alloc, plan.text, threads_for(plan)) else {
+        return Err(PartsFault::Memory);
+    };
+    match write_parts(writer, parts.as_slice()) {
+        Ok(()) => Ok(()),
+        Err(RunFault::Write { written }) => Err(PartsFault::Write { written }),
+        Err(_) => Err(PartsFault::Write { written: 0 }),
+    }
+}
+
+/// Counts one part after another while a text waits, and keeps the dictionary of each.
+///
+/// # Errors
+///
+/// Those of `fill`, `count_part` and `spill`.
+fn spill_more<R: Threads + Wait + Sync, T: Texts, S: Spills>(
+    rt: &R,
+    alloc: Global,
+    plan: Plan,
+    texts: &mut T,
+    spills: &mut S,
+    feed: &mut Feed,
+    part: &mut Vec<u8>,
+) -> Result<(), PartsFault>
+    requires within { feed.old.next ≤ T.number texts.old }
+    ensures ended { OnOk result (feed.new.waits ≡ false) }
+    ensures spilled { (all : List (List ℕ)) → AreInputs (T.bytes texts.old) 0 all
+        → length all ≡ T.number texts.old
+        → IsSpilledSoFar (kinds_for plan.text) all feed.old (S.number spills.old)
+        (S.bytes spills.old)
+        → OnOk result (IsSpilledSoFar (kinds_for plan.text) all feed.new (S.number spills.new)
+        (S.bytes spills.new)) }
+{
+    'part: while feed.waits {
+        part.clear();
+        fill(alloc, texts, feed, plan.most, part)?;
+        let dictionary = count_part(rt, alloc, plan, part.as_slice())?;
+        spill(rt, alloc, plan, &dictionary, spills)?;
+    }
+    Ok(())
+}
+
+/// Writes the join of the dictionaries that are kept.
+///
+/// # Errors
+///
+/// `Merge` where they can't be joined, or the join can't be written.
+fn write_joined<R: Threads + Sync, S: Spills + Sync, W: Write>(
+    rt: &R,
+    alloc: Global,
+    plan: Plan,
+    spills: &S,
+    writer: &mut W,
+) -> Result<(), PartsFault>
+    ensures done { (texts inputs : List (List ℕ))
+        → ArePartsKept (kinds_for plan.text) texts (S.number spills.now) (S.bytes spills.now)
+        → AreInputs (S.bytes spills.now) 0 inputs → length inputs ≡ S.number spills.now
+        → OnOk result (IsTextOut plan.text texts (W.contents writer.old) (W.contents writer.new)) }
+    ensures fault { (texts inputs : List (List ℕ))
+        → ArePartsKept (kinds_for plan.text) texts (S.number spills.now) (S.bytes spills.now)
+        → AreInputs (S.bytes spills.now) 0 inputs → length inputs ≡ S.number spills.now
+        → IfErr result (λ _.
+        IsTextCut plan.text texts (W.contents writer.old) (W.contents writer.new)) }
+{
+    // A text has one dictionary, and that of two lists of games is the join of theirs.
+    texts_are_distinct();
+    dictionaries_join();
+    games_come_together();
+    let form = Form {
+        text: plan.text,
+        least: None,
+    };
+    match run_merge(rt, alloc, form, spills, writer) {
+        Ok(()) => Ok(()),
+        Err(fault) => Err(PartsFault::Merge(fault)),
+    }
+}
+
+/// Reads texts of games one after another, counts the games of those that can be read, and writes a
+/// text of the dictionary of all these games, which are numbered from 0 in the order of the texts.
+/// Text 1 has squares alone, and the others have diamonds too. A text that has 2^28 bytes or more,
+/// or a fault of syntax, is left out whole, and its reader is told so.
+///
+/// The texts are counted in parts: each has as many texts as the plan's number of bytes allows, or
+/// one that is larger. `harvest_all` counts a part, on as many threads as it says. Where there is
+/// more than one part, the dictionary of each is kept as a text, and `run_merge` joins them. The
+/// answer is the same for each number of workers and of bytes. It takes memory for one part and one
+/// text more, and for what `harvest_all` and `run_merge` take. This project's own.
+///
+/// # Errors
+///
+/// `Memory`, or `Count` with F6, where memory was refused; `Unwanted` where no dictionary is
+/// wanted once all texts were judged; `Spill` where a part's dictionary could not be kept; `Merge`
+/// where one that was kept can't be read, or is not what was kept; nothing is written before. Then
+/// `Write` where the writer failed, or `Merge` with the number of bytes that are out: what is out
+/// is a front of the text.
+pub fn run_tally<R: Threads + Wait + Sync, T: Texts, S: Spills + Sync, W: Write>(
+    rt: &R,
+    alloc: Global,
+    plan: Plan,
+    texts: &mut T,
+    spills: &mut S,
+    writer: &mut W,
+) -> Result<(), PartsFault>
+    requires none_kept { S.number spills.old ≡ 0 }
+    ensures done { (all inputs : List (List ℕ)) → AreInputs (T.bytes texts.old) 0 all
+        → length all ≡ T.number texts.old → AreInputs (S.bytes spills.new) 0 inputs
+        → length inputs ≡ S.number spills.new → OnOk result ((written : List ℕ)
+        × IsTallyText plan.text all written
+        × Appends (W.contents writer.old) (W.contents writer.new) written) }
+    ensures fault { (all inputs : List (List ℕ)) → AreInputs (T.bytes texts.old) 0 all
+        → length all ≡ T.number texts.old → AreInputs (S.bytes spills.new) 0 inputs
+        → length inputs ≡ S.number spills.new → IfErr result (λ _.
+        IsFrontOut plan.text all (W.contents writer.old) (W.contents writer.new)) }
+{
+    let mut feed = Feed::new(alloc);
+    let mut part = Vec::new(alloc);
+    fill(alloc, texts, &mut feed, plan.most, &mut part)?;
+    let first = count_part(rt, alloc, plan, part.as_slice())?;
+    if !feed.waits {
+        if !texts.is_wanted() {
+            return Err(PartsFault::Unwanted);
+        }
+        return write_alone(rt, alloc, plan, &first, writer);
+    }
+    spill(rt, alloc, plan, &first, spills)?;
+    drop(first);
+    spill_more(rt, alloc, plan, texts, spills, &mut feed, &mut part)?;
+    if !texts.is_wanted() {
+        return Err(PartsFault::Unwanted);
+    }
+    write_joined(rt, alloc, plan, spills, writer)
+}
