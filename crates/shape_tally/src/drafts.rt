@@ -1,0 +1,203 @@
+//! Files that are written beside their targets, and take their names once they are whole.
+use std::fs::{self, File};
+use std::io::{self, ErrorKind, Write};
+use std::process;
+
+/// How many names are tried for a draft.
+const MOST_TRIES: u64 = 1000;
+
+/// A file beside its target. Where it hasn't taken the target's name, it is removed when it is
+/// dropped.
+pub struct Draft<'a> {
+    rt: &'a HostRuntime,
+    file: File,
+    name: String,
+    target: String,
+    is_done: bool,
+}
+
+/// A draft of this target, under a name that no file has.
+fn new_draft<'a>(rt: &'a HostRuntime, target: String) -> io::Result<Draft<'a>> {
+    let own = process::id(rt.process());
+    for n in 0..MOST_TRIES {
+        let name = format!(in rt.alloc(); "{target}.{own}.{n}.draft")?;
+        match File::create_new(rt, name.as_str()) {
+            Ok(file) => {
+                return Ok(Draft {
+                    rt,
+                    file,
+                    name,
+                    target,
+                    is_done: false,
+                });
+            }
+            Err(error) if error.kind() == ErrorKind::AlreadyExists => {}
+            Err(error) => return Err(error),
+        }
+    }
+    Err(ErrorKind::AlreadyExists.into())
+}
+
+impl Draft<'_> {
+    /// Gives the draft the name of its target, in place of what was there.
+    fn finish(&mut self) -> io::Result<()> {
+        self.file.flush()?;
+        self.file.sync_all()?;
+        fs::rename(self.rt, self.name.as_str(), self.target.as_str())?;
+        self.is_done = true;
+        Ok(())
+    }
+}
+
+impl Drop for Draft<'_> {
+    fn drop(self) {
+        let Self {
+            rt,
+            file: _,
+            name,
+            target: _,
+            is_done,
+        } = self;
+        if !is_done {
+            // Where it can't be removed, the run says no less of its fault.
+            let _ = fs::remove_file(rt, name.as_str());
+        }
+    }
+}
+
+/// What is written of a name.
+#[derive(Drop)]
+enum Target<'a> {
+    /// No regular file, as a pipe: it is written straight.
+    Straight(File),
+    /// A regular file, or none yet: its draft is written.
+    Draft(Draft<'a>),
+}
+
+/// Opens what is written of a name. A draft has the mode of the file whose name it is to take, and
+/// stands beside the file to which links lead.
+fn open_target<'a>(rt: &'a HostRuntime, name: &str) -> io::Result<Target<'a>> {
+    match fs::metadata(rt, name) {
+        Ok(found) if found.is_file() => {
+            let real = fs::canonicalize(rt, name)?.into_string();
+            let draft = new_draft(rt, real)?;
+            draft.file.set_permissions(found.permissions())?;
+            Ok(Target::Draft(draft))
+        }
+        Ok(_) => Ok(Target::Straight(File::create(rt, name)?)),
+        Err(_) => {
+            let target = String::from_str(rt.alloc(), name)?;
+            Ok(Target::Draft(new_draft(rt, target)?))
+        }
+    }
+}
+
+/// Whether a file of this name could be written, as far as a draft tells it, which is removed. What
+/// is no regular file is not opened.
+///
+/// # Errors
+///
+/// An error of the system, where it could not be.
+pub fn try_target(rt: &HostRuntime, name: &str) -> io::Result<()> {
+    match fs::metadata(rt, name) {
+        Ok(found) if found.is_dir() => Err(ErrorKind::IsADirectory.into()),
+        Ok(found) if !found.is_file() => Ok(()),
+        _ => {
+            open_target(rt, name)?;
+            Ok(())
+        }
+    }
+}
+
+/// Where a text goes: to standard output, or to the file of a name, which is opened when the first
+/// byte is written.
+#[derive(Drop)]
+pub struct Output<'a> {
+    rt: &'a HostRuntime,
+    name: Option<&'a str>,
+    target: Option<Target<'a>>,
+    failed: Option<ErrorKind>,
+}
+
+impl<'a> Output<'a> {
+    ghost use Rattle.std.specs.Io.{WritesAtMost};
+
+    /// The file of this name, or standard output. Nothing is touched yet.
+    pub fn new(rt: &'a HostRuntime, name: Option<&'a str>) -> Output<'a> {
+        let name = match name {
+            Some("/dev/stdout") | None => None,
+            Some(name) => Some(name),
+        };
+        Output {
+            rt,
+            name,
+            target: None,
+            failed: None,
+        }
+    }
+
+    /// The name of the file, where there is one.
+    pub fn name(&self) -> Option<&'a str> {
+        self.name
+    }
+
+    /// Why the last write failed, where one did.
+    pub fn failed(&self) -> Option<ErrorKind> {
+        self.failed
+    }
+
+    /// Opens the file of this name, unless it is open.
+    fn open(&mut self, name: &str) -> io::Result<()> {
+        if self.target.is_none() {
+            self.target = Some(open_target(self.rt, name)?);
+        }
+        Ok(())
+    }
+
+    /// One write.
+    fn write_some(&mut self, bytes: &[u8]) -> io::Result<usize>
+        ensures { WritesAtMost result bytes.now }
+    {
+        let Some(name) = self.name else {
+            return self.rt.stdout().write(bytes);
+        };
+        self.open(name)?;
+        match &mut self.target {
+            Some(Target::Straight(file)) => file.write(bytes),
+            Some(Target::Draft(draft)) => draft.file.write(bytes),
+            None => Ok(0),
+        }
+    }
+
+    /// Ends the text, of which all is written: a draft takes the name of its target. A file is made
+    /// where no byte was written.
+    ///
+    /// # Errors
+    ///
+    /// An error of the system. What the name stood for is as it was then, if it was a regular file.
+    pub fn finish(&mut self) -> io::Result<()> {
+        let Some(name) = self.name else {
+            return self.rt.stdout().flush();
+        };
+        self.open(name)?;
+        match &mut self.target {
+            Some(Target::Straight(file)) => file.flush(),
+            Some(Target::Draft(draft)) => draft.finish(),
+            None => Ok(()),
+        }
+    }
+}
+
+impl Write for Output<'_> {
+    fn write(&mut self, bytes: &[u8]) -> io::Result<usize> {
+        let done = self.write_some(bytes);
+        if let Err(error) = &done {
+            self.failed = Some(error.kind());
+        }
+        done
+    }
+
+    fn flush(&mut self) -> io::Result<()> {
+        Ok(())
+    }
+}

@@ -1,0 +1,88 @@
+//! The inputs that the names in a list mean.
+use crate::words::NameEnd;
+use engine_core::RunFault;
+use game_files::{Flaw, Source, Why, sources};
+use std::alloc::{AllocError, Global};
+use std::fs::File;
+use std::io::{ErrorKind, Read};
+
+/// The names in a list, and how many are not UTF-8.
+#[derive(Drop)]
+struct Names<'a> {
+    names: Vec<&'a str>,
+    passed_over: u64,
+}
+
+/// All that a reader gives.
+fn read_whole<R: Read>(alloc: Global, reader: &mut R) -> Result<Vec<u8>, RunFault> {
+    let mut bytes = Vec::new(alloc);
+    match reader.read_to_end(&mut bytes) {
+        Ok(_) => Ok(bytes),
+        Err(error) if error.kind() == ErrorKind::OutOfMemory => Err(RunFault::Memory),
+        Err(_) => Err(RunFault::Read),
+    }
+}
+
+/// All bytes of a list.
+fn read_list(rt: &HostRuntime, file: &str) -> Result<Vec<u8>, RunFault> {
+    if file == "-" {
+        return read_whole(rt.alloc(), &mut rt.stdin());
+    }
+    match File::open(rt, file) {
+        Ok(mut file) => read_whole(rt.alloc(), &mut file),
+        Err(_) => Err(RunFault::Read),
+    }
+}
+
+/// The byte after a name.
+fn byte_after(end: NameEnd) -> u8 {
+    match end {
+        NameEnd::LineFeed => b'\n',
+        NameEnd::Zero => 0,
+    }
+}
+
+/// A name in a list as a word: in a list `-` is a file as any other.
+fn word_for(name: &str) -> &str {
+    if name == "-" { "./-" } else { name }
+}
+
+/// The names in a list. What is between two ends that follow one another is none.
+fn names_in(alloc: Global, bytes: &[u8], end: u8) -> Result<Names<'_>, AllocError> {
+    let mut names = Vec::new(alloc);
+    let mut passed_over = 0u64;
+    for name in bytes.split(|byte| *byte == end) {
+        match str::from_utf8(name) {
+            Ok("") => {}
+            Ok(name) => names.push(word_for(name))?,
+            Err(_) => passed_over = passed_over.saturating_add(1),
+        }
+    }
+    Ok(Names { names, passed_over })
+}
+
+/// What names mean; no names mean no input.
+fn meant(rt: &HostRuntime, names: &[&str]) -> Result<Vec<Source>, AllocError> {
+    if names.is_empty() {
+        return Ok(Vec::new(rt.alloc()));
+    }
+    sources(rt, names)
+}
+
+/// What the names in a file mean, each as a word does, or those in standard input where the file is
+/// `-`. How many of them are not UTF-8 is said after them.
+///
+/// # Errors
+///
+/// `Read` where the file could not be opened or read; `Memory` where memory was refused.
+pub fn listed(rt: &HostRuntime, file: &str, end: NameEnd) -> Result<Vec<Source>, RunFault> {
+    let bytes = read_list(rt, file)?;
+    let Names { names, passed_over } = names_in(rt.alloc(), bytes.as_slice(), byte_after(end))?;
+    let mut all = meant(rt, names.as_slice())?;
+    if passed_over > 0 {
+        let name = String::from_str(rt.alloc(), file)?;
+        let why = Why::PassedOver(passed_over);
+        all.push(Source::Flaw(Flaw { name, why }))?;
+    }
+    Ok(all)
+}

@@ -1,0 +1,176 @@
+//! Counts collections of any number and size, and writes one dictionary of all their games.
+#![tactic(auto)]
+
+mod commands;
+mod drafts;
+mod inputs;
+mod lists;
+mod reports;
+mod spilled;
+mod telling;
+mod words;
+
+use command_lines::{Line, read_words};
+use drafts::{Output, try_target};
+use engine_core::{RunFault, own_words, status_of, write_output};
+use game_files::{Source, sources};
+use inputs::Inputs;
+use lists::listed;
+use reports::{status_of as status_after, write_lines};
+use spilled::Spilled;
+use std::alloc::AllocError;
+use std::process::ExitCode;
+use std::sync::Wait;
+use std::thread::Threads;
+use std::{env, io};
+use tally_parts::{PartsFault, run_tally};
+use telling::{tell_fault, tell_sum, tell_unlisted, tell_unmade};
+use words::{Asked, Named};
+
+/// The folder of temporary files, where the system tells none.
+const TEMPORARY: &str = "/tmp";
+
+/// The folder in which dictionaries wait: the one that is asked for, else that of the system.
+fn folder_of(rt: &HostRuntime, asked: &Asked<'_>) -> Result<String, AllocError> {
+    if let Some(folder) = asked.spill {
+        return String::from_str(rt.alloc(), folder);
+    }
+    match env::temp_dir(rt) {
+        Ok(found) if !found.as_path().as_str().is_empty() => Ok(found.into_string()),
+        _ => String::from_str(rt.alloc(), TEMPORARY),
+    }
+}
+
+/// The inputs that the words name.
+fn sources_of(rt: &HostRuntime, asked: &Asked<'_>) -> Result<Vec<Source>, RunFault> {
+    match &asked.named {
+        Named::Words(files) => Ok(sources(rt, files)?),
+        Named::List { file, end } => {
+            let found = listed(rt, *file, *end);
+            if let Err(RunFault::Read) = found {
+                tell_unlisted(rt, *file);
+            }
+            found
+        }
+    }
+}
+
+/// Whether a file that is asked for could be written, so that no count is in vain. Where it could
+/// not, that is said.
+fn can_be_written(rt: &HostRuntime, name: Option<&str>) -> bool {
+    let Some(name) = name else {
+        return true;
+    };
+    match try_target(rt, name) {
+        Ok(()) => true,
+        Err(error) => {
+            tell_unmade(rt, name, error.kind());
+            false
+        }
+    }
+}
+
+/// Writes the report, where one is asked for. The answer is whether it was, or none is.
+fn write_report(
+    rt: &HostRuntime,
+    asked: &Asked<'_>,
+    sources: &[Source],
+    inputs: &Inputs<'_>,
+) -> bool {
+    let Some(name) = asked.report else {
+        return true;
+    };
+    let mut output = Output::new(rt, Some(name));
+    let done = match write_lines(rt.alloc(), sources, inputs.fates(), &mut output) {
+        Ok(()) => output.finish(),
+        Err(error) => Err(error),
+    };
+    match done {
+        Ok(()) => true,
+        Err(error) => {
+            tell_unmade(rt, name, error.kind());
+            false
+        }
+    }
+}
+
+/// Counts inputs, and writes their dictionary. The answer is the exit status: 0 where it is
+/// written, 1 where none is wanted.
+fn write_dictionary<T: Threads + Wait + Sync>(
+    rt: &HostRuntime,
+    threads: &T,
+    asked: &Asked<'_>,
+    folder: &str,
+    inputs: &mut Inputs<'_>,
+) -> u8 {
+    let mut spilled = Spilled::new(rt, folder);
+    let mut output = Output::new(rt, asked.out);
+    match run_tally(
+        threads,
+        rt.alloc(),
+        asked.plan,
+        inputs,
+        &mut spilled,
+        &mut output,
+    ) {
+        Ok(()) => match output.finish() {
+            Ok(()) => 0,
+            Err(error) => {
+                tell_unmade(rt, output.name().unwrap_or("standard output"), error.kind());
+                6
+            }
+        },
+        Err(fault) => tell_fault(rt, &fault, &output, folder),
+    }
+}
+
+/// Counts inputs, writes their dictionary and the report, and sums up. The answer is the exit
+/// status.
+fn tally<T: Threads + Wait + Sync>(
+    rt: &HostRuntime,
+    threads: &T,
+    asked: &Asked<'_>,
+) -> Result<u8, RunFault> {
+    let folder = folder_of(rt, asked)?;
+    let sources = match sources_of(rt, asked) {
+        Ok(sources) => sources,
+        Err(RunFault::Read) => return Ok(6),
+        Err(fault) => return Err(fault),
+    };
+    if !can_be_written(rt, asked.out) || !can_be_written(rt, asked.report) {
+        return Ok(6);
+    }
+    let mut inputs = Inputs::new(rt, sources.as_slice(), asked.is_strict)?;
+    let status = write_dictionary(rt, threads, asked, folder.as_str(), &mut inputs);
+    if status > 1 {
+        return Ok(status);
+    }
+    if !write_report(rt, asked, sources.as_slice(), &inputs) {
+        return Ok(6);
+    }
+    tell_sum(rt, inputs.sum());
+    Ok(status_after(inputs.sum()))
+}
+
+/// Does what the words say. The answer is the exit status.
+fn run<T: Threads + Wait + Sync>(rt: &HostRuntime, threads: &T) -> Result<u8, RunFault> {
+    let words = own_words(rt)?;
+    match read_words(rt.alloc(), &words)? {
+        Line::Asked(asked) => tally(rt, threads, &asked),
+        Line::Told(text) => {
+            write_output(&mut rt.stdout(), text.as_bytes())?;
+            Ok(0)
+        }
+    }
+}
+
+fn main(rt: HostRuntime) -> ExitCode {
+    match run(&rt, &rt) {
+        Ok(status) => ExitCode::from(status),
+        Err(fault) => {
+            // Where standard error takes nothing, the status still says what went wrong.
+            let _ = eprintln!(rt; "shape_tally: {fault}");
+            ExitCode::from(status_of(&fault))
+        }
+    }
+}

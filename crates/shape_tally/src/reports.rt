@@ -1,0 +1,230 @@
+//! What has become of each input and of all of them, and the lines of the report.
+ghost use Rattle.std.specs.Prelude.{◌≡◌, ◌↔◌, IsTrue};
+ghost use Rattle.shape_tally.specs.Sums.{IsGood, IsWhole, status_of};
+ghost use Rattle.shape_tally.specs.declared.reports.Fate.TheVariants as fate;
+
+use crate::drafts::Output;
+use game_core::{GamesFault, Report};
+use game_files::{Cause, Shown, Source, Why};
+use sgf_core::SgfFault;
+use std::alloc::{AllocError, Global};
+use std::io::Write;
+use std::{fmt, io};
+
+/// How many bytes of a report are written at once.
+const BLOCK: usize = 1 << 16;
+
+/// What has become of an input.
+#[derive(Clone, Copy, Debug, PartialEq, Eq)]
+pub enum Fate {
+    /// It was not read.
+    Waiting,
+    /// It is none that can be opened, or a folder of which this is to be said.
+    Flawed(Why),
+    /// A read of it failed.
+    Unread,
+    /// It has this fault, for which it is left out.
+    Faulty(SgfFault),
+    /// It has no tree, and may be this.
+    Treeless(Cause),
+    /// It has trees, and the first of its games has this number.
+    Counted { report: Report, first: u64 },
+}
+
+/// What has become of all inputs so far.
+#[derive(Clone, Copy, Debug, PartialEq, Eq)]
+pub struct Sum {
+    /// How many inputs there are, those that are left out among them.
+    pub files: u64,
+    /// What their trees are, of those that are not left out.
+    pub report: Report,
+    /// How many inputs are left out.
+    pub left_out: u64,
+    /// How many have no tree.
+    pub treeless: u64,
+    /// How many folders have no file of games.
+    pub bare: u64,
+    /// How many names are passed over, since they are not UTF-8.
+    pub passed_over: u64,
+}
+
+/// What has become of an input whose trees are told by this, where it may be that if it has none;
+/// games were counted before it.
+pub fn fate_of(found: Result<Report, GamesFault>, cause: Cause, games: u64) -> Fate {
+    match found {
+        Ok(report) if report.games == 0 && report.others == 0 && report.refused == 0 => {
+            Fate::Treeless(cause)
+        }
+        Ok(report) => Fate::Counted {
+            report,
+            first: games,
+        },
+        Err(GamesFault::Sgf(fault)) => Fate::Faulty(fault),
+        Err(GamesFault::Memory) => Fate::Faulty(SgfFault::Memory),
+    }
+}
+
+/// What the trees of two inputs are together.
+fn both_reports(one: Report, other: Report) -> Report {
+    Report {
+        games: one.games.saturating_add(other.games),
+        others: one.others.saturating_add(other.others),
+        refused: one.refused.saturating_add(other.refused),
+    }
+}
+
+impl Sum {
+    /// No input so far.
+    pub fn new() -> Sum
+        ensures { IsWhole result }
+    {
+        Sum {
+            files: 0,
+            report: Report {
+                games: 0,
+                others: 0,
+                refused: 0,
+            },
+            left_out: 0,
+            treeless: 0,
+            bare: 0,
+            passed_over: 0,
+        }
+    }
+
+    /// The same with one more that is left out.
+    fn with_left_out(self) -> Sum
+        ensures { IsWhole result → ⊥ }
+    {
+        Sum {
+            files: self.files.saturating_add(1),
+            left_out: self.left_out.saturating_add(1),
+            ..self
+        }
+    }
+
+    /// The same with one more of which this is said.
+    fn with_flaw(self, why: Why) -> Sum
+        ensures { IsWhole result ↔ (IsWhole self × IsGood (fate.Flawed why)) }
+    {
+        match why {
+            Why::PassedOver(names) => Sum {
+                passed_over: self.passed_over.saturating_add(names),
+                ..self
+            },
+            Why::NoGames => Sum {
+                bare: self.bare.saturating_add(1),
+                ..self
+            },
+            Why::Missing | Why::Denied | Why::Circle | Why::Unopened => self.with_left_out(),
+        }
+    }
+
+    /// The same with one more of which this has become.
+    pub fn with(self, fate: Fate) -> Sum
+        ensures { IsWhole result ↔ (IsWhole self × IsGood fate) }
+    {
+        match fate {
+            Fate::Waiting => self,
+            Fate::Flawed(why) => self.with_flaw(why),
+            Fate::Unread | Fate::Faulty(_) => self.with_left_out(),
+            Fate::Treeless(_) => Sum {
+                files: self.files.saturating_add(1),
+                treeless: self.treeless.saturating_add(1),
+                ..self
+            },
+            Fate::Counted { report, .. } => Sum {
+                files: self.files.saturating_add(1),
+                report: both_reports(self.report, report),
+                ..self
+            },
+        }
+    }
+
+    /// Whether no input was left out, each has a tree, and each folder a file of games.
+    pub fn is_whole(&self) -> bool
+        ensures { IsTrue result ↔ IsWhole self.now }
+    {
+        self.left_out == 0 && self.treeless == 0 && self.bare == 0
+    }
+}
+
+/// The exit status of a count that was done, or was not wanted.
+pub fn status_of(sum: &Sum) -> u8
+    ensures { result ≡ status_of sum.now }
+{
+    if sum.is_whole() { 0 } else { 1 }
+}
+
+/// The name of an input: none of standard input.
+pub fn name_of(source: &Source) -> Option<&str> {
+    match source {
+        Source::Input => None,
+        Source::File(name) => Some(name.as_str()),
+        Source::Flaw(flaw) => Some(flaw.name.as_str()),
+    }
+}
+
+/// The columns of an input's line after its name.
+#[derive(Clone, Copy)]
+struct Columns(Fate);
+
+impl fmt::Display for Columns {
+    fn fmt<W: fmt::Write>(&self, f: &mut fmt::Formatter<W>) -> fmt::Result {
+        match self.0 {
+            Fate::Waiting => f.write_str("-\t-\t-\t-\t-"),
+            Fate::Flawed(why) => write!(f, "-\t-\t-\t{why}\t-"),
+            Fate::Unread => f.write_str("-\t-\t-\tI1 read failed\t-"),
+            Fate::Faulty(fault) => write!(f, "-\t-\t-\t{fault}\t-"),
+            Fate::Treeless(cause) => write!(f, "0\t0\t0\t{cause}\t-"),
+            Fate::Counted { report, first } => {
+                let Report {
+                    games,
+                    others,
+                    refused,
+                } = report;
+                write!(f, "{games}\t{others}\t{refused}\t-\t")?;
+                if games == 0 {
+                    f.write_str("-")
+                } else {
+                    write!(f, "{first}")
+                }
+            }
+        }
+    }
+}
+
+/// Appends an input's line.
+fn push_line(
+    alloc: Global,
+    block: &mut Vec<u8>,
+    source: &Source,
+    fate: Fate,
+) -> Result<(), AllocError> {
+    let name = Shown(name_of(source).unwrap_or("-"));
+    let line = format!(in alloc; "{name}\t{}\n", Columns(fate))?;
+    block.extend_from_slice(line.as_bytes())?;
+    Ok(())
+}
+
+/// Writes a line for each input.
+///
+/// # Errors
+///
+/// That of the output, or a want of memory.
+pub fn write_lines(
+    alloc: Global,
+    sources: &[Source],
+    fates: &[Fate],
+    output: &mut Output<'_>,
+) -> io::Result<()> {
+    let mut block = Vec::new(alloc);
+    for (source, fate) in sources.iter().zip(fates.iter()) {
+        push_line(alloc, &mut block, source, *fate)?;
+        if block.len() >= BLOCK {
+            output.write_all(block.as_slice())?;
+            block.clear();
+        }
+    }
+    output.write_all(block.as_slice())
+}

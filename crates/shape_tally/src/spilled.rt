@@ -1,0 +1,197 @@
+//! The dictionaries of parts, one after another in a file that has no name.
+use merge_core::Sources;
+use std::alloc::{AllocError, Global};
+use std::fs::{self, File};
+use std::io::{self, ErrorKind, Read, Write};
+use std::os::unix::fs::{FileExt, OpenOptionsExt};
+use std::process;
+use std::sync::Arc;
+use tally_parts::Spills;
+
+/// How many names are tried for the file.
+const MOST_TRIES: u64 = 1000;
+
+/// Where a text is in the file.
+#[derive(Clone, Copy, Debug, PartialEq, Eq)]
+struct Place {
+    start: u64,
+    length: u64,
+}
+
+/// Dictionaries in one file of a folder, which nobody else can open: its name is taken away as soon
+/// as it is made, so it is gone when the process ends, however that comes. The file is made when
+/// the first text is begun.
+#[derive(Drop)]
+pub struct Spilled<'a> {
+    rt: &'a HostRuntime,
+    folder: &'a str,
+    file: Option<Arc<File, Global>>,
+    places: Vec<Place>,
+    /// The place after the last text.
+    end: u64,
+}
+
+/// A text that is written after those that are kept. One is written at a time: a second one would
+/// take its place.
+#[derive(Drop)]
+pub struct Spilling {
+    file: Arc<File, Global>,
+    place: Place,
+}
+
+/// A reader of one text, with a place of its own: no other reader moves it.
+#[derive(Drop)]
+pub struct Piece {
+    file: Arc<File, Global>,
+    next: u64,
+    end: u64,
+}
+
+/// Makes a file of this name, which must not be there, and takes the name away at once.
+fn new_unnamed(rt: &HostRuntime, name: &str) -> io::Result<File> {
+    let file = File::options()
+        .read(true)
+        .write(true)
+        .create_new(true)
+        .mode(0o600)
+        .open(rt, name)?;
+    fs::remove_file(rt, name)?;
+    Ok(file)
+}
+
+/// Makes a file without a name in a folder.
+fn unnamed_in(rt: &HostRuntime, folder: &str) -> io::Result<File> {
+    let own = process::id(rt.process());
+    for n in 0..MOST_TRIES {
+        let name = format!(in rt.alloc(); "{folder}/.shape_tally.{own}.{n}")?;
+        match new_unnamed(rt, name.as_str()) {
+            Ok(file) => return Ok(file),
+            Err(error) if error.kind() == ErrorKind::AlreadyExists => {}
+            Err(error) => return Err(error),
+        }
+    }
+    Err(ErrorKind::AlreadyExists.into())
+}
+
+impl<'a> Spilled<'a> {
+    ghost use Rattle.std.specs.Prelude.{◌≡◌, vec_len};
+
+    /// No text yet, and no file.
+    pub fn new(rt: &'a HostRuntime, folder: &'a str) -> Spilled<'a>
+        ensures { vec_len result.places ≡ 0 }
+    {
+        Spilled {
+            rt,
+            folder,
+            file: None,
+            places: Vec::new(rt.alloc()),
+            end: 0,
+        }
+    }
+
+    /// The file, which is made where there is none.
+    fn file(&mut self) -> io::Result<Arc<File, Global>>
+        ensures { self.new.places ≡ self.old.places }
+    {
+        if let Some(file) = &self.file {
+            return Ok(Arc::try_clone(file)?);
+        }
+        let file = Arc::new(self.rt.alloc(), unnamed_in(self.rt, self.folder)?)?;
+        self.file = Some(Arc::try_clone(&file)?);
+        Ok(file)
+    }
+
+    /// A reader of what stands from one place to another.
+    fn piece(&self, next: u64, end: u64) -> io::Result<Piece> {
+        let Some(file) = &self.file else {
+            return Err(ErrorKind::NotFound.into());
+        };
+        Ok(Piece {
+            file: Arc::try_clone(file)?,
+            next,
+            end,
+        })
+    }
+}
+
+impl Sources for Spilled<'_> {
+    ghost use Rattle.std.specs.Prelude.{vec_len, None};
+
+    type Reader = Piece;
+
+    ghost number = { λ s. vec_len s.places };
+
+    ghost bytes = { λ _ _. None };
+
+    fn count(&self) -> usize {
+        self.places.len()
+    }
+
+    fn open(&self, n: usize) -> io::Result<Piece> {
+        self.open_at(n, 0)
+    }
+
+    fn size(&self, n: usize) -> io::Result<usize> {
+        Ok(usize::try_from(self.places[n].length).unwrap_or(usize::MAX))
+    }
+
+    fn open_at(&self, n: usize, place: usize) -> io::Result<Piece> {
+        let Place { start, length } = self.places[n];
+        let end = start.saturating_add(length);
+        self.piece(start.saturating_add(place as u64).min(end), end)
+    }
+}
+
+impl Spills for Spilled<'_> {
+    ghost use Rattle.std.specs.Prelude.{refl};
+
+    type Draft = Spilling;
+
+    ghost known_alike = { λ _ _ _. refl };
+
+    fn begin(&mut self) -> io::Result<Spilling> {
+        let file = self.file()?;
+        Ok(Spilling {
+            file,
+            place: Place {
+                start: self.end,
+                length: 0,
+            },
+        })
+    }
+
+    fn keep(&mut self, draft: Spilling) -> Result<(), AllocError> {
+        self.places.push(draft.place)?;
+        self.end = draft.place.start.saturating_add(draft.place.length);
+        Ok(())
+    }
+}
+
+impl Write for Spilling {
+    fn write(&mut self, bytes: &[u8]) -> io::Result<usize> {
+        let Place { start, length } = self.place;
+        let count = self.file.write_at(bytes, start.saturating_add(length))?;
+        self.place.length = length.saturating_add(count as u64);
+        Ok(count)
+    }
+
+    fn flush(&mut self) -> io::Result<()> {
+        Ok(())
+    }
+}
+
+impl Read for Piece {
+    fn read(&mut self, buf: &mut [u8]) -> io::Result<usize> {
+        let left = usize::try_from(self.end.saturating_sub(self.next)).unwrap_or(usize::MAX);
+        let most = buf.len().min(left);
+        if most == 0 {
+            return Ok(0);
+        }
+        let count = self.file.read_at(&mut buf[..most], self.next)?;
+        if count == 0 {
+            return Err(ErrorKind::UnexpectedEof.into());
+        }
+        self.next = self.next.saturating_add(count as u64);
+        Ok(count)
+    }
+}

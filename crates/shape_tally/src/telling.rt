@@ -1,0 +1,141 @@
+//! What is said on standard error of inputs, of faults, and at the end.
+ghost use Rattle.std.specs.Prelude.{◌≡◌};
+ghost use Rattle.tally_parts.specs.Status.{status_of};
+
+use crate::drafts::Output;
+use crate::reports::{Fate, Sum};
+use command_lines::why_unread;
+use game_core::Report;
+use game_files::Shown;
+use merge_core::MergeFault;
+use std::io::ErrorKind;
+use std::{fmt, fs, io};
+use tally_parts::{PartsFault, status_of};
+
+/// The name of an input before what is said of it; nothing of standard input.
+#[derive(Clone, Copy)]
+struct Named<'a>(Option<&'a str>);
+
+impl fmt::Display for Named<'_> {
+    fn fmt<W: fmt::Write>(&self, f: &mut fmt::Formatter<W>) -> fmt::Result {
+        match self.0 {
+            Some(name) => write!(f, "{}: ", Shown(name)),
+            None => Ok(()),
+        }
+    }
+}
+
+/// Whether the numbers of an input's trees are said: where a game is refused, or all are of other
+/// games.
+fn is_told(report: Report) -> bool {
+    report.refused > 0 || report.games == 0
+}
+
+/// Says what has become of an input, unless all is as it should be. Where standard error takes
+/// nothing, the status still says it.
+pub fn tell_fate(rt: &HostRuntime, name: Option<&str>, fate: Fate) {
+    let name = Named(name);
+    let _ = match fate {
+        Fate::Flawed(why) => eprintln!(rt; "shape_tally: {name}{why}"),
+        Fate::Unread => eprintln!(rt; "shape_tally: {name}I1 read failed"),
+        Fate::Faulty(fault) => eprintln!(rt; "shape_tally: {name}{fault}"),
+        Fate::Treeless(cause) => eprintln!(rt; "shape_tally: {name}no tree: {cause}"),
+        Fate::Counted { report, .. } if is_told(report) => eprintln!(rt;
+            "shape_tally: {name}games {} other {} refused {}",
+            report.games, report.others, report.refused
+        ),
+        Fate::Waiting | Fate::Counted { .. } => Ok(()),
+    };
+}
+
+/// Says what has become of all inputs.
+pub fn tell_sum(rt: &HostRuntime, sum: &Sum) {
+    let Report {
+        games,
+        others,
+        refused,
+    } = sum.report;
+    let _ = eprintln!(rt;
+        "shape_tally: files {} games {games} other {others} refused {refused} left out {} without a tree {} passed over {}",
+        sum.files, sum.left_out, sum.treeless, sum.passed_over
+    );
+}
+
+/// Says that a list of names was not read, and why, as far as the system tells it.
+pub fn tell_unlisted(rt: &HostRuntime, list: &str) {
+    let why = match list {
+        "-" => None,
+        name => why_unread(rt, name),
+    };
+    let why = why.unwrap_or("a read failed");
+    let _ = eprintln!(rt; "shape_tally: L3 names not read: {}: {why}", Shown(list));
+}
+
+/// Why a file could not be made or written.
+fn why_unwritten(kind: ErrorKind) -> &'static str {
+    match kind {
+        ErrorKind::IsADirectory => "it is a folder",
+        ErrorKind::NotFound => "no such folder",
+        ErrorKind::NotADirectory => "it is in no folder",
+        ErrorKind::PermissionDenied => "permission denied",
+        ErrorKind::ReadOnlyFilesystem => "nothing can be written there",
+        ErrorKind::StorageFull => "the disk is full",
+        _ => "a write failed",
+    }
+}
+
+/// Says that the file of this name could not be made or written, and why.
+pub fn tell_unmade(rt: &HostRuntime, name: &str, kind: ErrorKind) {
+    let why = why_unwritten(kind);
+    let _ = eprintln!(rt; "shape_tally: I2 {}: {why}", Shown(name));
+}
+
+/// Says that a dictionary was not written whole, and why.
+fn tell_unwritten(rt: &HostRuntime, output: &Output<'_>, written: usize) {
+    let _ = match (output.name(), output.failed()) {
+        (Some(name), Some(kind)) => eprintln!(rt;
+            "shape_tally: I2 write failed after {written} bytes: {}: {}",
+            Shown(name),
+            why_unwritten(kind)
+        ),
+        _ => eprintln!(rt; "shape_tally: I2 write failed after {written} bytes"),
+    };
+}
+
+/// Why no dictionary can be kept in a folder, as far as the system tells it.
+fn why_unkept(rt: &HostRuntime, folder: &str) -> &'static str {
+    match fs::metadata(rt, folder) {
+        Ok(found) if found.is_dir() => "a file there could not be made or written",
+        Ok(_) => "it is no folder",
+        Err(_) => "no such folder",
+    }
+}
+
+/// Says in one line why a count ended, with what it is about: the output, or the folder in which
+/// dictionaries wait. The answer is the exit status.
+pub fn tell_fault(rt: &HostRuntime, fault: &PartsFault, output: &Output<'_>, folder: &str) -> u8
+    ensures { result ≡ status_of fault.now }
+{
+    match fault {
+        PartsFault::Unwanted => {
+            let _ = eprintln!(rt; "shape_tally: nothing is written, by --strict");
+        }
+        PartsFault::Spill => {
+            let why = why_unkept(rt, folder);
+            let _ = eprintln!(rt; "shape_tally: {fault}: {}: {why}", Shown(folder));
+        }
+        PartsFault::Write { written } | PartsFault::Merge(MergeFault::Write { written }) => {
+            tell_unwritten(rt, output, *written);
+        }
+        PartsFault::Merge(MergeFault::Memory { .. }) => {
+            let _ = eprintln!(rt; "shape_tally: M1 no memory");
+        }
+        PartsFault::Merge(fault) => {
+            let _ = eprintln!(rt; "shape_tally: {}: {fault}", Shown(folder));
+        }
+        PartsFault::Memory | PartsFault::Count(_) => {
+            let _ = eprintln!(rt; "shape_tally: {fault}");
+        }
+    }
+    status_of(fault)
+}

@@ -1,0 +1,149 @@
+//! The words of the command line, and what they ask for.
+ghost use Rattle.std.specs.Prelude.{◌≡◌, ◌≤◌, ◌⊎◌, refl, true, false, map, IfOk, IfErr};
+ghost use Rattle.command_lines.specs.Values.{rows_in};
+ghost use Rattle.engine_core.specs.declared.faults.RunFault.TheVariants as fault;
+ghost use Rattle.shape_tally.specs.Commands.{program_app};
+ghost use Rattle.shape_tally.specs.Words.{AreNamed, HasNoNames, HasNoPlan, IsAsked, IsPlanOf, IsUsage};
+ghost use Rattle.shape_tally.specs.Words.{most_for, most_memory, need_of};
+
+use crate::commands::program;
+use clap::{ArgMatches, Command};
+use command_lines::{FromWords, choice, number, small_number, text_of, word_of, words_of};
+use engine_core::RunFault;
+use shape_dict::Text;
+use std::alloc::{AllocError, Global};
+use tally_parts::Plan;
+
+/// How many bytes a megabyte has.
+const MEGABYTE: usize = 1 << 20;
+
+/// More megabytes of memory can't be asked for.
+const MOST_MEMORY: u64 = 1_000_000;
+
+/// How the names in a list end.
+#[derive(Clone, Copy, Debug, PartialEq, Eq)]
+pub enum NameEnd {
+    /// Each is a line.
+    LineFeed,
+    /// Each has a zero byte after it.
+    Zero,
+}
+
+/// What names the inputs.
+#[derive(Debug, Drop)]
+pub enum Named<'a> {
+    /// These words, which are files and folders.
+    Words(Vec<&'a str>),
+    /// The names in this file, or in standard input where it is `-`.
+    List { file: &'a str, end: NameEnd },
+}
+
+/// The count that is asked for.
+#[derive(Debug, Drop)]
+pub struct Asked<'a> {
+    /// Which text is written, and how is counted.
+    pub plan: Plan,
+    /// What names the inputs.
+    pub named: Named<'a>,
+    /// The name of the file that the dictionary goes to, where it isn't standard output.
+    pub out: Option<&'a str>,
+    /// The name of the file that says what each input has, where it is asked for.
+    pub report: Option<&'a str>,
+    /// The folder of the dictionaries that wait, where it isn't the system's.
+    pub spill: Option<&'a str>,
+    /// Whether nothing is written where an input was left out or has no tree.
+    pub is_strict: bool,
+}
+
+/// How many bytes of memory are taken for each byte of text that is counted at a time: what a count
+/// was seen to need at most, for its text, its patterns and the text of its dictionary. Diamonds
+/// double the patterns. No answer depends on it.
+fn need_of(text: Text) -> usize
+    ensures { result ≡ need_of text }
+{
+    match text {
+        Text::One => 128,
+        Text::Two | Text::Three => 256,
+    }
+}
+
+/// How many bytes of text are counted at a time, where there are so many megabytes of memory.
+fn most_for(text: Text, memory: u64) -> usize
+    requires { memory ≤ most_memory }
+    ensures { result ≡ most_for text memory }
+{
+    memory as usize * MEGABYTE / need_of(text)
+}
+
+/// Which text is written, and how is counted.
+fn plan_of(matches: &ArgMatches<'_>) -> Result<Plan, RunFault>
+    ensures plan { IfOk result (IsPlanOf (rows_in matches.now)) }
+    ensures fault { IfErr result (λ found. (found ≡ fault.Usage)
+        × HasNoPlan (rows_in matches.now)) }
+{
+    let Some(text) = text_of(matches) else {
+        return Err(RunFault::Usage);
+    };
+    let Some(workers) = small_number(matches, "workers") else {
+        return Err(RunFault::Usage);
+    };
+    let Some(memory) = number(matches, "memory") else {
+        return Err(RunFault::Usage);
+    };
+    if memory > MOST_MEMORY {
+        return Err(RunFault::Usage);
+    }
+    Ok(Plan {
+        text,
+        workers,
+        most: most_for(text, memory),
+    })
+}
+
+/// What names the inputs: words, or else a list.
+fn named_of<'a>(alloc: Global, matches: &ArgMatches<'a>) -> Result<Named<'a>, RunFault>
+    ensures named { IfOk result (AreNamed (rows_in matches.now)) }
+    ensures fault { IfErr result (λ found. (found ≡ fault.Memory) ⊎ ((found ≡ fault.Usage)
+        × HasNoNames (rows_in matches.now))) }
+{
+    let files = words_of(alloc, matches, "files")?;
+    let Some(file) = word_of(matches, "list") else {
+        return Ok(Named::Words(files));
+    };
+    if !files.is_empty() {
+        return Err(RunFault::Usage);
+    }
+    Ok(Named::List {
+        file,
+        end: choice(matches, "null", NameEnd::Zero, NameEnd::LineFeed),
+    })
+}
+
+impl<'a> FromWords<'a> for Asked<'a> {
+    ghost app = { program_app };
+
+    ghost IsAsked = { IsAsked };
+
+    ghost IsWrong = { λ rows found. (found ≡ fault.Usage) × IsUsage rows };
+
+    ghost simple = { refl };
+
+    fn program(alloc: Global) -> Result<Command<'a>, AllocError> {
+        program(alloc)
+    }
+
+    /// What the values ask for; none at all ask for text 1 of standard input. `Usage` comes where a
+    /// number is missing or too large, and where a list is named beside words.
+    fn from_values(alloc: Global, matches: &ArgMatches<'a>) -> Result<Asked<'a>, RunFault> {
+        let plan = plan_of(matches)?;
+        let named = named_of(alloc, matches)?;
+        Ok(Asked {
+            plan,
+            named,
+            out: word_of(matches, "out"),
+            report: word_of(matches, "report"),
+            spill: word_of(matches, "spill"),
+            is_strict: choice(matches, "strict", true, false),
+        })
+    }
+}
