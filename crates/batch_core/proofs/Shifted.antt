@@ -40,7 +40,7 @@ shifted-node_parts : (d : ℕ) (node : Node) → node_parts (shifted_node d node
 shifted-node_parts d node =
     ap (λ ps. begins_node ∷ ps) (flat_map-square (shifted_property d) property_parts property_parts (shifted_part d) (shifted-property_parts d) node)
 
--- the nodes' parts, those of the trees inside, and what comes behind
+-- the nodes' parts, those of the trees inside, and what comes after
 behind_nodes : (d : ℕ) (nodes : List Node) (inner behind inner_after behind_after : List Part) → inner_after ≡ map (shifted_part d) inner → behind_after ≡ map (shifted_part d) behind →
     flat_map node_parts (map (shifted_node d) nodes) ++ inner_after ++ behind_after ≡ map (shifted_part d) (flat_map node_parts nodes ++ inner ++ behind)
 behind_nodes d nodes inner behind inner_after behind_after inner_is behind_is =

@@ -21,11 +21,11 @@ need_of text.One = 128
 need_of text.Two = 256
 need_of text.Three = 256
 
--- how many bytes of text are counted at a time, where there are so many megabytes of memory
+-- how many bytes of text are counted at a time with this number of megabytes of memory
 abbrev pub most_for : Text → ℕ → ℕ
 most_for kind memory = (memory * 2 ^ 20) / need_of kind
 
--- the values ask for this text, so many workers, and so much memory
+-- the values ask for this text, this number of workers, and this number of megabytes of memory
 pub record IsPlanOf (rows : List Row) (plan : Plan) : Type 0 where
   pub memory : ℕ
   pub is_text : IsNumberOf (codes "text") rows (number_of plan.text)

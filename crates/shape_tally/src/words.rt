@@ -67,7 +67,7 @@ fn need_of(text: Text) -> usize
     }
 }
 
-/// How many bytes of text are counted at a time, where there are so many megabytes of memory.
+/// How many bytes of text are counted at a time with this number of megabytes of memory.
 fn most_for(text: Text, memory: u64) -> usize
     requires { memory ≤ most_memory }
     ensures { result ≡ most_for text memory }
