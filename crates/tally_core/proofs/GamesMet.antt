@@ -1,9 +1,8 @@
 -- Games whose patterns are put into a set, one game after another.
-use Rattle.std.proofs.Common.{◌≡◌, ℕ, ◌+◌, ◌≤◌, ◌<◌, ◌==◌, ◌||◌, nat_lt, Bool, true, false, not, cond, List, [], ◌∷◌, ◌++◌, length, map, Some, None, Ok, refl, ap, sym, subst, ◌∙◌, length-append, arith, btree_set_len, BTreeSet}
-use Rattle.std.specs.Prelude.{slice_get, sum_by, filter}
-use Rattle.std.specs.BTreeMap.{is_at}
+use Rattle.std.proofs.Common.{◌≡◌, ℕ, ◌+◌, ◌≤◌, ◌<◌, ◌==◌, ◌||◌, nat_lt, Bool, true, false, not, cond, List, [], ◌∷◌, ◌++◌, length, map, Some, None, Ok, refl, ap, sym, subst, ◌∙◌, length-append, arith}
+use Rattle.std.specs.HashSet.{HashSet, hash_set_len}
+use Rattle.std.specs.Prelude.{slice_get, sum_by, filter, nat_eq}
 use Rattle.std.specs.List.{flat_map, list_any, position_or_len}
-use Rattle.std.specs.Ordering.{nat_cmp}
 use Rattle.std.proofs.lemmas.Bool.Decides.{nat_tests}
 use Rattle.std.proofs.lemmas.List.{append-nil, map-append}
 use Rattle.std.proofs.lemmas.List.Concat.{flat_map-append}
@@ -47,7 +46,7 @@ once-after words xs ys same =
     ∙ ap (λ os. once_each words ++ filter (λ y. not (is_in y words)) os) same
     ∙ sym (once_append words ys)
 
-same-set : (xs ys : List ℕ) (set : BTreeSet ℕ) → once_each xs ≡ once_each ys → IsSetOf xs set → IsSetOf ys set
+same-set : {S : Type 0} (xs ys : List ℕ) (set : HashSet ℕ S) → once_each xs ≡ once_each ys → IsSetOf xs set → IsSetOf ys set
 same-set xs ys set same of = record { many = of.many ∙ ap length same; has = λ word. of.has word ∙ has-same word xs ys same }
 
 -- ---- the patterns of games
@@ -98,11 +97,11 @@ first-last kinds word games one none some =
 
 -- ---- one game after another
 
-pub none_met : (kinds : Kinds) (bytes : List ℕ) (set : BTreeSet ℕ) → set.keys ≡ [] → MeetsUpTo kinds bytes 0 set
+pub none_met : {S : Type 0} (kinds : Kinds) (bytes : List ℕ) (set : HashSet ℕ S) → set.keys ≡ [] → MeetsUpTo kinds bytes 0 set
 none_met kinds bytes set none = record {
   games = [];
   first = record { trees = []; end = 0; written = refl; numbered = refl; replayed = tt };
-  met = record { many = ap length none; has = λ word. ap (list_any (is_at (nat_cmp word))) none };
+  met = record { many = ap length none; has = λ word. ap (list_any (nat_eq word)) none };
 }
 
 -- what a walk met are the patterns of the game
@@ -114,7 +113,7 @@ walk-met kinds actions meetings moves games walk =
     ∙ ap once_each (sym (patterns-push kinds games one))
 
 -- one game more was met
-game_met : (kinds : Kinds) (bytes : List ℕ) (game at stop : ℕ) (actions : Actions) (meetings : List Meeting) (moves : ℕ) (start set : BTreeSet ℕ) →
+game_met : {S : Type 0} (kinds : Kinds) (bytes : List ℕ) (game at stop : ℕ) (actions : Actions) (meetings : List Meeting) (moves : ℕ) (start set : HashSet ℕ S) →
     IsGameOf bytes game at stop actions → IsWalk kinds actions meetings moves → AreMet start (shapes_of meetings) set →
     MeetsUpTo kinds bytes game start → MeetsUpTo kinds bytes (game + 1) set
 game_met kinds bytes game at stop actions meetings moves start set is walk met before =
@@ -127,7 +126,7 @@ game_met kinds bytes game at stop actions meetings moves start set is walk met b
     }
 
 -- there are first too many with a pattern of it
-game_beyond : (kinds : Kinds) (bytes : List ℕ) (game at stop : ℕ) (actions : Actions) (meetings : List Meeting) (moves : ℕ) (start : BTreeSet ℕ) (most word : ℕ) →
+game_beyond : {S : Type 0} (kinds : Kinds) (bytes : List ℕ) (game at stop : ℕ) (actions : Actions) (meetings : List Meeting) (moves : ℕ) (start : HashSet ℕ S) (most word : ℕ) →
     IsGameOf bytes game at stop actions → IsWalk kinds actions meetings moves → IsBeyond start (shapes_of meetings) most word →
     MeetsUpTo kinds bytes game start → IsFirstBeyond kinds bytes most game word
 game_beyond kinds bytes game at stop actions meetings moves start most word is walk beyond before =
@@ -151,7 +150,7 @@ game_beyond kinds bytes game at stop actions meetings moves start most word is w
 
 -- ---- games that are read and walked
 
-pub met_next : (kinds : Kinds) (bytes : List ℕ) (before after : Reading) (walked : WalkedGame) (start set : BTreeSet ℕ) → before.bytes ≡ bytes →
+pub met_next : {S : Type 0} (kinds : Kinds) (bytes : List ℕ) (before after : Reading) (walked : WalkedGame) (start set : HashSet ℕ S) → before.bytes ≡ bytes →
     IsNextWalked kinds before after walked → AreMet start (shapes_of walked.meetings.items) set →
     MeetsUpTo kinds bytes before.report.games start → MeetsUpTo kinds bytes after.report.games set
 met_next kinds bytes before after walked start set same next met up_to =
@@ -160,7 +159,7 @@ met_next kinds bytes before after walked start set same next met up_to =
     subst (λ n. MeetsUpTo kinds bytes n set) (sym next.next.counted)
     (game_met kinds bytes before.report.games job.at job.end job.actions walked.meetings.items walked.moves start set is next.is.walk met up_to)
 
-pub beyond_next : (kinds : Kinds) (bytes : List ℕ) (before after : Reading) (walked : WalkedGame) (start : BTreeSet ℕ) (most word game : ℕ) → before.bytes ≡ bytes →
+pub beyond_next : {S : Type 0} (kinds : Kinds) (bytes : List ℕ) (before after : Reading) (walked : WalkedGame) (start : HashSet ℕ S) (most word game : ℕ) → before.bytes ≡ bytes →
     IsNextWalked kinds before after walked → IsBeyond start (shapes_of walked.meetings.items) most word → game ≡ walked.job.game →
     MeetsUpTo kinds bytes before.report.games start → IsFirstBeyond kinds bytes most game word
 beyond_next kinds bytes before after walked start most word game same next beyond number up_to =
@@ -170,7 +169,7 @@ beyond_next kinds bytes before after walked start most word game same next beyon
     (game_beyond kinds bytes before.report.games job.at job.end job.actions walked.meetings.items walked.moves start most word is next.is.walk beyond up_to)
 
 -- no game is left
-pub at_most : (kinds : Kinds) (bytes : List ℕ) (report : Report) (set : BTreeSet ℕ) (most : ℕ) → HasReadAll bytes report → btree_set_len set ≤ most →
+pub at_most : {S : Type 0} (kinds : Kinds) (bytes : List ℕ) (report : Report) (set : HashSet ℕ S) (most : ℕ) → HasReadAll bytes report → hash_set_len set ≤ most →
     MeetsUpTo kinds bytes report.games set → HasAtMost kinds bytes most
 at_most kinds bytes report set most read few up_to =
     let same : games_of up_to.first.trees ≡ games_of read.trees =
