@@ -145,11 +145,12 @@ fn counts(
         others,
         refused,
     } = counted.report;
-    let has_diamonds = counted.dictionary.counts_diamonds();
+    let dictionary = counted.dictionary.into_dictionary(alloc)?;
+    let has_diamonds = dictionary.counts_diamonds();
     if (games, others, refused) != trees || has_diamonds != (kinds == Kinds::Both) {
         return Ok(false);
     }
-    is_written(alloc, &counted.dictionary, Text::One, wanted)
+    is_written(alloc, &dictionary, Text::One, wanted)
 }
 
 /// Whether an input counts so with either kinds of pattern.
@@ -181,7 +182,8 @@ fn first_games_and_diamonds(rt: HostRuntime) -> Result<(), Fail> {
     let input = b"(;SZ[1];B[aa])(;GM[2])(;SZ[2:1];B[aa];W[ba])";
     let wanted =
         "shapes 3 games 2 moves 3 squares 3 diamonds 3\n3fff3fcffffff 2 1 1\n3fffbfcffffff 1 1 1\n3fffffcffffff 1 1 0\n7ffcffcffffff 2 1 1\n7ffeffcffffff 1 1 1\n7fffffcffffff 1 1 0\n";
-    let dictionary = count_plain(alloc, Kinds::Both, input)?.dictionary;
+    let counted = count_plain(alloc, Kinds::Both, input)?;
+    let dictionary = counted.dictionary.into_dictionary(alloc)?;
     assert!(rt; is_written(alloc, &dictionary, Text::Three, wanted)?);
     Ok(())
 }
@@ -229,7 +231,7 @@ fn tallied(alloc: Global, game: &Record) -> Result<(u64, usize), TallyFault> {
 /// How many patterns an input has.
 fn patterns(alloc: Global, bytes: &[u8]) -> Result<usize, TallyFault> {
     let counted = count_plain(alloc, Kinds::Both, bytes)?;
-    Ok(counted.dictionary.entries().len())
+    Ok(counted.dictionary.len())
 }
 
 /// With memory refused at any request it still holds: the tally is the game's, or out of memory is

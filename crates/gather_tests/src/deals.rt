@@ -147,7 +147,8 @@ fn wanted_of(alloc: Global) -> Result<Dictionary, Fail> {
     for bytes in SIX {
         collection.extend_from_slice(bytes)?;
     }
-    Ok(count_plain(alloc, Kinds::Both, collection.as_slice())?.dictionary)
+    let counted = count_plain(alloc, Kinds::Both, collection.as_slice())?;
+    Ok(counted.dictionary.into_dictionary(alloc)?)
 }
 
 /// Whether two dictionaries are of as many games and moves, and have the same entries.

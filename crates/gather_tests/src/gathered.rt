@@ -233,8 +233,10 @@ fn are_numbered<R: Threads + Sync>(
         entry_of(TAKEN, 1, 1, 0),
         entry_of(ALONE, 1, 1, 1),
     ];
-    let is_right = is_of(&words.dictionary, 2, 3) && has(&words.dictionary, &wanted);
-    Ok(is_right.then_some(words.numbered))
+    let numbered = words.numbered;
+    let dictionary = words.dictionary.into_dictionary(alloc)?;
+    let is_right = is_of(&dictionary, 2, 3) && has(&dictionary, &wanted);
+    Ok(is_right.then_some(numbered))
 }
 
 #[test]

@@ -1,6 +1,7 @@
 //! A whole collection, counted with nothing of anybody else's.
 ghost use Rattle.std.specs.Prelude.{◌≡◌, ◌⊎◌, ◌^◌, ◌<◌, ◌≤◌, length, IfOk, IfErr, IsErrAnd};
 ghost use Rattle.sgf_core.specs.Limit.{most_bytes};
+ghost use Rattle.slot_table.specs.Passes.{IsPassOf};
 ghost use Rattle.sgf_core.specs.declared.faults.SgfFault.TheVariants as sgf;
 ghost use Rattle.tally_core.specs.Counted.{HasMore, IsCounted};
 ghost use Rattle.harvest_faults.specs.declared.faults.HarvestFault.TheVariants as fault;
@@ -10,10 +11,11 @@ use crate::gates::Gate;
 use crate::gathering::{Harvested, count_in_threads};
 use crate::reading::{Numbering, numbering_of};
 use harvest_faults::HarvestFault;
-use probe_core::Capacity;
+use probe_core::{Capacity, ProbeOrder};
 use shape_core::Kinds;
-use shape_dict::Dictionary;
+use shape_dict::{Entry, PieceDictionary};
 use share_core::number_entries;
+use slot_table::{Pass, SlotTable};
 use std::alloc::Global;
 use std::sync::Wait;
 use std::thread::Threads;
@@ -66,10 +68,21 @@ fn within(
     ensures counted { IfOk result (IsCountedWithin most kinds bytes.now) }
     ensures fault { IfErr result (IsHarvestRefused most bytes.now kinds) }
 {
-    if counted.dictionary.entries().len() > most {
+    if counted.dictionary.len() > most {
         return Err(first_too_many(alloc, kinds, most, bytes));
     }
     Ok(counted)
+}
+
+/// Numbers the patterns of lists, list after list, up to one that finds no number.
+fn number_pieces<O: ProbeOrder>(table: &SlotTable<O>, pass: &mut Pass<O>, pieces: &[Vec<Entry>])
+    requires { IsPassOf table.now pass.old }
+{
+    for piece in pieces {
+        if number_entries(table, pass, piece.as_slice()).is_err() {
+            return;
+        }
+    }
 }
 
 /// Numbers the patterns of a dictionary in a new table of 2^k slots.
@@ -77,7 +90,7 @@ fn within(
 /// # Errors
 ///
 /// `Memory` where memory for the table was refused.
-fn number_again(alloc: Global, k: u32, dictionary: &Dictionary) -> Result<(), HarvestFault>
+fn number_again(alloc: Global, k: u32, dictionary: &PieceDictionary) -> Result<(), HarvestFault>
     requires { k ≤ 22 }
     ensures { IfErr result (λ found. found ≡ fault.Memory) }
 {
@@ -85,7 +98,7 @@ fn number_again(alloc: Global, k: u32, dictionary: &Dictionary) -> Result<(), Ha
         return Err(HarvestFault::BadSettings);
     };
     let Numbering { table, mut pass } = numbering_of(alloc, capacity)?;
-    let _ = number_entries(&table, &mut pass, dictionary.entries());
+    number_pieces(&table, &mut pass, dictionary.pieces());
     Ok(())
 }
 

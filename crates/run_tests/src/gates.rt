@@ -52,7 +52,7 @@ fn text_over_new<R: Threads + Wait + Sync, G: Gate>(
 ) -> Result<Vec<u8>, Fail> {
     let settings = Settings::new(workers, 2)?;
     let counted = counted_on(rt, alloc, order, settings, bytes, gate)?;
-    text_of(alloc, &counted.dictionary)
+    text_of(alloc, counted.dictionary)
 }
 
 /// The same by `harvest`.
@@ -64,7 +64,7 @@ fn text_of_harvest<R: Threads + Wait + Sync, G: Gate>(
     gate: &G,
 ) -> Result<Vec<u8>, Fail> {
     let counted = harvest(rt, alloc, Settings::new(workers, 2)?, bytes, gate)?;
-    text_of(alloc, &counted.dictionary)
+    text_of(alloc, counted.dictionary)
 }
 
 /// The text of five games of each of two sorts.

@@ -10,7 +10,7 @@ use job_core::{Endpoint, Games, new_queue};
 use probe_core::{Capacity, Linear, OddRuns, OddStep, ProbeOrder};
 use sgf_core::SgfFault;
 use shape_core::{Kinds, Word};
-use shape_dict::{Dictionary, Text};
+use shape_dict::{PieceDictionary, Text};
 use slot_table::{Pass, SlotTable};
 use std::alloc::{AllocError, Global};
 use std::process::Abort;
@@ -48,7 +48,8 @@ pub(crate) fn collection(alloc: Global, pairs: u64) -> Result<Vec<u8>, AllocErro
 }
 
 /// The text of a dictionary with both counts and the first games.
-pub(crate) fn text_of(alloc: Global, dictionary: &Dictionary) -> Result<Vec<u8>, Fail> {
+pub(crate) fn text_of(alloc: Global, counted: PieceDictionary) -> Result<Vec<u8>, Fail> {
+    let dictionary = counted.into_dictionary(alloc)?;
     let mut text = Vec::new(alloc);
     dictionary.write(Text::Three, &mut text)?;
     Ok(text)
@@ -79,13 +80,13 @@ const OF_300: &str =
 fn any_number_of_workers_counts_the_same(rt: HostRuntime) -> Result<(), Fail> {
     let alloc = rt.alloc();
     let bytes = collection(alloc, 150)?;
-    let wanted = count_plain(alloc, Kinds::Both, &bytes)?;
+    let plain = count_plain(alloc, Kinds::Both, &bytes)?;
+    assert!(rt; text_of(alloc, plain.dictionary)?.as_slice() == OF_300.as_bytes());
     for workers in CREWS {
         let settings = Settings::new(workers, 3)?.with(Kinds::Both);
         let counted = harvest(&rt, alloc, settings, &bytes, &FreeGate)?;
         assert!(rt; counted.report == report_of(300, 0, 0), "{workers} workers");
-        assert!(rt; counted.dictionary.entries() == wanted.dictionary.entries());
-        let text = text_of(alloc, &counted.dictionary)?;
+        let text = text_of(alloc, counted.dictionary)?;
         assert_eq!(rt; text.as_slice(), OF_300.as_bytes());
     }
     Ok(())
@@ -111,12 +112,13 @@ const OF_20: &str =
     "shapes 3 games 20 moves 30 squares 3 diamonds -\n3fff3fcffffff 20 10 1\n3fffbfcffffff 10 10 1\n3fffffcffffff 10 10 0\n";
 
 /// What was counted of twenty games is what one thread counts.
-fn assert_20(rt: &impl Abort, alloc: Global, bytes: &[u8], counted: &Counted) -> Result<(), Fail> {
+fn assert_20(rt: &impl Abort, alloc: Global, bytes: &[u8], counted: Counted) -> Result<(), Fail> {
     let plain = count_plain(alloc, Kinds::Squares, bytes)?;
     assert!(rt; counted.report == report_of(20, 0, 0) && counted.report == plain.report);
-    assert!(rt; counted.dictionary.entries() == plain.dictionary.entries());
-    let text = text_of(alloc, &counted.dictionary)?;
-    assert!(rt; text.as_slice() == OF_20.as_bytes());
+    for dictionary in [counted.dictionary, plain.dictionary] {
+        let text = text_of(alloc, dictionary)?;
+        assert!(rt; text.as_slice() == OF_20.as_bytes());
+    }
     Ok(())
 }
 
@@ -135,9 +137,9 @@ fn any_order_of_probes_counts_the_same(rt: HostRuntime) -> Result<(), Fail> {
             &bytes,
             &FreeGate,
         )?;
-        assert_20(&rt, alloc, &bytes, &odd)?;
+        assert_20(&rt, alloc, &bytes, odd)?;
         let linear = counted_on(&rt, alloc, Linear { capacity }, settings, &bytes, &FreeGate)?;
-        assert_20(&rt, alloc, &bytes, &linear)?;
+        assert_20(&rt, alloc, &bytes, linear)?;
         let runs = counted_on(
             &rt,
             alloc,
@@ -146,7 +148,7 @@ fn any_order_of_probes_counts_the_same(rt: HostRuntime) -> Result<(), Fail> {
             &bytes,
             &FreeGate,
         )?;
-        assert_20(&rt, alloc, &bytes, &runs)?;
+        assert_20(&rt, alloc, &bytes, runs)?;
     }
     Ok(())
 }
@@ -298,7 +300,7 @@ fn a_bad_move_refuses_its_game_alone(rt: HostRuntime) -> Result<(), Fail> {
         let settings = Settings::new(workers, 0)?;
         let counted = harvest(&rt, alloc, settings, bytes, &FreeGate)?;
         assert!(rt; counted.report == report_of(2, 1, 1), "{workers} workers");
-        let text = text_of(alloc, &counted.dictionary)?;
+        let text = text_of(alloc, counted.dictionary)?;
         let wanted = "shapes 3 games 2 moves 2 squares 1 diamonds -\n3fffffcffffff 2 2 0\n";
         assert_eq!(rt; text.as_slice(), wanted.as_bytes());
     }
@@ -314,7 +316,7 @@ fn a_table_of_another_input_disagrees(rt: HostRuntime) -> Result<(), Fail> {
     let first = harvest_on(
         &rt, alloc, settings, &table, &mut pass, ONE_POINT, &FreeGate,
     )?;
-    assert_eq!(rt; first.dictionary.entries().len(), 1);
+    assert_eq!(rt; first.dictionary.len(), 1);
     let other = harvest_on(
         &rt, alloc, settings, &table, &mut pass, TWO_POINTS, &FreeGate,
     );
@@ -349,11 +351,9 @@ fn memory_is_found_or_named(rt: HostRuntime) -> Result<(), Fail> {
         &FreeGate,
     ) {
         Ok(counted) => {
-            let entries = counted.dictionary.entries();
-            assert_eq!(rt;
-                (counted.dictionary.games(), counted.dictionary.moves()),
-                (2, 3)
-            );
+            let dictionary = counted.dictionary.into_dictionary(alloc)?;
+            let entries = dictionary.entries();
+            assert_eq!(rt; (dictionary.games(), dictionary.moves()), (2, 3));
             assert_eq!(rt; entries.len(), 3);
             for (entry, (bits, there, played, first)) in entries
                 .iter()

@@ -32,7 +32,9 @@ fn assert_written(
 fn parts_are_the_text(rt: HostRuntime) -> Result<(), Fail> {
     let alloc = rt.alloc();
     let dictionary = Dictionary::read(alloc, ONE)?;
-    let parts = dictionary.parts(&rt, alloc, Text::One, 4)?;
+    let parts = dictionary
+        .into_pieces(alloc)?
+        .parts(&rt, alloc, Text::One, 4)?;
     assert_written(&rt, alloc, &parts, 1000, Ok(()))?;
     for written in [0, 35, 36, 40] {
         let stopped = Err(RunFault::Write { written });

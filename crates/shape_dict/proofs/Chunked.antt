@@ -1,4 +1,4 @@
--- The lines of the parts of a list of entries, one part after another, are those of the list.
+-- The lines of the parts of a list of lists, one part after another, are those of all lists.
 use Rattle.std.proofs.Common.{◌≡◌, ℕ, zero, suc, ◌+◌, ◌*◌, ◌/◌, ◌%◌, ◌<◌, ◌≤◌, min, List, [], ◌∷◌, ◌++◌, length, get_or, take, drop, sym, refl, ap, ◌∙◌, ⊎_elim, arith, add-one, Result, Ok, Err, IfOk, IsOk}
 use Rattle.std.proofs.Math.Nat.{add-mul, one-mul, zero-mul, suc-mul}
 use Rattle.std.specs.List.{flat_map}
@@ -17,6 +17,7 @@ use Rattle.shape_dict.specs.declared.entries.Text.TheVariants as text
 use Rattle.shape_dict.specs.Contents.{is_square, squares_of}
 use Rattle.shape_dict.specs.Text.{line_text}
 use Rattle.shape_dict.specs.Inner.Parts.{lines_of, bytes_of, AreMade}
+use Rattle.shape_dict.specs.Pieces.{entries_in}
 
 -- as many chunks as there are end past the last element
 chunks_cover : (count len size : ℕ) → 0 < size → count ≡ len / size + min 1 (len % size) → len ≤ count * size
@@ -30,7 +31,7 @@ chunks_cover count len size some is =
     (λ h. let e : count ≡ q = omega arith in let w = ap (λ n. n * size) e in omega arith)
     (cases_lt 0 r)
 
-no_lines : (t : Text) → lines_of t [] ≡ []
+pub no_lines : (t : Text) → lines_of t [] ≡ []
 no_lines text.One = refl
 no_lines text.Two = refl
 no_lines text.Three = refl
@@ -40,14 +41,25 @@ lines_append text.One xs ys = ap (flat_map (line_text text.One)) (filter-append 
 lines_append text.Two xs ys = flat_map-append (line_text text.Two) xs ys
 lines_append text.Three xs ys = flat_map-append (line_text text.Three) xs ys
 
+-- the lines of the entries of lists
+abbrev pub all_lines : Text → List (Vec Entry Global) → List ℕ
+all_lines t lists = lines_of t (entries_in lists)
+
+pub all_append : (t : Text) (xs ys : List (Vec Entry Global)) → all_lines t (xs ++ ys) ≡ all_lines t xs ++ all_lines t ys
+all_append t xs ys = ap (lines_of t) (flat_map-append (λ (list : Vec Entry Global). list.items) xs ys) ∙ lines_append t (entries_in xs) (entries_in ys)
+
+-- those of one list more
+pub all_push : (t : Text) (xs : List (Vec Entry Global)) (x : Vec Entry Global) → all_lines t (xs ++ x ∷ []) ≡ all_lines t xs ++ lines_of t x.items
+all_push t xs x = all_append t xs (x ∷ []) ∙ ap (λ es. all_lines t xs ++ lines_of t es) (append-nil x.items)
+
 -- the lines up to the end of a chunk
-lines_on : (t : Text) (xs : List Entry) (start size : ℕ) → lines_of t (take start xs) ++ lines_of t (take size (drop start xs)) ≡ lines_of t (take (start + size) xs)
+lines_on : (t : Text) (xs : List (Vec Entry Global)) (start size : ℕ) → all_lines t (take start xs) ++ all_lines t (take size (drop start xs)) ≡ all_lines t (take (start + size) xs)
 lines_on t xs start size =
     let ys = take (start + size) xs in
     let front : take start ys ≡ take start xs = take-take start (start + size) xs (omega arith) in
-    ap (λ zs. lines_of t zs ++ lines_of t (take size (drop start xs))) (sym front)
-    ∙ (ap (λ zs. lines_of t (take start ys) ++ lines_of t zs) (sym (drop-take start size xs))
-    ∙ (sym (lines_append t (take start ys) (drop start ys)) ∙ ap (lines_of t) (take-append-drop start ys)))
+    ap (λ zs. all_lines t zs ++ all_lines t (take size (drop start xs))) (sym front)
+    ∙ (ap (λ zs. all_lines t (take start ys) ++ all_lines t zs) (sym (drop-take start size xs))
+    ∙ (sym (all_append t (take start ys) (drop start ys)) ∙ ap (all_lines t) (take-append-drop start ys)))
 
 bytes_are : (part : Result (Vec ℕ Global) AllocError) (bytes : List ℕ) → IsOk part → IfOk part (λ p. p.items ≡ bytes) → bytes_of part ≡ bytes
 bytes_are (Ok part) bytes ok h = h
@@ -60,27 +72,27 @@ bytes_more made n d inside =
     ∙ (flat_map-append bytes_of (take n made) (get_or made n d ∷ [])
     ∙ ap (λ bytes. flat_map bytes_of (take n made) ++ bytes) (append-nil (bytes_of (get_or made n d)))))
 
-module _ (t : Text) (size : ℕ) (xs : List Entry) (made : List (Result (Vec ℕ Global) AllocError)) (d : Result (Vec ℕ Global) AllocError) (each : (n : ℕ) → n < length made → bytes_of (get_or made n d) ≡ lines_of t (slice_chunk xs size n)) where
-  so_far : (n : ℕ) → n ≤ length made → flat_map bytes_of (take n made) ≡ lines_of t (take (n * size) xs)
-  so_far zero within = sym (ap (λ k. lines_of t (take k xs)) (zero-mul size) ∙ no_lines t)
+module _ (t : Text) (size : ℕ) (xs : List (Vec Entry Global)) (made : List (Result (Vec ℕ Global) AllocError)) (d : Result (Vec ℕ Global) AllocError) (each : (n : ℕ) → n < length made → bytes_of (get_or made n d) ≡ all_lines t (slice_chunk xs size n)) where
+  so_far : (n : ℕ) → n ≤ length made → flat_map bytes_of (take n made) ≡ all_lines t (take (n * size) xs)
+  so_far zero within = sym (ap (λ k. all_lines t (take k xs)) (zero-mul size) ∙ no_lines t)
   so_far (suc n) within =
       bytes_more made n d (omega arith)
       ∙ (ap (λ bytes. bytes ++ bytes_of (get_or made n d)) (so_far n (omega arith))
-      ∙ (ap (λ bytes. lines_of t (take (n * size) xs) ++ bytes) (each n (omega arith))
-      ∙ (lines_on t xs (n * size) size ∙ ap (λ k. lines_of t (take k xs)) (sym (suc-mul n size)))))
+      ∙ (ap (λ bytes. all_lines t (take (n * size) xs) ++ bytes) (each n (omega arith))
+      ∙ (lines_on t xs (n * size) size ∙ ap (λ k. all_lines t (take k xs)) (sym (suc-mul n size)))))
 
-  all_bytes : 0 < size → length made ≡ length xs / size + min 1 (length xs % size) → flat_map bytes_of made ≡ lines_of t xs
+  all_bytes : 0 < size → length made ≡ length xs / size + min 1 (length xs % size) → flat_map bytes_of made ≡ all_lines t xs
   all_bytes some count =
       ap (flat_map bytes_of) (sym (take_all (length made) made (omega arith)))
-      ∙ (so_far (length made) (omega arith) ∙ ap (lines_of t) (take_all (length made * size) xs (chunks_cover (length made) (length xs) size some count)))
+      ∙ (so_far (length made) (omega arith) ∙ ap (all_lines t) (take_all (length made * size) xs (chunks_cover (length made) (length xs) size some count)))
 
--- parts that have the lines of one chunk of entries each are the lines of all
-pub are_made : (t : Text) (size : ℕ) (xs : List Entry) (made : List (Result (Vec ℕ Global) AllocError)) (d : Result (Vec ℕ Global) AllocError)
+-- parts that have the lines of one chunk of lists each are the lines of all
+pub are_made : (t : Text) (size : ℕ) (xs : List (Vec Entry Global)) (made : List (Result (Vec ℕ Global) AllocError)) (d : Result (Vec ℕ Global) AllocError)
     → 0 < size → length made ≡ length xs / size + min 1 (length xs % size)
-    → ((n : ℕ) → n < length made → IfOk (get_or made n d) (λ part. part.items ≡ lines_of t (slice_chunk xs size n)))
-    → AreMade (lines_of t xs) made
+    → ((n : ℕ) → n < length made → IfOk (get_or made n d) (λ part. part.items ≡ all_lines t (slice_chunk xs size n)))
+    → AreMade (all_lines t xs) made
 are_made t size xs made d some count each =
-    λ all. all_bytes t size xs made d (λ n inside. bytes_are (get_or made n d) (lines_of t (slice_chunk xs size n)) (All-get_or IsOk made n d inside all) (each n inside)) some count
+    λ all. all_bytes t size xs made d (λ n inside. bytes_are (get_or made n d) (all_lines t (slice_chunk xs size n)) (All-get_or IsOk made n d inside all) (each n inside)) some count
 
 -- two facts of a value, if there is one, give a third
 pub if_ok_both : {T E : Type 0} (r : Result T E) (P Q S : T → Type 0) → ((x : T) → P x → Q x → S x) → IfOk r P → IfOk r Q → IfOk r S

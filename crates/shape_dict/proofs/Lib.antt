@@ -15,3 +15,4 @@ pub mod Worked
 pub mod Chunked
 pub mod Counted
 pub mod Parted
+pub mod Pieced

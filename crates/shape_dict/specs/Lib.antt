@@ -3,6 +3,7 @@ pub mod Text
 pub mod Reading
 pub mod Join
 pub mod Parts
+pub mod Pieces
 pub mod Writing
 pub mod Merging
 pub mod Inner

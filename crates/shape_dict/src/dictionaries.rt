@@ -9,12 +9,11 @@ use crate::faults::DictFault;
 use crate::finding::find_entry;
 use crate::joining::{merge, sum_of};
 use crate::kinds::count_of;
-use crate::parts::{made_parts, push_made};
+use crate::pieces::PieceDictionary;
 use crate::texts::{push_entries, push_header};
 use shape_core::{Kind, Shape};
 use std::alloc::{AllocError, Global};
 use std::marker::Model;
-use std::thread::Threads;
 
 /// How often each pattern was there and was played in a number of games, and their moves.
 #[derive(Debug, Drop)]
@@ -48,7 +47,6 @@ impl Model for Dictionary {
 impl Dictionary {
     ghost use Rattle.std.specs.Prelude.{◌≡◌, ◌++◌, OnOk, IfOk, IfErr};
     ghost use Rattle.shape_dict.specs.Text.{text_of};
-    ghost use Rattle.shape_dict.specs.Parts.{joined};
     ghost use Rattle.shape_dict.specs.declared.faults.DictFault.TheVariants as fault;
     ghost use Rattle.shape_dict.specs.Contents.{IsDictionary, entry_of};
     ghost use Rattle.shape_dict.specs.Join.{IsJoin, IsOverflow, IsJoinFault};
@@ -109,6 +107,20 @@ impl Dictionary {
         self.counts_diamonds
     }
 
+    /// The same dictionary with its patterns in a list of one list. It takes memory for that list,
+    /// and moves no pattern.
+    ///
+    /// # Errors
+    ///
+    /// `AllocError` where memory was refused.
+    pub fn into_pieces(self, alloc: Global) -> Result<PieceDictionary, AllocError>
+        ensures { IfOk result (λ pieces. pieces ≡ self) }
+    {
+        let mut pieces = Vec::new(alloc);
+        pieces.push(self.entries)?;
+        Ok(PieceDictionary::new(self.games, self.moves, pieces, self.counts_diamonds))
+    }
+
     /// The entry of a pattern, or None where the dictionary has none. It takes no memory.
     pub fn find(&self, shape: Shape) -> Option<Entry>
         ensures { result ≡ entry_of shape self.now.entries }
@@ -161,36 +173,6 @@ impl Dictionary {
             return Err(error.into());
         }
         Ok(())
-    }
-
-    /// A text of the dictionary in parts, to be read one after another: the same bytes as `write`
-    /// appends. The first part is the header; the others have the lines of the entries in their
-    /// order, and are at most as many as `threads`, or one for 0. They are made at the same time,
-    /// each by a thread where one can be started and else by this one; a text of 65,536 entries or
-    /// fewer is made by this one. It takes memory for the text, and for each thread.
-    ///
-    /// # Errors
-    ///
-    /// `Memory` where memory for the text was refused. The dictionary stays as it is.
-    pub fn parts<R: Threads + Sync>(
-        &self,
-        rt: &R,
-        alloc: Global,
-        text: Text,
-        threads: usize,
-    ) -> Result<Vec<Vec<u8>>, DictFault>
-        ensures ok { IfOk result (λ parts. joined parts.items ≡ text_of text self.now) }
-        ensures fault { IfErr result (λ found. found ≡ fault.Memory) }
-    {
-        let mut header = Vec::new(alloc);
-        append_header(self, text, &mut header)?;
-        let mut parts = Vec::new(alloc);
-        parts.push(header)?;
-        push_made(
-            &mut parts,
-            made_parts(rt, alloc, text, self.entries(), threads)?,
-        )?;
-        Ok(parts)
     }
 }
 

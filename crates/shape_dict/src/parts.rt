@@ -2,6 +2,7 @@
 ghost use Rattle.std.specs.Prelude.{◌≡◌, ◌<◌, ◌++◌, [], All, IsOk, IfOk, OnOk};
 ghost use Rattle.std.specs.List.{flat_map};
 ghost use Rattle.shape_dict.specs.Parts.{joined};
+ghost use Rattle.shape_dict.specs.Pieces.{entries_in};
 ghost use Rattle.shape_dict.specs.Inner.Parts.{lines_of, bytes_of, AreMade};
 
 use crate::entries::{Entry, Text};
@@ -10,17 +11,21 @@ use std::alloc::{AllocError, Global};
 use std::thread;
 use std::thread::Threads;
 
-/// A part has the lines of at least this many entries, but for the last one.
+/// A text of this many entries or fewer is one part.
 const LEAST: usize = 65_536;
 
 /// Most lines have at most this many bytes.
 const LINE: usize = 20;
 
-/// How many entries a part has the lines of, where this many threads make parts of all.
-fn part_length(entries: usize, threads: usize) -> usize
+/// How many lists a part has the lines of, where this many threads make parts of all lists. Few
+/// entries are in one part.
+fn part_length(lists: usize, entries: usize, threads: usize) -> usize
     ensures { 0 < result }
 {
-    entries.div_ceil(threads.max(1)).max(LEAST)
+    if entries <= LEAST {
+        return lists.max(1);
+    }
+    lists.div_ceil(threads.max(1)).max(1)
 }
 
 /// No bytes, with room for the lines of this many entries where they are many: bytes that grow are
@@ -38,32 +43,44 @@ fn room_for(alloc: Global, entries: usize) -> Vec<u8>
     }
 }
 
-/// The lines that a text has of entries, in bytes of their own.
-fn lines_part(alloc: Global, text: Text, entries: &[Entry]) -> Result<Vec<u8>, AllocError>
-    ensures { IfOk result (λ part. part.items ≡ lines_of text entries.now) }
+/// How many entries lists have together, where these are below 2^64.
+fn entries_of(lists: &[Vec<Entry>]) -> usize {
+    let mut entries: usize = 0;
+    for list in lists {
+        entries = entries.saturating_add(list.len());
+    }
+    entries
+}
+
+/// The lines that a text has of the entries of lists, in bytes of their own.
+fn lines_part(alloc: Global, text: Text, lists: &[Vec<Entry>]) -> Result<Vec<u8>, AllocError>
+    ensures { IfOk result (λ part. part.items ≡ lines_of text (entries_in lists.now)) }
 {
-    let mut part = room_for(alloc, entries.len());
-    push_entries(&mut part, text, entries)?;
+    let mut part = room_for(alloc, entries_of(lists));
+    for list in lists {
+        push_entries(&mut part, text, list.as_slice())?;
+    }
     Ok(part)
 }
 
-/// The lines that a text has of entries, in parts, in order. At most this many threads make them,
-/// and each part may be refused memory.
+/// The lines that a text has of the entries of lists, in parts, in order. At most this many threads
+/// make them, and each part may be refused memory. `entries` is how many entries there are.
 pub(crate) fn made_parts<R: Threads + Sync>(
     rt: &R,
     alloc: Global,
     text: Text,
-    entries: &[Entry],
+    lists: &[Vec<Entry>],
+    entries: usize,
     threads: usize,
 ) -> Result<Vec<Result<Vec<u8>, AllocError>>, AllocError>
-    ensures { IfOk result (λ made. AreMade (lines_of text entries.now) made.items) }
+    ensures { IfOk result (λ made. AreMade (lines_of text (entries_in lists.now)) made.items) }
 {
     thread::map_chunks(
         rt,
         alloc,
-        entries,
-        part_length(entries.len(), threads),
-        &|_, chunk: &[Entry]| lines_part(alloc, text, chunk),
+        lists,
+        part_length(lists.len(), entries, threads),
+        &|_, chunk: &[Vec<Entry>]| lines_part(alloc, text, chunk),
     )
 }
 

@@ -91,7 +91,7 @@ fn measure(rt: &HostRuntime, input: &[u8], kinds: Kinds) -> Result<(Made, Times)
         games: jobs.len(),
         actions,
         moves,
-        patterns: counted.dictionary.entries().len(),
+        patterns: counted.dictionary.len(),
     };
     let times = Times {
         reading,

@@ -91,7 +91,8 @@ fn count_of<R: Threads + Sync, O: ProbeOrder>(
         → AreTogether table.now.slots earlier pass.old (all_rows shares.now)
         → IfErr result (IsHarvestFault table.now.slots bytes kinds earlier pass.new) }
 {
-    let dictionary = gather(rt, alloc, table, pass, kinds, report.games, shares)?;
+    let gathered = gather(rt, alloc, table, pass, kinds, report.games, shares)?;
+    let dictionary = gathered.into_pieces(alloc)?;
     Ok(Counted { dictionary, report })
 }
 

@@ -16,14 +16,14 @@ use crate::gathering::dictionary_of;
 use crate::walkers::Walker;
 use game_core::Report;
 use shape_core::Kinds;
-use shape_dict::{Dictionary, Entry};
-use std::alloc::Global;
+use shape_dict::{Entry, PieceDictionary};
+use std::alloc::{AllocError, Global};
 
 /// A collection that was counted.
 #[derive(Drop)]
 pub struct Counted {
     /// The dictionary of its games.
-    pub dictionary: Dictionary,
+    pub dictionary: PieceDictionary,
     /// What its trees are.
     pub report: Report,
 }
@@ -35,18 +35,23 @@ fn likely_patterns(bytes: usize) -> usize {
 }
 
 /// What a collection is counted as whose trees were all counted, with these moves and this report,
-/// and whose patterns have these entries. It takes no memory.
-fn counted_of(kinds: Kinds, moves: u64, report: Report, entries: Vec<Entry>) -> Counted
+/// and whose patterns have these entries. It takes memory for a list of one list.
+fn counted_of(
+    alloc: Global,
+    kinds: Kinds,
+    moves: u64,
+    report: Report,
+    entries: Vec<Entry>,
+) -> Result<Counted, AllocError>
     requires counted { (bytes : List ℕ) × (counter : Counter)
         × CountsAll kinds bytes report counter × IsEndOf counter moves entries.items }
     requires shapes { All IsShape entries.items }
     requires rises { IsStrictlyIncreasing (map (λ entry. entry.shape) entries.items) }
-    ensures counted { (bytes : List ℕ) (counter : Counter) → CountsAll kinds bytes report counter
-        → IsEndOf counter moves entries.items → IsCounted kinds bytes result }
-    ensures entries { result.dictionary.entries ≡ entries.items }
+    ensures { (bytes : List ℕ) (counter : Counter) → CountsAll kinds bytes report counter
+        → IsEndOf counter moves entries.items → IfOk result (IsCounted kinds bytes) }
 {
-    let dictionary = dictionary_of(kinds, report.games, moves, entries);
-    Counted { dictionary, report }
+    let dictionary = dictionary_of(kinds, report.games, moves, entries).into_pieces(alloc)?;
+    Ok(Counted { dictionary, report })
 }
 
 /// Counts a whole collection on one thread: the dictionary of its games, which are numbered from 0
@@ -70,5 +75,5 @@ pub fn count_plain(alloc: Global, kinds: Kinds, bytes: &[u8]) -> Result<Counted,
     count_games(&mut walker, &mut counter)?;
     let report = walker.report();
     let Counter { counts, moves } = counter;
-    Ok(counted_of(kinds, moves, report, entries_of(counts)))
+    Ok(counted_of(alloc, kinds, moves, report, entries_of(counts))?)
 }

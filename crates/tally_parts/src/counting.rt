@@ -1,5 +1,5 @@
 //! One part counted, and its dictionary kept.
-ghost use Rattle.std.specs.Prelude.{◌≡◌, ◌^◌, ◌<◌, ℕ, List, OnOk, IfOk};
+ghost use Rattle.std.specs.Prelude.{◌≡◌, ◌^◌, ◌<◌, ℕ, List, All, OnOk, IfOk};
 ghost use Rattle.shape_dict.specs.Text.{IsSmall};
 ghost use Rattle.batch_core.specs.Batch.{joined};
 ghost use Rattle.tally_parts.specs.Parts.{kinds_for, IsDictionaryOfTexts};
@@ -11,7 +11,7 @@ use crate::spills::Spills;
 use batch_core::games_of_joined;
 use engine_core::write_parts;
 use harvest_core::{FreeGate, harvest_all};
-use shape_dict::{Dictionary, Entry, Text};
+use shape_dict::{Entry, PieceDictionary, Text};
 use std::alloc::Global;
 use std::sync::Wait;
 use std::thread::Threads;
@@ -34,16 +34,25 @@ fn counts_fit(entry: Entry)
     let _ = entry.there;
 }
 
+/// The counts of the entries of a list are below 2^64.
+fn list_fits(entries: &[Entry])
+    ensures { All (λ entry. entry.there < 2 ^ 64) entries.now }
+{
+    for entry in entries {
+        counts_fit(*entry);
+    }
+}
+
 /// The numbers of a dictionary are below 2^64.
-fn numbers_fit(dictionary: &Dictionary)
+fn numbers_fit(dictionary: &PieceDictionary)
     ensures { IsSmall dictionary.now }
 {
     let _games = dictionary.games();
     let _moves = dictionary.moves();
-    let entries = dictionary.entries();
-    let _count = entries.len();
-    for entry in entries {
-        counts_fit(*entry);
+    let _count = dictionary.len();
+    let pieces = dictionary.pieces();
+    for piece in pieces {
+        list_fits(piece.as_slice());
     }
 }
 
@@ -57,7 +66,7 @@ pub(crate) fn count_part<R: Threads + Wait + Sync>(
     alloc: Global,
     plan: Plan,
     part: &[u8],
-) -> Result<Dictionary, PartsFault>
+) -> Result<PieceDictionary, PartsFault>
     ensures counted { (texts : List (List ℕ)) → AreAllGood texts → part.now ≡ joined texts
         → IfOk result (IsDictionaryOfTexts (kinds_for plan.text) texts) }
     ensures small { IfOk result IsSmall }
@@ -89,7 +98,7 @@ pub(crate) fn spill<R: Threads + Sync, S: Spills>(
     rt: &R,
     alloc: Global,
     plan: Plan,
-    dictionary: &Dictionary,
+    dictionary: &PieceDictionary,
     spills: &mut S,
 ) -> Result<(), PartsFault>
     ensures kept { OnOk result (IsKept (S.number spills.old) (S.bytes spills.old) (S.number spills.new)

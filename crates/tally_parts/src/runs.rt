@@ -16,7 +16,7 @@ use crate::texts::Texts;
 use batch_core::games_come_together;
 use engine_core::{RunFault, write_parts};
 use merge_core::{Form, run_merge};
-use shape_dict::{Dictionary, texts_are_distinct};
+use shape_dict::{PieceDictionary, texts_are_distinct};
 use std::alloc::Global;
 use std::io::Write;
 use std::sync::Wait;
@@ -32,7 +32,7 @@ fn write_alone<R: Threads + Sync, W: Write>(
     rt: &R,
     alloc: Global,
     plan: Plan,
-    dictionary: &Dictionary,
+    dictionary: &PieceDictionary,
     writer: &mut W,
 ) -> Result<(), PartsFault>
     ensures done { OnOk result (Appends (W.contents writer.old) (W.contents writer.new)

@@ -17,7 +17,7 @@ fn harvest_core(rt: HostRuntime) -> Result<(), Fail> {
     let games = b"(;SZ[1];B[aa])(;SZ[2:1];B[aa];W[ba])";
     let counted = harvest(&rt, alloc, settings, games, &FreeGate)?;
     assert!(rt; counted.report.games == 2);
-    assert!(rt; counted.dictionary.entries().len() == 3);
+    assert!(rt; counted.dictionary.len() == 3);
     Ok(())
 }
 

@@ -1,4 +1,5 @@
 use Rattle.std.proofs.Common.{sym, subst}
+use Rattle.shape_dict.specs.Pieces.{entries_in}
 use Rattle.gather_core.proofs.Common.{IsGathered}
 use Rattle.gather_core.proofs.Gathered.{words_gathered}
 use Rattle.gather_core.proofs.gathering_words.gather_words.Goals.{After-has_diamonds}
@@ -8,7 +9,7 @@ use Rattle.gather_core.proofs.gathering_words.gather_words.Goals as goal
 gathered : (g : _) (c : After-has_diamonds g) → IsGathered c.args.kinds c.args.games c.args.shares.items (record {
   games = c.args.games;
   moves = c.in-Some.moves;
-  entries = c.in-Some-2.ordered.entries.items;
+  entries = entries_in c.in-Some-2.ordered.pieces.items;
   counts_diamonds = c.has_diamonds.result;
 })
 gathered g c =
@@ -16,7 +17,7 @@ gathered g c =
     let rows = rw c.in-Some-2.is at c.in_ok-ordered.ensures.rows in
     let rises = rw c.in-Some-2.is at c.in_ok-ordered.ensures.rises in
     let counted = rw c.in-Some-2.is at c.in_ok-ordered.ensures.counted in
-    words_gathered c.kinds_stay.ensures.canonical c.kinds_stay.ensures.around c.args.kinds c.args.games c.args.shares.items c.in-Some-2.ordered.entries.items
+    words_gathered c.kinds_stay.ensures.canonical c.kinds_stay.ensures.around c.args.kinds c.args.games c.args.shares.items (entries_in c.in-Some-2.ordered.pieces.items)
     rows rises counted c.in-Some.moves c.has_diamonds.result c.requires.shares c.requires.kinds c.requires.games c.requires.covers moves c.has_diamonds.ensures
 
 pub new-dictionary-requires : goal.new-dictionary-requires

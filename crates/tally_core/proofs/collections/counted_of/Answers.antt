@@ -1,10 +1,11 @@
-use Rattle.std.proofs.Common.{subst}
+use Rattle.std.proofs.Common.{subst, sym}
+use Rattle.tally_core.specs.Games.{IsDictionaryOf}
 use Rattle.tally_core.specs.Inner.Counter.{count_in, CountsGames}
 use Rattle.tally_core.proofs.NextGame.{games_reported}
 use Rattle.tally_core.proofs.collections.counted_of.Goals as goal
 
-pub dictionary_of-dictionary-requires-clause-counted : goal.dictionary_of-dictionary-requires-clause-counted
-dictionary_of-dictionary-requires-clause-counted c =
+pub dictionary_of-requires-clause-counted : goal.dictionary_of-requires-clause-counted
+dictionary_of-requires-clause-counted c =
     let bytes = c.requires.counted.0 in
     let counter = c.requires.counted.1 in
     let all = c.requires.counted.2 in
@@ -18,8 +19,8 @@ dictionary_of-dictionary-requires-clause-counted c =
       ),
     )
 
-pub returns-clause-counted : goal.returns-clause-counted
-returns-clause-counted c bytes counter all end = record {
+pub returns : goal.returns
+returns c bytes counter all end = record {
   trees = all.read.trees;
   end = all.read.end;
   games = all.games;
@@ -27,8 +28,9 @@ returns-clause-counted c bytes counter all end = record {
   written = all.read.written;
   no_more = all.read.no_more;
   replayed = all.replayed;
-  dictionary = c.dictionary_of-dictionary.ensures.counted (count_in counter.counts) end.entered all.games
+  dictionary = subst (IsDictionaryOf c.args.kinds all.games) (sym c.in_ok-dictionary.ensures)
+      (c.dictionary_of.ensures.counted (count_in counter.counts) end.entered all.games
       (games_reported c.args.kinds bytes c.args.report counter all)
-      (subst (CountsGames c.args.kinds all.games (count_in counter.counts)) end.moves_left all.counted);
+      (subst (CountsGames c.args.kinds all.games (count_in counter.counts)) end.moves_left all.counted));
   reported = all.read.reported;
 }
