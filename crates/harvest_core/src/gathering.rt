@@ -5,12 +5,14 @@ ghost use Rattle.sgf_core.specs.Limit.{most_bytes};
 ghost use Rattle.sgf_core.specs.declared.faults.SgfFault.TheVariants as sgf;
 ghost use Rattle.tally_core.specs.Counted.{IsCounted};
 ghost use Rattle.harvest_faults.specs.declared.faults.HarvestFault.TheVariants as fault;
-ghost use Rattle.harvest_core.specs.Inner.Threads.{IsEnded};
+ghost use Rattle.job_core.specs.Rule.{all_parts};
+ghost use Rattle.slot_table.specs.Passes.{IsPassOf};
+ghost use Rattle.harvest_core.specs.Inner.Threads.{reader_of, IsEnded};
 ghost use Rattle.harvest_core.specs.Harvest.{IsCountRefused};
 ghost use Rattle.harvest_core.specs.Inner.Reading.{IsThreadFault};
 
 use crate::gates::Gate;
-use crate::reading::Numbering;
+use crate::numberings::{Numbering, numbering_of};
 use crate::threads::{Ended, count_all};
 use crate::workers::Shared;
 use gather_core::{GatheredWords, gather_words};
@@ -58,19 +60,17 @@ fn dictionary_of<R: Threads + Sync>(
     rt: &R,
     alloc: Global,
     kinds: Kinds,
+    numbering: Numbering,
     ended: Ended,
 ) -> Result<Option<Harvested>, HarvestFault>
+    requires pass { IsPassOf numbering.table numbering.pass }
     requires ended { (bytes : List ℕ) × IsEnded bytes kinds ended }
     ensures counted { (bytes : List ℕ) → IsEnded bytes kinds ended → IfOk result
         (λ found. IfSome found (λ harvested. IsCounted kinds bytes harvested.counted)) }
     ensures fault { IfErr result (λ found. found ≡ fault.Memory) }
 {
-    let Ended {
-        numbering,
-        shares,
-        report,
-    } = ended;
     let Numbering { table, mut pass } = numbering;
+    let Ended { shares, report } = ended;
     let found = gather_words(rt, alloc, kinds, report.games, &table, &mut pass, shares)?;
     let Some(gathered) = found else {
         return Ok(None);
@@ -85,11 +85,71 @@ fn dictionary_of<R: Threads + Sync>(
     }))
 }
 
+/// A table, and what was counted beside it.
+///
+/// # Errors
+///
+/// The fault of the count; else `Memory` where memory for the table was refused.
+fn both_of(
+    shared: &Shared<'_, '_>,
+    made: Result<Numbering, HarvestFault>,
+    ended: Result<Ended, HarvestFault>,
+) -> Result<(Numbering, Ended), HarvestFault>
+    requires pass { IfOk made (λ numbering. IsPassOf numbering.table numbering.pass) }
+    requires refused { IfErr made (λ found. found ≡ fault.Memory) }
+    requires ended { IfOk ended (IsEnded shared.now.bytes.now shared.now.kinds) }
+    requires fault { IfErr ended (IsThreadFault shared.now.bytes.now) }
+    ensures pass { IfOk result (λ both. IsPassOf both.0.table both.0.pass) }
+    ensures ended { IfOk result (λ both. IsEnded shared.now.bytes.now shared.now.kinds both.1) }
+    ensures fault { IfErr result (IsThreadFault shared.now.bytes.now) }
+{
+    let _ = shared;
+    let ended = ended?;
+    Ok((made?, ended))
+}
+
+/// Counts all games of an input, and makes a table of this capacity meanwhile, in a thread more
+/// where one can be started.
+///
+/// # Errors
+///
+/// Those of `count_all`; `Memory` where memory for the table was refused.
+fn count_beside_table<'q, 'a, R: Threads + Wait + Sync, G: Gate>(
+    rt: &R,
+    shared: &Shared<'q, 'a>,
+    gate: &G,
+    capacity: Capacity,
+    games: Games<'a>,
+    endpoint: Endpoint<'q, 'a>,
+) -> Result<(Numbering, Ended), HarvestFault>
+    requires endpoint { endpoint ≡ reader_of shared.now all_parts }
+    requires games { (games.bytes ≡ shared.now.bytes.now) × (games.report.games ≡ 0) }
+    ensures pass { IfOk result (λ both. IsPassOf both.0.table both.0.pass) }
+    ensures ended { IfOk result (λ both. IsEnded shared.now.bytes.now shared.now.kinds both.1) }
+    ensures fault { IfErr result (IsThreadFault shared.now.bytes.now) }
+{
+    let alloc = shared.alloc;
+    let (made, ended) = thread::join(
+        rt,
+        move || -> Result<Numbering, HarvestFault>
+            ensures pass { IfOk result (λ numbering. IsPassOf numbering.table numbering.pass) }
+            ensures refused { IfErr result (λ found. found ≡ fault.Memory) }
+        { numbering_of(alloc, capacity) },
+        move || -> Result<Ended, HarvestFault>
+            requires endpoint { endpoint ≡ reader_of shared.now all_parts }
+            requires games { (games.bytes ≡ shared.now.bytes.now) × (games.report.games ≡ 0) }
+            ensures ended { IfOk result (IsEnded shared.entry.now.bytes.now shared.entry.now.kinds) }
+            ensures fault { IfErr result (IsThreadFault shared.entry.now.bytes.now) }
+        { count_all(rt, shared, gate, games, endpoint) },
+    );
+    both_of(shared, made, ended)
+}
+
 /// Counts a collection by words in several threads: as many as there are workers, and this one, but
 /// no more than there are processors, and two at least. This one reads, and puts a job of each game
 /// into a queue, from which the others draw; it counts what the queue has no room for, and draws
-/// too when all is read. Their patterns get numbers in one new table of 2^exponent slots, which is
-/// made meanwhile. None where a sum of all threads passes 2^64 - 1.
+/// too when all is read. Their patterns get numbers in one new table of 2^exponent slots, which one
+/// thread more makes meanwhile. None where a sum of all threads passes 2^64 - 1.
 ///
 /// It takes memory for the queue, for the records of the games in it, for the table, for each
 /// thread for what its games meet and for the board, and for the dictionary.
@@ -121,20 +181,14 @@ pub(crate) fn count_by_words<R: Threads + Wait + Sync, G: Gate>(
     let (queue, seat) = new_queue(alloc, PLACES)?;
     let shared = Shared {
         alloc,
-        capacity,
         kinds,
         workers: threads_for(rt, workers),
         bytes,
         queue: &queue,
     };
-    let ended = count_all(
-        rt,
-        &shared,
-        gate,
-        games,
-        Endpoint::open(&queue, seat, bytes),
-    )?;
-    dictionary_of(rt, alloc, kinds, ended)
+    let endpoint = Endpoint::open(&queue, seat, bytes);
+    let (numbering, ended) = count_beside_table(rt, &shared, gate, capacity, games, endpoint)?;
+    dictionary_of(rt, alloc, kinds, numbering, ended)
 }
 
 /// The same, where no sum is too large: should one be, this thread counts alone.

@@ -3,6 +3,7 @@
 
 mod gates;
 mod gathering;
+mod numberings;
 mod own_tables;
 mod reading;
 mod threads;

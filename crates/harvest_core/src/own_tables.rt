@@ -9,7 +9,7 @@ ghost use Rattle.harvest_core.specs.Harvest.{IsCountedWithin, IsCountRefused, Is
 
 use crate::gates::Gate;
 use crate::gathering::{Harvested, count_in_threads};
-use crate::reading::{Numbering, numbering_of};
+use crate::numberings::{Numbering, numbering_of};
 use harvest_faults::HarvestFault;
 use probe_core::{Capacity, ProbeOrder};
 use shape_core::Kinds;
@@ -107,15 +107,15 @@ fn number_again(alloc: Global, k: u32, dictionary: &PieceDictionary) -> Result<(
 /// answers, whatever the gate, the number of workers and their turns. This project's own.
 ///
 /// As many threads count as the settings have workers, and this one, but no more than there are
-/// processors, and two at least. They are numbered from 0. This one is 0: it reads, and puts a job
-/// of each game into a queue, from which the others draw. It counts the games for which the queue
-/// has no room, and draws with the others when all is read. Each appends what its games meet to
-/// lists of its own; the gate is called before each game. Each game is counted once, as all ends of
-/// the queue prove together. Where a thread cannot be started, the others draw its games. When no
-/// game is left, threads add the lists up, give the patterns numbers in one table, which has 2^k
-/// slots, or fewer for a small input, and put them in order. Where that table had no number for a
-/// pattern, this thread numbers all of them once more, in a table of 2^k slots; nothing is counted
-/// twice.
+/// processors, and two at least; one more makes the table meanwhile. They are numbered from 0. This
+/// one is 0: it reads, and puts a job of each game into a queue, from which the others draw. It
+/// counts the games for which the queue has no room, and draws with the others when all is read.
+/// Each appends what its games meet to lists of its own; the gate is called before each game. Each
+/// game is counted once, as all ends of the queue prove together. Where a thread cannot be started,
+/// the others draw its games. When no game is left, threads add the lists up, give the patterns
+/// numbers in one table, which has 2^k slots, or fewer for a small input, and put them in order.
+/// Where that table had no number for a pattern, this thread numbers all of them once more, in a
+/// table of 2^k slots; nothing is counted twice.
 ///
 /// Calls at the queue may wait for a thread that is in the middle of one, and each thread waits for
 /// items until it has drawn an end: that this call ends rests on the calls that wait keeping their

@@ -1,11 +1,9 @@
 //! The thread that reads: it puts a job of each game into the queue, and counts too.
-ghost use Rattle.std.specs.Prelude.{◌≡◌, true, ℕ, List, IfOk, IfErr, OnOk};
+ghost use Rattle.std.specs.Prelude.{◌≡◌, true, ℕ, List, IfErr, OnOk};
 ghost use Rattle.game_core.specs.Games.{HasReadAll};
 ghost use Rattle.job_core.specs.declared.items.Item.TheVariants as item;
 ghost use Rattle.job_core.specs.Rule.{MayPut};
 ghost use Rattle.job_core.specs.Inner.Rule.{IsInStep};
-ghost use Rattle.slot_table.specs.Passes.{IsPassOf};
-ghost use Rattle.harvest_faults.specs.declared.faults.HarvestFault.TheVariants as fault;
 ghost use Rattle.harvest_core.specs.Harvest.{IsCountRefused};
 ghost use Rattle.harvest_core.specs.Inner.Working.{HasCounted, IsAtWork, GoesOn};
 ghost use Rattle.harvest_core.specs.Inner.Dealt.{IsOffered, IsDealt, IsNewReader, IsReadingOf};
@@ -14,31 +12,8 @@ use crate::gates::Gate;
 use crate::workers::{Shared, Worker};
 use harvest_faults::HarvestFault;
 use job_core::{Games, Item, Job};
-use probe_core::{Capacity, OddRuns};
-use slot_table::{Pass, SlotTable};
-use std::alloc::Global;
 use std::sync::Wait;
 use tally_core::Report;
-
-/// The table that numbers all patterns, and its first pass.
-#[derive(Drop)]
-pub(crate) struct Numbering {
-    pub table: SlotTable<OddRuns>,
-    pub pass: Pass<OddRuns>,
-}
-
-/// A table of this capacity of which no number is taken.
-///
-/// # Errors
-///
-/// `Memory` where memory was refused.
-pub(crate) fn numbering_of(alloc: Global, capacity: Capacity) -> Result<Numbering, HarvestFault>
-    ensures pass { IfOk result (λ made. IsPassOf made.table made.pass) }
-    ensures fault { IfErr result (λ found. found ≡ fault.Memory) }
-{
-    let (table, pass) = SlotTable::new(alloc, OddRuns { capacity })?;
-    Ok(Numbering { table, pass })
-}
 
 /// Puts a job into the queue, and counts its game here where the queue is full.
 fn offer<'a, R: Wait, G: Gate>(
@@ -115,12 +90,12 @@ pub(crate) struct Reading<'q, 'a> {
     pub own: Worker<'q, 'a>,
     /// What the trees are that were read.
     pub report: Report,
-    /// The table, or why not all trees were read.
-    pub numbering: Result<Numbering, HarvestFault>,
+    /// Why not all trees were read, where they were not.
+    pub outcome: Result<(), HarvestFault>,
 }
 
-/// Reads all games and deals them out, puts an end for each thread, makes the table while the
-/// others count, and counts with them until it draws an end. It waits for the workers.
+/// Reads all games and deals them out, puts an end for each thread, and counts with the others
+/// until it draws an end. It waits for the workers.
 pub(crate) fn read<'q, 'a, R: Wait, G: Gate>(
     rt: &R,
     shared: &Shared<'_, 'a>,
@@ -136,13 +111,9 @@ pub(crate) fn read<'q, 'a, R: Wait, G: Gate>(
     let mut own = own;
     let outcome = deal_all(rt, shared, gate, &mut games, &mut own);
     close(rt, shared, gate, &mut own);
-    let numbering = match outcome {
-        Ok(()) => numbering_of(shared.alloc, shared.capacity),
-        Err(fault) => Err(fault),
-    };
     Reading {
         own: own.work(rt, shared, gate),
         report: games.report(),
-        numbering,
+        outcome,
     }
 }

@@ -3,13 +3,13 @@ ghost use Rattle.std.specs.Prelude.{◌≡◌, ◌+◌, [], All, length, IfOk, I
 ghost use Rattle.job_core.specs.Which.{id_of};
 ghost use Rattle.job_core.specs.Rule.{all_parts};
 ghost use Rattle.harvest_core.specs.Inner.Working.{IsDropFault};
-ghost use Rattle.harvest_core.specs.Inner.Dealt.{IsNewReader, IsReadingOf};
+ghost use Rattle.harvest_core.specs.Inner.Dealt.{IsReadingOf};
 ghost use Rattle.harvest_core.specs.Inner.Threads.{reader_of, IsFresh, IsBackOf, HasTaken};
 ghost use Rattle.harvest_core.specs.Inner.Threads.{IsJoinable, IsEnded};
 ghost use Rattle.harvest_core.specs.Inner.Reading.{IsThreadFault};
 
 use crate::gates::Gate;
-use crate::reading::{Numbering, Reading, read};
+use crate::reading::{Reading, read};
 use crate::workers::{Shared, Worker};
 use harvest_faults::HarvestFault;
 use job_core::{Endpoint, Games};
@@ -23,47 +23,58 @@ use tally_core::Report;
 /// What all threads have counted, once all games of the input were read.
 #[derive(Drop)]
 pub(crate) struct Ended {
-    pub numbering: Numbering,
     /// What each thread has counted.
     pub shares: Vec<WordShare>,
     /// What the trees of the input are.
     pub report: Report,
 }
 
-/// The workers beside the thread that reads, each with a part of this endpoint.
-fn workers_beside<'q, 'a>(
-    shared: &Shared<'q, 'a>,
-    endpoint: &mut Endpoint<'q, 'a>,
-) -> Result<Vec<Worker<'q, 'a>>, AllocError>
-    requires { endpoint.old ≡ reader_of shared.now all_parts }
-    ensures endpoint { endpoint.new ≡ reader_of shared.now endpoint.new.parts }
-    ensures parts { IfOk result (λ workers. endpoint.new.parts + length workers.items ≡ all_parts) }
-    ensures fresh { IfOk result (λ workers. All (IsFresh shared.now) workers.items) }
-{
-    let mut workers = Vec::new(shared.alloc);
-    for number in 1..usize::from(shared.workers) {
-        workers.push(Worker::begin(shared, number, endpoint.another()))?;
-    }
-    Ok(workers)
+/// What a worker has before its thread begins, which then takes memory for what it counts.
+#[derive(Drop)]
+struct Seat<'q, 'a> {
+    number: usize,
+    endpoint: Endpoint<'q, 'a>,
 }
 
-/// These workers count until each has drawn an end, each in a thread of its own where one can be
-/// started. One for which none can be draws nothing but its end, after another one's.
+/// The seats of the workers beside the thread that reads, each with a part of this endpoint.
+fn seats_beside<'q, 'a>(
+    shared: &Shared<'q, 'a>,
+    endpoint: &mut Endpoint<'q, 'a>,
+) -> Result<Vec<Seat<'q, 'a>>, AllocError>
+    requires { endpoint.old ≡ reader_of shared.now all_parts }
+    ensures endpoint { endpoint.new ≡ reader_of shared.now endpoint.new.parts }
+    ensures parts { IfOk result (λ seats. endpoint.new.parts + length seats.items ≡ all_parts) }
+    ensures fresh { IfOk result (λ seats. All (IsFresh shared.now) seats.items) }
+{
+    let mut seats = Vec::new(shared.alloc);
+    for number in 1..usize::from(shared.workers) {
+        let endpoint = endpoint.another();
+        seats.push(Seat { number, endpoint })?;
+    }
+    Ok(seats)
+}
+
+/// A worker begins on each of these seats and counts until it has drawn an end, each in a thread of
+/// its own where one can be started. One for which none can be draws nothing but its end, after
+/// another one's.
 fn count_beside<'q, 'a, R: Threads + Wait + Sync, G: Gate>(
     rt: &R,
     shared: &Shared<'_, '_>,
     gate: &G,
-    workers: Vec<Worker<'q, 'a>>,
+    seats: Vec<Seat<'q, 'a>>,
 ) -> Result<Vec<Worker<'q, 'a>>, AllocError>
-    requires { All (IsFresh shared.now) workers.items }
+    requires { All (IsFresh shared.now) seats.items }
     ensures back { IfOk result (λ all. All (IsBackOf shared.now) all.items) }
-    ensures each { IfOk result (λ all. length all.items ≡ length workers.entry.items) }
+    ensures each { IfOk result (λ all. length all.items ≡ length seats.entry.items) }
 {
-    let one = |worker| -> _
-        requires { IsFresh shared.now worker }
+    let one = |seat| -> _
+        requires { IsFresh shared.now seat }
         ensures { IsBackOf shared.entry.now result }
-    { Worker::work(worker, rt, shared, gate) };
-    thread::map_vec(rt, workers, &one)
+    {
+        let Seat { number, endpoint } = seat;
+        Worker::begin(shared, number, endpoint).work(rt, shared, gate)
+    };
+    thread::map_vec(rt, seats, &one)
 }
 
 /// Takes up the endpoints of all workers: their shares.
@@ -115,9 +126,9 @@ fn joined<'q, 'a>(
     let Reading {
         own,
         report,
-        numbering,
+        outcome,
     } = reading;
-    let numbering = numbering?;
+    outcome?;
     let Worker {
         endpoint,
         counted,
@@ -127,15 +138,11 @@ fn joined<'q, 'a>(
     let mut shares = take_up(shared, &mut endpoint, all)?;
     shares.push(counted?)?;
     endpoint.settle();
-    Ok(Ended {
-        numbering,
-        shares,
-        report,
-    })
+    Ok(Ended { shares, report })
 }
 
-/// Counts all games of an input by words in as many threads as are asked for, and makes a table
-/// meanwhile. The reader and the endpoint must be new.
+/// Counts all games of an input by words in as many threads as are asked for. The reader and the
+/// endpoint must be new.
 ///
 /// # Errors
 ///
@@ -154,20 +161,19 @@ pub(crate) fn count_all<'q, 'a, R: Threads + Wait + Sync, G: Gate>(
     ensures fault { IfErr result (IsThreadFault shared.now.bytes.now) }
 {
     let mut endpoint = endpoint;
-    let workers = workers_beside(shared, &mut endpoint)?;
-    let own = Worker::begin(shared, 0, endpoint);
+    let seats = seats_beside(shared, &mut endpoint)?;
     let (all, reading) = thread::join(
         rt,
         move || -> Result<Vec<Worker<'_, '_>>, AllocError>
-            requires { All (IsFresh shared.now) workers.items }
+            requires { All (IsFresh shared.now) seats.items }
             ensures back { IfOk result (λ all. All (IsBackOf shared.entry.now) all.items) }
-            ensures each { IfOk result (λ all. length all.items ≡ length workers.entry.items) }
-        { count_beside(rt, shared, gate, workers) },
+            ensures each { IfOk result (λ all. length all.items ≡ length seats.entry.items) }
+        { count_beside(rt, shared, gate, seats) },
         move || -> Reading<'_, '_>
-            requires bytes { games.bytes ≡ shared.now.bytes.now }
-            requires own { IsNewReader shared.now games own }
-            ensures { IsReadingOf shared.entry.now own.entry.endpoint result }
-        { read(rt, shared, gate, games, own) },
+            requires games { (games.bytes ≡ shared.now.bytes.now) × (games.report.games ≡ 0) }
+            requires endpoint { endpoint ≡ reader_of shared.now endpoint.parts }
+            ensures { IsReadingOf shared.entry.now endpoint.entry result }
+        { read(rt, shared, gate, games, Worker::begin(shared, 0, endpoint)) },
     );
     joined(shared, reading, all?)
 }

@@ -2,7 +2,6 @@
 use crate::gates::Gate;
 use harvest_faults::HarvestFault;
 use job_core::{Endpoint, Item, Job, Jobs};
-use probe_core::Capacity;
 use range_core::PLACE_RANGES;
 use shape_core::Kinds;
 use share_core::WordShare;
@@ -14,8 +13,6 @@ use std::thread;
 #[derive(Drop)]
 pub(crate) struct Shared<'q, 'a> {
     pub alloc: Global,
-    /// How many numbers the table has that is made beside the count.
-    pub capacity: Capacity,
     /// The kinds of pattern that are counted.
     pub kinds: Kinds,
     /// How many threads count, the one that reads among them.

@@ -1,6 +1,5 @@
 -- Which games the thread that reads has dealt out, and what it hands back.
-use Rattle.std.specs.Prelude.{◌≡◌, ◌⊎◌, ℕ, ◌<◌, nat_lt, if◌then◌else◌, List, ◌++◌, ◌∷◌, [], IfOk, IfErr}
-use Rattle.slot_table.specs.Passes.{IsPassOf}
+use Rattle.std.specs.Prelude.{◌≡◌, ◌⊎◌, ℕ, ◌<◌, nat_lt, if◌then◌else◌, List, ◌++◌, ◌∷◌, [], OnOk, IfErr}
 use Rattle.game_core.specs.Games.{WrittenGame, HasReadAll}
 use Rattle.game_core.specs.Reading.{Reading as Games}
 use Rattle.job_core.specs.Inner.Rule.{IsInStep}
@@ -8,7 +7,6 @@ use Rattle.job_core.specs.declared.knowledge.Knowledge.{Knowledge}
 use Rattle.job_core.specs.declared.items.Item.TheVariants.{Job}
 use Rattle.job_core.specs.Rule.{putting}
 use Rattle.gather_core.specs.Covering.{times_of}
-use Rattle.harvest_core.specs.declared.reading.Numbering.{Numbering}
 use Rattle.harvest_core.specs.declared.reading.Reading.{Reading}
 use Rattle.harvest_core.specs.declared.workers.Shared.{Shared}
 use Rattle.harvest_core.specs.declared.workers.Worker.{Worker}
@@ -41,11 +39,6 @@ pub record IsNewReader (shared : Shared) (games : Games) (own : Worker) : Type 0
   pub nothing : (own.endpoint.put ≡ []) × (own.endpoint.drawn ≡ [])
   pub counted : HasCounted shared [] own.counted
 
--- all trees of the input were read, and a table was made
-pub record HasNumbering (bytes : List ℕ) (reading : Reading) (made : Numbering) : Type 0 where
-  pub all : HasReadAll bytes reading.report
-  pub pass : IsPassOf made.table made.pass
-
 -- what the thread that reads hands back, whose endpoint was this before: it counted the games that came back and those that it
 -- drew, and drew an end
 pub record IsReadingOf (shared : Shared) (before : Knowledge) (reading : Reading) : Type 0 where
@@ -59,5 +52,5 @@ pub record IsReadingOf (shared : Shared) (before : Knowledge) (reading : Reading
   pub counted : HasCounted shared (back ++ reading.own.endpoint.drawn) reading.own.counted
   pub once : IsOnceEach reading.report.games (reading.own.endpoint.put ++ back)
   pub ended : 0 < reading.own.endpoint.ends_drawn
-  pub numbering : IfOk reading.numbering (HasNumbering shared.bytes.now reading)
-  pub fault_is : IfErr reading.numbering (IsCountRefused shared.bytes.now)
+  pub all : OnOk reading.outcome (HasReadAll shared.bytes.now reading.report)
+  pub fault_is : IfErr reading.outcome (IsCountRefused shared.bytes.now)

@@ -2,7 +2,6 @@
 use Rattle.std.specs.Prelude.{◌≡◌, ℕ, ◌+◌, ◌≤◌, List, [], ◌++◌, length, All}
 use Rattle.std.specs.List.{AllByRecursion}
 use Rattle.shape_core.specs.declared.words.Kinds.{Kinds}
-use Rattle.slot_table.specs.Passes.{IsPassOf}
 use Rattle.game_core.specs.Games.{HasReadAll}
 use Rattle.job_core.specs.Which.{id_of}
 use Rattle.job_core.specs.Rule.{reader, worker, all_parts}
@@ -12,6 +11,7 @@ use Rattle.gather_core.specs.Covering.{all_games, Covers}
 use Rattle.harvest_core.specs.Working.{IsOfInput}
 use Rattle.harvest_core.specs.declared.reading.Reading.{Reading}
 use Rattle.harvest_core.specs.declared.threads.Ended.{Ended}
+use Rattle.harvest_core.specs.declared.threads.Seat.{Seat}
 use Rattle.harvest_core.specs.declared.workers.Shared.{Shared}
 use Rattle.harvest_core.specs.declared.workers.Worker.{Worker}
 use Rattle.harvest_core.specs.Inner.Working.{HasCounted}
@@ -21,10 +21,9 @@ use Rattle.harvest_core.specs.Inner.Dealt.{IsReadingOf}
 abbrev pub reader_of : Shared → ℕ → Knowledge
 reader_of shared parts = record (reader (id_of shared.queue.now) shared.bytes.now []) { parts = parts }
 
--- a worker that has drawn nothing
-pub record IsFresh (shared : Shared) (one : Worker) : Type 0 where
-  pub endpoint : one.endpoint ≡ worker (id_of shared.queue.now) shared.bytes.now []
-  pub counted : HasCounted shared [] one.counted
+-- a worker's endpoint has drawn nothing
+abbrev pub IsFresh : Shared → Seat → Type 0
+IsFresh shared seat = seat.endpoint ≡ worker (id_of shared.queue.now) shared.bytes.now []
 
 -- what a worker hands back: it counted what it drew
 pub record IsBackOf (shared : Shared) (back : Worker) : Type 0 where
@@ -53,7 +52,6 @@ pub record IsJoinable (shared : Shared) (many : ℕ) (reading : Reading) : Type 
 
 -- all games of the input were counted, each in one share
 pub record IsEnded (bytes : List ℕ) (kinds : Kinds) (ended : Ended) : Type 0 where
-  pub pass : IsPassOf ended.numbering.table ended.numbering.pass
   pub shares : All (IsOfInput bytes kinds) ended.shares.items
   pub report : HasReadAll bytes ended.report
   pub covers : Covers ended.report.games (all_games ended.shares.items)
