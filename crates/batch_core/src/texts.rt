@@ -23,7 +23,7 @@ pub fn report_of(alloc: Global, text: &[u8]) -> Result<Report, GamesFault>
 }
 
 /// Appends a text to those that were put together before it, with a closing parenthesis after it:
-/// outside of trees that is passed over, and no tree goes on over it. It takes memory.
+/// outside of trees it is passed over, and no tree continues after it. It takes memory.
 ///
 /// # Errors
 ///

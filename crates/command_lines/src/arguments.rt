@@ -1,4 +1,4 @@
-//! The arguments that several programs take, as they are told to `clap`.
+//! The arguments that several programs take, defined for `clap`.
 ghost use Rattle.std.specs.Prelude.{◌≡◌, false, codes};
 ghost use Rattle.clap.specs.Words.{rule_of};
 ghost use Rattle.command_lines.specs.Arguments.{option_rule, flag_rule, word_rule, names_rule};

@@ -13,7 +13,7 @@ use std::alloc::{AllocError, Global};
 
 /// What the words of a program without subcommands may ask for.
 pub trait FromWords<'a>: Sized + Drop {
-    /// The program, as `clap` is told it.
+    /// The program, as it is defined for `clap`.
     ghost app: { App };
 
     /// The values ask for this.
@@ -22,7 +22,7 @@ pub trait FromWords<'a>: Sized + Drop {
     /// The values ask for nothing, and this is why.
     ghost IsWrong: { List Row → RunFault → Type 0 };
 
-    /// All that the program knows. It takes memory.
+    /// The program's definition for `clap`. It takes memory.
     ///
     /// # Errors
     ///

@@ -1,12 +1,12 @@
-//! What the command lines of the programs share: the program and its arguments as `clap` is told
-//! them, what a line of words asks for, and the values that it gives.
+//! What the command lines of the programs share: the definitions of programs and arguments for
+//! `clap`, what a line of words asks for, and the values that it gives.
 #![tactic(auto)]
 
-// what `clap` is told
+// what is defined for `clap`
 mod arguments;
 mod programs;
 
-// what it makes of a line, and what a program makes of that
+// what `clap` answers to a line, and what a program makes of the answer
 mod from_words;
 mod lines;
 

@@ -33,9 +33,9 @@ fn told(alloc: Global, error: &Error) -> Result<String, RunFault>
     }
 }
 
-/// The values that the words after a program's name give, where this is the program as `clap` is
-/// told it: one without groups and global arguments, in which no argument has a rule on another. It
-/// takes memory.
+/// The values that `clap` finds in the words after a program's name, or the text of help or
+/// version where they ask for one. The program must have no groups and no global arguments, and no
+/// argument with a rule on another. It takes memory.
 ///
 /// # Errors
 ///

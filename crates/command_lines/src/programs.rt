@@ -1,4 +1,4 @@
-//! Programs and subcommands as they are told to `clap`, and what they get one after another.
+//! Programs and subcommands, defined for `clap`, and how arguments are added to them.
 ghost use Rattle.std.specs.Prelude.{◌≡◌, false, IfOk};
 ghost use Rattle.clap.specs.Words.{app_of, new_app, rule_of, with_rule, with_subcommand};
 ghost use Rattle.clap.specs.declared.Command.TheViews.{out-Command as fields_of};
@@ -60,7 +60,7 @@ pub fn with_argument<'a>(command: Command<'a>, argument: Arg<'a>) -> Result<Comm
     command.arg(argument)
 }
 
-/// The command with this subcommand after those that it has. It takes memory.
+/// Adds a subcommand to the command, after its other subcommands. It takes memory.
 ///
 /// # Errors
 ///

@@ -21,7 +21,7 @@ fn text_numbered(number: u8) -> Option<Text>
     }
 }
 
-/// The text of the number that `--text` has, where there is one. It takes no memory.
+/// Which of the three texts `--text` asks for, or None where it names none. It takes no memory.
 pub fn text_of(matches: &ArgMatches<'_>) -> Option<Text>
     ensures text { IfSome result (λ text. IsNumberOf (codes "text") (rows_in matches.now)
         (number_of text)) }

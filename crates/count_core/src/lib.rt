@@ -1,4 +1,4 @@
-//! The fourth engine of `shapes`, apart from the others because it alone stands on a harvest.
+//! The engine of `shapes count`, apart from the other engines because only it needs a harvest.
 #![tactic(auto)]
 
 mod counts;

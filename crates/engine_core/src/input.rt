@@ -15,7 +15,7 @@ use std::io::Read;
 /// How many bytes are asked for at once.
 const BLOCK: usize = 1 << 16;
 
-/// One read. Where there was room for a byte, a read of none is the end.
+/// Reads once, and answers how many bytes it read. Unless the buffer is empty, 0 is the end.
 fn read_some<R: Read>(reader: &mut R, room: &mut [u8]) -> Result<usize, RunFault>
     ensures within { IfOk result (λ count. count ≤ length room.new) }
     ensures taken { IfOk result (λ count. Consumes (R.remaining reader.old)

@@ -44,7 +44,7 @@ enum Step<'a> {
     End,
 }
 
-/// A tree that was read: its bounds, and its record or the fault of that.
+/// A tree that was read: its bounds, and its record or the record's fault.
 #[derive(Drop)]
 struct Recorded {
     at: usize,
@@ -107,7 +107,7 @@ fn next_tree<'a>(alloc: Global, trees: &mut Trees<'a>) -> Result<Option<Tree<'a>
     }
 }
 
-/// What was read of a tree's record; out of memory, and no other fault, is handed on.
+/// What was read of a tree's record, faults included, but an error where memory was refused.
 fn unless_memory(
     recorded: Result<Kind, RecordFault>,
 ) -> Result<Result<Kind, RecordFault>, GamesFault>

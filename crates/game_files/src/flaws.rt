@@ -1,4 +1,4 @@
-//! Why a name gives no file that is read, or not all of them, and the exit status of that.
+//! Why a name gives no file that is read, or not all of them, and the exit status for it.
 ghost use Rattle.std.specs.Prelude.{◌≡◌};
 ghost use Rattle.game_files.specs.Flaws.{status_of};
 

@@ -6,8 +6,8 @@ use std::marker::Model;
 /// How many first bytes are kept.
 const KEPT: usize = 8;
 
-/// A reader that gives what another gives, and keeps the first eight bytes of that, or all where
-/// they are fewer. It takes no memory.
+/// A reader that reads from another one, and keeps its first eight bytes, or all where they are
+/// fewer. It takes no memory.
 #[derive(Drop)]
 pub struct Fronted<'a, R: Read> {
     reader: &'a mut R,

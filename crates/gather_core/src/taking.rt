@@ -52,8 +52,8 @@ struct Workspace {
     numbered: bool,
 }
 
-/// Gives the patterns of these entries their numbers, unless one was wanting before. The answer is
-/// whether none was and none is.
+/// Gives the patterns of these entries their numbers, unless `numbered` says that the numbers ran
+/// out before. The answer is whether they lasted, before and now.
 fn number_more<O: ProbeOrder>(
     table: &SlotTable<O>,
     pass: &mut Pass<O>,
@@ -66,7 +66,7 @@ fn number_more<O: ProbeOrder>(
     ensures before { result ≡ true → numbered ≡ true }
     ensures numbered { result ≡ true → AreNumbered table.now.slots pass.new.seen entries.now }
 {
-    // Where one is wanting, the others serve nothing, and would cost their time.
+    // Once a pattern has no number, numbers for others are of no use and cost time.
     if !numbered {
         return false;
     }

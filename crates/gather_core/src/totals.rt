@@ -1,4 +1,4 @@
-//! What the rows of a number are together, those of all shares, and a list of that for all numbers.
+//! The total of a number's rows in all shares, and the list of the totals of all numbers.
 ghost use Rattle.std.specs.Prelude.{◌≡◌, ◌^◌, ◌<◌, ◌≤◌, ◌++◌, ℕ, List, None, Some, IfSome, IfNone};
 ghost use Rattle.std.specs.Prelude.{IfOk, IfErr};
 ghost use Rattle.range_core.specs.Entries.{IsShape};

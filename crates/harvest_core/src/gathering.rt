@@ -29,7 +29,7 @@ use tally_core::{Counted, count_plain};
 /// How many threads count at least: one reads, and the other counts meanwhile.
 const LEAST_THREADS: u8 = 2;
 
-/// How many games the queue has room for.
+/// How many games the queue holds at most.
 const PLACES: usize = 128;
 
 /// What was counted, and whether each pattern has its number in the table.
@@ -191,7 +191,7 @@ pub(crate) fn count_by_words<R: Threads + Wait + Sync, G: Gate>(
     dictionary_of(rt, alloc, kinds, numbering, ended)
 }
 
-/// The same, where no sum is too large: should one be, this thread counts alone.
+/// Counts as `count_by_words` does, but where a sum is too large this thread counts alone.
 ///
 /// # Errors
 ///

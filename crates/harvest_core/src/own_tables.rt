@@ -25,8 +25,7 @@ use tally_core::{Counted, Settings, first_beyond, one_first_beyond};
 /// points then have a new pattern of each kind, so few inputs need more.
 const SLOTS_A_BYTE: usize = 16;
 
-/// The exponent of a table that mostly has room for the patterns of this many bytes, but at most
-/// this one.
+/// The exponent of a table that mostly holds the patterns of this many bytes, but at most `most`.
 fn likely_exponent(bytes: usize, most: u32) -> u32
     ensures { result ≤ most }
 {
@@ -109,7 +108,7 @@ fn number_again(alloc: Global, k: u32, dictionary: &PieceDictionary) -> Result<(
 /// As many threads count as the settings have workers, and this one, but no more than there are
 /// processors, and two at least; one more makes the table meanwhile. They are numbered from 0. This
 /// one is 0: it reads, and puts a job of each game into a queue, from which the others draw. It
-/// counts the games for which the queue has no room, and draws with the others when all is read.
+/// counts a game itself when the queue is full, and draws with the others when all is read.
 /// Each appends what its games meet to lists of its own; the gate is called before each game. Each
 /// game is counted once, as all ends of the queue prove together. Where a thread cannot be started,
 /// the others draw its games. When no game is left, threads add the lists up, give the patterns

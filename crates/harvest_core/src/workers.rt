@@ -34,8 +34,8 @@ pub(crate) struct Worker<'q, 'a> {
     pub counted: Result<WordShare, HarvestFault>,
 }
 
-/// How many patterns games of this many bytes mostly meet, each game anew: three a byte. There is
-/// no room for more than 2^22 at first.
+/// How many patterns games of this many bytes mostly meet, each game anew: three a byte, but
+/// no more than 2^22.
 fn likely_meetings(bytes: usize) -> usize {
     bytes.saturating_mul(3).min(1 << 22)
 }
@@ -45,9 +45,9 @@ impl<'q, 'a> Worker<'q, 'a> {
     ghost use Rattle.harvest_core.specs.Inner.Working.{HasCounted, IsAtWork, GoesOn};
     ghost use Rattle.harvest_core.specs.Inner.Dealt.{CountsGame};
 
-    /// The worker of this number begins at this endpoint. It takes memory for room in its lists,
-    /// for what as many games meet as it is likely to draw, and an eighth more; where that is
-    /// refused, the worker has the fault.
+    /// Makes the worker of this number, at this endpoint. It takes memory for its lists: for what
+    /// as many games meet as it is likely to draw, and an eighth more. Where that is refused, the
+    /// worker has the fault.
     pub(crate) fn begin(
         shared: &Shared<'_, '_>,
         number: usize,

@@ -13,7 +13,7 @@ use std::marker::Model;
 /// Contracts see their words, in some order.
 #[derive(Debug, Drop)]
 pub struct Wanted {
-    /// They rise.
+    /// The patterns, in rising order.
     words: Vec<Shape>,
     /// Diamonds among them, or squares alone.
     kinds: Kinds,

@@ -141,7 +141,7 @@ fn push_line(text: &mut Vec<u8>, search: Search<'_>, hit: &Hit) -> Result<(), Al
     push_ending(text, search.name)
 }
 
-/// The lines of hits.
+/// The text with a line for each hit, in their order.
 pub(crate) fn text_of(
     alloc: Global,
     search: Search<'_>,

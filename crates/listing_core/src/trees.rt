@@ -48,7 +48,7 @@ fn game_of(alloc: Global, game_record: &Record) -> Result<What, Want>
     })
 }
 
-/// What a tree is, by its record. Want of memory for the record is handed on.
+/// What a tree is, by its record. It is an error where memory for the record was refused.
 fn what_of(alloc: Global, recorded: Result<Kind, RecordFault>) -> Result<What, Want>
     ensures what { (line : List Node) → IsRecordOrMemory line recorded
         → IfOk result (IsWhat (record_of line)) }

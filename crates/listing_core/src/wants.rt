@@ -1,4 +1,4 @@
-//! What wanted memory, and the fault of a run that it is.
+//! What memory was refused for, and the fault of the run.
 ghost use Rattle.std.specs.Prelude.{◌≡◌};
 ghost use Rattle.listing_core.specs.Inner.Wants.{fault_of};
 ghost use Rattle.listing_core.specs.declared.wants.Want.TheVariants.{Board, Text};
@@ -9,8 +9,8 @@ use go_record::RecordFault;
 use sgf_core::SgfFault;
 use std::alloc::{AllocError, AllocFailed};
 
-/// What wanted memory where the trees of an input are read, one after another. A run's fault is too
-/// large to be handed through each step; it is made of this at the end.
+/// What memory was refused for while the trees of an input were read. A run's fault is too large to
+/// be passed through each step; it is made from this at the end.
 #[derive(Clone, Copy, Debug, PartialEq, Eq)]
 pub enum Want {
     /// A tree: S5 of a run.

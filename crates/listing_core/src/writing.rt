@@ -133,7 +133,7 @@ pub(crate) fn push_ending(
     Ok(())
 }
 
-/// Appends the line of a tree, in a file of this name.
+/// Appends a tree's line: its number and place, what it is, and its file's name, if there is one.
 pub(crate) fn push_line(
     text: &mut Vec<u8>,
     name: Option<&str>,

@@ -1,7 +1,7 @@
 //! Entries that come one after another.
 use shape_dict::Entry;
 
-/// Why the next entry of a join could not be told.
+/// Why the next entry of a join was not given.
 #[derive(Clone, Copy, Debug, PartialEq, Eq)]
 pub enum NextFault {
     /// A sum is over 2^64 - 1.

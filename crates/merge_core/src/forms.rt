@@ -26,7 +26,7 @@ pub(crate) fn is_square(entry: Entry) -> bool
     entry.shape.word().kind() == Kind::Square
 }
 
-/// Whether a pattern stays.
+/// Whether a pattern is kept in the join.
 pub(crate) fn is_kept(least: Option<u64>, entry: &Entry) -> bool
     ensures kept { result ≡ is_kept least entry.now }
     ensures small { IsSmallUse entry.now }

@@ -152,8 +152,8 @@ fn judge_each<S: Sources>(alloc: Global, sources: &S, count: usize) -> Result<Ju
 }
 
 /// Judges all dictionaries: the totals of their join, and the tally of what stays of it. Where one
-/// pass over all of them tells no join, they are judged one after another, so that the first fault
-/// is told.
+/// pass over all of them gives no join, they are judged one after another, and the first fault is
+/// the answer.
 pub(crate) fn judge_all<S: Sources>(
     alloc: Global,
     sources: &S,

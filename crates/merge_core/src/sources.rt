@@ -28,8 +28,8 @@ pub trait Sources {
         requires { n < number self.now }
         ensures { IfOk result (λ reader. Self.Reader.remaining reader ≡ bytes self.now n) };
 
-    /// How many bytes one of them has, from 0. Where it is told wrong, or not at all, joining takes
-    /// longer, and its answer is the same.
+    /// How many bytes one of them has, from 0. Where the answer is wrong, or an error, joining
+    /// takes longer, and its answer is the same.
     ///
     /// # Errors
     ///

@@ -1,5 +1,5 @@
-//! A table of numbers for keys: where a call probes, what it makes of what it finds, and what any
-//! number of callers at one table come to.
+//! A table of numbers for keys: where a call probes, what it makes of what it finds, and what
+//! happens with any number of callers at one table.
 #![tactic(auto)]
 
 mod calls;

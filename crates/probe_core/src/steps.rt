@@ -1,4 +1,4 @@
-//! Steps on words: a load, or a compare-exchange, and what a probe is told by it.
+//! Steps on words: a load, or a compare-exchange, and what a probe learns by it.
 ghost use Rattle.std.specs.Prelude.{◌≡◌, ◌<◌, ◌≤◌, ◌^◌, length, slice_index};
 ghost use Rattle.probe_core.specs.Machine.{place_wanted, follows, place_in, left_of};
 ghost use Rattle.probe_core.specs.Inner.Machine.{words_wanted};

@@ -67,7 +67,7 @@ impl EntryList {
         self.entries
     }
 
-    /// Appends an entry, which must count something. It takes memory where the room is used up.
+    /// Appends an entry, which must count something. It takes memory where the list is full.
     ///
     /// # Errors
     ///

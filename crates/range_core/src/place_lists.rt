@@ -25,8 +25,8 @@ fn listed(alloc: Global, sums: &Sums, room: usize) -> Result<RecordList, AllocEr
     Ok(list)
 }
 
-/// A list without room adds up what it has, and has twice the room where more than half is left.
-/// Where its sums have no memory, or one passes 2^64 - 1, it stays as it is.
+/// Adds up the entries of a full list, and doubles its capacity where the sums fill more than half.
+/// Where memory for the sums is refused, or one passes 2^64 - 1, the list is unchanged.
 #[inline(never)]
 fn make_room(alloc: Global, sums: &mut Sums, list: &mut RecordList)
     ensures { (shape : ℕ) → total_of shape list.new ≡ total_of shape list.old }

@@ -1,5 +1,5 @@
 //! Gates that hold workers back: games are in work at once, and the thread that reads helps. And
-//! one that notes what it is told.
+//! one that notes its calls.
 use crate::harvests::{CREWS, capacity_of, collection, counted_on, text_of};
 use crate::sheets::{Bytes, Full};
 use count_core::run_count;
@@ -169,8 +169,8 @@ fn reader_helps(rt: HostRuntime) -> Result<(), Fail> {
     Ok(())
 }
 
-/// Notes how often each of the games 0 to 9 is told of a worker from 0 to 3, in four bits a game,
-/// and how often anything else.
+/// Counts its calls for each of the games 0 to 9 with a worker from 0 to 3, in four bits a game,
+/// and all its other calls.
 #[derive(Drop)]
 struct Notes {
     told: AtomicU64,

@@ -57,7 +57,7 @@ pub fn canonical(word: Word, mover: Colour) -> Shape
     least_seen(ImagedWord::new(word), mover)
 }
 
-/// The shape of a word whose images are at hand.
+/// The shape of a word that is kept beside its images, with this colour to move.
 #[inline(always)]
 pub fn least_seen(word: ImagedWord, mover: Colour) -> Shape
     ensures { result ≡ canonical_of word mover }

@@ -43,8 +43,8 @@ fn value_of(digits: &[u8]) -> Option<u64>
     Some(value)
 }
 
-/// A decimal number without leading zeros, at most 2^64 - 1, and what follows it, which does not
-/// begin with a digit.
+/// Reads the decimal number at the front, without leading zeros and at most 2^64 - 1. The answer is
+/// the number and the bytes after its last digit, or None where no such number is there.
 pub(crate) fn number(bytes: &[u8]) -> Option<(u64, &[u8])>
     ensures found { IfSome result (λ p. (bytes.now ≡ decimal p.0 ++ p.1.now) × (p.0 < 2 ^ 64)
         × IsEnded p.1.now) }

@@ -1,4 +1,4 @@
-//! The command line as it is told to `clap`.
+//! The command line, defined for `clap`.
 ghost use Rattle.std.specs.Prelude.{◌≡◌, false, IfOk};
 ghost use Rattle.clap.specs.Words.{app_of, rule_of};
 ghost use Rattle.shape_games.specs.Commands.{where_rule, program_app};
@@ -44,7 +44,7 @@ fn where_argument<'a>(alloc: Global) -> Arg<'a>
     .action(ArgAction::Append)
 }
 
-/// All that the program knows.
+/// The program's definition for `clap`.
 ///
 /// # Errors
 ///

@@ -1,4 +1,4 @@
-//! The inputs of a run, one after another, and what they have come to.
+//! The inputs of a run, one after another, and the sums over them.
 ghost use Rattle.std.specs.Prelude.{◌≡◌, ◌≤◌, IfSome};
 ghost use Rattle.listing_core.specs.Listing.{most_first};
 ghost use Rattle.shape_games.specs.Inputs.{first_status};
@@ -14,7 +14,7 @@ use sgf_core::SgfFault;
 use std::io::{self, Read};
 use twins_core::{Twins, run_twins};
 
-/// What the inputs have come to so far.
+/// The sums over the inputs so far.
 #[derive(Drop)]
 struct Sum {
     report: Report,
@@ -26,7 +26,7 @@ struct Sum {
     status: u8,
 }
 
-/// The status after one more, which counts where none was before it.
+/// The first of two exit statuses that is not 0, or 0 where both are.
 fn first_status(before: u8, status: u8) -> u8
     ensures { result ≡ first_status before status }
 {

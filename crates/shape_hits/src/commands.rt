@@ -1,4 +1,4 @@
-//! The command line as it is told to `clap`.
+//! The command line, defined for `clap`.
 ghost use Rattle.std.specs.Prelude.{◌≡◌, false, IfOk};
 ghost use Rattle.clap.specs.Words.{app_of, rule_of};
 ghost use Rattle.shape_hits.specs.Commands.{most_rule, patterns_app, program_app};
@@ -64,7 +64,7 @@ fn program_of_patterns<'a>(alloc: Global) -> Result<Command<'a>, AllocError>
     Ok(command)
 }
 
-/// All that the program knows.
+/// The program's definition for `clap`.
 ///
 /// # Errors
 ///

@@ -1,4 +1,4 @@
-//! The inputs of a run, one after another, and what they have come to.
+//! The inputs of a run, one after another, and the sums over them.
 ghost use Rattle.std.specs.Prelude.{◌≡◌};
 ghost use Rattle.shape_hits.specs.Inputs.{first_status, left_after};
 
@@ -17,7 +17,7 @@ const NO_TREE: u8 = 7;
 /// No more files are written where the words don't say how many.
 const MOST_FILES: u64 = 1000;
 
-/// What the inputs have come to so far.
+/// The sums over the inputs so far.
 #[derive(Clone, Copy)]
 struct Sum {
     /// What their trees are.
@@ -32,7 +32,7 @@ struct Sum {
     status: u8,
 }
 
-/// What a run goes by.
+/// What is the same for all inputs of a run.
 #[derive(Drop)]
 struct Given<'a, T> {
     rt: &'a HostRuntime,

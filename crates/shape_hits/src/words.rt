@@ -22,7 +22,7 @@ use std::alloc::{AllocError, Global};
 pub struct Asked<'a> {
     /// The pattern that is looked for, where one is spelled.
     pub shape: Option<Shape>,
-    /// Else the name of the file whose words are.
+    /// The name of the file with the words that are looked for, where no pattern is spelled.
     pub words: Option<&'a str>,
     /// What of them is listed, and how.
     pub search: Search<'static>,

@@ -1,4 +1,4 @@
-//! The command line as it is told to `clap`.
+//! The command line, defined for `clap`.
 ghost use Rattle.std.specs.Prelude.{◌≡◌, false, IfOk};
 ghost use Rattle.clap.specs.Words.{app_of, rule_of};
 ghost use Rattle.shape_merge.specs.Commands.{least_rule, out_rule, dictionaries_rule, program_app};
@@ -57,7 +57,7 @@ fn dictionaries_argument<'a>(alloc: Global) -> Arg<'a>
     names_argument(alloc, "dictionaries", "DICTIONARY", help).required(true)
 }
 
-/// All that the program knows.
+/// The program's definition for `clap`.
 ///
 /// # Errors
 ///

@@ -1,4 +1,4 @@
-//! The command line as it is told to `clap`.
+//! The command line, defined for `clap`.
 ghost use Rattle.std.specs.Prelude.{◌≡◌, false, IfOk};
 ghost use Rattle.clap.specs.Words.{app_of, rule_of};
 ghost use Rattle.shape_sheet.specs.Commands.{by_rule, least_rule, most_rule, program_app};
@@ -61,7 +61,7 @@ fn most_argument<'a>(alloc: Global) -> Arg<'a>
     .default_value("50")
 }
 
-/// All that the program knows.
+/// The program's definition for `clap`.
 ///
 /// # Errors
 ///

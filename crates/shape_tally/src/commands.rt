@@ -1,4 +1,4 @@
-//! The command line as it is told to `clap`.
+//! The command line, defined for `clap`.
 ghost use Rattle.std.specs.Prelude.{◌≡◌, false, IfOk};
 ghost use Rattle.clap.specs.Words.{app_of, rule_of};
 ghost use Rattle.shape_tally.specs.Commands.{counting_app, memory_rule, out_rule, program_app};
@@ -58,7 +58,7 @@ fn out_argument<'a>(alloc: Global) -> Arg<'a>
     .short('o')
 }
 
-/// The program with what says how is counted, and where the dictionary goes.
+/// The program with the options that say how to count and where to write the dictionary.
 fn program_of_counting<'a>(alloc: Global) -> Result<Command<'a>, AllocError>
     ensures { IfOk result (λ command. app_of command ≡ counting_app) }
 {
@@ -78,7 +78,7 @@ fn program_of_counting<'a>(alloc: Global) -> Result<Command<'a>, AllocError>
     Ok(command)
 }
 
-/// All that the program knows.
+/// The program's definition for `clap`.
 ///
 /// # Errors
 ///

@@ -109,8 +109,8 @@ pub fn try_target(rt: &HostRuntime, name: &str) -> io::Result<()> {
     }
 }
 
-/// Where a text goes: to standard output, or to the file of a name, which is opened when the first
-/// byte is written.
+/// Writes a text to standard output, or to the file of a name, which is opened when the first byte
+/// is written.
 #[derive(Drop)]
 pub struct Output<'a> {
     rt: &'a HostRuntime,

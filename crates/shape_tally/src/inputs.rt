@@ -9,7 +9,7 @@ use std::fs::File;
 use std::io::{ErrorKind, Read};
 use tally_parts::Texts;
 
-/// By how many first bytes it is told what an input may be.
+/// How many first bytes of an input are looked at to say what it may be.
 const FRONT: usize = 8;
 
 /// What has become of inputs.

@@ -48,8 +48,8 @@ pub struct Sum {
     pub passed_over: u64,
 }
 
-/// What has become of an input whose trees are told by this, where it may be that if it has none;
-/// games were counted before it.
+/// The fate of an input: `found` is the report on its trees, or its fault; `cause` is what it may
+/// be if it has no tree; `games` is how many games were counted before it.
 pub fn fate_of(found: Result<Report, GamesFault>, cause: Cause, games: u64) -> Fate {
     match found {
         Ok(report) if report.games == 0 && report.others == 0 && report.refused == 0 => {
@@ -211,7 +211,7 @@ fn push_line(
 ///
 /// # Errors
 ///
-/// That of the output, or a want of memory.
+/// The error of the output, or that memory was refused.
 pub fn write_lines(
     alloc: Global,
     sources: &[Source],

@@ -45,7 +45,7 @@ pub struct Asked<'a> {
     pub plan: Plan,
     /// What names the inputs.
     pub named: Named<'a>,
-    /// The name of the file that the dictionary goes to, where it isn't standard output.
+    /// The name of the dictionary's file; None for standard output.
     pub out: Option<&'a str>,
     /// The name of the file that says what each input has, where it is asked for.
     pub report: Option<&'a str>,

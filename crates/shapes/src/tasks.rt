@@ -1,4 +1,4 @@
-//! From a task to the engine that does it, and the status that comes of it.
+//! Does each task by its engine, and gives the exit status of the run.
 ghost use Rattle.std.specs.Prelude.{◌≡◌, IfOk, IfErr};
 ghost use Rattle.shapes.specs.Tasks.{Reads, Does, IsTaskFault, status_after};
 
@@ -17,7 +17,7 @@ use tally_core::Report;
 pub struct Answer {
     /// Whether it found what was asked for.
     pub outcome: Outcome,
-    /// What the trees of a collection are, of a count alone.
+    /// How many trees were games, others and refused; None for all tasks but `count`.
     pub report: Option<Report>,
 }
 

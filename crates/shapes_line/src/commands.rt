@@ -1,4 +1,4 @@
-//! The command line as it is told to `clap`: one subcommand for each task.
+//! The command line, defined for `clap`: one subcommand for each task.
 ghost use Rattle.std.specs.Prelude.{◌≡◌, false, codes, IfOk};
 ghost use Rattle.clap.specs.Words.{app_of, new_app, rule_of};
 ghost use Rattle.clap.specs.declared.Command.TheViews.{out-Command as fields_of};
@@ -143,7 +143,7 @@ fn join_command<'a>(alloc: Global) -> Result<Command<'a>, AllocError>
     Ok(command)
 }
 
-/// All that the program knows.
+/// The program's definition for `clap`.
 ///
 /// # Errors
 ///

@@ -1,4 +1,4 @@
-//! The command line of `shapes`: what `clap` is told of it, and the task that its words ask for.
+//! The command line of `shapes`: its definition for `clap`, and the task that its words ask for.
 #![tactic(auto)]
 
 mod commands;

@@ -57,8 +57,8 @@ pub fn replay_all(alloc: Global, jobs: &[Job<'_>]) -> Result<usize, BenchFault>
     Ok(actions)
 }
 
-/// Walks all games. The answer is how many moves onto empty points they have. It takes memory for
-/// one game's patterns.
+/// Replays all games and lists the patterns of each, without a sum over games. The answer is how
+/// many moves onto empty points they have. It takes memory for one game's patterns.
 ///
 /// `BenchFault::Count` comes with `Memory` where memory was refused, and with `Overflow` where a
 /// game has more actions than any input or the moves pass 2^64 - 1.

@@ -87,7 +87,7 @@ impl Share {
         self.worker
     }
 
-    /// The games, in the order in which they were added.
+    /// The numbers of the games, in the order in which they were added.
     pub fn games(&self) -> &[u64]
         ensures games { result.now ≡ self.now.games }
         ensures share { IsShare self.now }

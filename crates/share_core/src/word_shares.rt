@@ -120,8 +120,8 @@ impl WordShare {
         })
     }
 
-    /// Adds a game. No table is asked. It takes memory for the game's board, and where a list has
-    /// no room for what was met.
+    /// Counts a game into the share. It uses no table of numbers. It takes memory for the game's
+    /// board, and where a list is full.
     ///
     /// # Errors
     ///

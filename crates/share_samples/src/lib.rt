@@ -101,7 +101,7 @@ pub fn share_of<O: ProbeOrder>(
     Ok(share)
 }
 
-/// A share of the first game that is written here, under the number 0, if nothing refused it.
+/// A share of the first game of a collection's bytes, under the number 0, if nothing refused it.
 pub fn first_share<O: ProbeOrder>(
     alloc: Global,
     table: &SlotTable<O>,
@@ -143,8 +143,8 @@ pub fn add_written<O: ProbeOrder>(
     Some(share.add(table, pass, game, &game_record))
 }
 
-/// What the worker 2 has counted by words of these games, the first under the number 0 and the
-/// second under 1, or why one was refused.
+/// A `WordShare` of these two games, counted by worker 2 under the numbers 0 and 1, or why one was
+/// refused.
 pub fn words_of(alloc: Global, first: &Record, second: &Record) -> Result<WordShare, HarvestFault>
     ensures share { IfOk result IsShare }
     ensures kinds { IfOk result (λ words. words.kinds ≡ kinds.Squares) }

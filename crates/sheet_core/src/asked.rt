@@ -18,7 +18,7 @@ pub struct Asked {
     pub order: Order,
     /// The kind of the patterns.
     pub kind: Kind,
-    /// How often a pattern was there at least.
+    /// Patterns that were there less often are not shown.
     pub least: u64,
     /// How many patterns are shown at most.
     pub most: usize,

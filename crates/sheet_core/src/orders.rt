@@ -34,8 +34,8 @@ fn fraction(order: Order, entry: &Entry) -> (u64, u64)
     }
 }
 
-/// `Less` where the left one goes before the right one, which is decided by exact fractions, and by
-/// the lesser word where these are equal. Takes no memory.
+/// `Less` where the left pattern stands before the right one. Exact fractions decide, and where
+/// these are equal the lesser word. Takes no memory.
 pub(crate) fn compare(order: Order, left: &Entry, right: &Entry) -> Ordering
     ensures { is_lt result ≡ goes_before order left.now right.now }
 {

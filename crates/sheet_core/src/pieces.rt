@@ -24,7 +24,8 @@ pub(crate) fn push_whole_percent(text: &mut Vec<u8>, entry: &Entry) -> Result<()
     text.extend_from_slice(b" %")
 }
 
-/// Appends the same rounded down to two decimals.
+/// Appends how often the pattern was played when it was there, in percent with two decimals,
+/// rounded down.
 pub(crate) fn push_percent(text: &mut Vec<u8>, entry: &Entry) -> Result<(), AllocError>
     ensures { OnOk result (text.new.items
         ≡ text.old.items ++ percent_text (hundredths_of entry.now)) }

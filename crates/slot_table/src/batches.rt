@@ -1,4 +1,4 @@
-//! Keys that are entered together: the lines of memory of all come at once.
+//! Enters many keys at once: the cache lines of their slots are loaded at the same time.
 ghost use Rattle.std.specs.Prelude.{◌≡◌, ℕ, ◌^◌, ◌<◌, ◌≤◌, true, length};
 ghost use Rattle.probe_core.specs.declared.calls.Answer.TheVariants as answer;
 ghost use Rattle.slot_table.specs.Batches.{entered, answer_at, AreMade, AreTold};

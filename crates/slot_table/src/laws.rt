@@ -62,7 +62,8 @@ pub fn a_full_table_has_n_different_keys()
         length (keys_of (content_of n history)) ≡ n }
 {}
 
-/// A split loses no stake: its two parts together are as much as the stake was. It takes no memory.
+/// Splitting a pass loses nothing of its stake, its part of the right to call the table: the stakes
+/// of the two passes together are as much as the stake was. It takes no memory.
 pub fn a_split_loses_no_stake()
     ensures { (stake : List ℕ) → IsAsMuch (halved stake ++ half_of stake) stake }
 {}

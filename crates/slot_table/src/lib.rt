@@ -1,5 +1,5 @@
-//! A table of numbers for keys that threads share: it only grows, takes no lock and never tries a
-//! step again.
+//! A table of numbers for keys that threads share: it only grows, takes no lock and never
+//! retries a step.
 #![tactic(auto)]
 
 mod batches;

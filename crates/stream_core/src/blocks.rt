@@ -39,7 +39,7 @@ impl<R: Read> Model for Block<R> {
     ghost invariant = { λ b. IsBlock b.bytes.items b.start b.end b.ended (R.remaining b.reader) };
 }
 
-/// One read. Where there was room for a byte, a read of none is the end.
+/// Reads once, and answers how many bytes it read. Unless the buffer is empty, 0 is the end.
 fn read_some<R: Read>(reader: &mut R, room: &mut [u8]) -> Result<usize, StreamFault>
     ensures within { IfOk result (λ count. count ≤ length room.new) }
     ensures taken { IfOk result (λ count. Consumes (R.remaining reader.old)

@@ -13,7 +13,7 @@ pub enum Standing {
     Failed(StreamFault),
 }
 
-/// How the reading stands after this answer.
+/// Whether more entries may come after this answer, all have come, or a fault ended the reading.
 pub(crate) fn standing_of(answer: &Result<Option<Entry>, StreamFault>) -> Standing
     ensures { result ≡ standing_of answer.now }
 {

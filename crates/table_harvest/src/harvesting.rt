@@ -98,7 +98,7 @@ fn count_of<R: Threads + Sync, O: ProbeOrder>(
 
 /// The dictionary of all shares, or the fault that is reported, in this order: out of memory, that
 /// of the input, the first one of the games that were refused, and that of the shares together. The
-/// calls of all threads come to this pass.
+/// pass gets the calls of all threads.
 fn conclude<R: Threads + Sync, O: ProbeOrder>(
     rt: &R,
     alloc: Global,

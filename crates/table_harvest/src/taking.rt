@@ -1,5 +1,5 @@
-//! What workers hand back is taken up: their games, what their endpoints drew and what their passes
-//! called.
+//! Takes up the workers' results: their games, what their endpoints drew, and the calls of their
+//! passes.
 ghost use Rattle.std.specs.Prelude.{[], OnOk};
 ghost use Rattle.table_harvest.specs.Inner.Threads.{HasTaken};
 

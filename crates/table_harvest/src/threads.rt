@@ -71,7 +71,7 @@ fn back_to<'q, 'a, 't, O: ProbeOrder, G: Gate>(
     }
 }
 
-/// What was split off stays the whole with what is left.
+/// A split loses nothing: what was given away and what is left still make up the whole.
 fn splits_lose_no_stake()
     ensures { (stake given whole : List ℕ) → IsAsMuch (stake ++ given) whole
         → IsAsMuch (halved stake ++ (given ++ half_of stake)) whole }
@@ -177,8 +177,8 @@ fn theirs<'q, 'a, 't, R: Threads, O: ProbeOrder, G: Gate>(
     }
 }
 
-/// Waits for all workers, takes up what they hand back, and puts what the thread that reads has
-/// come to beside it.
+/// Waits for all workers, takes up their results, and puts the results of the thread that reads
+/// beside them.
 fn joined<'q, 'a, 't, R: Threads, O: ProbeOrder, G: Gate>(
     rt: &R,
     alloc: Global,

@@ -42,7 +42,7 @@ pub struct Returned<'q, 'a, O> {
 /// A worker's loop: it draws jobs from the queue and counts their games, and ends at its first end.
 /// It puts nothing, and its pass enters and marks nothing but for the games that it drew; endpoint
 /// and pass come back. While the queue is empty it lets other threads run. Once a game was refused
-/// it goes on drawing and drops what it draws. It waits for the reader.
+/// it still draws, and drops what it draws. It waits for the reader.
 ///
 /// The pass must be of the table. It takes memory for the share, and for a game's board and walk.
 pub fn work<'q, 'a, R: Wait, O: ProbeOrder, G: Gate>(

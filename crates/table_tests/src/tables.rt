@@ -139,6 +139,7 @@ fn a_mark_is_at_its_number_alone(rt: HostRuntime) -> Result<(), Fail> {
     Ok(())
 }
 
+/// A mark changes no key, and a new key no mark.
 #[test]
 fn marks_and_keys_leave_each_other(rt: HostRuntime) -> Result<(), Fail> {
     let capacity = capacity_of(&rt, 1);

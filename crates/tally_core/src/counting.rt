@@ -27,7 +27,7 @@ impl Counter {
     ghost use Rattle.shape_core.specs.declared.words.Kinds.{Kinds};
     ghost use Rattle.tally_core.specs.Inner.Counting.{CountsUpTo, IsWithin};
 
-    /// Nothing was counted yet. There is room for this many patterns, where there is memory for it.
+    /// Nothing was counted yet. It has places for this many patterns, where memory suffices.
     pub fn new(alloc: Global, patterns: usize) -> Counter
         ensures counted { (kinds : Kinds) (bytes : List ℕ) → CountsUpTo kinds bytes 0 result }
         ensures within { IsWithin 0 result }
@@ -56,7 +56,7 @@ fn count_walked(counter: &mut Counter, walked: &WalkedGame<'_>) -> Result<(), Ta
     Ok(())
 }
 
-/// Counts all games of an input. A fault that the reader met is handed on as it is.
+/// Counts all games of an input. A fault that the reader met is answered unchanged.
 pub(crate) fn count_games(walker: &mut Walker<'_>, counter: &mut Counter) -> Result<(), TallyFault>
     requires small { length walker.old.games.bytes ≤ most_bytes }
     requires begins { walker.old.games.report.games ≡ 0 }

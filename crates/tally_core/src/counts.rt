@@ -168,8 +168,8 @@ impl Counts {
         rows
     }
 
-    /// Where a block of meetings begins at this one, looks how many rows they seem to need, and so
-    /// has the memory in which they will be counted come nearer. It takes no memory.
+    /// Where a block of meetings begins at this one, notes how many new rows they seem to need. The
+    /// looks load into the cache the rows in which they will be counted. It takes no memory.
     #[inline(always)]
     pub fn expect(&mut self, meetings: &[Meeting], at: usize)
         requires { at ≤ length meetings.now }
@@ -223,8 +223,8 @@ impl Counts {
         Ok(())
     }
 
-    /// Has twice the places, or the first ones, and each row at one of its new places. It takes
-    /// memory; where that is refused nothing changes.
+    /// Doubles the places, or makes the first ones, and puts each row at one of its new places. It
+    /// takes memory; where that is refused nothing changes.
     fn grow(&mut self) -> Result<(), AllocError>
         ensures { AreCounts (count_in self.old) (count_in self.new) }
     {

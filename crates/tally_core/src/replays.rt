@@ -10,7 +10,7 @@ use crate::walks::Walk;
 use go_record::Record;
 use shape_dict::{Entry, FirstGame};
 
-/// Counts what was met in a game.
+/// Adds the meetings of one game, each a pattern with its counts, to the counts of all games.
 pub(crate) fn count_meetings(
     counts: &mut Counts,
     meetings: &[Meeting],

@@ -31,8 +31,8 @@ pub enum PartsFault {
     Write { written: usize },
 }
 
-/// The exit status of a fault: 1 where no dictionary is wanted, 5 no memory, 6 read or write
-/// failed.
+/// The exit status of a fault: 1 for `Unwanted`, 5 where memory was refused, 6 where a read or a
+/// write failed.
 pub fn status_of(fault: &PartsFault) -> u8
     ensures { result ≡ status_of fault.now }
 {

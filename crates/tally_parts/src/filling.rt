@@ -77,8 +77,8 @@ fn push_waiting(feed: &mut Feed, part: &mut Vec<u8>) -> Result<(), AllocError>
     Ok(())
 }
 
-/// Reads the text of this number, from 0, has its reader take note of what its trees are, and
-/// answers whether it is good: it is in the room then.
+/// Reads the text of this number, from 0, into the feed's buffer. If it was read, `judged` gets
+/// what its trees are, or its fault. The answer is whether it was read and has no fault.
 ///
 /// # Errors
 ///

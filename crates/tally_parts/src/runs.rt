@@ -121,7 +121,7 @@ fn write_joined<R: Threads + Sync, S: Spills + Sync, W: Write>(
 /// Reads texts of games one after another, counts the games of those that can be read, and writes a
 /// text of the dictionary of all these games, which are numbered from 0 in the order of the texts.
 /// Text 1 has squares alone, and the others have diamonds too. A text that has 2^28 bytes or more,
-/// or a fault of syntax, is left out whole, and its reader is told so.
+/// or a fault of syntax, is left out whole, and `Texts::judged` gets its fault.
 ///
 /// The texts are counted in parts: each has as many texts as the plan's number of bytes allows, or
 /// one that is larger. `harvest_all` counts a part, on as many threads as it says. Where there is

@@ -16,8 +16,8 @@ pub trait Texts {
     fn count(&self) -> usize
         ensures { result ≡ number self.now };
 
-    /// Reads one of them, from 0, into a room that is empty. The answer is whether it could be
-    /// read. One that can't be is left out.
+    /// Reads the text of this number, from 0, into an empty buffer. The answer is whether it could
+    /// be read. One that can't be is left out.
     ///
     /// # Errors
     ///

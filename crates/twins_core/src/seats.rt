@@ -11,7 +11,7 @@ pub(crate) struct Place {
     pub(crate) to: usize,
 }
 
-/// Where a game is, with the name of its file.
+/// The number and the place of a game, and the name of its file, if it has one.
 #[derive(Debug, Drop)]
 pub(crate) struct Seat {
     pub(crate) place: Place,
