@@ -16,27 +16,22 @@ use Rattle.tally_core.specs.Occasions.{is_empty, occasion_of}
 use Rattle.tally_core.specs.Counts.{points_of}
 use Rattle.hits_core.specs.declared.found.Found.{Found}
 use Rattle.hits_core.specs.declared.games.Game.{Game}
-use Rattle.hits_core.specs.declared.looking.Moment.{Moment}
 use Rattle.hits_core.specs.declared.searches.Sought.{Sought}
 use Rattle.hits_core.specs.declared.searches.Sought.TheVariants as sought
 use Rattle.hits_core.specs.Hits.{hits_of_turn}
 use Rattle.hits_core.specs.Turns.{turn_of, number_after, HasTurns}
 use Rattle.hits_core.specs.Wanted.{wanted_at}
-use Rattle.hits_core.specs.Inner.Finding.{hit_in, GrowsBy, AddsGame, IsFront}
+use Rattle.hits_core.specs.Inner.Finding.{hit_in, moment_on, GrowsBy, AddsGame, IsFront}
 use Rattle.hits_core.specs.Inner.Watching.{hits_over}
 use Rattle.hits_core.proofs.Growing.{grows-none, grows-on}
-
--- an occasion of a game, on a board of this many rows
-abbrev pub moment_on : ℕ → Game → ℕ → Colour → Moment
-moment_on rows game number mover = record { game = game.number; place = game.place; rows = rows; number = number; mover = mover }
 
 -- the hits of a move onto an empty point, where patterns are looked for that were played
 pub played-move : (words : List ℕ) (game : Game) (position : Position) (size : Extent) (number : ℕ) (mover : Colour) (at : Point) →
     size ≡ game.recorded.size → is_empty (position at) ≡ true →
-    map (hit_in (moment_on game.recorded.size.rows game number mover) at) (wanted_at words size position mover at)
+    map (hit_in (moment_on game number mover) at) (wanted_at words size position mover at)
     ≡ flat_map (hits_of_turn sought.Played words game) (map (turn_of number) (occasion_of position (action.Move mover at)))
 played-move words game position size number mover at sized empty =
-    let one = λ (s : Extent). map (hit_in (moment_on game.recorded.size.rows game number mover) at) (wanted_at words s position mover at) in
+    let one = λ (s : Extent). map (hit_in (moment_on game number mover) at) (wanted_at words s position mover at) in
     ap one sized
     ∙ sym (append-nil (one game.recorded.size))
     ∙ sym (append-nil (one game.recorded.size ++ []))
@@ -45,11 +40,11 @@ played-move words game position size number mover at sized empty =
 -- the same where patterns are looked for that were there
 pub there-move : (words : List ℕ) (game : Game) (field : Kept) (number : ℕ) (mover : Colour) (at : Point) →
     field.board.size ≡ game.recorded.size → is_empty (position_of field.board at) ≡ true →
-    hits_over words field (moment_on game.recorded.size.rows game number mover) (points_of field.board.size)
+    hits_over words field (moment_on game number mover) (points_of field.board.size)
     ≡ flat_map (hits_of_turn sought.There words game) (map (turn_of number) (occasion_of (position_of field.board) (action.Move mover at)))
 there-move words game field number mover at sized empty =
     let position = position_of field.board in
-    let all = λ (s : Extent). flat_map (λ (q : Point). map (hit_in (moment_on game.recorded.size.rows game number mover) q) (wanted_at words s position mover q))
+    let all = λ (s : Extent). flat_map (λ (q : Point). map (hit_in (moment_on game number mover) q) (wanted_at words s position mover q))
     (filter (λ (q : Point). is_empty (position q)) (points_of s)) in
     ap all sized
     ∙ sym (append-nil (all game.recorded.size))

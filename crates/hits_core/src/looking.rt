@@ -7,6 +7,7 @@ ghost use Rattle.hits_core.specs.Wanted.{wanted_at};
 ghost use Rattle.hits_core.specs.Inner.Finding.{patterns_in, hit_in, GrowsBy};
 
 use crate::found::Found;
+use crate::games::Game;
 use crate::hits::Hit;
 use crate::wanted::Wanted;
 use go_board::{Board, Colour, Point};
@@ -68,7 +69,20 @@ pub(crate) fn push_sight(
 
 impl Moment {
     ghost use Rattle.std.specs.Prelude.{◌≡◌};
-    ghost use Rattle.hits_core.specs.Inner.Finding.{hit_in};
+    ghost use Rattle.hits_core.specs.Inner.Finding.{hit_in, moment_on};
+
+    /// The occasion of a move by this colour, the move of this number, in a game.
+    pub(crate) fn of(game: &Game, number: u64, mover: Colour) -> Moment
+        ensures { result ≡ moment_on game.now number mover }
+    {
+        Moment {
+            game: game.number,
+            place: game.place,
+            rows: game.recorded.size().rows(),
+            number,
+            mover,
+        }
+    }
 
     /// The hit of a pattern at a point.
     fn hit(self, at: Point, word: Shape) -> Hit

@@ -52,13 +52,7 @@ fn look(
     if board.cell(at) != Stone::Empty {
         return Ok(());
     }
-    let moment = Moment {
-        game: game.number,
-        place: game.place,
-        rows: game.recorded.size().rows(),
-        number,
-        mover: colour,
-    };
+    let moment = Moment::of(game, number, colour);
     push_sight(found, moment, at, see_board(board, wanted, colour, at))
 }
 

@@ -203,13 +203,7 @@ impl Watch {
         if self.field.cell(at) != Stone::Empty {
             return Ok(());
         }
-        let moment = Moment {
-            game: game.number,
-            place: game.place,
-            rows: game.recorded.size().rows(),
-            number,
-            mover: colour,
-        };
+        let moment = Moment::of(game, number, colour);
         match colour {
             Colour::Black => see(&self.field, wanted, moment, &mut self.black, found),
             Colour::White => see(&self.field, wanted, moment, &mut self.white, found),

@@ -2,6 +2,7 @@
 use Rattle.std.specs.Prelude.{◌≡◌, ℕ, ◌≤◌, ◌<◌, List, [], ◌∷◌, ◌++◌, length, slice_index_or, All, Option, Some, None}
 use Rattle.std.specs.List.{flat_map}
 use Rattle.go_board.specs.Position.{Position}
+use Rattle.go_board.specs.declared.points.Colour.{Colour}
 use Rattle.go_board.specs.declared.points.Point.{Point}
 use Rattle.go_record.specs.declared.actions.Action.{Action}
 use Rattle.shape_core.specs.Word.{kind_of}
@@ -30,6 +31,17 @@ listed (Some word) = word ∷ []
 -- the patterns of a sight, the square first
 abbrev pub patterns_in : Sight → List ℕ
 patterns_in sight = listed sight.square ++ listed sight.diamond
+
+-- the occasion of a move by this colour in a game, where the move has this number
+abbrev pub moment_on : Game → ℕ → Colour → Moment
+moment_on game number mover =
+    record {
+      game = game.number;
+      place = game.place;
+      rows = game.recorded.size.rows;
+      number = number;
+      mover = mover;
+    }
 
 -- the hit of a word at a point
 abbrev pub hit_in : Moment → Point → ℕ → Hit
