@@ -7,7 +7,7 @@ use Rattle.go_record.specs.Replay.{Does, empty_position}
 use Rattle.go_record.specs.declared.actions.Action.{Action}
 use Rattle.tally_core.specs.Occasions.{occasion_of, HasOccasions}
 use Rattle.listing_core.specs.Games.{HasOccasionNumber}
-use Rattle.listing_core.specs.Inner.Fronts.{number_of, HasNumberFrom}
+use Rattle.listing_core.specs.Inner.Fronts.{occasions_of, HasNumberFrom}
 
 -- what the actions from a place on have, and `number` more, is what all of them have
 abbrev pub Completes : Extent → List Action → Position → ℕ → Position → ℕ → Type 0
@@ -18,7 +18,7 @@ pub completes-begins : (size : Extent) (all : List Action) (start : Position) �
 completes-begins size all start rest h = subst (HasNumberFrom size all start) (sym (zero-add rest)) h
 
 first_more : (size : Extent) (action : Action) (actions : List Action) (before after : Position) (rest : ℕ) → Does size action before after →
-    HasNumberFrom size actions after rest → HasNumberFrom size (action ∷ actions) before (number_of before action + rest)
+    HasNumberFrom size actions after rest → HasNumberFrom size (action ∷ actions) before (occasions_of before action + rest)
 first_more size action actions before after rest does h = record {
   occasions = occasion_of before action ++ h.occasions;
   replayed = (after, h.occasions, does, h.replayed, refl);
@@ -27,13 +27,13 @@ first_more size action actions before after rest does h = record {
 
 -- one action more was done
 pub completes-steps : (size : Extent) (all : List Action) (start : Position) (i : ℕ) (d : Action) (before after : Position) (number : ℕ) → i < length all →
-    Does size (get_or all i d) before after → Completes size all start i before number → Completes size all start (i + 1) after (number + number_of before (get_or all i d))
+    Does size (get_or all i d) before after → Completes size all start i before number → Completes size all start (i + 1) after (number + occasions_of before (get_or all i d))
 completes-steps size all start i d before after number inside does h rest more =
     let action = get_or all i d in
     let split : drop i all ≡ action ∷ drop (i + 1) all = drop-cons all i d inside ∙ ap (λ k. action ∷ drop k all) (sym (add-one i)) in
     subst (HasNumberFrom size all start) (omega arith)
-    (h (number_of before action + rest)
-    (subst (λ actions. HasNumberFrom size actions before (number_of before action + rest)) (sym split) (first_more size action (drop (i + 1) all) before after rest does more)))
+    (h (occasions_of before action + rest)
+    (subst (λ actions. HasNumberFrom size actions before (occasions_of before action + rest)) (sym split) (first_more size action (drop (i + 1) all) before after rest does more)))
 
 -- no action is left
 pub completes-ends : (size : Extent) (all : List Action) (start : Position) (i : ℕ) (now : Position) (number : ℕ) → drop i all ≡ [] → Completes size all start i now number → HasNumberFrom size all start number

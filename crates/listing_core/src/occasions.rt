@@ -3,7 +3,7 @@ ghost use Rattle.std.specs.Prelude.{◌≡◌, ◌≤◌, All};
 ghost use Rattle.go_board.specs.Board.{position_of};
 ghost use Rattle.go_record.specs.Actions.{IsActionOn};
 ghost use Rattle.listing_core.specs.Games.{is_move, moves_in};
-ghost use Rattle.listing_core.specs.Inner.Fronts.{number_of, HasNumberFrom};
+ghost use Rattle.listing_core.specs.Inner.Fronts.{occasions_of, HasNumberFrom};
 
 use go_board::{Board, Stone};
 use go_record::{Action, apply};
@@ -28,7 +28,7 @@ fn is_move(action: &Action) -> bool
 /// How many occasions an action is: one where it is a move onto an empty point, else none.
 fn occasions_of(board: &Board, action: Action) -> usize
     requires { IsActionOn board.now.size action }
-    ensures number { result ≡ number_of (position_of board.now) action }
+    ensures number { result ≡ occasions_of (position_of board.now) action }
     ensures few { result ≤ 1 }
 {
     match action {

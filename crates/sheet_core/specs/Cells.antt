@@ -16,8 +16,8 @@ abbrev pub place_of : Offset → Place
 place_of offset = record { column = drawn_at offset.dx; row = drawn_at offset.dy }
 
 -- the places of the 25 cells of a kind
-abbrev pub places_of : Kind → List Place
-places_of kind = map place_of (offsets_of kind)
+abbrev pub cell_places : Kind → List Place
+cell_places kind = map place_of (offsets_of kind)
 
 -- cells at these places with these glyphs
 abbrev pub cells_at : List Place → List ℕ → List Cell
@@ -28,7 +28,7 @@ cells_at (place ∷ places) (glyph ∷ glyphs) =
 
 -- the cells of a word
 unfoldable pub cells_of : ℕ → List Cell
-cells_of word = cells_at (places_of (kind_of word)) (glyphs_of word)
+cells_of word = cells_at (cell_places (kind_of word)) (glyphs_of word)
 
 -- the cell is on the board: its glyph is not `#`
 abbrev pub is_on : Cell → Bool

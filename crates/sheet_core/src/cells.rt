@@ -1,6 +1,6 @@
 //! Where the cells of a pattern are drawn.
 ghost use Rattle.std.specs.Prelude.{◌≡◌};
-ghost use Rattle.sheet_core.specs.Cells.{cells_of, places_of, is_on};
+ghost use Rattle.sheet_core.specs.Cells.{cells_of, cell_places, is_on};
 
 use shape_core::{Kind, Word, glyphs};
 
@@ -78,8 +78,8 @@ const DIAMOND_PLACES: [Place; 25] = [
 ];
 
 /// The places of the 25 cells of a kind.
-fn places_of(kind: Kind) -> [Place; 25]
-    ensures { result ≡ places_of kind }
+fn cell_places(kind: Kind) -> [Place; 25]
+    ensures { result ≡ cell_places kind }
 {
     match kind {
         Kind::Square => SQUARE_PLACES,
@@ -91,7 +91,7 @@ fn places_of(kind: Kind) -> [Place; 25]
 pub(crate) fn cells_of(word: Word) -> [Cell; 25]
     ensures { result ≡ cells_of word }
 {
-    let places = places_of(word.kind());
+    let places = cell_places(word.kind());
     let glyphs = glyphs(word);
     let mut cells = [Cell {
         column: 0,

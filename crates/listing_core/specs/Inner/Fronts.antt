@@ -6,8 +6,8 @@ use Rattle.go_record.specs.declared.actions.Action.{Action}
 use Rattle.tally_core.specs.Occasions.{Occasion, occasion_of, HasOccasions}
 
 -- how many occasions an action is
-abbrev pub number_of : Position → Action → ℕ
-number_of before action = length (occasion_of before action)
+abbrev pub occasions_of : Position → Action → ℕ
+occasions_of before action = length (occasion_of before action)
 
 -- the actions have this number of occasions, from a position on
 pub record HasNumberFrom (size : Extent) (actions : List Action) (before : Position) (number : ℕ) : Type 0 where
