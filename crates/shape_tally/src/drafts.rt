@@ -1,6 +1,8 @@
 //! Files that are written beside their targets, and take their names once they are whole.
+use crate::left_drafts::remove_left_drafts;
 use std::fs::{self, File};
 use std::io::{self, ErrorKind, Write};
+use std::os::unix::fs::MetadataExt;
 use std::process;
 
 /// How many names are tried for a draft.
@@ -16,13 +18,25 @@ pub struct Draft<'a> {
     is_done: bool,
 }
 
-/// A draft of this target, under a name that no file has.
+/// Holds a draft, so that no other run takes it for one that was left. The answer is whether it is
+/// still there: another run may have removed it before it was held.
+fn hold(file: &File) -> io::Result<bool> {
+    // Where the system has no locks, no run can take one, and none removes a draft.
+    let _ = file.lock();
+    Ok(file.metadata()?.nlink() > 0)
+}
+
+/// A draft of this target, under a name that no file has. Those of earlier runs are removed first.
 fn new_draft<'a>(rt: &'a HostRuntime, target: String) -> io::Result<Draft<'a>> {
+    remove_left_drafts(rt, target.as_str());
     let own = process::id(rt.process());
     for n in 0..MOST_TRIES {
         let name = format!(in rt.alloc(); "{target}.{own}.{n}.draft")?;
         match File::create_new(rt, name.as_str()) {
             Ok(file) => {
+                if !hold(&file)? {
+                    continue;
+                }
                 return Ok(Draft {
                     rt,
                     file,

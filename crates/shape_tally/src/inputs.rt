@@ -1,6 +1,7 @@
 //! The inputs of a count, each read whole when its turn comes.
+use crate::progress::Progress;
 use crate::reports::{Fate, Sum, fate_of, name_of};
-use crate::telling::tell_fate;
+use crate::telling::{is_told, tell_fate};
 use game_core::{GamesFault, Report};
 use game_files::{Cause, Source, cause_of, open_file};
 use sgf_core::{MOST_BYTES, SgfFault};
@@ -14,13 +15,15 @@ const FRONT: usize = 8;
 
 /// What has become of inputs.
 #[derive(Drop)]
-struct Taken {
+struct Taken<'a> {
     /// Of each.
     fates: Vec<Fate>,
     /// Of all.
     sum: Sum,
     /// What the one that was read last may be, if it has no tree.
     cause: Cause,
+    /// What a terminal shows meanwhile.
+    progress: Option<Progress<'a>>,
 }
 
 /// Inputs, and what has become of them.
@@ -28,7 +31,7 @@ struct Taken {
 pub struct Inputs<'a> {
     rt: &'a HostRuntime,
     sources: &'a [Source],
-    taken: Taken,
+    taken: Taken<'a>,
     is_strict: bool,
 }
 
@@ -74,9 +77,27 @@ fn front_of(text: &[u8]) -> &[u8] {
     &text[..text.len().min(FRONT)]
 }
 
-impl Taken {
+impl Taken<'_> {
+    /// An input was read, which is not judged yet.
+    fn read(&mut self, text: &[u8]) {
+        self.cause = cause_of(front_of(text));
+        if let Some(progress) = &mut self.progress {
+            progress.show(text.len(), self.sum.report.games);
+        }
+    }
+
+    /// Takes the line that says how far the count is away from the terminal.
+    fn clear_progress(&mut self) {
+        if let Some(progress) = &mut self.progress {
+            progress.clear();
+        }
+    }
+
     /// Takes up what has become of an input, and says it where it is to be said.
     fn take(&mut self, rt: &HostRuntime, sources: &[Source], n: usize, fate: Fate) {
+        if is_told(fate) {
+            self.clear_progress();
+        }
         self.sum = self.sum.with(fate);
         if let Some(place) = self.fates.get_mut(n) {
             *place = fate;
@@ -106,9 +127,15 @@ impl<'a> Inputs<'a> {
                 fates,
                 sum: Sum::new(),
                 cause: Cause::Empty,
+                progress: Progress::begin(rt, sources),
             },
             is_strict,
         })
+    }
+
+    /// Takes the line that says how far the count is away from the terminal.
+    pub fn clear_progress(&mut self) {
+        self.taken.clear_progress();
     }
 
     /// What has become of each.
@@ -136,7 +163,7 @@ impl Texts for Inputs<'_> {
     fn read(&mut self, n: usize, room: &mut Vec<u8>) -> Result<bool, AllocError> {
         match read_source(self.rt, &self.sources[n], room)? {
             None => {
-                self.taken.cause = cause_of(front_of(room.as_slice()));
+                self.taken.read(room.as_slice());
                 Ok(true)
             }
             Some(fate) => {

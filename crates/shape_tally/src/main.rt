@@ -1,15 +1,19 @@
 //! Counts collections of any number and size, and writes one dictionary of all their games.
 #![tactic(auto)]
 
+mod clashes;
 mod commands;
 mod drafts;
 mod inputs;
+mod left_drafts;
 mod lists;
+mod progress;
 mod reports;
 mod spilled;
 mod telling;
 mod words;
 
+use clashes::clash_of;
 use command_lines::{Line, read_words};
 use drafts::{Output, try_target};
 use engine_core::{RunFault, own_words, status_of, write_output};
@@ -24,7 +28,7 @@ use std::sync::Wait;
 use std::thread::Threads;
 use std::{env, io};
 use tally_parts::{PartsFault, run_tally};
-use telling::{tell_fault, tell_sum, tell_unlisted, tell_unmade};
+use telling::{tell_clash, tell_fault, tell_sum, tell_unlisted, tell_unmade};
 use words::{Asked, Named};
 
 /// The folder of temporary files, where the system tells none.
@@ -105,14 +109,16 @@ fn write_dictionary<T: Threads + Wait + Sync>(
 ) -> u8 {
     let mut spilled = Spilled::new(rt, folder);
     let mut output = Output::new(rt, asked.out);
-    match run_tally(
+    let done = run_tally(
         threads,
         rt.alloc(),
         asked.plan,
         inputs,
         &mut spilled,
         &mut output,
-    ) {
+    );
+    inputs.clear_progress();
+    match done {
         Ok(()) => match output.finish() {
             Ok(()) => 0,
             Err(error) => {
@@ -137,6 +143,9 @@ fn tally<T: Threads + Wait + Sync>(
         Err(RunFault::Read) => return Ok(6),
         Err(fault) => return Err(fault),
     };
+    if let Some(clash) = clash_of(rt, asked, sources.as_slice()) {
+        return Ok(tell_clash(rt, clash));
+    }
     if !can_be_written(rt, asked.out) || !can_be_written(rt, asked.report) {
         return Ok(6);
     }

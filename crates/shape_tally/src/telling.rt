@@ -2,6 +2,7 @@
 ghost use Rattle.std.specs.Prelude.{◌≡◌};
 ghost use Rattle.tally_parts.specs.Status.{status_of};
 
+use crate::clashes::Clash;
 use crate::drafts::Output;
 use crate::reports::{Fate, Sum};
 use command_lines::why_unread;
@@ -25,26 +26,33 @@ impl fmt::Display for Named<'_> {
     }
 }
 
-/// Whether the numbers of an input's trees are said: where a game is refused, or all are of other
-/// games.
-fn is_told(report: Report) -> bool {
-    report.refused > 0 || report.games == 0
+/// Whether something is said of an input: unless all is as it should be. Of one that was counted
+/// the numbers of its trees are said where a game is refused, or all are of other games.
+pub fn is_told(fate: Fate) -> bool {
+    match fate {
+        Fate::Waiting => false,
+        Fate::Counted { report, .. } => report.refused > 0 || report.games == 0,
+        Fate::Flawed(_) | Fate::Unread | Fate::Faulty(_) | Fate::Treeless(_) => true,
+    }
 }
 
-/// Says what has become of an input, unless all is as it should be. Where standard error takes
+/// Says what has become of an input, where something is to be said. Where standard error takes
 /// nothing, the status still says it.
 pub fn tell_fate(rt: &HostRuntime, name: Option<&str>, fate: Fate) {
     let name = Named(name);
+    if !is_told(fate) {
+        return;
+    }
     let _ = match fate {
         Fate::Flawed(why) => eprintln!(rt; "shape_tally: {name}{why}"),
         Fate::Unread => eprintln!(rt; "shape_tally: {name}I1 read failed"),
         Fate::Faulty(fault) => eprintln!(rt; "shape_tally: {name}{fault}"),
         Fate::Treeless(cause) => eprintln!(rt; "shape_tally: {name}no tree: {cause}"),
-        Fate::Counted { report, .. } if is_told(report) => eprintln!(rt;
+        Fate::Counted { report, .. } => eprintln!(rt;
             "shape_tally: {name}games {} other {} refused {}",
             report.games, report.others, report.refused
         ),
-        Fate::Waiting | Fate::Counted { .. } => Ok(()),
+        Fate::Waiting => Ok(()),
     };
 }
 
@@ -69,6 +77,20 @@ pub fn tell_unlisted(rt: &HostRuntime, list: &str) {
     };
     let why = why.unwrap_or("a read failed");
     let _ = eprintln!(rt; "shape_tally: L3 names not read: {}: {why}", Shown(list));
+}
+
+/// Says that a file can't be written, since the run needs it for something else. The answer is the
+/// exit status.
+pub fn tell_clash(rt: &HostRuntime, clash: Clash<'_>) -> u8
+    ensures { result ≡ 2 }
+{
+    let _ = match clash {
+        Clash::Input(name) => eprintln!(rt; "shape_tally: U1 usage: {} is also read", Shown(name)),
+        Clash::Report(name) => {
+            eprintln!(rt; "shape_tally: U1 usage: {} is also the report", Shown(name))
+        }
+    };
+    2
 }
 
 /// Why a file could not be made or written.

@@ -1,0 +1,66 @@
+//! Drafts that runs before have left beside a target, when they were killed.
+use std::fs::{self, File};
+
+/// What a draft's name ends in.
+const ENDING: &str = ".draft";
+
+/// Whether these are digits.
+fn is_number(word: &str) -> bool {
+    !word.is_empty() && word.as_bytes().iter().all(|byte| byte.is_ascii_digit())
+}
+
+/// Whether a file of this name is a draft of a target in its folder, which has the other name: that
+/// name, the number of a process, and another one.
+fn is_draft_of(name: &str, target: &str) -> bool {
+    let Some(rest) = name.strip_prefix(target) else {
+        return false;
+    };
+    let Some(rest) = rest.strip_suffix(ENDING) else {
+        return false;
+    };
+    match rest.split_once('.') {
+        Some(("", numbers)) => match numbers.split_once('.') {
+            Some((process, number)) => is_number(process) && is_number(number),
+            None => false,
+        },
+        _ => false,
+    }
+}
+
+/// A file's folder, and its name there.
+fn parts_of(path: &str) -> (&str, &str) {
+    match path.rsplit_once('/') {
+        Some(("", name)) => ("/", name),
+        Some(parts) => parts,
+        None => (".", path),
+    }
+}
+
+/// Removes a draft, unless a run holds it. Where that can't be done, it stays.
+fn remove_left(rt: &HostRuntime, path: &str) {
+    let Ok(file) = File::open(rt, path) else {
+        return;
+    };
+    if file.try_lock().is_ok() {
+        let _ = fs::remove_file(rt, path);
+    }
+}
+
+/// Removes the drafts of this target that no run holds any more. What can't be looked at or removed
+/// stays as it is.
+pub fn remove_left_drafts(rt: &HostRuntime, target: &str) {
+    let (folder, own) = parts_of(target);
+    let Ok(entries) = fs::read_dir(rt, folder) else {
+        return;
+    };
+    for entry in entries {
+        let Ok(entry) = entry else {
+            continue;
+        };
+        let path = entry.path();
+        let (_, name) = parts_of(path.as_str());
+        if is_draft_of(name, own) {
+            remove_left(rt, path.as_str());
+        }
+    }
+}

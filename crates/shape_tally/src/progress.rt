@@ -1,0 +1,99 @@
+//! How far a count is, on a terminal.
+use game_files::Source;
+use std::io::IsTerminal;
+use std::time::Instant;
+use std::{env, fs};
+
+/// The least time between two lines, in milliseconds.
+const PAUSE: u64 = 500;
+
+/// The variable by which the launcher says that a terminal shows at once what comes on standard
+/// error, which is a pipe to the launcher then.
+const SHOWN: &str = "SHAPES_SHOWN";
+
+/// What a terminal shows of a count that takes a while: one line, written over and over.
+#[derive(Drop)]
+pub struct Progress<'a> {
+    rt: &'a HostRuntime,
+    start: Instant,
+    /// How many bytes all inputs have, as far as the system tells it.
+    all: u64,
+    /// How many of them were read.
+    read: u64,
+    /// When the next line is due, in milliseconds since the start.
+    due: u64,
+    /// Whether a line stands there.
+    is_shown: bool,
+}
+
+/// Whether somebody sees what comes on standard error when it comes.
+fn is_seen(rt: &HostRuntime) -> bool {
+    rt.stderr().is_terminal() || env::var(rt, SHOWN).is_ok()
+}
+
+/// How many bytes these inputs have together, as far as the system tells it.
+fn bytes_of(rt: &HostRuntime, sources: &[Source]) -> u64 {
+    let mut all = 0u64;
+    for source in sources {
+        if let Source::File(name) = source {
+            if let Ok(found) = fs::metadata(rt, name.as_str()) {
+                all = all.saturating_add(found.len());
+            }
+        }
+    }
+    all
+}
+
+/// How many seconds are left, where so many milliseconds went for this share of all bytes.
+fn seconds_left(gone: u64, read: u64, all: u64) -> u64 {
+    let left = all.saturating_sub(read);
+    gone.saturating_mul(left) / read.max(1) / 1000
+}
+
+impl<'a> Progress<'a> {
+    /// A count of these inputs begins now. None where standard error is no terminal, nor shown on
+    /// one at once, or the system has no clock: then nothing is shown.
+    pub fn begin(rt: &'a HostRuntime, sources: &[Source]) -> Option<Progress<'a>> {
+        if !is_seen(rt) {
+            return None;
+        }
+        Some(Progress {
+            rt,
+            start: Instant::now(rt).ok()?,
+            all: bytes_of(rt, sources),
+            read: 0,
+            due: PAUSE,
+            is_shown: false,
+        })
+    }
+
+    /// An input of this many bytes was read, and so many games are counted or being counted. Where
+    /// a line is due it says the share of the bytes, and the seconds until all are read at this
+    /// pace.
+    pub fn show(&mut self, bytes: usize, games: u64) {
+        self.read = self.read.saturating_add(bytes as u64);
+        let Ok(elapsed) = self.start.elapsed(self.rt) else {
+            return;
+        };
+        let gone = u64::try_from(elapsed.as_millis()).unwrap_or(u64::MAX);
+        if gone < self.due {
+            return;
+        }
+        self.due = gone.saturating_add(PAUSE);
+        self.is_shown = true;
+        let share = self.read.saturating_mul(100) / self.all.max(1);
+        let left = seconds_left(gone, self.read, self.all);
+        let _ = eprint!(*self.rt;
+            "\r\x1b[Kshape_tally: {} % read, {games} games, {left} s until all is read",
+            share.min(100)
+        );
+    }
+
+    /// Takes the line away, so that another one can be written.
+    pub fn clear(&mut self) {
+        if self.is_shown {
+            self.is_shown = false;
+            let _ = eprint!(*self.rt; "\r\x1b[K");
+        }
+    }
+}
