@@ -1,11 +1,10 @@
 -- The dictionary of all shares is that of their games.
 use Rattle.std.proofs.Common.{◌≡◌, ℕ, ◌+◌, ◌<◌, ◌==◌, cond, List, [], ◌∷◌, ◌++◌, length, Some, refl, ap, ap₂, sym, subst, ◌∙◌, All, Contains, arith, Bool}
-use Rattle.gather_core.proofs.Common.{sum_by, slice_get, AllByRecursion, AllZip, map-append, All-head, All-tail, recursion_from_All, All-nil, All-append, sum_by-cons, sum_by-append, Kinds, Entry, Contents, IsDictionary, Replayed, kinds_of, there_in, played_in, there_sum, played_sum, first_game, counted_entry, IsDictionaryOf, counts_diamonds, Row, there_of, played_of, first_of, earlier, ArePlayedThere, Held, Added, replayed_of, first_in, IsShareOf, IsShare, all_games, Covers, all_rows, gathered_entry, all_moves, all_added, replayed_games, HaveGames, IsGathered, AreWithin, IsPermutation, IsNonDecreasingBy, IsStrictlyIncreasing, AreEntriesOf, IsShape, All-weaker, entry_of}
-use Rattle.share_core.proofs.Added.{first_append, first_in_append}
-use Rattle.gather_core.proofs.Numbered.{numbers_of, AreBelow, sum_numbered, length-numbered, game_found, Contains-flat_map, first_numbered}
+use Rattle.gather_core.proofs.Common.{sum_by, slice_get, AllByRecursion, AllZip, map-append, All-head, All-tail, recursion_from_All, All-nil, All-append, sum_by-cons, sum_by-append, Kinds, Entry, Contents, IsDictionary, Replayed, kinds_of, there_in, played_in, there_sum, played_sum, first_game, counted_entry, IsDictionaryOf, counts_diamonds, Row, there_of, played_of, first_of, earlier, ArePlayedThere, Held, Added, replayed_of, first_in, IsShareOf, IsShare, all_games, Covers, all_rows, gathered_entry, all_moves, all_added, replayed_games, HaveGames, IsGathered, AreWithin, IsStrictlyIncreasing, IsShape, All-weaker, entry_of}
+use Rattle.gather_core.proofs.Added.{first_append, first_in_append}
+use Rattle.gather_core.proofs.NumberedGames.{numbers_of, AreBelow, sum_numbered, length-numbered, game_found, Contains-flat_map, first_numbered}
 use Rattle.tally_core.proofs.PlayedPatterns.{CanonicalStays, AroundStays}
 use Rattle.tally_core.proofs.RisingDictionary.{is_dictionary}
-use Rattle.gather_core.proofs.Ordered.{sorted_rises, sorted_shapes, sorted_entry}
 use Rattle.gather_core.proofs.OfRows.{entry_is}
 use Rattle.gather_core.specs.Inner.Words.{IsOfRows}
 use Rattle.range_core.specs.Entries.{IsCountedEntry}
@@ -136,7 +135,7 @@ module _ (canonical : CanonicalStays) (around : AroundStays) (kinds : Kinds) (ga
       let few = among shape in
       omega arith)))
 
-  gathered_from : (moves : ℕ) (diamonds : Bool) → All IsShare shares → All (λ (share : Held). share.kinds ≡ kinds) shares → AreWithin games shares → Covers games (all_games shares) →
+  pub gathered_from : (moves : ℕ) (diamonds : Bool) → All IsShare shares → All (λ (share : Held). share.kinds ≡ kinds) shares → AreWithin games shares → Covers games (all_games shares) →
       moves ≡ all_moves shares → diamonds ≡ counts_diamonds kinds → IsGathered kinds games shares (record { games = games; moves = moves; entries = entries; counts_diamonds = diamonds })
   gathered_from moves diamonds of of_kinds within covers moves_are diamonds_are =
       let lists = games_each shares (recursion_from_All IsShare shares of) in
@@ -150,14 +149,6 @@ module _ (canonical : CanonicalStays) (around : AroundStays) (kinds : Kinds) (ga
       }
 
 module _ (canonical : CanonicalStays) (around : AroundStays) (kinds : Kinds) (games : ℕ) (shares : List Held) where
-  -- what rows by number are, put in order
-  pub is_gathered : (entries sorted : List Entry) → AreEntriesOf (all_rows shares) entries → IsPermutation entries sorted → IsNonDecreasingBy (λ (e : Entry). e.shape) sorted →
-      (moves : ℕ) (diamonds : Bool) → All IsShare shares → All (λ (share : Held). share.kinds ≡ kinds) shares → AreWithin games shares → Covers games (all_games shares) →
-      moves ≡ all_moves shares → diamonds ≡ counts_diamonds kinds → IsGathered kinds games shares (record { games = games; moves = moves; entries = sorted; counts_diamonds = diamonds })
-  is_gathered entries sorted listed same up =
-      gathered_from canonical around kinds games shares sorted (sorted_rises (all_rows shares) entries sorted listed same up)
-      (sorted_shapes (all_rows shares) entries sorted listed same) (λ among shape. sorted_entry (all_rows shares) entries sorted listed same shape)
-
   -- what was counted by words, in order
   pub words_gathered : (entries : List Entry) → IsOfRows (all_rows shares) entries → Rises entries → All IsCountedEntry entries →
       (moves : ℕ) (diamonds : Bool) → All IsShare shares → All (λ (share : Held). share.kinds ≡ kinds) shares → AreWithin games shares → Covers games (all_games shares) →

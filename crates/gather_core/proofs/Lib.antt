@@ -1,14 +1,9 @@
 mod Common
-mod Covered
-mod Strangers
-mod Stood
-pub mod Gathered
-pub mod Numbered
-pub mod Ordered
-mod Totalled
+pub mod Calls
+mod Numbered
+pub mod Added
+mod WordRows
 mod Taken
 mod OfRows
-mod Visits
-pub mod Confirmed
-mod SoughtRows
-pub mod Standings
+pub mod NumberedGames
+pub mod Gathered

@@ -7,8 +7,8 @@ use Rattle.range_core.specs.Rising.{Rises}
 use Rattle.range_core.specs.Totals.{Total, total_of, all_of, everything, entered}
 use Rattle.range_core.specs.Totals as total
 use Rattle.range_core.proofs.Climbing.{Counts, climbs_entry, counted_total}
-use Rattle.share_core.proofs.WordRows.{rows_there, rows_played, rows_first}
-use Rattle.share_core.specs.WordShares.{unnumbered}
+use Rattle.gather_core.proofs.WordRows.{rows_there, rows_played, rows_first}
+use Rattle.gather_core.specs.WordShares.{unnumbered}
 use Rattle.gather_core.specs.Inner.Words.{IsOfRows}
 
 module _ (rows : List Row) (entries : List Entry) (of : IsOfRows rows entries) where

@@ -5,7 +5,7 @@ use Rattle.std.proofs.lemmas.List.Elements.{All-nil, All-cons}
 use Rattle.std.proofs.lemmas.Option.{IfSome_then}
 use Rattle.gather_core.proofs.Common.{nat_tests, AllByRecursion, Entry, Happened, IsNumber, Keeps, IsAtMost, IsLegal, content_of, least_at, earlier}
 use Rattle.slot_table.proofs.Contents.{one_number}
-use Rattle.share_core.specs.WordShares.{IsSettled}
+use Rattle.gather_core.specs.WordShares.{IsSettled}
 use Rattle.gather_core.specs.Numbering.{IsNumbered, AreNumbered}
 use Rattle.gather_core.specs.declared.taking.Numbering.{Numbering}
 use Rattle.gather_core.specs.Inner.Taking.{AreTaken}

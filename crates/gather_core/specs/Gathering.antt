@@ -1,6 +1,6 @@
 -- What the dictionary of all shares has: for each pattern the sums of its rows, and the least of their games. Which games
 -- these are: those of all shares, by their numbers.
-use Rattle.std.specs.Prelude.{◌≡◌, ℕ, ◌^◌, ◌<◌, ◌≤◌, ◌==◌, ◌⊎◌, nat_lt, if◌then◌else◌, List, [], ◌∷◌, map, sum_by, Option, Some, None, All}
+use Rattle.std.specs.Prelude.{◌≡◌, ℕ, ◌<◌, ◌==◌, nat_lt, if◌then◌else◌, List, [], ◌∷◌, map, sum_by, Option, Some, None, All}
 use Rattle.std.specs.List.{flat_map, AllZip}
 use Rattle.shape_core.specs.declared.words.Kinds.{Kinds}
 use Rattle.shape_core.specs.Word.{count_from}
@@ -8,11 +8,10 @@ use Rattle.shape_dict.specs.declared.entries.Entry.{Entry}
 use Rattle.shape_dict.specs.Contents.{Contents, IsDictionary, entry_of}
 use Rattle.tally_core.specs.Counts.{Replayed}
 use Rattle.tally_core.specs.Games.{counts_diamonds}
-use Rattle.share_core.specs.declared.rows.Row.{Row}
-use Rattle.share_core.specs.Rows.{there_of, played_of, first_of}
-use Rattle.share_core.specs.Shares.{Held, Added, replayed_of, IsShareOf}
+use Rattle.gather_core.specs.declared.rows.Row.{Row}
+use Rattle.gather_core.specs.Rows.{there_of, played_of, first_of}
+use Rattle.gather_core.specs.Shares.{Held, Added, replayed_of, IsShareOf}
 use Rattle.gather_core.specs.Covering.{all_games, Covers}
-use Rattle.gather_core.specs.Checking.{all_rows}
 
 -- ---- rows
 -- what rows count of a pattern, as the entry of a dictionary; a pattern that was never there has none
@@ -23,6 +22,10 @@ gathered_entry rows shape =
     else None
 
 -- ---- shares
+-- the rows of all shares, one share after another
+abbrev pub all_rows : List Held → List Row
+all_rows shares = flat_map (λ share. share.rows) shares
+
 -- the moves of all shares
 abbrev pub all_moves : List Held → ℕ
 all_moves shares = sum_by (λ share. share.moves) shares
@@ -34,11 +37,6 @@ pub record IsGathered (kinds : Kinds) (games : ℕ) (shares : List Held) (conten
   pub moves : contents.moves ≡ all_moves shares
   pub diamonds : contents.counts_diamonds ≡ counts_diamonds kinds
   pub entries : (shape : ℕ) → entry_of shape contents.entries ≡ gathered_entry (all_rows shares) shape
-
--- some pattern was there, or was played, 2 ^ 64 times or more, or the moves are as many
-abbrev pub IsLargeSum : List Held → Type 0
-IsLargeSum shares = ((shape : ℕ) × (2 ^ 64 ≤ there_of (all_rows shares) shape))
-    ⊎ ((shape : ℕ) × (2 ^ 64 ≤ played_of (all_rows shares) shape)) ⊎ (2 ^ 64 ≤ all_moves shares)
 
 -- ---- games
 -- the games of all shares, one share after another

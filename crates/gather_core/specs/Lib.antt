@@ -1,8 +1,9 @@
-pub mod Covering
-pub mod Checking
-pub mod Agreeing
-pub mod Gathering
-pub mod Confirming
-pub mod GatherFaults
+pub mod Rows
+pub mod Shares
+pub mod Adding
+pub mod WordShares
+pub mod Entering
 pub mod Numbering
+pub mod Covering
+pub mod Gathering
 pub mod Inner

@@ -1,23 +1,21 @@
-//! Shares put together: the dictionary of what all workers have counted, and why a table was full.
+//! What workers count by words becomes a dictionary, and its patterns get numbers in a table.
 #![tactic(auto)]
 
-// what is wrong with shares
-mod agreeing;
-mod confirming;
-mod covering;
-mod leasts;
-mod numbers;
-mod standing;
-mod visiting;
+// what one worker has counted
+mod rows;
+mod word_shares;
 
-// the dictionary of their rows
-mod adding_up;
-mod gathering;
+// patterns get numbers
+mod marking;
+mod numbering;
+
+// the dictionary of what all have counted
 mod gathering_words;
 pub mod laws;
 mod taking;
-mod totals;
 
-pub use confirming::confirm_full;
-pub use gathering::gather;
 pub use gathering_words::{GatheredWords, gather_words};
+pub use marking::{key_of, mark_first};
+pub use numbering::number_entries;
+pub use rows::Row;
+pub use word_shares::WordShare;

@@ -12,11 +12,11 @@ ghost use Rattle.harvest_faults.specs.declared.faults.HarvestFault.TheVariants a
 ghost use Rattle.gather_core.specs.Inner.Taking.{AreTaken, IsTaken};
 ghost use Rattle.gather_core.specs.Numbering.{AreNumbered};
 
+use crate::numbering::number_entries;
 use harvest_faults::HarvestFault;
 use probe_core::ProbeOrder;
 use range_core::{Cuts, EntryList, Lists, Range, Sums, WORD_RANGES};
 use shape_dict::Entry;
-use share_core::number_entries;
 use slot_table::{Pass, SlotTable};
 use std::alloc::Global;
 use std::thread::{Threads, join};

@@ -3,17 +3,16 @@ ghost use Rattle.std.specs.Prelude.{◌<◌};
 ghost use Rattle.sgf_core.specs.Limit.{most_bytes};
 ghost use Rattle.slot_table.specs.Passes.{IsPassOf};
 
-use gather_core::confirm_full;
 use harvest_faults::HarvestFault;
 use probe_core::{Key, ProbeOrder};
 use shape_core::{Kinds, Word};
-use share_core::Share;
 use share_samples::{
     ALONE, EMPTY, ONE_POINT, TAKEN, TWO_POINTS, add_written, first_share, table_of,
 };
 use slot_table::{Pass, SlotTable};
 use std::alloc::Global;
 use std::test::Fail;
+use table_shares::{Share, confirm_full};
 
 /// The fault of a number that has this pattern in a share, and that one in the table.
 fn stranger(number: usize, of_share: Option<Word>, of_table: Option<Word>) -> HarvestFault {

@@ -4,18 +4,17 @@ ghost use Rattle.shape_core.specs.declared.words.Kinds.TheVariants as kinds;
 ghost use Rattle.slot_table.specs.Passes.{IsPassOf};
 ghost use Rattle.sgf_core.specs.Limit.{most_bytes};
 
-use gather_core::gather;
 use go_record::Record;
 use harvest_faults::HarvestFault;
 use probe_core::ProbeOrder;
 use shape_core::Kinds;
 use shape_dict::Dictionary;
-use share_core::Share;
 use share_samples::{record_of, table_of};
 use slot_table::{Pass, SlotTable};
 use std::alloc::Global;
 use std::test::Fail;
 use std::thread::Threads;
+use table_shares::{Share, gather};
 use tally_core::count_plain;
 
 /// Six games that share patterns, so that the first of a pattern is often not the first of a share.

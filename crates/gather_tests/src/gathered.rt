@@ -4,16 +4,15 @@ ghost use Rattle.std.specs.Prelude.{◌≡◌, ◌∷◌, [], ◌<◌, ◌≤◌
 ghost use Rattle.shape_core.specs.declared.words.Kinds.TheVariants as kinds;
 ghost use Rattle.slot_table.specs.Passes.{IsPassOf};
 ghost use Rattle.sgf_core.specs.Limit.{most_bytes};
-ghost use Rattle.share_core.specs.Shares.{IsShare};
+ghost use Rattle.gather_core.specs.Shares.{IsShare};
 ghost use Rattle.gather_core.specs.Covering.{all_games};
 
-use gather_core::{GatheredWords, confirm_full, gather, gather_words};
+use gather_core::{GatheredWords, WordShare, gather_words};
 use go_record::Record;
 use harvest_faults::HarvestFault;
 use probe_core::ProbeOrder;
 use shape_core::{Kinds, Word};
 use shape_dict::{Dictionary, Entry};
-use share_core::{Share, WordShare};
 use share_samples::{
     ALONE, EMPTY, ONE_POINT, TAKEN, TWO_POINTS, entry_of, first_share, record_of, share_of,
     table_of, words_of,
@@ -22,6 +21,7 @@ use slot_table::{Pass, SlotTable};
 use std::alloc::Global;
 use std::test::Fail;
 use std::thread::Threads;
+use table_shares::{Share, confirm_full, gather};
 
 /// Gathers two shares, of this game as game 0 and under another number.
 fn gather_two<R: Threads + Sync, O: ProbeOrder>(

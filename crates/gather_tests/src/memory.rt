@@ -7,18 +7,17 @@ ghost use Rattle.slot_table.specs.Passes.{IsPassOf};
 ghost use Rattle.sgf_core.specs.Limit.{most_bytes};
 
 use crate::gathered::{has, is_of};
-use gather_core::gather;
 use go_record::Record;
 use harvest_faults::HarvestFault;
 use probe_core::ProbeOrder;
 use shape_core::Kinds;
 use shape_dict::Dictionary;
-use share_core::{Row, Share};
 use share_samples::{entry_of, record_of, table_of};
 use slot_table::{Pass, SlotTable};
 use std::alloc::Global;
 use std::process::Abort;
 use std::thread::Threads;
+use table_shares::{Row, Share, gather};
 
 /// Two points: Black plays at one of them, and White at the other.
 const IN_TURN: &[u8] = b"(;SZ[2:1];B[aa];W[ba])";

@@ -5,9 +5,9 @@ use Rattle.go_record.specs.Actions.{Actions}
 use Rattle.shape_core.specs.declared.words.Kinds.{Kinds}
 use Rattle.job_core.specs.Rising.{Rising, past}
 use Rattle.job_core.proofs.Orders.{past_on, rising_on}
-use Rattle.share_core.specs.Shares.{Held, Added}
-use Rattle.share_core.specs.Adding.{IsAdded}
-use Rattle.share_core.proofs.Added.{share_of_more}
+use Rattle.gather_core.specs.Shares.{Held, Added}
+use Rattle.gather_core.specs.Adding.{IsAdded}
+use Rattle.gather_core.proofs.Added.{share_of_more}
 use Rattle.harvest_core.specs.Working.{IsGame, IsOfInput, IsWorked}
 
 -- a game was added, whose number is above those of the others: so all their numbers rise

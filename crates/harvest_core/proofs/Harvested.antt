@@ -1,17 +1,12 @@
--- Shares that were worked from an input and have each of its games once: they give its dictionary, and each pattern of that
--- has a number where their rows stand in a table.
-use Rattle.std.proofs.Common.{◌≡◌, ℕ, ◌+◌, ◌<◌, ◌≤◌, ◌==◌, ◌||◌, nat_lt, eqb, true, false, cond, suc, List, [], ◌∷◌, ◌++◌, length, map, get_or, Some, None, refl, ap, ap₂, sym, subst, ◌∙◌, arith, add-zero, All, Contains}
+-- Shares that were worked from an input and have each of its games once: they give its dictionary.
+use Rattle.std.proofs.Common.{◌≡◌, ℕ, ◌+◌, ◌<◌, ◌≤◌, ◌==◌, true, false, cond, suc, List, [], ◌∷◌, ◌++◌, length, map, Some, refl, ap, ap₂, sym, subst, ◌∙◌, arith, add-zero, All, Contains}
 use Rattle.std.specs.Prelude.{slice_get}
-use Rattle.std.specs.List.{AllByRecursion, AllZip, IsDistinct, list_any}
+use Rattle.std.specs.List.{AllByRecursion, AllZip}
 use Rattle.std.specs.List.Sorted.{IsStrictlyIncreasing}
-use Rattle.std.proofs.lemmas.Bool.{eqb-true, ne_eqb}
 use Rattle.std.proofs.lemmas.Bool.Decides.{nat_tests}
-use Rattle.std.proofs.lemmas.List.{map-append, length-map}
-use Rattle.std.proofs.lemmas.List.Elements.{All-from_recursion, recursion_from_All, All-contains, All-weaker, All-contains_itself, length_all_zip, AllZip-get_or}
-use Rattle.std.proofs.lemmas.List.Kept.{AllPairs-from_increasing}
+use Rattle.std.proofs.lemmas.List.{map-append}
+use Rattle.std.proofs.lemmas.List.Elements.{All-from_recursion, recursion_from_All, All-contains}
 use Rattle.std.proofs.lemmas.List.Sums.{sum_by-cons}
-use Rattle.std.proofs.lemmas.Map.Keys.{IsDistinct-from_apart}
-use Rattle.std.proofs.lemmas.Map.Steps.{length-le_from_distinct_below}
 use Rattle.std.proofs.lemmas.Option.{same_Some, slice_get_within}
 use Rattle.sgf_core.specs.Tree.{GameTree}
 use Rattle.sgf_core.specs.Next.{HasNoTree}
@@ -28,20 +23,12 @@ use Rattle.tally_core.specs.Counted.{IsCounted}
 use Rattle.game_core.specs.declared.reports.Report.{Report}
 use Rattle.tally_core.specs.Inner.Entries.{shapes_of}
 use Rattle.tally_core.proofs.RisingEntries.{each_is_found}
-use Rattle.probe_core.specs.Sequential.{Table, IsNumber}
-use Rattle.slot_table.specs.declared.entries.Happened.{Happened}
-use Rattle.slot_table.specs.History.{content_of}
-use Rattle.slot_table.proofs.Contents.{number_below, one_key}
 use Rattle.game_core.specs.Games.{HasReadAll}
 use Rattle.game_core.proofs.OneGame.{games_of, one_game}
-use Rattle.share_core.specs.declared.rows.Row.{Row}
-use Rattle.share_core.specs.Rows.{there_of, played_of, first_of}
-use Rattle.gather_core.specs.Checking.{all_rows, Stand}
-use Rattle.share_core.specs.Shares.{Held, Added, replayed_of, IsShareOf}
+use Rattle.gather_core.specs.Gathering.{AreWithin, HaveGames, IsGathered, all_added, replayed_at, replayed_games}
+use Rattle.gather_core.specs.Shares.{Held, Added, replayed_of, IsShareOf}
 use Rattle.gather_core.specs.Covering.{Covers, all_games, times_of}
-use Rattle.gather_core.specs.Gathering.{AreWithin, HaveGames, IsGathered, gathered_entry, all_added, replayed_at, replayed_games}
-use Rattle.gather_core.proofs.Numbered.{numbers_of}
-use Rattle.gather_core.proofs.Ordered.{there_some}
+use Rattle.gather_core.proofs.NumberedGames.{numbers_of}
 use Rattle.gather_core.proofs.Gathered.{dictionary_of_shares}
 use Rattle.harvest_core.specs.Working.{IsGame, IsOfInput}
 
@@ -193,85 +180,8 @@ harvested bytes kinds shares report contents worked read covers gathered =
     }
 
 -- ---- the patterns of the dictionary
-gathered_some : (rows : List Row) (shape : ℕ) (entry : Entry) → gathered_entry rows shape ≡ Some entry → 0 < there_of rows shape
-gathered_some rows shape entry is =
-    let e : Entry = record { shape = shape; there = there_of rows shape; played = played_of rows shape; first = first_of rows shape } in
-    elim (nat_lt 0 (there_of rows shape)) as (λ b. nat_lt 0 (there_of rows shape) ≡ b → cond b (Some e) None ≡ Some entry → 0 < there_of rows shape) [
-      | true ↦ λ test found. Prim.grind (arith, nat_tests)
-      | false ↦ λ test found. absurd cc
-    ] refl is
-
--- numbers of these patterns
-numbers_for : (table : Table) (shapes : List ℕ) → AllByRecursion (λ shape. (p : ℕ) × IsNumber table shape p) shapes → (numbers : List ℕ) × AllZip (IsNumber table) shapes numbers
-numbers_for table [] each = ([], tt)
-numbers_for table (shape ∷ shapes) each = let rest = numbers_for table shapes each.1 in (each.0.0 ∷ rest.0, (each.0.1, rest.1))
-
-below_any : (xs : List ℕ) (n q : ℕ) → AllByRecursion (λ x. x < n) xs → list_any (eqb q) xs ≡ true → q < n
-below_any [] n q below any = absurd cc
-below_any (x ∷ xs) n q below any =
-    elim (eqb q x) as (λ b. eqb q x ≡ b → (b || list_any (eqb q) xs) ≡ true → q < n) [
-      | true ↦ λ test found. subst (λ k. k < n) (sym (eqb-true q x test)) below.0
-      | false ↦ λ test found. below_any xs n q below.1 found
-    ] refl any
-
-module _ (n : ℕ) (seen : List Happened) where
-  numbers_below : (shapes numbers : List ℕ) → AllZip (IsNumber (content_of n seen)) shapes numbers → AllByRecursion (λ p. p < n) numbers
-  numbers_below [] [] each = tt
-  numbers_below [] (p ∷ numbers) each = absurd each
-  numbers_below (shape ∷ shapes) [] each = absurd each
-  numbers_below (shape ∷ shapes) (p ∷ numbers) each = (number_below n seen shape p each.0, numbers_below shapes numbers each.1)
-
-  -- patterns that rise have different numbers
-  numbers_apart : (shapes numbers : List ℕ) → IsStrictlyIncreasing shapes → AllZip (IsNumber (content_of n seen)) shapes numbers → IsDistinct eqb numbers
-  numbers_apart shapes numbers rises each =
-      IsDistinct-from_apart eqb numbers (λ i j d before inside.
-      let long = length_all_zip (IsNumber (content_of n seen)) shapes numbers each in
-      let one = AllZip-get_or (IsNumber (content_of n seen)) shapes numbers i d d each (omega arith) in
-      let other = AllZip-get_or (IsNumber (content_of n seen)) shapes numbers j d d each (omega arith) in
-      let less : get_or shapes i d < get_or shapes j d = AllPairs-from_increasing shapes rises i j d before (omega arith) in
-      ne_eqb (get_or numbers i d) (get_or numbers j d) (λ same.
-      let equal = one_key n seen (get_or shapes i d) (get_or shapes j d) (get_or numbers j d) (subst (λ p. IsNumber (content_of n seen) (get_or shapes i d) p) same one) other in
-      omega arith))
-
-  few_numbered : (shapes : List ℕ) → IsStrictlyIncreasing shapes → AllByRecursion (λ shape. (p : ℕ) × IsNumber (content_of n seen) shape p) shapes → length shapes ≤ n
-  few_numbered shapes rises each =
-      let numbers = numbers_for (content_of n seen) shapes each in
-      let long = length_all_zip (IsNumber (content_of n seen)) shapes numbers.0 numbers.1 in
-      let few = length-le_from_distinct_below numbers.0 n (numbers_apart shapes numbers.0 rises numbers.1)
-      (λ q any. below_any numbers.0 n q (numbers_below shapes numbers.0 numbers.1) any) in
-      omega arith
-
-  shapes_numbered : (rest : List Entry) → AllByRecursion (λ (entry : Entry). (p : ℕ) × IsNumber (content_of n seen) entry.shape p) rest →
-      AllByRecursion (λ shape. (p : ℕ) × IsNumber (content_of n seen) shape p) (shapes_of rest)
-  shapes_numbered [] each = tt
-  shapes_numbered (entry ∷ rest) each = (each.0, shapes_numbered rest each.1)
-
--- where each pattern of a dictionary has a number, it has at most n
-pub few_patterns : (n : ℕ) (seen : List Happened) (entries : List Entry) → IsStrictlyIncreasing (shapes_of entries) →
-    ((entry : Entry) → Contains entries entry → (p : ℕ) × IsNumber (content_of n seen) entry.shape p) → length entries ≤ n
-few_patterns n seen entries rises each =
-    let long : length (shapes_of entries) ≡ length entries = length-map entries (λ (entry : Entry). entry.shape) in
-    let all = All-weaker (Contains entries) (λ (entry : Entry). (p : ℕ) × IsNumber (content_of n seen) entry.shape p) each entries (All-contains_itself entries) in
-    let few = few_numbered n seen (shapes_of entries) rises
-    (shapes_numbered n seen entries (recursion_from_All (λ (entry : Entry). (p : ℕ) × IsNumber (content_of n seen) entry.shape p) entries all)) in
-    omega arith
-
 -- each pattern of a dictionary is found in it
 pub entry_found : (entries : List Entry) → IsStrictlyIncreasing (shapes_of entries) → (entry : Entry) → Contains entries entry → entry_of entry.shape entries ≡ Some entry
 entry_found entries rises entry among =
     let found = All-from_recursion (λ (e : Entry). entry_of e.shape entries ≡ Some e) entries (each_is_found entries rises) in
     All-contains (λ (e : Entry). entry_of e.shape entries ≡ Some e) entries entry found among
-
--- each pattern of that dictionary has a number, and it has at most n patterns
-pub numbered : (n : ℕ) (seen : List Happened) (kinds : Kinds) (games : ℕ) (shares : List Held) (contents : Contents) → Stand n seen (all_rows shares) →
-    IsGathered kinds games shares contents →
-    ((entry : Entry) → Contains contents.entries entry → (p : ℕ) × IsNumber (content_of n seen) entry.shape p) × (length contents.entries ≤ n)
-numbered n seen kinds games shares contents stand gathered =
-    let entries = contents.entries in
-    let rows = all_rows shares in
-    let rises = gathered.dictionary.rises in
-    let each : (entry : Entry) → Contains entries entry → (p : ℕ) × IsNumber (content_of n seen) entry.shape p = λ entry among.
-    let is = entry_found entries rises entry among in
-    let row = there_some rows entry.shape (gathered_some rows entry.shape entry (sym (gathered.entries entry.shape) ∙ is)) in
-    (row.0.number, subst (λ shape. IsNumber (content_of n seen) shape row.0.number) row.2 (stand row.0 row.1)) in
-    (each, few_patterns n seen entries rises each)

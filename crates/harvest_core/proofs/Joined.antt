@@ -6,7 +6,7 @@ use Rattle.job_core.specs.declared.knowledge.Knowledge.{Knowledge}
 use Rattle.job_core.specs.Rule.{taking_up, all_parts}
 use Rattle.job_core.specs.Which.{id_of}
 use Rattle.job_core.proofs.Sums.{times_append}
-use Rattle.share_core.specs.Shares.{Held}
+use Rattle.gather_core.specs.Shares.{Held}
 use Rattle.gather_core.specs.Covering.{times_of, all_games, Covers}
 use Rattle.harvest_core.specs.Working.{IsOfInput}
 use Rattle.harvest_core.specs.declared.workers.Shared.{Shared}

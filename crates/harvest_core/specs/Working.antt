@@ -4,8 +4,8 @@ use Rattle.go_record.specs.Actions.{Actions}
 use Rattle.shape_core.specs.declared.words.Kinds.{Kinds}
 use Rattle.game_core.specs.Games.{IsGameOf}
 use Rattle.job_core.specs.Rising.{Rising, past}
-use Rattle.share_core.specs.declared.rows.Row.{Row}
-use Rattle.share_core.specs.Shares.{Held, Added, IsShareOf, IsPatternOf}
+use Rattle.gather_core.specs.declared.rows.Row.{Row}
+use Rattle.gather_core.specs.Shares.{Held, Added, IsShareOf, IsPatternOf}
 
 -- these bytes have a game of this number with this record
 pub record IsGame (bytes : List ℕ) (game : ℕ) (actions : Actions) : Type 0 where

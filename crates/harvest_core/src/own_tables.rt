@@ -10,11 +10,11 @@ ghost use Rattle.harvest_core.specs.Harvest.{IsCountedWithin, IsCountRefused, Is
 use crate::gates::Gate;
 use crate::gathering::{Harvested, count_in_threads};
 use crate::numberings::{Numbering, numbering_of};
+use gather_core::number_entries;
 use harvest_faults::HarvestFault;
 use probe_core::{Capacity, ProbeOrder};
 use shape_core::Kinds;
 use shape_dict::{Entry, PieceDictionary};
-use share_core::number_entries;
 use slot_table::{Pass, SlotTable};
 use std::alloc::Global;
 use std::sync::Wait;

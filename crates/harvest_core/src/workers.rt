@@ -1,10 +1,10 @@
 //! A worker: it draws jobs and counts their games by words, until it draws an end.
 use crate::gates::Gate;
+use gather_core::WordShare;
 use harvest_faults::HarvestFault;
 use job_core::{Endpoint, Item, Job, Jobs};
 use range_core::PLACE_RANGES;
 use shape_core::Kinds;
-use share_core::WordShare;
 use std::alloc::Global;
 use std::sync::Wait;
 use std::thread;

@@ -5,7 +5,7 @@ use Rattle.std.specs.List.{AllByRecursion}
 use Rattle.go_record.specs.Actions.{Actions}
 use Rattle.tally_core.specs.Occasions.{Occasion, AreOccasions}
 use Rattle.game_core.specs.Games.{WrittenGame}
-use Rattle.share_core.specs.Shares.{Added}
+use Rattle.gather_core.specs.Shares.{Added}
 use Rattle.share_bench.specs.Timed.{AreGamesOf}
 
 -- a game with its occasions

@@ -7,7 +7,7 @@ use Rattle.game_core.specs.declared.reports.Report.{Report}
 use Rattle.game_core.specs.Games.{WrittenGame, HasReadAll}
 use Rattle.tally_core.specs.declared.faults.TallyFault.{TallyFault}
 use Rattle.tally_core.specs.Counted.{IsCountFault}
-use Rattle.share_core.specs.Shares.{Held, Added, IsShareOf}
+use Rattle.gather_core.specs.Shares.{Held, Added, IsShareOf}
 use Rattle.harvest_faults.specs.Faults.{same_fault}
 use Rattle.harvest_faults.specs.declared.faults.HarvestFault.TheVariants as count
 use Rattle.share_bench.specs.declared.faults.BenchFault.{BenchFault}

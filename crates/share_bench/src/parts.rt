@@ -13,9 +13,9 @@ use harvest_faults::HarvestFault;
 use job_core::{Games, Job};
 use probe_core::ProbeOrder;
 use shape_core::Kinds;
-use share_core::Share;
 use slot_table::{Pass, SlotTable};
 use std::alloc::Global;
+use table_shares::Share;
 use tally_core::Walk;
 
 /// The games of a collection, in their order. It takes memory for their records.

@@ -6,8 +6,9 @@ use Rattle.shape_core.specs.Symmetry.{least_image}
 use Rattle.shape_core.specs.declared.words.Kinds.TheVariants as kinds
 use Rattle.slot_table.specs.declared.entries.Happened.{Happened}
 use Rattle.harvest_faults.specs.declared.faults.HarvestFault.{HarvestFault}
-use Rattle.share_core.specs.Shares.{Held}
-use Rattle.share_core.specs.Adding.{IsAdded, IsAddFault}
+use Rattle.gather_core.specs.Shares.{Held}
+use Rattle.gather_core.specs.Adding.{IsAdded}
+use Rattle.table_shares.specs.Adding.{IsAddFault}
 
 -- a word has these bits, and it is the least of its images
 abbrev pub IsPattern : ℕ → Type 0

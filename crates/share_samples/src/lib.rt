@@ -8,19 +8,21 @@ ghost use Rattle.sgf_core.specs.Limit.{most_bytes};
 ghost use Rattle.go_record.specs.Actions.{Actions};
 ghost use Rattle.shape_core.specs.declared.words.Kinds.TheVariants as kinds;
 ghost use Rattle.slot_table.specs.Passes.{IsPassOf};
-ghost use Rattle.share_core.specs.Adding.{IsAdded, IsAddFault};
-ghost use Rattle.share_core.specs.Shares.{IsShare};
+ghost use Rattle.gather_core.specs.Adding.{IsAdded};
+ghost use Rattle.table_shares.specs.Adding.{IsAddFault};
+ghost use Rattle.gather_core.specs.Shares.{IsShare};
 ghost use Rattle.share_samples.specs.Samples.{IsPattern, IsFirstGame, HasOneGame, IsRefused};
 
 use game_core::Games;
+use gather_core::WordShare;
 use go_record::Record;
 use harvest_faults::HarvestFault;
 use probe_core::{Capacity, OddStep, ProbeOrder};
 use shape_core::{Kinds, Shape, Word};
 use shape_dict::{Entry, FirstGame};
-use share_core::{Share, WordShare};
 use slot_table::{Pass, SlotTable};
 use std::alloc::Global;
+use table_shares::Share;
 
 /// One move on a board of one point: one pattern.
 pub const ONE_POINT: &[u8] = b"(;SZ[1];B[aa])";

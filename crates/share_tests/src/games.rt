@@ -6,10 +6,10 @@ ghost use Rattle.slot_table.specs.Passes.{IsPassOf};
 
 use harvest_faults::HarvestFault;
 use probe_core::ProbeOrder;
-use share_core::Share;
 use share_samples::{add_written, first_share};
 use slot_table::{Pass, SlotTable};
 use std::alloc::Global;
+use table_shares::Share;
 
 /// What comes of a game that is added to a share; None where there was no memory for its record.
 pub(crate) fn add<O: ProbeOrder>(

@@ -4,10 +4,10 @@ ghost use Rattle.slot_table.specs.Passes.{IsPassOf};
 use crate::games::{add, first};
 use probe_core::ProbeOrder;
 use shape_core::Kinds;
-use share_core::Share;
 use share_samples::{ALONE, EMPTY, ONE_POINT, TAKEN, TWO_POINTS, table_of};
 use slot_table::{Pass, SlotTable};
 use std::alloc::Global;
+use table_shares::Share;
 
 /// Whether a share has a row that counts so the pattern whose word has these bits.
 fn has_row(share: &Share, bits: u64, there: u64, played: u64, first: u64) -> bool {

@@ -7,10 +7,10 @@ use crate::games::{add, first};
 use harvest_faults::HarvestFault;
 use probe_core::ProbeOrder;
 use shape_core::{Kinds, Word};
-use share_core::{Row, Share};
 use share_samples::{ALONE, EMPTY, ONE_POINT, TAKEN, TWO_POINTS, table_of};
 use slot_table::{Pass, SlotTable};
 use std::alloc::Global;
+use table_shares::{Row, Share};
 
 /// Whether a share has the game 0 alone, of this many moves.
 fn has_first_alone(share: &Share, moves: u64) -> bool {

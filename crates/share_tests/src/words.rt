@@ -1,10 +1,10 @@
 //! The numbers that patterns of entries get.
 ghost use Rattle.std.specs.Prelude.{◌+◌, ◌^◌, ◌<◌};
 
+use gather_core::number_entries;
 use harvest_faults::HarvestFault;
 use probe_core::{Answer, Key};
 use shape_dict::{Entry, FirstGame};
-use share_core::number_entries;
 use share_samples::{ALONE, EMPTY, TAKEN, shape_of, table_of};
 use std::alloc::Global;
 

@@ -5,21 +5,23 @@ use Rattle.std.proofs.lemmas.List.Elements.{All-push, Contains-append_cases, Con
 use Rattle.go_record.specs.Actions.{Actions}
 use Rattle.shape_core.specs.declared.words.Kinds.{Kinds}
 use Rattle.slot_table.specs.declared.entries.Happened.{Happened}
-use Rattle.share_core.specs.declared.rows.Row.{Row}
+use Rattle.gather_core.specs.declared.rows.Row.{Row}
 use Rattle.harvest_faults.specs.declared.faults.HarvestFault.{HarvestFault}
 use Rattle.harvest_faults.specs.declared.faults.HarvestFault.TheVariants as fault
-use Rattle.share_core.specs.Rows.{row_at, blank}
-use Rattle.share_core.specs.Raising.{Numbered, numbered_of}
-use Rattle.share_core.specs.Shares.{Held, Added, IsPatternOf}
-use Rattle.share_core.specs.Adding.{IsAdded, HasGrown, IsKept, AreFresh, IsAddFault, IsTooLarge, IsEntryOf, IsMarkOf}
-use Rattle.gather_core.specs.Confirming.{HasShape}
-use Rattle.share_core.specs.Entering.{CallsOnly}
+use Rattle.table_shares.specs.Rows.{row_at, blank}
+use Rattle.table_shares.specs.Raising.{Numbered, numbered_of}
+use Rattle.gather_core.specs.Shares.{Held, Added, IsPatternOf}
+use Rattle.gather_core.specs.Adding.{IsAdded}
+use Rattle.table_shares.specs.Adding.{HasGrown, IsKept, AreFresh, IsAddFault, IsTooLarge, IsEntryOf, IsMarkOf}
+use Rattle.table_shares.specs.Confirming.{HasShape}
+use Rattle.gather_core.specs.Entering.{CallsOnly}
 use Rattle.probe_core.specs.declared.calls.Answer.{Answer}
 use Rattle.slot_table.specs.Passes.{Known}
 use Rattle.job_core.specs.Rising.{Rising, past}
-use Rattle.share_core.proofs.Raised.{same_shape, same_length}
-use Rattle.share_core.proofs.Added.{still_of, share_of_more}
-use Rattle.share_core.proofs.Entered.{calls_weaker}
+use Rattle.table_shares.proofs.Raised.{same_shape, same_length}
+use Rattle.table_shares.proofs.Added.{still_of}
+use Rattle.gather_core.proofs.Added.{share_of_more}
+use Rattle.gather_core.proofs.Calls.{calls_weaker}
 use Rattle.harvest_core.specs.Working.{IsGame, IsPatternOfGame, IsPatternIn, IsWorked}
 use Rattle.harvest_core.proofs.ByWords.{rises_more}
 use Rattle.table_harvest.specs.Working.{IsMarkIn, CallsOfGame, IsRefusal, AreOfGame}

@@ -12,8 +12,9 @@ use Rattle.slot_table.proofs.Meetings.{met_calls}
 use Rattle.slot_table.proofs.Enters.{was_entered}
 use Rattle.slot_table.proofs.Histories.{begins_itself, begins_through}
 use Rattle.slot_table.specs.Stakes.{IsWhole}
-use Rattle.share_core.specs.Entering.{IsCall, AsksOnly}
-use Rattle.share_core.proofs.Entered.{calls_are}
+use Rattle.gather_core.specs.Entering.{IsCall}
+use Rattle.table_shares.specs.Asking.{AsksOnly}
+use Rattle.table_shares.proofs.Entered.{calls_are}
 use Rattle.harvest_faults.specs.declared.faults.HarvestFault.{HarvestFault}
 use Rattle.harvest_faults.specs.declared.faults.HarvestFault.TheVariants as fault
 use Rattle.table_harvest.specs.declared.working.Worked.{Worked}

@@ -4,7 +4,8 @@ use Rattle.shape_core.specs.declared.words.Kinds.{Kinds}
 use Rattle.slot_table.specs.declared.entries.Happened.{Happened}
 use Rattle.slot_table.specs.History.{Keeps}
 use Rattle.slot_table.specs.Passes.{Known, calls_of}
-use Rattle.share_core.proofs.Entered.{calls_self, calls_through, calls_weaker, calls_are}
+use Rattle.gather_core.proofs.Calls.{calls_self, calls_through, calls_weaker}
+use Rattle.table_shares.proofs.Entered.{calls_are}
 use Rattle.harvest_core.specs.Working.{IsPatternIn, IsPatternOfGame}
 use Rattle.table_harvest.specs.Working.{IsPatternAmong, IsMarkIn, IsCallIn, CallsIn, CallsAmong, CallsOfGame}
 

@@ -17,19 +17,20 @@ use Rattle.slot_table.specs.declared.entries.Happened.TheVariants as call
 use Rattle.slot_table.specs.History.{content_of, least_at, IsAtMost, IsLegal, Keeps}
 use Rattle.slot_table.specs.Passes.{Known, IsLater, calls_of}
 use Rattle.game_core.specs.Games.{HasReadAll}
-use Rattle.share_core.specs.declared.rows.Row.{Row}
+use Rattle.gather_core.specs.declared.rows.Row.{Row}
 use Rattle.harvest_faults.specs.declared.faults.HarvestFault.{HarvestFault}
 use Rattle.harvest_faults.specs.declared.faults.HarvestFault.TheVariants as fault
-use Rattle.gather_core.specs.Agreeing.{agreeing_firsts, IsMarksFault}
-use Rattle.gather_core.specs.Checking.{all_rows, is_shape, is_stranger, shape_at, IsStranger}
-use Rattle.gather_core.specs.Confirming.{first_shape, HasShape, HasShapeAt, IsUnknown, IsUnconfirmed, IsConfirmation}
+use Rattle.table_shares.specs.Agreeing.{agreeing_firsts, IsMarksFault}
+use Rattle.gather_core.specs.Gathering.{all_rows}
+use Rattle.table_shares.specs.Checking.{is_shape, is_stranger, shape_at, IsStranger}
+use Rattle.table_shares.specs.Confirming.{first_shape, HasShape, HasShapeAt, IsUnknown, IsUnconfirmed, IsConfirmation}
 use Rattle.gather_core.specs.Covering.{all_games, times_of}
-use Rattle.gather_core.specs.GatherFaults.{IsGatherFault}
-use Rattle.share_core.specs.Making.{HasRow}
-use Rattle.share_core.specs.Rows.{row_of, first_at}
-use Rattle.share_core.specs.Shares.{Held}
+use Rattle.table_shares.specs.GatherFaults.{IsGatherFault}
+use Rattle.table_shares.specs.Making.{HasRow}
+use Rattle.table_shares.specs.Rows.{row_of, first_at}
+use Rattle.gather_core.specs.Shares.{Held}
 use Rattle.slot_table.proofs.Contents.{one_key}
-use Rattle.gather_core.proofs.Confirmed.{more_patterns}
+use Rattle.table_shares.proofs.Confirmed.{more_patterns}
 use Rattle.table_harvest.specs.declared.taking.Results.{Results}
 use Rattle.table_harvest.specs.InTable.{HasGameBy}
 use Rattle.table_harvest.specs.Inner.Parted.{shares_of, refusals_of}

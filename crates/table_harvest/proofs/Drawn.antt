@@ -13,14 +13,14 @@ use Rattle.probe_core.specs.declared.calls.Answer.{Answer}
 use Rattle.slot_table.specs.declared.entries.Happened.{Happened}
 use Rattle.slot_table.specs.History.{Keeps}
 use Rattle.slot_table.specs.Passes.{Known}
-use Rattle.share_core.specs.declared.rows.Row.{Row}
+use Rattle.gather_core.specs.declared.rows.Row.{Row}
 use Rattle.harvest_faults.specs.declared.faults.HarvestFault.{HarvestFault}
-use Rattle.gather_core.specs.Confirming.{HasShape}
-use Rattle.share_core.specs.Entering.{CallsOnly}
+use Rattle.table_shares.specs.Confirming.{HasShape}
+use Rattle.gather_core.specs.Entering.{CallsOnly}
 use Rattle.table_harvest.specs.declared.working.Worked.{Worked}
 use Rattle.harvest_core.specs.Working.{IsPatternOfGame}
 use Rattle.table_harvest.specs.Working.{IsPatternAmong, IsMarkIn, CallsOfGame, CallsAmong, AreOfGame, IsRefusedGame, IsCounted, HasDrawn}
-use Rattle.share_core.proofs.Entered.{calls_self, calls_through, calls_weaker}
+use Rattle.gather_core.proofs.Calls.{calls_self, calls_through, calls_weaker}
 
 -- what counting a game of the input does, with a pass
 pub record IsCountedBy {O : Type 0} (n : ℕ) (bytes : List ℕ) (kinds : Kinds) (game : ℕ) (mid after : Known O) (one two : Worked) : Type 0 where

@@ -21,18 +21,20 @@ use Rattle.slot_table.specs.Passes.{Known}
 use Rattle.slot_table.proofs.Later.{later_through}
 use Rattle.slot_table.proofs.Histories.{length-content}
 use Rattle.slot_table.proofs.Contents.{one_number, one_key, number_below, number_shown, free_shown}
-use Rattle.share_core.specs.declared.rows.Row.{Row}
+use Rattle.gather_core.specs.declared.rows.Row.{Row}
 use Rattle.harvest_faults.specs.declared.faults.HarvestFault.{HarvestFault}
 use Rattle.harvest_faults.specs.declared.faults.HarvestFault.TheVariants as fault
-use Rattle.share_core.specs.Rows.{row_at, blank, first_of, first_at, earlier}
-use Rattle.share_core.specs.Raising.{Numbered, numbered_of}
-use Rattle.share_core.specs.Entering.{IsCall}
-use Rattle.share_core.specs.Making.{HasRow}
-use Rattle.gather_core.specs.Checking.{Stand}
-use Rattle.share_core.specs.Shares.{Held, game_of}
-use Rattle.share_core.specs.Adding.{IsAdded, HasGrown, IsKept, AreFresh, IsAddFault, IsMarked, IsRowed, IsRowedAfter, IsEntryOf, IsMarkOf}
-use Rattle.share_core.proofs.Raised.{same_shape, same_number, same_length}
-use Rattle.gather_core.proofs.Standings.{stand_grown, stand_kept}
+use Rattle.table_shares.specs.Rows.{row_at, blank, first_at}
+use Rattle.gather_core.specs.Rows.{first_of, earlier}
+use Rattle.table_shares.specs.Raising.{Numbered, numbered_of}
+use Rattle.gather_core.specs.Entering.{IsCall}
+use Rattle.table_shares.specs.Making.{HasRow}
+use Rattle.table_shares.specs.Checking.{Stand}
+use Rattle.gather_core.specs.Shares.{Held, game_of}
+use Rattle.gather_core.specs.Adding.{IsAdded}
+use Rattle.table_shares.specs.Adding.{HasGrown, IsKept, AreFresh, IsAddFault, IsMarked, IsRowed, IsRowedAfter, IsEntryOf, IsMarkOf}
+use Rattle.table_shares.proofs.Raised.{same_shape, same_number, same_length}
+use Rattle.table_shares.proofs.Standings.{stand_grown, stand_kept}
 use Rattle.table_harvest.specs.declared.working.Worked.{Worked}
 use Rattle.table_harvest.specs.InTable.{AreFirstsMarked, HasGameBy, StandsIn, HasItsRows, IsFullOf, IsInTable, IsInTableSince, GoesOnInTable}
 use Rattle.table_harvest.specs.Working.{IsCallIn}

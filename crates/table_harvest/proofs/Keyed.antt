@@ -5,7 +5,7 @@ use Rattle.std.specs.List.{AllByRecursion}
 use Rattle.std.proofs.lemmas.List.Sums.{sum_by-cons}
 use Rattle.shape_core.specs.Word.{count_from}
 use Rattle.tally_core.proofs.DoubleCounting.{sum-none, sum-same}
-use Rattle.gather_core.proofs.Numbered.{sum_once}
+use Rattle.gather_core.proofs.NumberedGames.{sum_once}
 
 -- ---- sums
 pub sum_both : {X : Type 0} (f g : X → ℕ) (xs : List X) → sum_by (λ x. f x + g x) xs ≡ sum_by f xs + sum_by g xs

@@ -4,6 +4,7 @@ mod Sized
 mod Keyed
 mod Weighed
 mod Limited
+mod Numbered
 mod InTable
 mod CallsIn
 mod Stays

@@ -22,13 +22,13 @@ use Rattle.tally_core.specs.Games.{there_sum, played_sum}
 use Rattle.game_core.specs.declared.reports.Report.{Report}
 use Rattle.tally_core.proofs.Bounded.{there-few, played-few}
 use Rattle.harvest_faults.specs.declared.faults.HarvestFault.TheVariants as fault
-use Rattle.share_core.specs.Rows.{there_of, played_of}
-use Rattle.gather_core.specs.Checking.{all_rows}
+use Rattle.gather_core.specs.Rows.{there_of, played_of}
+use Rattle.gather_core.specs.Gathering.{all_rows, all_moves, all_added, replayed_games}
 use Rattle.gather_core.specs.Covering.{Covers, all_games}
-use Rattle.gather_core.specs.Gathering.{all_moves, all_added, replayed_games, IsLargeSum}
-use Rattle.share_core.specs.Shares.{Held, Added}
-use Rattle.share_core.specs.Adding.{IsTooLarge}
-use Rattle.gather_core.proofs.Numbered.{numbers_of}
+use Rattle.table_shares.specs.GatherFaults.{IsLargeSum}
+use Rattle.gather_core.specs.Shares.{Held, Added}
+use Rattle.table_shares.specs.Adding.{IsTooLarge}
+use Rattle.gather_core.proofs.NumberedGames.{numbers_of}
 use Rattle.gather_core.proofs.Gathered.{there_gathered, played_gathered, moves_gathered}
 use Rattle.game_core.specs.Games.{HasReadAll}
 use Rattle.job_core.specs.Rising.{Rising, past}

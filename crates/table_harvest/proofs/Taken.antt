@@ -12,7 +12,7 @@ use Rattle.job_core.specs.Rule.{taking_up, all_parts}
 use Rattle.game_core.specs.Games.{HasReadAll}
 use Rattle.slot_table.specs.Stakes.{IsAsMuch}
 use Rattle.game_core.specs.declared.reports.Report.{Report}
-use Rattle.share_core.specs.Shares.{Held}
+use Rattle.gather_core.specs.Shares.{Held}
 use Rattle.gather_core.specs.Covering.{times_of, all_games}
 use Rattle.harvest_faults.specs.declared.faults.HarvestFault.{HarvestFault}
 use Rattle.harvest_faults.specs.declared.faults.HarvestFault.TheVariants as fault

@@ -9,12 +9,12 @@ use Rattle.probe_core.specs.declared.calls.Answer.TheVariants as answer
 use Rattle.slot_table.specs.declared.entries.Happened.{Happened}
 use Rattle.slot_table.specs.declared.entries.Happened.TheVariants as call
 use Rattle.slot_table.specs.Passes.{Numbers, Known}
-use Rattle.share_core.specs.declared.rows.Row.{Row}
+use Rattle.gather_core.specs.declared.rows.Row.{Row}
 use Rattle.harvest_faults.specs.declared.faults.HarvestFault.{HarvestFault}
 use Rattle.harvest_faults.specs.declared.faults.HarvestFault.TheVariants as fault
-use Rattle.share_core.specs.Rows.{row_at, blank}
-use Rattle.share_core.specs.Making.{HasRow}
-use Rattle.gather_core.specs.Checking.{all_rows}
+use Rattle.table_shares.specs.Rows.{row_at, blank}
+use Rattle.table_shares.specs.Making.{HasRow}
+use Rattle.gather_core.specs.Gathering.{all_rows}
 use Rattle.table_harvest.specs.declared.working.Worked.{Worked}
 use Rattle.table_harvest.specs.InTable.{StandsIn, HasItsRows, IsInTable}
 use Rattle.table_harvest.specs.Working.{IsCallIn, IsRefused}

@@ -20,10 +20,10 @@ use Rattle.tally_core.specs.Counts.{Replayed, kinds_of, row_of, points_of, patte
 use Rattle.tally_core.specs.Walk.{IsWalk}
 use Rattle.tally_core.specs.declared.meetings.Meeting.{Meeting}
 use Rattle.tally_core.proofs.DoubleCounting.{sum-ones, count-flat_map}
-use Rattle.share_core.specs.declared.rows.Row.{Row}
-use Rattle.share_core.specs.Raising.{weight_of, weight_among}
-use Rattle.share_core.specs.Shares.{Held, Added, replayed_of, IsShareOf}
-use Rattle.share_core.specs.Adding.{IsTooLarge}
+use Rattle.gather_core.specs.declared.rows.Row.{Row}
+use Rattle.table_shares.specs.Raising.{weight_of, weight_among}
+use Rattle.gather_core.specs.Shares.{Held, Added, replayed_of, IsShareOf}
+use Rattle.table_shares.specs.Adding.{IsTooLarge}
 use Rattle.table_harvest.proofs.Keyed.{sum_both, sum_by_keys}
 
 -- ---- a game has no more occasions than actions

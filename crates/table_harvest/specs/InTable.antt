@@ -7,11 +7,11 @@ use Rattle.slot_table.specs.declared.entries.Happened.TheVariants as call
 use Rattle.probe_core.specs.Sequential.{IsAbsent, IsFull}
 use Rattle.slot_table.specs.History.{content_of, least_at, IsAtMost}
 use Rattle.slot_table.specs.Passes.{Known, IsLater}
-use Rattle.share_core.specs.declared.rows.Row.{Row}
+use Rattle.gather_core.specs.declared.rows.Row.{Row}
 use Rattle.harvest_faults.specs.declared.faults.HarvestFault.{HarvestFault}
 use Rattle.harvest_faults.specs.declared.faults.HarvestFault.TheVariants as fault
-use Rattle.share_core.specs.Making.{HasRow}
-use Rattle.gather_core.specs.Checking.{Stand}
+use Rattle.table_shares.specs.Making.{HasRow}
+use Rattle.table_shares.specs.Checking.{Stand}
 use Rattle.table_harvest.specs.declared.working.Worked.{Worked}
 
 -- the first game of each row is marked at its number, or an earlier one is

@@ -4,13 +4,13 @@ use Rattle.go_record.specs.Actions.{Actions}
 use Rattle.shape_core.specs.declared.words.Kinds.{Kinds}
 use Rattle.job_core.specs.Rising.{Rising, past}
 use Rattle.job_core.specs.declared.knowledge.Knowledge.{Knowledge}
-use Rattle.share_core.specs.declared.rows.Row.{Row}
+use Rattle.gather_core.specs.declared.rows.Row.{Row}
 use Rattle.harvest_faults.specs.declared.faults.HarvestFault.{HarvestFault}
 use Rattle.harvest_faults.specs.declared.faults.HarvestFault.TheVariants as fault
-use Rattle.share_core.specs.Shares.{Held}
-use Rattle.share_core.specs.Adding.{IsTooLarge, IsKept, IsAddFault}
-use Rattle.gather_core.specs.Confirming.{HasShape}
-use Rattle.share_core.specs.Entering.{IsCall, CallsOnly}
+use Rattle.gather_core.specs.Shares.{Held}
+use Rattle.table_shares.specs.Adding.{IsTooLarge, IsKept, IsAddFault}
+use Rattle.table_shares.specs.Confirming.{HasShape}
+use Rattle.gather_core.specs.Entering.{IsCall, CallsOnly}
 use Rattle.probe_core.specs.Sequential.{IsNumber}
 use Rattle.slot_table.specs.declared.entries.Happened.{Happened}
 use Rattle.slot_table.specs.History.{content_of}

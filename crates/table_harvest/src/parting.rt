@@ -6,8 +6,8 @@ ghost use Rattle.table_harvest.specs.Inner.Parted.{rank, game_of as game_named, 
 
 use crate::working::Worked;
 use harvest_faults::HarvestFault;
-use share_core::Share;
 use std::alloc::{AllocError, Global};
+use table_shares::Share;
 
 /// All shares, and the faults of those games that were not added.
 #[derive(Drop)]

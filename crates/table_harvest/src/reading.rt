@@ -9,7 +9,7 @@ ghost use Rattle.job_core.specs.Rising.{past};
 ghost use Rattle.job_core.specs.Rule.{MayPut, putting};
 ghost use Rattle.job_core.specs.Inner.Rule.{IsInStep};
 ghost use Rattle.slot_table.specs.Passes.{IsPassOf};
-ghost use Rattle.gather_core.specs.Checking.{Stand};
+ghost use Rattle.table_shares.specs.Checking.{Stand};
 ghost use Rattle.harvest_faults.specs.declared.faults.HarvestFault.TheVariants as fault;
 ghost use Rattle.table_harvest.specs.InTable.{IsInTableSince, GoesOnInTable};
 ghost use Rattle.harvest_core.specs.Working.{IsWorked};

@@ -4,7 +4,7 @@ ghost use Rattle.shape_core.specs.declared.words.Kinds.{Kinds};
 ghost use Rattle.slot_table.specs.Passes.{IsPassOf};
 ghost use Rattle.job_core.specs.Rising.{past};
 ghost use Rattle.harvest_faults.specs.declared.faults.HarvestFault.{HarvestFault};
-ghost use Rattle.gather_core.specs.Checking.{Stand};
+ghost use Rattle.table_shares.specs.Checking.{Stand};
 ghost use Rattle.table_harvest.specs.InTable.{GoesOnInTable};
 ghost use Rattle.harvest_core.specs.Working.{IsWorked};
 ghost use Rattle.table_harvest.specs.Working.{IsRefused, IsCounted, CallsOfGame};
@@ -15,9 +15,9 @@ use harvest_faults::HarvestFault;
 use job_core::Job;
 use probe_core::ProbeOrder;
 use shape_core::Kinds;
-use share_core::Share;
 use slot_table::{Pass, SlotTable};
 use std::alloc::Global;
+use table_shares::Share;
 
 /// What one worker has counted, and why it was refused, if it was.
 #[derive(Drop)]

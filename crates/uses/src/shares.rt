@@ -1,43 +1,43 @@
-//! The examples of the pages of `share_core` and `gather_core`.
-use gather_core::gather;
+//! The examples of the pages of `gather_core` and `table_shares`.
+use gather_core::{WordShare, gather_words};
 use go_record::Record;
 use harvest_faults::HarvestFault;
 use job_core::Games;
 use probe_core::{Capacity, OddStep};
 use shape_core::Kinds;
 use shape_dict::Dictionary;
-use share_core::Share;
 use slot_table::SlotTable;
 use std::alloc::Global;
 use std::test::Fail;
 use std::thread::Threads;
+use table_shares::{Share, gather};
 
-/// How often the patterns of a share were played.
-fn played(share: &Share) -> u64 {
-    let mut played = 0u64;
-    for row in share.rows() {
-        played = played.saturating_add(row.played);
-    }
-    played
-}
-
-/// Counts a game over a table of its own: its moves, and how often its patterns were played.
-fn count(alloc: Global, order: OddStep, record: &Record) -> Result<(u64, u64), HarvestFault> {
+/// How many patterns the dictionary of one game has, counted by words by one worker, and whether
+/// each of them has its number in a table.
+fn gather_by_words<R: Threads + Sync>(
+    rt: &R,
+    alloc: Global,
+    order: OddStep,
+    record: &Record,
+) -> Result<Option<(usize, bool)>, HarvestFault> {
     let Ok((table, mut pass)) = SlotTable::new(alloc, order) else {
         return Err(HarvestFault::Memory);
     };
-    let mut share = Share::begin(alloc, 0, Kinds::Squares);
-    share.add(&table, &mut pass, 0, record)?;
-    Ok((share.moves(), played(&share)))
+    let mut share = WordShare::begin(alloc, 0, Kinds::Squares, 8)?;
+    share.add(0, record)?;
+    let mut shares = Vec::new(alloc);
+    shares.push(share)?;
+    let gathered = gather_words(rt, alloc, Kinds::Squares, 1, &table, &mut pass, shares)?;
+    Ok(gathered.map(|words| (words.dictionary.len(), words.numbered)))
 }
 
 #[test]
-fn share_core(rt: HostRuntime) -> Result<(), Fail> {
+fn gather_core(rt: HostRuntime) -> Result<(), Fail> {
     let capacity = Capacity::new(4).ok_or("an exponent up to 22")?;
     let mut games = Games::new(b"(;SZ[2:1];B[aa];W[ba])")?;
     let job = games.next_job(rt.alloc())?.ok_or("no game")?;
-    let counted = count(rt.alloc(), OddStep { capacity }, job.record());
-    assert!(rt; counted == Ok((2, 2)));
+    let found = gather_by_words(&rt, rt.alloc(), OddStep { capacity }, job.record());
+    assert!(rt; found == Ok(Some((2, true))));
     Ok(())
 }
 
@@ -57,7 +57,7 @@ fn gather_one<R: Threads + Sync>(
 }
 
 #[test]
-fn gather_core(rt: HostRuntime) -> Result<(), Fail> {
+fn table_shares(rt: HostRuntime) -> Result<(), Fail> {
     let capacity = Capacity::new(4).ok_or("an exponent up to 22")?;
     let mut games = Games::new(b"(;SZ[2:1];B[aa];W[ba])")?;
     let job = games.next_job(rt.alloc())?.ok_or("no game")?;

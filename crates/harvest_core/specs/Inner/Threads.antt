@@ -6,7 +6,7 @@ use Rattle.game_core.specs.Games.{HasReadAll}
 use Rattle.job_core.specs.Which.{id_of}
 use Rattle.job_core.specs.Rule.{reader, worker, all_parts}
 use Rattle.job_core.specs.declared.knowledge.Knowledge.{Knowledge}
-use Rattle.share_core.specs.Shares.{Held}
+use Rattle.gather_core.specs.Shares.{Held}
 use Rattle.gather_core.specs.Covering.{all_games, Covers}
 use Rattle.harvest_core.specs.Working.{IsOfInput}
 use Rattle.harvest_core.specs.declared.reading.Reading.{Reading}

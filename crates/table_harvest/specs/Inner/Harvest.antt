@@ -2,13 +2,14 @@
 use Rattle.std.specs.Prelude.{◌≡◌, ℕ, ◌⊎◌, List, [], Contains}
 use Rattle.slot_table.specs.declared.entries.Happened.{Happened}
 use Rattle.slot_table.specs.Passes.{Known, calls_of}
-use Rattle.share_core.specs.declared.rows.Row.{Row}
+use Rattle.gather_core.specs.declared.rows.Row.{Row}
 use Rattle.harvest_faults.specs.declared.faults.HarvestFault.{HarvestFault}
 use Rattle.harvest_faults.specs.declared.faults.HarvestFault.TheVariants as fault
-use Rattle.share_core.specs.Shares.{Held}
-use Rattle.gather_core.specs.Checking.{all_rows, Stand}
-use Rattle.gather_core.specs.Confirming.{IsConfirmation}
-use Rattle.gather_core.specs.GatherFaults.{IsGatherFault}
+use Rattle.gather_core.specs.Shares.{Held}
+use Rattle.gather_core.specs.Gathering.{all_rows}
+use Rattle.table_shares.specs.Checking.{Stand}
+use Rattle.table_shares.specs.Confirming.{IsConfirmation}
+use Rattle.table_shares.specs.GatherFaults.{IsGatherFault}
 use Rattle.table_harvest.specs.declared.working.Worked.{Worked}
 use Rattle.table_harvest.specs.declared.taking.Results.{Results}
 use Rattle.table_harvest.specs.InTable.{AreFirstsMarked, StandsIn}

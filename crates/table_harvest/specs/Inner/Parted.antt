@@ -1,7 +1,7 @@
 -- What workers hand back, parted, and which of several refusals is reported.
 use Rattle.std.specs.Prelude.{◌≡◌, ◌⊎◌, ℕ, ◌<◌, List, Contains, map}
 use Rattle.std.specs.List.{filter_map}
-use Rattle.share_core.specs.Shares.{Held}
+use Rattle.gather_core.specs.Shares.{Held}
 use Rattle.harvest_faults.specs.declared.faults.HarvestFault.{HarvestFault}
 use Rattle.harvest_faults.specs.declared.faults.HarvestFault.TheVariants as fault
 use Rattle.table_harvest.specs.declared.working.Worked.{Worked}

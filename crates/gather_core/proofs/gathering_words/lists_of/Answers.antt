@@ -4,7 +4,7 @@ use Rattle.gather_core.proofs.Common.{Entry, Held, all_rows}
 use Rattle.range_core.specs.Places.{place_ranges, range_of_place}
 use Rattle.range_core.specs.Ranges.{AreDealtBy}
 use Rattle.range_core.specs.Totals.{everything}
-use Rattle.share_core.specs.WordShares.{unnumbered}
+use Rattle.gather_core.specs.WordShares.{unnumbered}
 use Rattle.gather_core.proofs.OfRows.{rows_push}
 use Rattle.gather_core.proofs.gathering_words.lists_of.Goals as goal
 

@@ -2,7 +2,7 @@ use Rattle.std.proofs.Common.{◌≡◌, ◌++◌, All, map, length}
 use Rattle.range_core.specs.Places.{place_ranges, range_of_place}
 use Rattle.range_core.specs.Ranges.{AreDealtBy}
 use Rattle.range_core.specs.Totals.{everything}
-use Rattle.share_core.specs.WordShares.{unnumbered}
+use Rattle.gather_core.specs.WordShares.{unnumbered}
 use Rattle.gather_core.proofs.Common.{all_rows}
 use Rattle.gather_core.proofs.gathering_words.lists_of.Given as goal
 

@@ -1,7 +1,7 @@
 use Rattle.std.proofs.Common.{◌≡◌, true, Result, Ok, Err, OnOk, sym, ◌∙◌, All}
 use Rattle.std.proofs.lemmas.List.Elements.{recursion_from_All}
 use Rattle.std.specs.Result.{is_ok}
-use Rattle.share_core.specs.WordShares.{IsSettled}
+use Rattle.gather_core.specs.WordShares.{IsSettled}
 use Rattle.gather_core.proofs.Taken.{settled_numbered}
 use Rattle.gather_core.proofs.taking.number_more.Goals as goal
 

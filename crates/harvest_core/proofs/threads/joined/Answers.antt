@@ -1,6 +1,6 @@
 use Rattle.std.proofs.Common.{◌≡◌, List, ◌∷◌, [], ◌++◌, IfOk, OnOk, length, All, sym, subst}
 use Rattle.std.proofs.lemmas.List.Elements.{All-push}
-use Rattle.share_core.specs.Shares.{Held}
+use Rattle.gather_core.specs.Shares.{Held}
 use Rattle.gather_core.specs.Covering.{all_games, Covers}
 use Rattle.harvest_core.specs.Working.{IsOfInput}
 use Rattle.harvest_core.specs.Inner.Working.{IsShareOfGames}

@@ -1,6 +1,6 @@
 use Rattle.std.proofs.Common.{rules, ◌≡◌, ◌∷◌, ◌+◌, List, length, ap, sym, subst, ◌∙◌, arith, IfOk}
 use Rattle.std.specs.Vec.Iter.{into_iter_items, into_iter_len}
-use Rattle.share_core.specs.Shares.{Held}
+use Rattle.gather_core.specs.Shares.{Held}
 use Rattle.harvest_core.specs.declared.workers.Worker.{Worker}
 use Rattle.harvest_core.specs.Inner.Working.{IsShareOfGames}
 use Rattle.harvest_core.specs.Inner.Threads.{HasTaken}

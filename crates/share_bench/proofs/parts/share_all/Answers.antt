@@ -1,8 +1,8 @@
 use Rattle.std.proofs.Common.{rules, ◌<◌, ◌++◌, ◌∷◌, ◌∙◌, [], ℕ, length, ap, subst, sym}
 use Rattle.go_record.specs.Actions.{Actions}
-use Rattle.share_core.specs.Adding.{IsAdded}
-use Rattle.share_core.specs.Shares.{Held, IsShareOf}
-use Rattle.share_core.proofs.Added.{share_of_more}
+use Rattle.gather_core.specs.Adding.{IsAdded}
+use Rattle.gather_core.specs.Shares.{Held, IsShareOf}
+use Rattle.gather_core.proofs.Added.{share_of_more}
 use Rattle.share_bench.proofs.Games.{added_of, taken_more}
 use Rattle.share_bench.proofs.parts.share_all.Goals as goal
 

@@ -2,7 +2,7 @@ use Rattle.std.proofs.Common.{◌<◌, ◌++◌, ◌∷◌, [], length, subst, a
 use Rattle.std.proofs.lemmas.List.Sums.{sum_by_push}
 use Rattle.go_record.specs.Actions.{Actions}
 use Rattle.tally_core.specs.Occasions.{AreOccasions}
-use Rattle.share_core.specs.Shares.{Added}
+use Rattle.gather_core.specs.Shares.{Added}
 use Rattle.share_bench.proofs.Games.{added_of, taken_more}
 use Rattle.share_bench.proofs.parts.walk_all.Goals as goal
 

@@ -5,10 +5,10 @@ use Rattle.std.proofs.lemmas.Result.{err_from_is_err_and}
 use Rattle.game_core.specs.Games.{HasReadAll}
 use Rattle.harvest_faults.specs.declared.faults.HarvestFault.{HarvestFault}
 use Rattle.harvest_faults.specs.declared.faults.HarvestFault.TheVariants as fault
-use Rattle.gather_core.specs.Checking.{all_rows}
+use Rattle.gather_core.specs.Gathering.{all_rows}
 use Rattle.gather_core.specs.Covering.{all_games}
-use Rattle.gather_core.specs.GatherFaults.{IsGatherFault}
-use Rattle.share_core.specs.Shares.{Held}
+use Rattle.table_shares.specs.GatherFaults.{IsGatherFault}
+use Rattle.gather_core.specs.Shares.{Held}
 use Rattle.slot_table.specs.Passes.{calls_of}
 use Rattle.table_harvest.specs.declared.working.Worked.{Worked}
 use Rattle.harvest_core.specs.Working.{IsWorked}

@@ -1,9 +1,10 @@
 use Rattle.std.proofs.Common.{refl}
 use Rattle.std.proofs.lemmas.Result.{err_from_is_err_and}
-use Rattle.gather_core.specs.Checking.{all_rows}
+use Rattle.gather_core.specs.Gathering.{all_rows}
 use Rattle.table_harvest.proofs.Concluded.{ungathered}
 use Rattle.table_harvest.proofs.Limited.{all_of_input}
-use Rattle.harvest_core.proofs.Harvested.{games_within, harvested, numbered}
+use Rattle.harvest_core.proofs.Harvested.{games_within, harvested}
+use Rattle.table_harvest.proofs.Numbered.{numbered}
 use Rattle.table_harvest.proofs.harvesting.count_of.Goals as goal
 
 pub gather-requires-clause-games : goal.gather-requires-clause-games

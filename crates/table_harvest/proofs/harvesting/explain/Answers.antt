@@ -1,5 +1,5 @@
 use Rattle.std.proofs.Common.{Some, ap, refl, subst}
-use Rattle.gather_core.specs.Checking.{all_rows}
+use Rattle.gather_core.specs.Gathering.{all_rows}
 use Rattle.table_harvest.specs.Working.{IsRefusal}
 use Rattle.table_harvest.proofs.Concluded.{explained, refused_for}
 use Rattle.table_harvest.proofs.harvesting.explain.Goals as goal

@@ -1,7 +1,7 @@
 use Rattle.std.proofs.Common.{◌≡◌, ℕ, List, [], IfSome, IfNone, inl, inr, arith, refl, ap, sym, subst, ◌∙◌, ⊎_elim}
 use Rattle.slot_table.specs.Passes.{Numbers, IsPassOf}
 use Rattle.slot_table.proofs.Later.{later_self}
-use Rattle.gather_core.specs.Checking.{Stand}
+use Rattle.table_shares.specs.Checking.{Stand}
 use Rattle.job_core.specs.Rising.{past}
 use Rattle.job_core.specs.declared.items.Item.TheVariants.{Job}
 use Rattle.game_core.specs.Reading.{IsNextGame, HasNoGame}

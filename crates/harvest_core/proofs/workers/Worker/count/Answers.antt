@@ -1,7 +1,7 @@
 use Rattle.std.proofs.Common.{ℕ, List, [], ◌∷◌, ◌++◌, IfOk, ap, subst, ◌∙◌}
 use Rattle.go_record.specs.Actions.{Actions}
 use Rattle.game_core.specs.Games.{IsGameOf}
-use Rattle.share_core.specs.Adding.{IsAdded}
+use Rattle.gather_core.specs.Adding.{IsAdded}
 use Rattle.harvest_core.specs.Working.{IsGame}
 use Rattle.harvest_core.specs.Inner.Working.{IsShareOfGames}
 use Rattle.harvest_core.proofs.ByWords.{counted_more}

@@ -1,9 +1,10 @@
 use Rattle.std.proofs.Common.{rules, ◌≡◌, Some, None, refl, subst}
 use Rattle.std.specs.List.{AllByRecursion}
 use Rattle.go_record.specs.Actions.{Actions}
-use Rattle.share_core.specs.Adding.{IsAdded, HasGrown, IsKept, IsAddFault, IsMarked, IsRowed, IsRowedAfter, IsEntryOf, IsMarkOf}
-use Rattle.gather_core.proofs.Standings.{stand_kept, no_stranger}
-use Rattle.share_core.specs.Entering.{IsCall, CallsOnly, EntersOnly}
+use Rattle.gather_core.specs.Adding.{IsAdded}
+use Rattle.table_shares.specs.Adding.{HasGrown, IsKept, IsAddFault, IsMarked, IsRowed, IsRowedAfter, IsEntryOf, IsMarkOf}
+use Rattle.table_shares.proofs.Standings.{stand_kept, no_stranger}
+use Rattle.gather_core.specs.Entering.{IsCall, CallsOnly, EntersOnly}
 use Rattle.harvest_core.specs.Working.{IsGame}
 use Rattle.table_harvest.proofs.InTable.{in_table_kept, in_table_grown}
 use Rattle.table_harvest.proofs.Additions.{worked_kept, worked_added, refusal_is, rows_kept, rows_added, calls_of_game, mark_of_game}

@@ -1,5 +1,0 @@
-use Rattle.gather_core.proofs.Confirmed.{more_patterns}
-use Rattle.gather_core.proofs.laws.full_means_more_patterns_than_numbers.Goals as goal
-
-pub returns : goal.returns
-returns c = more_patterns

@@ -1,0 +1,14 @@
+//! What was counted of a pattern.
+use shape_core::Shape;
+use shape_dict::FirstGame;
+
+/// What a share has counted at one number of the table: the number's pattern, how often it was
+/// there and was played, and the least game in which it was there, or None before any was counted.
+#[derive(Clone, Copy, Debug, PartialEq, Eq)]
+pub struct Row {
+    pub number: usize,
+    pub shape: Shape,
+    pub there: u64,
+    pub played: u64,
+    pub first: FirstGame,
+}

@@ -1,0 +1,170 @@
+//! What one worker has counted by words: the patterns of its games, in lists, before they have
+//! numbers.
+ghost use Rattle.std.specs.Prelude.{◌≡◌, ◌+◌, ◌^◌, ◌<◌, ℕ, Some, OnOk};
+ghost use Rattle.range_core.specs.Totals.{total_of, together, all_of};
+ghost use Rattle.gather_core.specs.Inner.Met.{met_entry, met_entries};
+
+use go_record::Record;
+use harvest_faults::HarvestFault;
+use range_core::{Lists, PlaceLists};
+use shape_core::Kinds;
+use shape_dict::{Entry, FirstGame};
+use std::alloc::{AllocError, Global};
+use std::marker::Model;
+use tally_core::{Meeting, Walk};
+
+/// Appends what a game has met of a pattern to lists, unless it counts nothing.
+#[inline(always)]
+fn append_one(lists: &mut PlaceLists, meeting: &Meeting, first: FirstGame) -> Result<(), AllocError>
+    ensures { OnOk result ((game : ℕ) → first ≡ Some game → (shape : ℕ)
+        → total_of shape (all_of lists.new) ≡ together (total_of shape (all_of lists.old))
+        (total_of shape (met_entry game meeting.now))) }
+{
+    if meeting.there == 0 && meeting.played == 0 {
+        return Ok(());
+    }
+    lists.append(Entry {
+        shape: meeting.shape,
+        there: meeting.there,
+        played: meeting.played,
+        first,
+    })?;
+    Ok(())
+}
+
+/// Appends what a game has met to lists, but for what counts nothing. It takes memory where lists
+/// have no room.
+///
+/// # Errors
+///
+/// `AllocError` where memory was refused: some may have been appended then.
+fn append_all(lists: &mut PlaceLists, meetings: &[Meeting], game: u64) -> Result<(), AllocError>
+    requires { game + 1 < 2 ^ 64 }
+    ensures { OnOk result ((shape : ℕ) → total_of shape (all_of lists.new)
+        ≡ together (total_of shape (all_of lists.old))
+        (total_of shape (met_entries game meetings.now))) }
+{
+    let first = FirstGame::new(Some(game));
+    for meeting in meetings {
+        append_one(lists, meeting, first)?;
+    }
+    Ok(())
+}
+
+/// What one worker has counted: games, each with all its patterns, which have no numbers yet.
+///
+/// Contracts see what they see of a share. A pattern may have several rows, all with the number 0.
+#[derive(Drop)]
+pub struct WordShare {
+    worker: usize,
+    walk: Walk,
+    lists: PlaceLists,
+    games: Vec<u64>,
+    moves: u64,
+}
+
+impl Model for WordShare {
+    ghost use Rattle.std.specs.Prelude.{map};
+    ghost use Rattle.range_core.specs.Totals.{all_of};
+    ghost use Rattle.gather_core.specs.Shares.{Held};
+    ghost use Rattle.gather_core.specs.WordShares.{unnumbered};
+
+    ghost Value = { Held };
+
+    ghost view = { λ w. record {
+      worker = w.worker;
+      kinds = w.walk.kinds;
+      games = w.games.items;
+      moves = w.moves;
+      rows = map unnumbered (all_of w.lists);
+    } };
+}
+
+impl WordShare {
+    ghost use Rattle.std.specs.Prelude.{◌≡◌, ◌<◌, [], length, map, IfOk, OnOk, IfErr};
+    ghost use Rattle.sgf_core.specs.Limit.{most_bytes};
+    ghost use Rattle.range_core.specs.Totals.{all_of};
+    ghost use Rattle.range_core.specs.Ranges.{AreDealtBy};
+    ghost use Rattle.range_core.specs.Places.{place_ranges, range_of_place};
+    ghost use Rattle.gather_core.specs.Shares.{IsShare};
+    ghost use Rattle.gather_core.specs.Adding.{IsAdded};
+    ghost use Rattle.gather_core.specs.WordShares.{unnumbered, IsWordFault};
+
+    /// Nothing was counted yet by the worker with this number. Each of its lists has room for this
+    /// many patterns. It takes memory for that.
+    ///
+    /// # Errors
+    ///
+    /// `AllocError` where memory was refused.
+    pub fn begin(
+        alloc: Global,
+        worker: usize,
+        kinds: Kinds,
+        room: usize,
+    ) -> Result<WordShare, AllocError>
+        ensures words { IfOk result (λ words. words ≡ record {
+          worker = worker;
+          kinds = kinds;
+          games = [];
+          moves = 0;
+          rows = [];
+        }) }
+        ensures share { IfOk result IsShare }
+    {
+        Ok(WordShare {
+            worker,
+            walk: Walk::begin(alloc, kinds),
+            lists: PlaceLists::new(alloc, room)?,
+            games: Vec::new(alloc),
+            moves: 0,
+        })
+    }
+
+    /// Counts a game into the share. It uses no table of numbers. It takes memory for the game's
+    /// board, and where a list is full.
+    ///
+    /// # Errors
+    ///
+    /// `Memory` where memory was refused; `Overflow` where the share's moves might pass 2^64 - 1,
+    /// or the game has more actions than any input. After either some of the game's patterns may be
+    /// counted, so nothing is known of the sums any more.
+    pub fn add(&mut self, game: u64, game_record: &Record) -> Result<(), HarvestFault>
+        requires share { IsShare self.old }
+        requires game { game < most_bytes }
+        ensures added { OnOk result (IsAdded game game_record.now self.old self.new) }
+        ensures share { OnOk result (IsShare self.new) }
+        ensures fault { IfErr result (IsWordFault game_record.now self.old) }
+    {
+        let moves = self.walk.walk(game_record)?;
+        let Some(moves) = self.moves.checked_add(moves) else {
+            return Err(HarvestFault::Overflow);
+        };
+        append_all(&mut self.lists, self.walk.meetings(), game)?;
+        self.games.push(game)?;
+        self.moves = moves;
+        Ok(())
+    }
+
+    /// The games, in the order in which they were added.
+    pub fn games(&self) -> &[u64]
+        ensures { result.now ≡ self.now.games }
+    {
+        self.games.as_slice()
+    }
+
+    /// How many moves onto empty points the games have.
+    pub fn moves(&self) -> u64
+        ensures { result ≡ self.now.moves }
+    {
+        self.moves
+    }
+
+    /// What was counted, as entries in lists by ranges of places.
+    pub fn into_lists(self) -> Lists
+        ensures rows { map unnumbered (all_of result) ≡ self.rows }
+        ensures len { length result ≡ place_ranges }
+        ensures dealt { AreDealtBy range_of_place result }
+    {
+        self.lists.into_lists()
+    }
+}

@@ -1,6 +1,0 @@
-use Rattle.std.proofs.Common.{◌∙◌}
-use Rattle.share_core.proofs.Found.{no_row}
-use Rattle.share_core.proofs.rows.Rows.place.Goals as goal
-
-pub returns-clause-none : goal.returns-clause-none
-returns-clause-none c = rw (c.copied.ensures ∙ c.get.ensures.value, ← c.self.view_is) (no_row c.self.invariant.0 c.args.number)

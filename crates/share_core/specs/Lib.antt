@@ -1,9 +1,0 @@
-pub mod Rows
-pub mod Raising
-pub mod Making
-pub mod Entering
-pub mod Shares
-pub mod Adding
-pub mod ShareRows
-pub mod WordShares
-pub mod Inner

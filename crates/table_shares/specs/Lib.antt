@@ -1,0 +1,12 @@
+pub mod Rows
+pub mod Raising
+pub mod Making
+pub mod Adding
+pub mod ShareRows
+pub mod Covering
+pub mod Checking
+pub mod Asking
+pub mod Agreeing
+pub mod Confirming
+pub mod GatherFaults
+pub mod Inner

@@ -1,0 +1,61 @@
+//! The dictionary of all that shares have counted.
+ghost use Rattle.std.specs.Prelude.{◌≡◌, ◌≤◌, ◌^◌, All, IfOk, IfErr, OnOk};
+ghost use Rattle.harvest_faults.specs.declared.faults.HarvestFault.TheVariants as fault;
+ghost use Rattle.gather_core.specs.Shares.{IsShare};
+ghost use Rattle.gather_core.specs.Covering.{all_games, Covers};
+ghost use Rattle.gather_core.specs.Gathering.{all_rows};
+ghost use Rattle.table_shares.specs.Inner.Totals.{AreEntriesOf};
+ghost use Rattle.gather_core.specs.Gathering.{AreWithin, all_moves, IsGathered};
+
+use crate::shares::Share;
+use harvest_faults::HarvestFault;
+use shape_core::{Kinds, kinds_stay};
+use shape_dict::{Dictionary, Entry, put_in_order};
+use std::thread::Threads;
+use tally_core::has_diamonds;
+
+/// The moves of all shares together.
+fn moves_of(shares: &[Share]) -> Result<u64, HarvestFault>
+    ensures ok { IfOk result (λ moves. moves ≡ all_moves shares.now) }
+    ensures shares { OnOk result (All IsShare shares.now) }
+    ensures large { IfErr result (λ found. 2 ^ 64 ≤ all_moves shares.now) }
+    ensures fault { IfErr result (λ found. found ≡ fault.Overflow) }
+{
+    let mut moves: u64 = 0;
+    for share in shares {
+        let _ = share.games();
+        let Some(more) = moves.checked_add(share.moves()) else {
+            return Err(HarvestFault::Overflow);
+        };
+        moves = more;
+    }
+    Ok(moves)
+}
+
+/// The dictionary of the games of all shares, of the listed entries of their rows. The shares are
+/// of these kinds, and have the games below `games`, each once. It takes no memory.
+///
+/// # Errors
+///
+/// `Overflow` where the moves pass 2^64 - 1.
+pub(crate) fn add_up<R: Threads + Sync>(
+    rt: &R,
+    kinds: Kinds,
+    games: u64,
+    listed: Vec<Entry>,
+    shares: &[Share],
+) -> Result<Dictionary, HarvestFault>
+    requires kinds { All (λ share. share.kinds ≡ kinds) shares.now }
+    requires within { AreWithin games shares.now }
+    requires covers { Covers games (all_games shares.now) }
+    requires entries { AreEntriesOf (all_rows shares.now) listed.items }
+    ensures ok { IfOk result (IsGathered kinds games shares.now) }
+    ensures fault { IfErr result (λ found. (found ≡ fault.Overflow)
+        × (2 ^ 64 ≤ all_moves shares.now)) }
+{
+    // A canonical word is of the kind that was looked at.
+    kinds_stay();
+    let moves = moves_of(shares)?;
+    let entries = put_in_order(rt, shares.len(), listed);
+    Ok(Dictionary::new(games, moves, entries, has_diamonds(kinds)))
+}

@@ -1,0 +1,63 @@
+//! Whether the games that are marked in the table are those that shares counted.
+ghost use Rattle.std.specs.Prelude.{◌≡◌, ◌+◌, ◌<◌, List};
+ghost use Rattle.slot_table.specs.Passes.{Known, IsPassOf};
+ghost use Rattle.gather_core.specs.declared.rows.Row.{Row};
+ghost use Rattle.harvest_faults.specs.declared.faults.HarvestFault.TheVariants as fault;
+ghost use Rattle.table_shares.specs.Asking.{AsksOnly};
+ghost use Rattle.table_shares.specs.Rows.{first_at};
+ghost use Rattle.table_shares.specs.Inner.Visiting.{AgreeBelow};
+
+use harvest_faults::HarvestFault;
+use probe_core::ProbeOrder;
+use slot_table::{Pass, SlotTable};
+
+/// A number whose least marked game is not the least that shares counted at it.
+#[derive(Clone, Copy)]
+pub(crate) struct Differs {
+    pub number: usize,
+    pub of_shares: Option<u64>,
+    pub of_table: Option<u64>,
+}
+
+/// The fault of such a number.
+pub(crate) fn marks_fault(differs: Differs) -> HarvestFault
+    ensures { result ≡ fault.Marks differs.number differs.of_shares differs.of_table }
+{
+    HarvestFault::Marks {
+        number: differs.number,
+        of_shares: differs.of_shares,
+        of_table: differs.of_table,
+    }
+}
+
+/// Asks the least game of a number, and compares it with that of the shares' rows: where they
+/// differ, that is noted. Where the games of a lesser number differ, nothing is asked.
+#[tactic(auto, using(gather_core::proofs::Calls::calls_self))]
+pub(crate) fn compare<O: ProbeOrder>(
+    table: &SlotTable<O>,
+    pass: &mut Pass<O>,
+    number: usize,
+    of_shares: Option<u64>,
+    differs: &mut Option<Differs>,
+)
+    requires pass { IsPassOf table.now pass.old }
+    requires number { number < table.now.slots }
+    ensures pass { IsPassOf table.now pass.new }
+    ensures later { AsksOnly table.now.slots pass.old pass.new }
+    ensures agree { (rows : List Row) → (first : Known O) → of_shares ≡ first_at rows number
+        → AgreeBelow table.now.slots rows number first pass.old differs.old
+        → AgreeBelow table.now.slots rows (number + 1) first pass.new differs.new }
+{
+    if differs.is_some() {
+        return;
+    }
+    let of_table = table.first(pass, number);
+    if of_shares == of_table {
+        return;
+    }
+    *differs = Some(Differs {
+        number,
+        of_shares,
+        of_table,
+    });
+}

@@ -1,0 +1,120 @@
+//! Why the table had no number for a pattern.
+ghost use Rattle.std.specs.Prelude.{◌≡◌, ◌⊎◌, [], Some};
+ghost use Rattle.std.specs.Bool.{OnTrue, OnFalse};
+ghost use Rattle.slot_table.specs.Passes.{IsPassOf, IsLater};
+ghost use Rattle.gather_core.specs.Gathering.{all_rows};
+ghost use Rattle.table_shares.specs.Confirming.{HasShape, first_shape};
+ghost use Rattle.table_shares.specs.Inner.Confirming.{IsLeastOf, IsOfRow};
+ghost use Rattle.table_shares.specs.Confirming.{IsConfirmation};
+ghost use Rattle.harvest_faults.specs.declared.faults.HarvestFault.TheVariants as fault;
+
+use crate::leasts::{Sought, least_of};
+use crate::numbers::sums_at;
+use crate::shares::Share;
+use crate::standing::{bits_of, word_of};
+use harvest_faults::HarvestFault;
+use probe_core::ProbeOrder;
+use shape_core::Word;
+use slot_table::{Pass, SlotTable};
+
+/// The least number of a row with these bits, among those of all shares.
+fn least_with(shares: &[Share], bits: u64) -> Option<usize>
+    ensures { IsLeastOf bits (all_rows shares.now) result }
+{
+    least_of(shares, Sought::Pattern(bits)).map(|row| row.number)
+}
+
+/// Whether a share's row of a number has these bits.
+fn has_there(share: &Share, number: usize, bits: u64) -> bool
+    ensures { OnTrue result (HasShape share.now.rows bits) }
+{
+    match share.row_at(number) {
+        Some(row) => row.shape.word().bits() == bits,
+        None => false,
+    }
+}
+
+/// Whether some share's row of a number has these bits.
+fn any_there(shares: &[Share], number: usize, bits: u64) -> bool
+    ensures { OnTrue result (HasShape (all_rows shares.now) bits) }
+{
+    for share in shares {
+        if has_there(share, number, bits) {
+            return true;
+        }
+    }
+    false
+}
+
+/// Whether a number's key is the pattern of some row. The rows of the number are looked at first,
+/// since one of them is of the key where the shares are of this table; a look at all rows takes
+/// much longer.
+fn is_known(shares: &[Share], number: usize, found: Option<u64>) -> bool
+    ensures known { OnTrue result (IsOfRow (all_rows shares.now) found) }
+    ensures unknown { OnFalse result (IsOfRow (all_rows shares.now) found → ⊥) }
+{
+    let Some(bits) = found else {
+        return false;
+    };
+    any_there(shares, number, bits) || least_with(shares, bits).is_some()
+}
+
+/// Whether a number's key is the pattern of some row, and the least number of the refused pattern
+/// is another one.
+fn agrees(shares: &[Share], number: usize, found: Option<u64>, least: Option<usize>) -> bool
+    ensures yes { OnTrue result (IsOfRow (all_rows shares.now) found × (least ≡ Some number → ⊥)) }
+    ensures no { OnFalse result
+        ((IsOfRow (all_rows shares.now) found → ⊥) ⊎ (least ≡ Some number)) }
+{
+    least != Some(number) && is_known(shares, number, found)
+}
+
+/// The fault of a number, with the pattern of its first row.
+fn stranger_at(shares: &[Share], number: usize, of_table: Option<Word>) -> HarvestFault
+    ensures { result ≡ fault.Stranger number (first_shape (all_rows shares.now) number) of_table }
+{
+    HarvestFault::Stranger {
+        number,
+        of_share: sums_at(shares, number, None).stranger,
+        of_table,
+    }
+}
+
+/// Why the table had no number for a pattern of a game, as `Share::add` answered. The pattern is
+/// given by its word. It takes no memory.
+///
+/// The answer is `HarvestFault::Full` with the game and the word where each number of the table has
+/// a key, each of these keys is the pattern of some row of the shares, and the word is the pattern
+/// of no row: then the patterns are more than the numbers. Else it is `HarvestFault::Stranger` at
+/// the least number that is free, or whose key is the pattern of no row, or of which some row has
+/// the word as its pattern; a row of a larger table may have a number that this one has not. It has
+/// the pattern of the first row of that number, in the order of the shares, and the number's key in
+/// the table.
+///
+/// Each number up to that one is looked at once, in rising order, and nothing is marked. The pass
+/// must be of the table.
+pub fn confirm_full<O: ProbeOrder>(
+    table: &SlotTable<O>,
+    pass: &mut Pass<O>,
+    shares: &[Share],
+    game: u64,
+    word: Word,
+) -> HarvestFault
+    requires { IsPassOf table.now pass.old }
+    ensures pass { IsPassOf table.now pass.new }
+    ensures later { IsLater table.now.slots pass.old [] pass.new }
+    ensures confirmed { IsConfirmation table.now.slots pass.new.seen (all_rows shares.now)
+        game word result }
+{
+    let least = least_with(shares, word.bits());
+    for number in 0..table.capacity().slots() {
+        let found = bits_of(table.word_at(pass, number));
+        if !agrees(shares, number, found, least) {
+            return stranger_at(shares, number, word_of(found));
+        }
+    }
+    match least {
+        Some(number) => stranger_at(shares, number, None),
+        None => HarvestFault::Full { game, word },
+    }
+}

@@ -1,0 +1,73 @@
+//! The row of the least number among those that are looked for.
+ghost use Rattle.std.specs.Prelude.{◌++◌, ◌∷◌, [], List};
+ghost use Rattle.std.specs.Bool.{OnTrue, OnFalse};
+ghost use Rattle.gather_core.specs.declared.rows.Row.{Row};
+ghost use Rattle.gather_core.specs.Gathering.{all_rows};
+ghost use Rattle.table_shares.specs.Inner.Leasts.{IsSought, IsLeastSought};
+
+use crate::shares::Share;
+use gather_core::Row;
+
+/// Which rows are looked for.
+#[derive(Clone, Copy)]
+pub(crate) enum Sought {
+    /// Those of the pattern with these bits.
+    Pattern(u64),
+    /// Those of this number and of greater ones.
+    From(usize),
+}
+
+/// Whether a row of this number and of the pattern with these bits is looked for.
+fn is_sought(sought: Sought, number: usize, bits: u64) -> bool
+    ensures yes { OnTrue result (IsSought sought number bits) }
+    ensures no { OnFalse result (IsSought sought number bits → ⊥) }
+{
+    match sought {
+        Sought::Pattern(wanted) => bits == wanted,
+        Sought::From(first) => number >= first,
+    }
+}
+
+/// The lesser of two rows by their numbers, the first where these are one. Rows that are not looked
+/// for do not count.
+fn lesser(least: Option<Row>, row: Row, sought: Sought) -> Option<Row>
+    ensures { (rows : List Row) → IsLeastSought sought rows least
+        → IsLeastSought sought (rows ++ row ∷ []) result }
+{
+    if !is_sought(sought, row.number, row.shape.word().bits()) {
+        return least;
+    }
+    match least {
+        None => Some(row),
+        Some(so_far) => {
+            if row.number < so_far.number {
+                Some(row)
+            } else {
+                Some(so_far)
+            }
+        }
+    }
+}
+
+/// The same over the rows of a share.
+fn least_in(least: Option<Row>, more: &[Row], sought: Sought) -> Option<Row>
+    ensures { (rows : List Row) → IsLeastSought sought rows least
+        → IsLeastSought sought (rows ++ more.now) result }
+{
+    let mut found = least;
+    for row in more {
+        found = lesser(found, *row, sought);
+    }
+    found
+}
+
+/// The first row of the least number of those that are looked for, among those of all shares.
+pub(crate) fn least_of(shares: &[Share], sought: Sought) -> Option<Row>
+    ensures { IsLeastSought sought (all_rows shares.now) result }
+{
+    let mut found = None;
+    for share in shares {
+        found = least_in(found, share.made_rows(), sought);
+    }
+    found
+}

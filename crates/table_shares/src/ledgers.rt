@@ -1,0 +1,84 @@
+//! What a share has counted: its games, their moves, and the rows of their patterns.
+ghost use Rattle.std.specs.Prelude.{◌≡◌, ◌+◌, ◌^◌, ◌<◌, ◌≤◌, IfSome, IfNone};
+ghost use Rattle.sgf_core.specs.Limit.{most_bytes};
+ghost use Rattle.table_shares.specs.Raising.{weight_of, weight_among};
+ghost use Rattle.table_shares.specs.Inner.Raising.{AreRowed, AreRaised};
+
+use crate::rows::{Rows, with_counts};
+use harvest_faults::HarvestFault;
+use probe_core::Answer;
+use tally_core::Meeting;
+
+/// Games in the order in which they were added, their moves, and rows.
+#[derive(Drop)]
+pub(crate) struct Ledger {
+    pub games: Vec<u64>,
+    pub moves: u64,
+    pub rows: Rows,
+}
+
+/// All counts of a game's meetings together, or None where that passes 2^64 - 1.
+fn weight(meetings: &[Meeting]) -> Option<u64>
+    ensures some { IfSome result (λ total. total ≡ weight_among meetings.now) }
+    ensures none { IfNone result (2 ^ 64 ≤ weight_among meetings.now) }
+{
+    let mut total: u64 = 0;
+    for meeting in meetings {
+        total = with_counts(total, meeting.there, meeting.played)?;
+    }
+    Some(total)
+}
+
+/// Adds each meeting of a game to the row of the number that was answered for it.
+fn raise_all(rows: &mut Rows, meetings: &[Meeting], answers: &[Answer], game: u64)
+    requires rows { AreRowed meetings.now answers.now rows.old }
+    requires game { game < most_bytes }
+    requires fits { weight_of rows.old + weight_among meetings.now < 2 ^ 64 }
+    ensures { AreRaised meetings.now meetings.now answers.now game rows.old rows.new }
+{
+    for (i, meeting) in meetings.iter().enumerate() {
+        rows.raise(answers[i], *meeting, game);
+    }
+}
+
+impl Ledger {
+    ghost use Rattle.std.specs.Prelude.{◌≡◌, ◌<◌, OnOk, OnErr, IfErr};
+    ghost use Rattle.sgf_core.specs.Limit.{most_bytes};
+    ghost use Rattle.table_shares.specs.Inner.Ledgers.{totals_of, CountsIn, IsCountFault};
+    ghost use Rattle.table_shares.specs.Inner.Raising.{AreRowed};
+
+    /// Counts a game below 2^28 whose meetings got these numbers, which have their rows.
+    ///
+    /// # Errors
+    ///
+    /// `Overflow` where the moves or all counts together would pass 2^64 - 1; `Memory` where memory
+    /// was refused. After either the ledger is as it was.
+    pub fn count(
+        &mut self,
+        game: u64,
+        moves: u64,
+        meetings: &[Meeting],
+        answers: &[Answer],
+    ) -> Result<(), HarvestFault>
+        requires rows { AreRowed meetings.now answers.now self.old.rows }
+        requires game { game < most_bytes }
+        ensures ok { OnOk result (CountsIn game moves meetings.now answers.now
+            (totals_of self.old) (totals_of self.new)) }
+        ensures err { OnErr result (totals_of self.new ≡ totals_of self.old) }
+        ensures fault { IfErr result (IsCountFault moves meetings.now (totals_of self.old)) }
+    {
+        let Some(moves) = self.moves.checked_add(moves) else {
+            return Err(HarvestFault::Overflow);
+        };
+        let Some(added) = weight(meetings) else {
+            return Err(HarvestFault::Overflow);
+        };
+        if self.rows.weight().checked_add(added).is_none() {
+            return Err(HarvestFault::Overflow);
+        }
+        self.games.push(game)?;
+        raise_all(&mut self.rows, meetings, answers, game);
+        self.moves = moves;
+        Ok(())
+    }
+}

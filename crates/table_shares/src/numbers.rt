@@ -1,0 +1,71 @@
+//! What the rows of one number are together, those of all shares.
+ghost use Rattle.std.specs.Prelude.{◌≡◌, ◌++◌, ℕ, List, Some};
+ghost use Rattle.gather_core.specs.declared.rows.Row.{Row};
+ghost use Rattle.gather_core.specs.Rows.{earlier};
+ghost use Rattle.table_shares.specs.Rows.{row_of, AreOfNumbers};
+ghost use Rattle.gather_core.specs.Gathering.{all_rows};
+ghost use Rattle.table_shares.specs.Inner.Checking.{unlike_of};
+ghost use Rattle.table_shares.specs.Inner.Numbers.{AreSums};
+
+use crate::shares::Share;
+use gather_core::Row;
+use shape_core::{Shape, Word};
+
+/// What the rows of a number are together: the least of their games, and the pattern of the first
+/// of them that is of another pattern than was asked for.
+#[derive(Clone, Copy)]
+pub(crate) struct NumberSums {
+    pub first: Option<u64>,
+    pub stranger: Option<Word>,
+}
+
+/// A pattern, if it is another one than this.
+fn unlike(shape: Shape, found: Option<u64>) -> Option<Word>
+    ensures { result ≡ unlike_of shape found }
+{
+    let word = shape.word();
+    if found == Some(word.bits()) {
+        None
+    } else {
+        Some(word)
+    }
+}
+
+/// The lesser of two games, where None is no game.
+pub(crate) fn earlier(one: Option<u64>, other: Option<u64>) -> Option<u64>
+    ensures { result ≡ earlier one other }
+{
+    match (one, other) {
+        (None, other) => other,
+        (Some(one), None) => Some(one),
+        (Some(one), Some(other)) => Some(one.min(other)),
+    }
+}
+
+/// The rows of a number and one more.
+fn add(sums: NumberSums, row: Row, found: Option<u64>) -> NumberSums
+    ensures { (rows more : List Row) → (number : ℕ) → AreOfNumbers more
+        → row_of more number ≡ Some row → AreSums rows number found sums
+        → AreSums (rows ++ more) number found result }
+{
+    NumberSums {
+        first: earlier(sums.first, row.first.get()),
+        stranger: sums.stranger.or(unlike(row.shape, found)),
+    }
+}
+
+/// The rows that shares have of a number, where this pattern is asked for. It takes no memory.
+pub(crate) fn sums_at(shares: &[Share], number: usize, found: Option<u64>) -> NumberSums
+    ensures { AreSums (all_rows shares.now) number found result }
+{
+    let mut sums = NumberSums {
+        first: None,
+        stranger: None,
+    };
+    for share in shares {
+        if let Some(row) = share.row_at(number) {
+            sums = add(sums, row, found);
+        }
+    }
+    sums
+}
