@@ -3,3 +3,4 @@ pub mod Threads
 pub mod Dealt
 pub mod Reading
 pub mod Working
+pub mod TooMany

@@ -7,6 +7,7 @@ mod numberings;
 mod own_tables;
 mod reading;
 mod threads;
+mod too_many;
 mod workers;
 
 pub use gates::{FreeGate, Gate};

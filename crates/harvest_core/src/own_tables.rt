@@ -3,13 +3,14 @@ ghost use Rattle.std.specs.Prelude.{◌≡◌, ◌⊎◌, ◌^◌, ◌<◌, ◌�
 ghost use Rattle.sgf_core.specs.Limit.{most_bytes};
 ghost use Rattle.slot_table.specs.Passes.{IsPassOf};
 ghost use Rattle.sgf_core.specs.declared.faults.SgfFault.TheVariants as sgf;
-ghost use Rattle.tally_core.specs.Counted.{HasMore, IsCounted};
+ghost use Rattle.tally_core.specs.Counted.{IsCounted};
 ghost use Rattle.harvest_faults.specs.declared.faults.HarvestFault.TheVariants as fault;
 ghost use Rattle.harvest_core.specs.Harvest.{IsCountedWithin, IsCountRefused, IsHarvestRefused};
 
 use crate::gates::Gate;
 use crate::gathering::{Harvested, count_in_threads};
 use crate::numberings::{Numbering, numbering_of};
+use crate::too_many::first_too_many;
 use gather_core::number_entries;
 use harvest_faults::HarvestFault;
 use probe_core::{Capacity, ProbeOrder};
@@ -19,7 +20,7 @@ use slot_table::{Pass, SlotTable};
 use std::alloc::Global;
 use std::sync::Wait;
 use std::thread::Threads;
-use tally_core::{Counted, Settings, first_beyond, one_first_beyond};
+use tally_core::{Counted, Settings};
 
 /// How many slots a table has for each byte of the input. A move takes six bytes, and some 25
 /// points then have a new pattern of each kind, so few inputs need more.
@@ -31,23 +32,6 @@ fn likely_exponent(bytes: usize, most: u32) -> u32
 {
     let slots = bytes.saturating_mul(SLOTS_A_BYTE).max(1);
     (slots.ilog2() + 1).min(most)
-}
-
-/// Why a collection with more patterns than `most` has no dictionary: F1 with the pattern with
-/// which they are first more and the first game that has it, unless it cannot be read.
-fn first_too_many(alloc: Global, kinds: Kinds, most: usize, bytes: &[u8]) -> HarvestFault
-    requires { HasMore kinds bytes.now most }
-    ensures { IsHarvestRefused most bytes.now kinds result }
-{
-    one_first_beyond();
-    match first_beyond(alloc, kinds, most, bytes) {
-        Ok(Some(first)) => HarvestFault::Full {
-            game: first.game,
-            word: first.shape.word(),
-        },
-        Ok(None) => unreachable!(),
-        Err(found) => HarvestFault::of_tally(found),
-    }
 }
 
 /// What was counted of a collection, where it has at most this many patterns.
@@ -68,7 +52,7 @@ fn within(
     ensures fault { IfErr result (IsHarvestRefused most bytes.now kinds) }
 {
     if counted.dictionary.len() > most {
-        return Err(first_too_many(alloc, kinds, most, bytes));
+        return Err(first_too_many(alloc, kinds, most, bytes, &counted));
     }
     Ok(counted)
 }

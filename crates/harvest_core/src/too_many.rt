@@ -1,0 +1,253 @@
+//! The pattern with which those of a counted collection are first more than some number: its
+//! dictionary tells the game, which is walked again, and no other.
+ghost use Rattle.std.specs.Prelude.{◌≡◌, ◌+◌, ◌<◌, ◌≤◌, ◌^◌, length, nat_eq, Some, IfOk};
+ghost use Rattle.std.specs.Prelude.{IfErr, OnOk, filter, slice_get};
+ghost use Rattle.std.specs.HashSet.{contains};
+ghost use Rattle.harvest_faults.specs.declared.faults.HarvestFault.TheVariants as fault;
+ghost use Rattle.shape_dict.specs.Pieces.{entries_in};
+ghost use Rattle.tally_core.specs.Beyond.{IsFirstBeyond};
+ghost use Rattle.tally_core.specs.Counted.{IsCounted};
+ghost use Rattle.tally_core.specs.Walk.{once_each, shapes_of};
+ghost use Rattle.harvest_core.specs.Harvest.{IsCountRefused, IsHarvestRefused};
+ghost use Rattle.harvest_core.specs.Inner.TooMany.{is_below, is_game, entries_before, new_words, IsNewAt};
+ghost use Rattle.harvest_core.specs.Inner.TooMany.{HasGame, HasMet, HasPut, HasWords, IsFoundBy};
+
+use game_core::{Games, Job};
+use go_record::{few_actions, replays_have_one_result};
+use harvest_faults::HarvestFault;
+use sgf_core::few_values;
+use shape_core::{Kinds, Shape};
+use shape_dict::{Entry, PieceDictionary};
+use std::alloc::Global;
+use std::collections::HashSet;
+use tally_core::{Counted, FirstBeyond, Meeting, Walk};
+
+/// Whether a pattern's first game is below this one.
+fn is_before(entry: &Entry, game: u64) -> bool
+    ensures { result ≡ is_below game entry.now.first }
+{
+    match entry.first.get() {
+        Some(first) => first < game,
+        None => false,
+    }
+}
+
+/// Whether a pattern's first game is this one.
+fn is_new(entry: &Entry, game: u64) -> bool
+    ensures { result ≡ is_game game entry.now.first }
+{
+    match entry.first.get() {
+        Some(first) => first == game,
+        None => false,
+    }
+}
+
+/// How many patterns of a list have their first games below this one.
+fn before_in(entries: &[Entry], game: u64) -> usize
+    ensures { result ≡ length (entries_before game entries.now) }
+{
+    let mut count = 0;
+    for entry in entries {
+        if is_before(entry, game) {
+            count += 1;
+        }
+    }
+    count
+}
+
+/// How many patterns of lists have their first games below this one: those that the games below it
+/// have.
+fn before(pieces: &[Vec<Entry>], game: u64) -> usize
+    requires { length (entries_in pieces.now) < 2 ^ 63 }
+    ensures { result ≡ length (entries_before game (entries_in pieces.now)) }
+{
+    let mut count = 0;
+    for piece in pieces {
+        count += before_in(piece.as_slice(), game);
+    }
+    count
+}
+
+/// The game with whose patterns there are first more than `most`: the games below it have no more,
+/// and with it there are more. It looks at all patterns as often as the number of games can be
+/// halved.
+fn game_of(dictionary: &PieceDictionary, most: usize) -> u64
+    requires { most
+        < length (entries_before dictionary.now.games dictionary.now.entries) }
+    ensures few { length (entries_before result dictionary.now.entries) ≤ most }
+    ensures more { most < length (entries_before (result + 1) dictionary.now.entries) }
+{
+    let pieces = dictionary.pieces();
+    let mut low = 0;
+    let mut high = dictionary.games();
+    while low + 1 < high {
+        let middle = low + (high - low) / 2;
+        if before(pieces, middle) <= most {
+            low = middle;
+        } else {
+            high = middle;
+        }
+    }
+    low
+}
+
+/// Puts the words of the patterns of a list that this game is the first to have into a set.
+fn put_new(words: &mut HashSet<u64>, entries: &[Entry], game: u64) -> Result<(), HarvestFault>
+    ensures put { OnOk result (HasPut words.old (new_words game entries.now) words.new) }
+    ensures fault { IfErr result (λ found. found ≡ fault.Memory) }
+{
+    for entry in entries {
+        if is_new(entry, game) {
+            words.insert(entry.shape.word().bits())?;
+        }
+    }
+    Ok(())
+}
+
+/// The words of the patterns that this game is the first to have. It takes memory for them.
+fn new_of(alloc: Global, pieces: &[Vec<Entry>], game: u64) -> Result<HashSet<u64>, HarvestFault>
+    ensures has { IfOk result
+        (λ words. HasWords words (new_words game (entries_in pieces.now))) }
+    ensures fault { IfErr result (λ found. found ≡ fault.Memory) }
+{
+    let mut words = HashSet::new(alloc);
+    for piece in pieces {
+        put_new(&mut words, piece.as_slice(), game)?;
+    }
+    Ok(words)
+}
+
+/// The job of this game. Those before it are read and passed over. It takes memory for a tree and
+/// its record.
+fn job_of<'a>(alloc: Global, bytes: &'a [u8], game: u64) -> Result<Job<'a>, HarvestFault>
+    requires { HasGame bytes.now game }
+    ensures job { IfOk result (λ job. (job.bytes ≡ bytes.now) × (job.game ≡ game)) }
+    ensures fault { IfErr result (IsCountRefused bytes.now) }
+{
+    let mut games = Games::new(bytes)?;
+    'turn: while let Some(job) = games.next_job(alloc)? {
+        if job.game() == game {
+            return Ok(job);
+        }
+    }
+    unreachable!()
+}
+
+/// Walks this game. It takes memory for its tree, its record, the board and what the game meets.
+fn walk_game(alloc: Global, walk: &mut Walk, bytes: &[u8], game: u64) -> Result<(), HarvestFault>
+    requires { HasGame bytes.now game }
+    ensures met { OnOk result (HasMet walk.old.kinds bytes.now game walk.new.meetings) }
+    ensures fault { IfErr result (IsCountRefused bytes.now) }
+{
+    // No input has as many actions as a walk refuses.
+    few_actions();
+    few_values();
+    let job = job_of(alloc, bytes, game)?;
+    walk.walk(job.record())?;
+    Ok(())
+}
+
+/// The pattern at this place, from 0, among those that were met and whose words are in a set, each
+/// where it was first met. The words up to it are taken out.
+fn shape_at(words: &mut HashSet<u64>, meetings: &[Meeting], place: usize) -> Option<Shape>
+    ensures { result ≡ slice_get (filter (contains nat_eq words.old)
+        (once_each (shapes_of meetings.now))) place }
+{
+    let mut left = place;
+    for meeting in meetings {
+        if words.remove(&meeting.shape.word().bits()) {
+            if left == 0 {
+                return Some(meeting.shape);
+            }
+            left -= 1;
+        }
+    }
+    None
+}
+
+/// Walks this game for the pattern at this place, from 0, among those whose words are in a set.
+fn shape_of(
+    alloc: Global,
+    walk: &mut Walk,
+    words: &mut HashSet<u64>,
+    bytes: &[u8],
+    game: u64,
+    place: usize,
+) -> Result<Option<Shape>, HarvestFault>
+    requires { HasGame bytes.now game }
+    ensures found { IfOk result
+        (IsFoundBy (contains nat_eq words.old) walk.old.kinds bytes.now game place) }
+    ensures fault { IfErr result (IsCountRefused bytes.now) }
+{
+    walk_game(alloc, walk, bytes, game)?;
+    Ok(shape_at(words, walk.meetings(), place))
+}
+
+/// The pattern at this place, from 0, among those that this game is the first to have, as its walk
+/// meets them.
+fn new_at(
+    alloc: Global,
+    kinds: Kinds,
+    pieces: &[Vec<Entry>],
+    bytes: &[u8],
+    game: u64,
+    place: usize,
+) -> Result<Option<Shape>, HarvestFault>
+    requires { HasGame bytes.now game }
+    ensures found { IfOk result (IsNewAt kinds bytes.now (entries_in pieces.now) game place) }
+    ensures fault { IfErr result (IsCountRefused bytes.now) }
+{
+    let mut words = new_of(alloc, pieces, game)?;
+    let mut walk = Walk::begin(alloc, kinds);
+    shape_of(alloc, &mut walk, &mut words, bytes, game, place)
+}
+
+/// Where the patterns of a counted collection are first more than `most`.
+fn first_of(
+    alloc: Global,
+    kinds: Kinds,
+    most: usize,
+    bytes: &[u8],
+    counted: &Counted,
+) -> Result<FirstBeyond, HarvestFault>
+    requires counted { IsCounted kinds bytes.now counted.now }
+    requires many { most < length counted.now.dictionary.entries }
+    ensures first { IfOk result
+        (λ first. IsFirstBeyond kinds bytes.now most first.game first.shape) }
+    ensures fault { IfErr result (IsCountRefused bytes.now) }
+{
+    // Two replays of a game have the same patterns.
+    replays_have_one_result();
+    let pieces = counted.dictionary.pieces();
+    let game = game_of(&counted.dictionary, most);
+    let place = most - before(pieces, game);
+    match new_at(alloc, kinds, pieces, bytes, game, place)? {
+        Some(shape) => Ok(FirstBeyond { shape, game }),
+        None => unreachable!(),
+    }
+}
+
+/// Why a counted collection with more patterns than `most` is refused: F1 with the pattern with
+/// which they are first more, and the first game that has it; or `Memory` where memory was refused.
+///
+/// The games up to that one are read, and it alone is walked. It takes memory for the largest tree
+/// of those games and its record, and for the board and the patterns of the one that is walked.
+pub(crate) fn first_too_many(
+    alloc: Global,
+    kinds: Kinds,
+    most: usize,
+    bytes: &[u8],
+    counted: &Counted,
+) -> HarvestFault
+    requires counted { IsCounted kinds bytes.now counted.now }
+    requires many { most < length counted.now.dictionary.entries }
+    ensures { IsHarvestRefused most bytes.now kinds result }
+{
+    match first_of(alloc, kinds, most, bytes, counted) {
+        Ok(first) => HarvestFault::Full {
+            game: first.game,
+            word: first.shape.word(),
+        },
+        Err(fault) => fault,
+    }
+}
