@@ -41,7 +41,10 @@ def moves(shapes, table, board, mover):
 def main():
     if len(sys.argv) != 4 or sys.argv[3] not in ("black", "white"):
         return refuse("usage: examples/engine.py out/libshapes.so DICTIONARY black|white < BOARD", 2)
-    shapes = Shapes(sys.argv[1])
+    try:
+        shapes = Shapes(sys.argv[1])
+    except OSError:
+        return refuse(f"{sys.argv[1]} can't be loaded: an archive has out/libshapes.so, and ./build lib makes it", 3)
     try:
         with open(sys.argv[2], "rb") as file:
             dictionary = shapes.read(file.read())

@@ -31,7 +31,10 @@ def main():
     if len(sys.argv) < 2:
         print("usage: examples/keys.py out/libshapes.so [DICTIONARY] < PATTERNS", file=sys.stderr)
         return 2
-    shapes = Shapes(sys.argv[1])
+    try:
+        shapes = Shapes(sys.argv[1])
+    except OSError:
+        return refuse(f"{sys.argv[1]} can't be loaded: an archive has out/libshapes.so, and ./build lib makes it")
     dictionary = None
     if len(sys.argv) > 2:
         try:
