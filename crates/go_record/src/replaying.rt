@@ -1,4 +1,5 @@
-//! The actions of a record, done on a board one after another.
+//! The actions of a record, done on a board one after another. A board may keep more than its
+//! stones: `Stays` of the trait `Replayable` says how that may change, and each call keeps to it.
 ghost use Rattle.std.specs.Prelude.{◌≡◌, ◌≤◌, ◌<◌, All};
 ghost use Rattle.std.specs.Prelude.{nat_le, ◌&&◌, ◌==◌, if◌then◌else◌};
 ghost use Rattle.go_board.specs.declared.points.Point.{Point};

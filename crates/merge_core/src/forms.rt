@@ -7,7 +7,7 @@ ghost use Rattle.merge_core.specs.Least.{is_kept};
 use shape_core::Kind;
 use shape_dict::{Entry, Text};
 
-/// How a join is written.
+/// Which text of a join is written, and which of its patterns.
 #[derive(Clone, Copy, Debug, PartialEq, Eq)]
 pub struct Form {
     /// Which text of it is written.

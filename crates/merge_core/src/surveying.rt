@@ -1,4 +1,5 @@
-//! Dictionaries judged range by range: it is known that all is good, or nothing.
+//! Dictionaries judged range by range: either all are known to be good, or nothing is known of
+//! them, and they are joined line by line instead.
 ghost use Rattle.std.specs.Prelude.{◌≡◌, ◌≤◌, ◌<◌, ◌+◌, ◌^◌, ℕ, List, Some, IfOk, IfSome, IsTrue};
 ghost use Rattle.std.specs.Prelude.{length, vec_len, slice_get};
 ghost use Rattle.merge_core.specs.declared.tallies.Tally.{Tally as Sums};
@@ -15,7 +16,7 @@ use shape_dict::{Header, read_header};
 use std::alloc::Global;
 use std::thread::Threads;
 
-/// No plan has as many ranges.
+/// A plan of as many ranges is not judged; none has as many.
 const MOST_RANGES: usize = 1 << 32;
 
 /// No header has more bytes.
@@ -147,9 +148,9 @@ fn totals_of(headers: &[Header]) -> Option<Totals>
     })
 }
 
-/// The totals of the join of dictionaries that are cut by this plan, and the tally of what stays of
-/// it, counted by about this many threads, where they can be made. None says nothing of the
-/// dictionaries.
+/// The totals of the join of dictionaries that are cut by this plan, and the tally of its patterns
+/// that are written (all, or by `plan.least`), counted by about this many threads. None where they
+/// can't be made: it says nothing of the dictionaries, which are then joined line by line.
 pub(crate) fn survey<T: Threads + Sync, S: Sources + Sync>(
     rt: &T,
     alloc: Global,

@@ -51,11 +51,10 @@ fn start(mixed: u64, capacity: Capacity) -> usize
     (mixed >> 1 >> (63 - capacity.exponent())) as usize
 }
 
-/// The order that goes on to the next place, and from the last one to the first. This is the
-/// project's own.
+/// The order that goes on to the next place, and from the last one to the first: linear probing.
 ///
-/// Place i of a key is `(start + i) mod N` for N slots, where the start is the top bits of the
-/// key's product with a constant mod 2^64, as many as N has.
+/// Place i of a key is `(start + i) mod N` for N = 2^k slots, where the start is the top k bits of
+/// the key's product with a constant mod 2^64.
 #[derive(Clone, Copy, Debug, PartialEq, Eq)]
 pub struct Linear {
     /// How many slots the table has.

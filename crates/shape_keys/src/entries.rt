@@ -1,4 +1,5 @@
-//! The entries and the header of a dictionary, as they cross to other languages.
+//! The entries and the header of a dictionary, as they cross to other languages: the structs of
+//! `include/shapes.h` (and `Entry` of `examples/shapes.py`), field by field, in the same order.
 ghost use Rattle.std.specs.Prelude.{◌≡◌};
 ghost use Rattle.shape_keys.specs.Entries.{or_unknown, said, said_header};
 

@@ -14,7 +14,7 @@ use std::alloc::{AllocError, Global};
 /// The join that is asked for.
 #[derive(Debug, Drop)]
 pub struct Asked<'a> {
-    /// How it is written.
+    /// Which text of it is written, and which of its patterns.
     pub form: Form,
     /// The name of the file that is written, where it isn't standard output.
     pub out: Option<&'a str>,
