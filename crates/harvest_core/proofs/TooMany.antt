@@ -27,11 +27,9 @@ use Rattle.tally_core.proofs.Games.{first_of, first-some}
 use Rattle.tally_core.proofs.GamesMet.{patterns_of_game}
 use Rattle.tally_core.proofs.NextGame.{replayed-length}
 use Rattle.tally_core.proofs.SamePositions.{HaveOneResult}
-use Rattle.tally_core.proofs.WordSets.{has, has-is}
+use Rattle.tally_core.proofs.Once.{has, has-is}
 use Rattle.harvest_faults.specs.Faults.{same_fault}
-use Rattle.harvest_faults.specs.declared.faults.HarvestFault.{HarvestFault}
-use Rattle.harvest_faults.specs.declared.faults.HarvestFault.TheVariants as fault
-use Rattle.harvest_core.specs.Harvest.{IsCountRefused, IsHarvestRefused}
+use Rattle.harvest_core.specs.Harvest.{IsCountRefused}
 use Rattle.harvest_core.specs.Inner.TooMany.{is_below, entries_before, new_words, HasGame, IsFoundBy, IsNewAt}
 use Rattle.harvest_core.proofs.FirstGames.{before_are, word_found}
 use Rattle.harvest_core.proofs.Harvested.{entry_found}
@@ -45,11 +43,6 @@ count_refused bytes tally.BadSettings is = is
 count_refused bytes tally.Memory is = tt
 count_refused bytes (tally.Sgf found) is = is
 count_refused bytes tally.Overflow is = is
-
-pub refused : (most : ℕ) (bytes : List ℕ) (kinds : Kinds) (found : HarvestFault) → IsCountRefused bytes found → IsHarvestRefused most bytes kinds found
-refused most bytes kinds fault.Memory is = tt
-refused most bytes kinds (fault.Sgf found) is = is
-refused most bytes kinds found is = absurd is
 
 pub found_later : {T E : Type 0} {P Q : T → Type 0} (r : Result T E) → ((x : T) → P x → Q x) → IfOk r P → IfOk r Q
 found_later (Ok x) more h = more x h
@@ -193,8 +186,9 @@ module _ (kinds : Kinds) (bytes : List ℕ) (counted : Counted) (h : IsCounted k
         )
 
     -- the same, by what the code counted
-    pub first_word : HaveOneResult → (all : List Entry) (before : ℕ) (found : Option ℕ) → all ≡ entries → before ≡ length (entries_before game all) →
+    pub first_word : HaveOneResult → (all : List Entry) (before : ℕ) (found : Option ℕ) → all ≡ entries → before ≡ length (entries_before game entries) →
         IsNewAt kinds bytes all game (most - before) found → (word : ℕ) × (found ≡ Some word) × IsFirstBeyond kinds bytes most game word
     first_word one_result all before found same count new =
         word_new one_result found
-        (subst (λ (es : List Entry). IsNewAt kinds bytes es game (most - length (entries_before game es)) found) same (subst (λ (n : ℕ). IsNewAt kinds bytes all game (most - n) found) count new))
+        (subst (λ (es : List Entry). IsNewAt kinds bytes es game (most - length (entries_before game entries)) found) same
+        (subst (λ (n : ℕ). IsNewAt kinds bytes all game (most - n) found) count new))

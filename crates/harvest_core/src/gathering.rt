@@ -191,7 +191,9 @@ pub(crate) fn count_by_words<R: Threads + Wait + Sync, G: Gate>(
     dictionary_of(rt, alloc, kinds, numbering, ended)
 }
 
-/// Counts as `count_by_words` does, but where a sum is too large this thread counts alone.
+/// Counts as `count_by_words` does, but where a sum passes 2^64 - 1, or might, this thread counts
+/// all again alone, and gives no numbers. More than 2^exponent patterns are no fault: they are all
+/// counted. In both cases `numbered` is false.
 ///
 /// # Errors
 ///

@@ -5,6 +5,7 @@ mod gates;
 mod gathering;
 mod numberings;
 mod own_tables;
+mod reaching;
 mod reading;
 mod threads;
 mod too_many;

@@ -1,7 +1,6 @@
 //! The pattern with which those of a counted collection are first more than some number: its
 //! dictionary tells the game, which is walked again, and no other.
-ghost use Rattle.std.specs.Prelude.{◌≡◌, ◌+◌, ◌<◌, ◌≤◌, ◌^◌, length, nat_eq, Some, IfOk};
-ghost use Rattle.std.specs.Prelude.{IfErr, OnOk, filter, slice_get};
+ghost use Rattle.std.specs.Prelude.{◌≡◌, ◌<◌, length, nat_eq, IfOk, IfErr, OnOk, filter, slice_get};
 ghost use Rattle.std.specs.HashSet.{contains};
 ghost use Rattle.harvest_faults.specs.declared.faults.HarvestFault.TheVariants as fault;
 ghost use Rattle.shape_dict.specs.Pieces.{entries_in};
@@ -9,27 +8,27 @@ ghost use Rattle.tally_core.specs.Beyond.{IsFirstBeyond};
 ghost use Rattle.tally_core.specs.Counted.{IsCounted};
 ghost use Rattle.tally_core.specs.Walk.{once_each, shapes_of};
 ghost use Rattle.harvest_core.specs.Harvest.{IsCountRefused, IsHarvestRefused};
-ghost use Rattle.harvest_core.specs.Inner.TooMany.{is_below, is_game, entries_before, new_words, IsNewAt};
+ghost use Rattle.harvest_core.specs.Inner.TooMany.{is_game, new_words, IsNewAt};
 ghost use Rattle.harvest_core.specs.Inner.TooMany.{HasGame, HasMet, HasPut, HasWords, IsFoundBy};
 
+use crate::reaching::game_of;
 use game_core::{Games, Job};
 use go_record::{few_actions, replays_have_one_result};
 use harvest_faults::HarvestFault;
 use sgf_core::few_values;
 use shape_core::{Kinds, Shape};
-use shape_dict::{Entry, PieceDictionary};
+use shape_dict::Entry;
 use std::alloc::Global;
 use std::collections::HashSet;
-use tally_core::{Counted, FirstBeyond, Meeting, Walk};
+use tally_core::{Counted, Meeting, Walk};
 
-/// Whether a pattern's first game is below this one.
-fn is_before(entry: &Entry, game: u64) -> bool
-    ensures { result ≡ is_below game entry.now.first }
-{
-    match entry.first.get() {
-        Some(first) => first < game,
-        None => false,
-    }
+/// Where the patterns of a collection are first more than some number.
+#[derive(Clone, Copy)]
+struct FirstBeyond {
+    /// The pattern with which they are.
+    shape: Shape,
+    /// The first game that has it.
+    game: u64,
 }
 
 /// Whether a pattern's first game is this one.
@@ -40,55 +39,6 @@ fn is_new(entry: &Entry, game: u64) -> bool
         Some(first) => first == game,
         None => false,
     }
-}
-
-/// How many patterns of a list have their first games below this one.
-fn before_in(entries: &[Entry], game: u64) -> usize
-    ensures { result ≡ length (entries_before game entries.now) }
-{
-    let mut count = 0;
-    for entry in entries {
-        if is_before(entry, game) {
-            count += 1;
-        }
-    }
-    count
-}
-
-/// How many patterns of lists have their first games below this one: those that the games below it
-/// have.
-fn before(pieces: &[Vec<Entry>], game: u64) -> usize
-    requires { length (entries_in pieces.now) < 2 ^ 63 }
-    ensures { result ≡ length (entries_before game (entries_in pieces.now)) }
-{
-    let mut count = 0;
-    for piece in pieces {
-        count += before_in(piece.as_slice(), game);
-    }
-    count
-}
-
-/// The game with whose patterns there are first more than `most`: the games below it have no more,
-/// and with it there are more. It looks at all patterns as often as the number of games can be
-/// halved.
-fn game_of(dictionary: &PieceDictionary, most: usize) -> u64
-    requires { most
-        < length (entries_before dictionary.now.games dictionary.now.entries) }
-    ensures few { length (entries_before result dictionary.now.entries) ≤ most }
-    ensures more { most < length (entries_before (result + 1) dictionary.now.entries) }
-{
-    let pieces = dictionary.pieces();
-    let mut low = 0;
-    let mut high = dictionary.games();
-    while low + 1 < high {
-        let middle = low + (high - low) / 2;
-        if before(pieces, middle) <= most {
-            low = middle;
-        } else {
-            high = middle;
-        }
-    }
-    low
 }
 
 /// Puts the words of the patterns of a list that this game is the first to have into a set.
@@ -219,9 +169,9 @@ fn first_of(
     // Two replays of a game have the same patterns.
     replays_have_one_result();
     let pieces = counted.dictionary.pieces();
-    let game = game_of(&counted.dictionary, most);
-    let place = most - before(pieces, game);
-    match new_at(alloc, kinds, pieces, bytes, game, place)? {
+    let reached = game_of(alloc, &counted.dictionary, most)?;
+    let game = reached.game;
+    match new_at(alloc, kinds, pieces, bytes, game, most - reached.before)? {
         Some(shape) => Ok(FirstBeyond { shape, game }),
         None => unreachable!(),
     }

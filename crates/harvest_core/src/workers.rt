@@ -46,8 +46,8 @@ impl<'q, 'a> Worker<'q, 'a> {
     ghost use Rattle.harvest_core.specs.Inner.Dealt.{CountsGame};
 
     /// Makes the worker of this number, at this endpoint. It takes memory for its lists: for what
-    /// as many games meet as it is likely to draw, and an eighth more. Where that is refused, the
-    /// worker has the fault.
+    /// as many games meet as it is likely to draw, and a quarter more, since the thread that reads
+    /// draws fewer. Where that is refused, the worker has the fault.
     pub(crate) fn begin(
         shared: &Shared<'_, '_>,
         number: usize,
@@ -57,7 +57,7 @@ impl<'q, 'a> Worker<'q, 'a> {
         ensures counted { HasCounted shared.now [] result.counted }
     {
         let even = shared.bytes.len() / usize::from(shared.workers.max(1));
-        let room = likely_meetings(even.saturating_add(even / 8)) / PLACE_RANGES;
+        let room = likely_meetings(even.saturating_add(even / 4)) / PLACE_RANGES;
         let counted = match WordShare::begin(shared.alloc, number, shared.kinds, room) {
             Ok(words) => Ok(words),
             Err(_refused) => Err(HarvestFault::Memory),

@@ -30,7 +30,6 @@ pub mod PutTogether
 pub mod NextGame
 pub mod RowLookups
 pub mod WalkedGames
-pub mod WordSets
 pub mod GamesMet
 pub mod SamePositions
 pub mod Different

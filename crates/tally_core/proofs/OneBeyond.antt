@@ -32,8 +32,7 @@ use Rattle.tally_core.specs.Walk.{once_each}
 use Rattle.tally_core.specs.Inner.Counter.{times_in}
 use Rattle.tally_core.proofs.Different.{different_few}
 use Rattle.tally_core.proofs.GamesMet.{there-none}
-use Rattle.tally_core.proofs.Once.{is_in, in_once, once_append}
-use Rattle.tally_core.proofs.WordSets.{has, has-is}
+use Rattle.tally_core.proofs.Once.{is_in, in_once, once_append, has, has-is}
 use Rattle.tally_core.proofs.SamePositions.{HaveOneResult, does-same, patterns-same, empties-same}
 use Rattle.tally_core.proofs.Skipped.{points-on}
 

@@ -179,6 +179,7 @@ impl Meetings {
     #[inline(always)]
     pub fn meet(&mut self, shape: Shape) -> Result<usize, AllocError>
         ensures met { IfOk result (IsMet (shapes_of self.new) shape) }
+        ensures small { IfOk result (λ at. at < 2 ^ 63) }
         ensures meets { OnOk result (Meets (shapes_of self.old) (shape ∷ []) (shapes_of self.new)) }
         ensures counts { OnOk result (CountsStay self.old self.new) }
     {

@@ -7,11 +7,14 @@ ghost use Rattle.tally_core.specs.declared.faults.TallyFault.TheVariants as faul
 
 use crate::faults::TallyFault;
 use crate::meetings::Meetings;
-use crate::stays::{Stays, settle_point};
+use crate::packing::PackedStays;
+use crate::stays::settle_point;
 use go_board::Size;
 use std::alloc::Global;
 
-/// What a walk knows for one colour to move.
+/// What a walk keeps for one colour to move, so that only points that changed are looked at: which
+/// pattern stays at each empty point, and since which occasion (a move of this colour onto an
+/// empty point). Those occasions are counted when the point has changed, or by `settle`.
 #[derive(Drop)]
 pub struct Side {
     /// How many occasions of this colour there were.
@@ -23,7 +26,7 @@ pub struct Side {
     /// occasion they are those that were empty then.
     pub standing: Vec<u64>,
     /// What stays at each point, row by row from the top, each row from the left.
-    pub points: Vec<Stays>,
+    pub points: Vec<PackedStays>,
 }
 
 impl Side {
@@ -35,13 +38,9 @@ impl Side {
     {
         let columns = usize::from(size.columns());
         let rows = usize::from(size.rows());
-        let stays = Stays {
-            square: None,
-            diamond: None,
-        };
         let changed = vec![in alloc; (1 << columns) - 1; rows]?;
         let standing = vec![in alloc; 0; rows]?;
-        let points = vec![in alloc; stays; size.area()]?;
+        let points = vec![in alloc; PackedStays::none(); size.area()]?;
         Ok(Side {
             occasions: 0,
             changed,
@@ -61,7 +60,7 @@ impl Side {
         ensures played { PlayedStays meetings.old meetings.new }
     {
         for stays in &self.points {
-            settle_point(meetings, *stays, self.occasions);
+            settle_point(meetings, stays.get(), self.occasions);
         }
     }
 }

@@ -15,8 +15,9 @@ ghost use Rattle.go_board.specs.declared.points.Stone.TheVariants as stone;
 
 use crate::faults::TallyFault;
 use crate::meetings::Meetings;
+use crate::packing::PackedStays;
 use crate::sides::Side;
-use crate::stays::{Stays, begin, play, settle_point};
+use crate::stays::{begin, play, settle_point};
 use go_board::{Colour, Point};
 use shape_core::{Field, Kinds};
 
@@ -24,7 +25,7 @@ use shape_core::{Field, Kinds};
 /// square first.
 fn see_point(
     meetings: &mut Meetings,
-    stays: &mut Stays,
+    stays: &mut PackedStays,
     field: &Field,
     mover: Colour,
     point: Point,
@@ -44,13 +45,15 @@ fn see_point(
         (shapes_of meetings.new)) }
     ensures fault { IfErr result (λ found. found ≡ fault.Memory) }
 {
-    settle_point(meetings, *stays, occasions);
+    settle_point(meetings, stays.get(), occasions);
     let square = begin(meetings, field.canonical(point, mover), occasions)?;
-    let diamond = match field.kinds() {
-        Kinds::Squares => None,
-        Kinds::Both => begin(meetings, field.canonical_diamond(point, mover), occasions)?,
-    };
-    *stays = Stays { square, diamond };
+    match field.kinds() {
+        Kinds::Squares => *stays = PackedStays::new(square, None, occasions),
+        Kinds::Both => {
+            let diamond = begin(meetings, field.canonical_diamond(point, mover), occasions)?;
+            *stays = PackedStays::new(square, diamond, occasions);
+        }
+    }
     Ok(())
 }
 
@@ -81,11 +84,8 @@ impl Side {
                 row,
             };
             let stays = &mut self.points[size.index(point)];
-            settle_point(meetings, *stays, occasions);
-            *stays = Stays {
-                square: None,
-                diamond: None,
-            };
+            settle_point(meetings, stays.get(), occasions);
+            *stays = PackedStays::none();
         }
     }
 
@@ -167,7 +167,7 @@ impl Side {
         for row in 0..field.size().rows() {
             self.see_row(meetings, field, mover, row)?;
         }
-        let stays = self.points[field.size().index(at)];
+        let stays = self.points[field.size().index(at)].get();
         play(meetings, stays.square);
         play(meetings, stays.diamond);
         self.occasions += 1;

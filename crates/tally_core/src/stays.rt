@@ -4,6 +4,7 @@ ghost use Rattle.std.specs.Prelude.{◌≡◌, ◌+◌, ◌<◌, ◌^◌, ◌∷
 ghost use Rattle.tally_core.specs.Inner.Counter.{times_in};
 ghost use Rattle.tally_core.specs.Walk.{shapes_of, there_among, played_among};
 ghost use Rattle.tally_core.specs.Inner.Meeting.{Meets, CountsStay};
+ghost use Rattle.tally_core.specs.Inner.Packing.{BeginsAt};
 ghost use Rattle.tally_core.specs.Inner.Standing.{IsStay, patterns_of, waits, AreStays};
 ghost use Rattle.tally_core.specs.Inner.Sight.{Fit, there_at, PlayedStays};
 ghost use Rattle.tally_core.specs.declared.faults.TallyFault.TheVariants as fault;
@@ -81,6 +82,7 @@ pub(crate) fn begin(
     occasions: u64,
 ) -> Result<Option<Stay>, TallyFault>
     ensures stay { IfOk result (IsStay (length (shapes_of meetings.new)) occasions) }
+    ensures begins { IfOk result (BeginsAt occasions) }
     ensures pattern { IfOk result (λ stay. patterns_of (shapes_of meetings.new) stay ≡ shape ∷ []) }
     ensures waits { IfOk result (λ stay. (other : ℕ) →
         waits (shapes_of meetings.new) occasions stay other ≡ 0) }

@@ -1,4 +1,4 @@
-use Rattle.std.proofs.Common.{◌≡◌, [], ◌∷◌, ap, ap₂, sym, subst, ◌∙◌, arith}
+use Rattle.std.proofs.Common.{◌≡◌, [], ◌∷◌, ap, ap₂, sym, subst, ◌∙◌}
 use Rattle.go_board.specs.Board.{position_of}
 use Rattle.shape_core.specs.declared.words.Kinds.{Kinds}
 use Rattle.shape_core.specs.declared.words.Kinds.TheVariants as which
@@ -7,22 +7,8 @@ use Rattle.tally_core.specs.Walk.{shapes_of}
 use Rattle.tally_core.specs.Inner.Meeting.{Meets}
 use Rattle.tally_core.specs.Inner.Sight.{here_on}
 use Rattle.tally_core.proofs.Once.{meets_on}
-use Rattle.tally_core.proofs.Lasting.{waits-extended}
 use Rattle.tally_core.proofs.Seeing.{here-empty}
 use Rattle.tally_core.proofs.sights.see_point.Goals as goal
-
-pub returns-in_ok-diamond-in-Both-clause-there : goal.returns-in_ok-diamond-in-Both-clause-there
-returns-in_ok-diamond-in-Both-clause-there c shape =
-    omega (
-      arith,
-      c.settle_point.ensures.there shape,
-      c.in_ok-square.ensures.counts.there shape,
-      c.in_ok-diamond-in-Both.ensures.counts.there shape,
-      waits-extended (shapes_of c.begin.new.meetings) (shapes_of c.begin-in-Both.new.meetings) c.args.occasions c.in_ok-square.square shape
-          c.in_ok-diamond-in-Both.ensures.meets.extends c.in_ok-square.ensures.stay,
-      c.in_ok-square.ensures.waits shape,
-      c.in_ok-diamond-in-Both.ensures.waits shape,
-    )
 
 pub returns-in_ok-diamond-in-Both-clause-meets : goal.returns-in_ok-diamond-in-Both-clause-meets
 returns-in_ok-diamond-in-Both-clause-meets c =

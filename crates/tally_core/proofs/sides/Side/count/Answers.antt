@@ -26,7 +26,7 @@ use Rattle.tally_core.proofs.Skipped.{meets-all}
 use Rattle.tally_core.proofs.Summed.{seen-sum}
 use Rattle.tally_core.proofs.Taken.{rows-first}
 use Rattle.tally_core.proofs.sides.Side.count.Goals as goal
-use Rattle.tally_core.proofs.sides.Side.count.Goals.{After-index-stays, After-loop-row}
+use Rattle.tally_core.proofs.sides.Side.count.Goals.{After-get-stays, After-loop-row}
 
 is-set : (n : ℕ) → n ≡ 1 → (n == 1) ≡ true
 is-set n h = Prim.grind (arith, nat_tests)
@@ -106,25 +106,25 @@ seen-all c =
     (c.rows-row-end.ensures.value ∙ ap (λ (s : Extent). s.rows) c.size.ensures.value) c.loop-row.invariant.looked
 
 -- the place of the move's point is one of the side's
-at-place : (c : After-index-stays) → (c.index.result ≡ index_of c.args.field.now.board.size c.args.at) × (c.index.result < length c.loop-row.self.points.items)
+at-place : (c : After-get-stays) → (c.index.result ≡ index_of c.args.field.now.board.size c.args.at) × (c.index.result < length c.loop-row.self.points.items)
 at-place c =
     let place : c.index.result ≡ index_of c.args.field.now.board.size c.args.at = c.index.ensures.value ∙ ap (λ (s : Extent). index_of s c.args.at) c.size-2.ensures.value in
     (place, omega (arith, index-inside c.args.field.now.board.size c.args.at c.requires.on_board, c.loop-row.invariant.looked.standing.room, place))
 
 -- what stays there was met
-stays-there : (c : After-index-stays) → AreStays (length (shapes_of c.loop-row.meetings)) c.loop-row.self.occasions c.index-stays.result.now
+stays-there : (c : After-get-stays) → AreStays (length (shapes_of c.loop-row.meetings)) c.loop-row.self.occasions c.get-stays.result
 stays-there c =
-    let stays = c.index-stays.result.now in
-    subst (AreStays (length (shapes_of c.loop-row.meetings)) c.loop-row.self.occasions) (sym c.index-stays.ensures)
+    let stays = c.index-2.result.now in
+    subst (AreStays (length (shapes_of c.loop-row.meetings)) c.loop-row.self.occasions) (sym (c.get-stays.ensures ∙ c.index-2.ensures))
     (c.loop-row.invariant.looked.standing.stays c.index.result stays (at-place c).1)
 
 pub play-requires-clause-stay : goal.play-requires-clause-stay
-play-requires-clause-stay c = (c.loop-row.self.occasions, (stays-there (goal.at.play-requires-clause-stay c).After-index-stays).square)
+play-requires-clause-stay c = (c.loop-row.self.occasions, (stays-there (goal.at.play-requires-clause-stay c).After-get-stays).square)
 
 pub play-requires-2-clause-stay : goal.play-requires-2-clause-stay
 play-requires-2-clause-stay c =
-    let stays = c.index-stays.result.now in
-    let good = stays-there (goal.at.play-requires-2-clause-stay c).After-index-stays in
+    let stays = c.get-stays.result in
+    let good = stays-there (goal.at.play-requires-2-clause-stay c).After-get-stays in
     let still : AreStays (length (shapes_of c.play.new.meetings)) c.loop-row.self.occasions stays =
     subst (λ shapes. AreStays (length shapes) c.loop-row.self.occasions stays) (sym c.play.ensures.shapes) good in
     (c.loop-row.self.occasions, still.diamond)
@@ -155,11 +155,11 @@ returns-clause-played c shape =
     let field = c.args.field.now in
     let side = c.loop-row.self in
     let seen = seen-all (goal.at.returns-clause-played c).After-loop-row in
-    let place = at-place (goal.at.returns-clause-played c).After-index-stays in
-    let stays = c.index-stays.result.now in
+    let place = at-place (goal.at.returns-clause-played c).After-get-stays in
+    let stays = c.get-stays.result in
     let shapes = shapes_of c.loop-row.meetings in
     let patterns : patterns_staying shapes stays ≡ played_on field c.args.mover c.args.at =
-    ap (patterns_staying shapes) (c.index-stays.ensures ∙ get_or_default side.points.items c.index.result stays no_stays place.1 ∙ ap (λ i. slice_index_or side.points.items i no_stays) place.0)
+    ap (patterns_staying shapes) (c.get-stays.ensures ∙ c.index-2.ensures ∙ get_or_default side.points.items c.index.result c.index-2.result.now no_stays place.1 ∙ ap (λ i. slice_index_or side.points.items i no_stays) place.0)
     ∙ seen.0.pending c.args.at c.requires.on_board
     ∙ here-empty field.kinds field.board.size (position_of field.board) c.args.mover c.args.at c.requires.empty in
     omega (

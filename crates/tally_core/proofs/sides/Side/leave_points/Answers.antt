@@ -1,4 +1,4 @@
-use Rattle.std.proofs.Common.{◌≡◌, ◌≢◌, ℕ, ◌<◌, ◌≤◌, ◌^◌, ◌∷◌, [], w64, refl, ap, sym, subst, ◌∙◌, ⊎_elim, arith}
+use Rattle.std.proofs.Common.{◌≡◌, ◌≢◌, ℕ, length, ◌<◌, ◌≤◌, ◌^◌, ◌∷◌, [], w64, refl, ap, sym, subst, ◌∙◌, ⊎_elim, arith}
 use Rattle.std.specs.Int.{bit_at, trailing_zeros}
 use Rattle.go_board.specs.Extent.{Extent}
 use Rattle.go_board.specs.Point.{index_of}
@@ -8,8 +8,9 @@ use Rattle.go_board.specs.declared.points.Colour.TheVariants as colour
 use Rattle.std.specs.Vec.{with_item}
 use Rattle.tally_core.specs.declared.sides.Side.{Side}
 use Rattle.tally_core.specs.Inner.Meeting.{Meets}
-use Rattle.tally_core.specs.Inner.Sight.{here_on, points_in, there_at, HasLooked}
-use Rattle.tally_core.specs.Inner.Standing.{no_stays}
+use Rattle.tally_core.specs.Inner.Sight.{here_on, points_in, there_at, StaysWith, HasLooked}
+use Rattle.tally_core.specs.declared.stays.Stays.{Stays}
+use Rattle.tally_core.specs.Inner.Standing.{no_stays, AreStanding}
 use Rattle.tally_core.proofs.Once.{meets_none}
 use Rattle.tally_core.proofs.Seeing.{looked-none, looked-more, looked-point}
 use Rattle.tally_core.proofs.Standing.{here-filled}
@@ -66,7 +67,8 @@ loop-bits-preserved c =
     let left = points_in size row (cleared bits) in
     let points = points_in size row c.args.columns in
     let place : c.index.result ≡ index_of size point = c.index.ensures.value ∙ ap (λ (s : Extent). index_of s point) c.size-size.ensures.value in
-    let new : Side = record side { points = with_item side.points c.index.result no_stays } in
+    let with_stays = λ (s : Stays). record side { points = with_item side.points c.index.result s } in
+    let new : Side = with_stays no_stays in
     let looked : (mover : Colour) → HasLooked field mover points left c.args.meetings.now c.args.self.now after new = λ mover.
     let none = here-filled field mover point (c.requires.filled k (is.among k low.1.set)) in
     let first = subst (λ all. HasLooked field mover points all c.args.meetings.now c.args.self.now c.loop-bits.meetings side)
@@ -76,7 +78,7 @@ loop-bits-preserved c =
     (low.0, c.requires.row) place is.standing_now refl refl refl refl
     (λ closed. refl)
     (record { square = tt; diamond = tt }) (sym none)
-    (rw is.occasions (λ shape. omega (arith, settled.there shape, ap (λ s. there_at before c.args.self.now.occasions s shape) c.index_mut-stays.ensures.value)))
+    (rw is.occasions (λ shape. omega (arith, settled.there shape, ap (λ s. there_at before c.args.self.now.occasions s shape) (c.get.ensures ∙ c.index_mut-stays.ensures.value))))
     settled.played
     (subst (λ shapes. Meets (shapes_of before) (here_on field mover point) shapes) (sym settled.shapes)
     (subst (λ patterns. Meets (shapes_of before) patterns (shapes_of before)) (sym none) (meets_none (shapes_of before))))) in
@@ -89,10 +91,10 @@ loop-bits-preserved c =
           (λ (same : column ≡ k). absurd (omega (arith, ap (bit_at (cleared bits)) (sym same) ∙ set, low.1.gone)))
           (λ (other : column ≡ k → ⊥). sym (low.1.others column other) ∙ set)
           (cases_eq column k));
-      looked = looked;
-      standing_now = one.standing;
+      looked = λ mover. subst (λ (s : Stays). HasLooked field mover points left c.args.meetings.now c.args.self.now after (with_stays s)) (sym c.none.ensures) (looked mover);
+      standing_now = subst (λ (s : Stays). AreStanding size (length (shapes_of after)) (with_stays s)) (sym c.none.ensures) one.standing;
       occasions = one.occasions;
-      there = one.there;
+      there = subst (λ (s : Stays). StaysWith c.args.meetings.now c.args.self.now after (with_stays s)) (sym c.none.ensures) one.there;
     }
 
 pub returns-clause-looked : goal.returns-clause-looked

@@ -1,7 +1,7 @@
 use Rattle.std.proofs.Common.{◌≡◌, length, take}
 use Rattle.harvest_core.specs.Inner.TooMany.{entries_before}
 use Rattle.shape_dict.specs.Pieces.{entries_in}
-use Rattle.harvest_core.proofs.too_many.before.Given as goal
+use Rattle.harvest_core.proofs.reaching.before.Given as goal
 
 -- the patterns of the lists before this one
 abbrev pub invariant-loop-piece : goal.invariant-loop-piece

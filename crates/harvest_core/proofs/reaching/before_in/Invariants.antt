@@ -1,6 +1,6 @@
 use Rattle.std.proofs.Common.{◌≡◌, ◌+◌, ◌≤◌, length, drop}
 use Rattle.harvest_core.specs.Inner.TooMany.{entries_before}
-use Rattle.harvest_core.proofs.too_many.before_in.Given as goal
+use Rattle.harvest_core.proofs.reaching.before_in.Given as goal
 
 abbrev pub invariant-loop-entry : goal.invariant-loop-entry
 invariant-loop-entry l = record {

@@ -4,7 +4,7 @@ use Rattle.shape_dict.specs.declared.entries.Entry.{Entry}
 use Rattle.shape_dict.proofs.Pieced.{part_long}
 use Rattle.harvest_core.specs.Inner.TooMany.{entries_before}
 use Rattle.harvest_core.proofs.Halved.{few_before}
-use Rattle.harvest_core.proofs.too_many.before.Goals as goal
+use Rattle.harvest_core.proofs.reaching.before.Goals as goal
 
 pub overflow_add-count : goal.overflow_add-count
 overflow_add-count c =
