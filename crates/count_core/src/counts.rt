@@ -13,8 +13,9 @@ use std::sync::Wait;
 use std::thread::Threads;
 use tally_core::{Report, Settings};
 
-/// How many threads make a text at least, also for one worker: counting is over then.
-const LEAST_THREADS: usize = 4;
+/// How many threads make a text at least, also for one worker: counting is over then. They are more
+/// than most processors are, since parts of a text end unevenly.
+const LEAST_THREADS: usize = 8;
 
 /// How many threads make a text at most. With more, each part would be too small for large pages.
 const MOST_THREADS: usize = 16;
