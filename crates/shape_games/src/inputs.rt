@@ -169,17 +169,18 @@ fn take_all(
     None
 }
 
-/// Whether games were to be chosen, nothing was at fault, and none was chosen.
+/// Whether games were to be chosen and none was, though some could be read or nothing was at fault.
 fn is_in_vain(asked: &Asked<'_>, sum: &Sum) -> bool {
-    !asked.conditions.is_empty() && !sum.is_written && sum.status == 0
+    let are_some = sum.report.games > 0 || sum.status == 0;
+    !asked.conditions.is_empty() && !sum.is_written && are_some
 }
 
 /// Says how many trees of each sort there were, and before that whether no game was chosen of
-/// them, which has the status 1.
+/// them, which has the status 1 unless something was at fault.
 fn sum_up(rt: &HostRuntime, asked: &Asked<'_>, sum: &mut Sum) {
     if is_in_vain(asked, sum) {
         let _ = eprintln!(rt; "shape_games: no game is chosen");
-        sum.status = 1;
+        sum.status = first_status(sum.status, 1);
     }
     let report = sum.report;
     let _ = eprintln!(rt;
