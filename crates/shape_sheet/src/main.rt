@@ -6,14 +6,14 @@ mod words;
 
 use command_lines::{Line, read_words, why_unread};
 use engine_core::{RunFault, own_words, read_input, status_of, write_output};
-use sheet_core::{Asked, run_sheet};
+use sheet_core::{Asked, Form, run_sheet};
 use std::fs::File;
 use std::io;
 use std::process::ExitCode;
 use words::Drawing;
 
-/// The bytes of the file of lines of hits, or the exit status where they could not be read, which
-/// was said.
+/// Returns the bytes of the file of lines of hits. If they could not be read, that is said, and the
+/// answer is the exit status.
 fn hits_of(rt: &HostRuntime, name: &str) -> Result<Result<Vec<u8>, u8>, RunFault> {
     let read = match File::open(rt, name) {
         Ok(mut file) => read_input(rt.alloc(), &mut file),
@@ -30,20 +30,57 @@ fn hits_of(rt: &HostRuntime, name: &str) -> Result<Result<Vec<u8>, u8>, RunFault
     }
 }
 
-/// Draws the sheet. The answer is the exit status.
+/// Whether a page shows a place below any pattern. Text from files can't look like one: it is
+/// escaped.
+fn has_places(page: &[u8]) -> bool {
+    for start in 0..page.len() {
+        if page[start..].starts_with(b"<ul>") {
+            return true;
+        }
+    }
+    false
+}
+
+/// The lines of hits in this file, none if no file is named; or the exit status if they could not
+/// be read, which was said.
+fn lines_of(rt: &HostRuntime, name: Option<&str>) -> Result<Result<Vec<u8>, u8>, RunFault> {
+    match name {
+        None => Ok(Ok(Vec::new(rt.alloc()))),
+        Some(name) => hits_of(rt, name),
+    }
+}
+
+/// The sheet of the dictionary on standard input, with places that these lines of hits have.
+fn sheet_of(rt: &HostRuntime, asked: Asked, hits: &[u8]) -> Result<Vec<u8>, RunFault> {
+    let mut sheet = Vec::new(rt.alloc());
+    match run_sheet(rt.alloc(), asked, hits, &mut rt.stdin(), &mut sheet) {
+        Ok(()) => Ok(sheet),
+        Err(RunFault::Write { .. }) => Err(RunFault::Memory),
+        Err(fault) => Err(fault),
+    }
+}
+
+/// Draws the sheet, and says if a file of hits was named and gave a page no place. Returns the exit
+/// status.
 fn draw(rt: &HostRuntime, asked: Asked, name: Option<&str>) -> Result<u8, RunFault> {
-    let hits = match name {
-        None => Vec::new(rt.alloc()),
-        Some(name) => match hits_of(rt, name)? {
-            Ok(hits) => hits,
-            Err(status) => return Ok(status),
-        },
+    let hits = match lines_of(rt, name)? {
+        Ok(hits) => hits,
+        Err(status) => return Ok(status),
     };
-    run_sheet(rt.alloc(), asked, &hits, &mut rt.stdin(), &mut rt.stdout())?;
+    let sheet = sheet_of(rt, asked, &hits)?;
+    write_output(&mut rt.stdout(), &sheet)?;
+    let Some(name) = name else {
+        return Ok(0);
+    };
+    if asked.form == Form::Page && !has_places(&sheet) {
+        let _ = eprintln!(rt;
+            "shape_sheet: no line of {name} is of a pattern here, as shape_hits --words has them"
+        );
+    }
     Ok(0)
 }
 
-/// Does what the words say. The answer is the exit status.
+/// Does what the words of the command line say. Returns the exit status.
 fn run(rt: &HostRuntime) -> Result<u8, RunFault> {
     let words = own_words(rt)?;
     match read_words(rt.alloc(), &words)? {
@@ -59,7 +96,7 @@ fn main(rt: HostRuntime) -> ExitCode {
     match run(&rt) {
         Ok(status) => ExitCode::from(status),
         Err(fault) => {
-            // Where standard error takes nothing, the status still says what went wrong.
+            // If standard error takes nothing, the status still says what went wrong.
             let _ = eprintln!(rt; "shape_sheet: {fault}");
             ExitCode::from(status_of(&fault))
         }
