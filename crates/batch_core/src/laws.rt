@@ -1,13 +1,13 @@
-//! Laws of texts that are put together, each the contract of a function that does nothing.
+//! Laws of texts that are joined into one input, each the contract of a function that does nothing.
 ghost use Rattle.std.specs.Prelude.{◌≡◌, ℕ, List, ◌++◌, map};
 ghost use Rattle.sgf_core.specs.Tree.{GameTree};
 ghost use Rattle.go_record.specs.Actions.{Actions};
 ghost use Rattle.game_core.specs.Collection.{record_of_tree, games_among};
 ghost use Rattle.batch_core.specs.Batch.{joined, AreAllTrees, AreGamesOf};
 
-/// The games of texts that are put together to one input are those of the texts, one after another.
-/// By the grammar the input can be read to its end where each of the texts can; that the reader
-/// takes at most 2^28 bytes is not part of this.
+/// The games of texts that are joined into one input are those of the texts, one after another. By
+/// the grammar the input can be read to its end if each of the texts can. The reader's limit of
+/// 2^28 bytes is not part of this.
 pub fn games_of_joined()
     ensures apart { (texts : List (List ℕ)) (games : List Actions) (trees : List GameTree)
         → AreGamesOf texts games → AreAllTrees (joined texts) trees
@@ -17,8 +17,8 @@ pub fn games_of_joined()
         × (games_among (map record_of_tree trees) ≡ games) }
 {}
 
-/// Texts have one list of games, and the games of two lists of texts, one after the other, are
-/// those of one list and then those of the other.
+/// A list of texts has one list of games. The games of two lists of texts, one after the other, are
+/// those of the first list and then those of the second.
 pub fn games_come_together()
     ensures one { (texts : List (List ℕ)) (games others : List Actions)
         → AreGamesOf texts games → AreGamesOf texts others → games ≡ others }

@@ -1,4 +1,4 @@
-//! Texts of games, put together to one input.
+//! Texts of games, joined into one input.
 #![tactic(auto)]
 
 mod laws;

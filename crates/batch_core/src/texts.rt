@@ -1,4 +1,4 @@
-//! One text after another: what its trees are, and how it is put to those before it.
+//! Texts of games: what the trees of one are, and how one is appended to those before it.
 ghost use Rattle.std.specs.Prelude.{◌≡◌, ℕ, List, [], ◌∷◌, ◌++◌, OnOk, IfOk, IfErr};
 ghost use Rattle.game_core.specs.Games.{HasReadAll};
 ghost use Rattle.game_core.specs.Faults.{IsGamesFault};
@@ -7,12 +7,13 @@ ghost use Rattle.batch_core.specs.Batch.{joined};
 use game_core::{Games, GamesFault, Report};
 use std::alloc::{AllocError, Global};
 
-/// What the trees of a text are, all of them. It takes memory for one tree and its record.
+/// Reads a text to its end and returns how many of its trees are games of Go, are of other games,
+/// and are refused. It takes memory for one tree and its record.
 ///
 /// # Errors
 ///
-/// `Sgf` with S4 where the text has more than 2^28 bytes, else with its first fault of syntax;
-/// `Memory` where memory was refused.
+/// `Sgf` with S4 if the text has more than 2^28 bytes, else with its first fault of syntax;
+/// `Memory` if memory was refused.
 pub fn report_of(alloc: Global, text: &[u8]) -> Result<Report, GamesFault>
     ensures read { IfOk result (HasReadAll text.now) }
     ensures fault { IfErr result (IsGamesFault text.now) }
@@ -22,12 +23,12 @@ pub fn report_of(alloc: Global, text: &[u8]) -> Result<Report, GamesFault>
     Ok(games.report())
 }
 
-/// Appends a text to those that were put together before it, with a closing parenthesis after it:
-/// outside of trees it is passed over, and no tree continues after it. It takes memory.
+/// Appends a text to those already joined, and a closing parenthesis after it. Outside of trees the
+/// parenthesis is passed over, and no tree continues after it. It takes memory.
 ///
 /// # Errors
 ///
-/// `AllocError` where memory was refused. The texts before it are then as they were.
+/// `AllocError` if memory was refused. The texts before it are then as they were.
 pub fn push_text(texts: &mut Vec<u8>, text: &[u8]) -> Result<(), AllocError>
     ensures pushed { (before : List (List ℕ)) → texts.old.items ≡ joined before
         → OnOk result (texts.new.items ≡ joined (before ++ text.now ∷ [])) }

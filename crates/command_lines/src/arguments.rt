@@ -7,7 +7,8 @@ ghost use Rattle.command_lines.specs.Arguments.{text_rule, workers_rule};
 use clap::{Arg, ArgAction, value_parser};
 use std::alloc::Global;
 
-/// An option of this name that takes a value, which help calls `value_name`. It takes no memory.
+/// Defines an option of this name that takes a value, which help calls `value_name`. It takes no
+/// memory.
 pub fn option_argument<'a>(
     alloc: Global,
     name: &'a str,
@@ -23,7 +24,7 @@ pub fn option_argument<'a>(
         .help(help)
 }
 
-/// A flag of this name. It takes no memory.
+/// Defines a flag of this name. It takes no memory.
 pub fn flag_argument<'a>(alloc: Global, name: &'a str, help: &'a str) -> Arg<'a>
     ensures rule { rule_of result ≡ flag_rule name.entry.now }
     ensures local { result.global ≡ false }
@@ -34,7 +35,7 @@ pub fn flag_argument<'a>(alloc: Global, name: &'a str, help: &'a str) -> Arg<'a>
         .help(help)
 }
 
-/// `--text`: a number from 1 to 3, which is 1 where none is given. It takes no memory.
+/// Defines `--text`: a number from 1 to 3, which is 1 if none is given. It takes no memory.
 pub fn text_argument<'a>(alloc: Global, help: &'a str) -> Arg<'a>
     ensures rule { rule_of result ≡ text_rule }
     ensures local { result.global ≡ false }
@@ -44,7 +45,7 @@ pub fn text_argument<'a>(alloc: Global, help: &'a str) -> Arg<'a>
         .default_value("1")
 }
 
-/// `--workers`: a number from 1 to 64, which is 4 where none is given. It takes no memory.
+/// Defines `--workers`: a number from 1 to 64, which is 4 if none is given. It takes no memory.
 pub fn workers_argument<'a>(alloc: Global, help: &'a str) -> Arg<'a>
     ensures rule { rule_of result ≡ workers_rule }
     ensures local { result.global ≡ false }
@@ -54,7 +55,7 @@ pub fn workers_argument<'a>(alloc: Global, help: &'a str) -> Arg<'a>
         .default_value("4")
 }
 
-/// GLYPHS, which may be left out. It takes no memory.
+/// Defines the word GLYPHS, which may be left out. It takes no memory.
 pub fn glyphs_argument<'a>(alloc: Global) -> Arg<'a>
     ensures rule { rule_of result ≡ word_rule (codes "glyphs") }
     ensures local { result.global ≡ false }
@@ -64,7 +65,7 @@ pub fn glyphs_argument<'a>(alloc: Global) -> Arg<'a>
         .help("The 25 points of the pattern, row by row from the top")
 }
 
-/// COLOUR, which may be left out. It takes no memory.
+/// Defines the word COLOUR, which may be left out. It takes no memory.
 pub fn colour_argument<'a>(alloc: Global) -> Arg<'a>
     ensures rule { rule_of result ≡ word_rule (codes "colour") }
     ensures local { result.global ≡ false }
@@ -74,7 +75,7 @@ pub fn colour_argument<'a>(alloc: Global) -> Arg<'a>
         .help("Who is to move: black or white")
 }
 
-/// `--diamond`, which says what GLYPHS are of. It takes no memory.
+/// Defines the flag `--diamond`: the GLYPHS are those of a diamond. It takes no memory.
 pub fn diamond_argument<'a>(alloc: Global) -> Arg<'a>
     ensures rule { rule_of result ≡ flag_rule (codes "diamond") }
     ensures local { result.global ≡ false }
@@ -86,7 +87,8 @@ pub fn diamond_argument<'a>(alloc: Global) -> Arg<'a>
     )
 }
 
-/// Words of this name, any number of them, which help calls `value_name`. It takes no memory.
+/// Defines words of this name, any number of them, which help calls `value_name`. It takes no
+/// memory.
 pub fn names_argument<'a>(
     alloc: Global,
     name: &'a str,
@@ -102,7 +104,7 @@ pub fn names_argument<'a>(
         .help(help)
 }
 
-/// FILE.., the names of collections and folders. It takes no memory.
+/// Defines the words FILE.., the names of collections and folders. It takes no memory.
 pub fn files_argument<'a>(alloc: Global) -> Arg<'a>
     ensures rule { rule_of result ≡ names_rule (codes "files") }
     ensures local { result.global ≡ false }

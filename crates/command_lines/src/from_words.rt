@@ -1,4 +1,4 @@
-//! What a program's words ask for, by what it tells `clap` and what it makes of their values.
+//! What the words of a command line ask for, by a program's definition for `clap` and its values.
 ghost use Rattle.std.specs.Prelude.{◌≡◌, ◌⊎◌, List, true, map, string_bytes, IfOk, IfErr};
 ghost use Rattle.clap.specs.Words.{App, Row, app_of, is_simple_and_free, matches_of};
 ghost use Rattle.command_lines.specs.Lines.{IsAskingFault, IsLineOf};
@@ -11,45 +11,45 @@ use clap::{ArgMatches, Command};
 use engine_core::RunFault;
 use std::alloc::{AllocError, Global};
 
-/// What the words of a program without subcommands may ask for.
+/// What the words of a program without subcommands may ask for, and how to read it from them.
 pub trait FromWords<'a>: Sized + Drop {
     /// The program, as it is defined for `clap`.
     ghost app: { App };
 
-    /// The values ask for this.
+    /// Whether the values ask for this.
     ghost IsAsked: { List Row → Self → Type 0 };
 
-    /// The values ask for nothing, and this is why.
+    /// Whether the values ask for nothing, with this as the reason.
     ghost IsWrong: { List Row → RunFault → Type 0 };
 
-    /// The program's definition for `clap`. It takes memory.
+    /// Defines the program for `clap`. It takes memory.
     ///
     /// # Errors
     ///
-    /// `AllocError` where memory was refused.
+    /// `AllocError` if memory was refused.
     fn program(alloc: Global) -> Result<Command<'a>, AllocError>
         ensures { IfOk result (λ command. app_of command ≡ app) };
 
-    /// What values that `clap` takes ask for. It may take memory.
+    /// Returns what the values that `clap` found ask for. It may take memory.
     ///
     /// # Errors
     ///
-    /// Why the values ask for nothing; `Memory` where memory was refused.
+    /// Why the values ask for nothing; `Memory` if memory was refused.
     fn from_values(alloc: Global, matches: &ArgMatches<'a>) -> Result<Self, RunFault>
         ensures asked { IfOk result (IsAsked (rows_in matches.now)) }
         ensures fault { IfErr result (λ found. (found ≡ fault.Memory)
             ⊎ IsWrong (rows_in matches.now) found) };
 
-    /// It has neither groups nor global arguments, and no argument has a rule on another.
+    /// The program has neither groups nor global arguments, and no argument has a rule on another.
     ghost simple: { is_simple_and_free app ≡ true };
 }
 
-/// What the words after a program's name ask for. It takes memory.
+/// Reads what the words after a program's name ask for. It takes memory.
 ///
 /// # Errors
 ///
-/// `Usage` where `clap` refuses the words; where it takes them, why their values ask for nothing;
-/// `Memory` where memory was refused.
+/// `Usage` if `clap` refuses the words; if it takes them, why their values ask for nothing;
+/// `Memory` if memory was refused.
 pub fn read_words<'a, T: FromWords<'a>>(
     alloc: Global,
     words: &'a [String],

@@ -1,5 +1,5 @@
-//! What the command lines of the programs share: the definitions of programs and arguments for
-//! `clap`, what a line of words asks for, and the values that it gives.
+//! What the programs' command lines share: definitions for `clap`, what a line of words asks for,
+//! and the values that it gives.
 #![tactic(auto)]
 
 // what is defined for `clap`

@@ -1,4 +1,4 @@
-//! What a line of words asks for, by what `clap` answers.
+//! Reads a command line with `clap`: its values, or the text of help or version.
 ghost use Rattle.std.specs.Prelude.{◌≡◌, ◌⊎◌, true, map, string_bytes, IfOk, IfErr};
 ghost use Rattle.clap.specs.Values.{kind_of};
 ghost use Rattle.clap.specs.Words.{app_of, is_simple_and_free};
@@ -14,13 +14,13 @@ use std::alloc::Global;
 /// What a line asks for.
 #[derive(Debug, Drop)]
 pub enum Line<T> {
-    /// This, by words of which `clap` refuses nothing.
+    /// This, asked for by words that `clap` takes.
     Asked(T),
-    /// This text, which was asked for by help or version.
+    /// The text of help or version, which the words ask for.
     Told(String),
 }
 
-/// The text that a refused line asks for, by help or version.
+/// Returns the text of help or version with which `clap` answers a line, or why it refuses it.
 fn told(alloc: Global, error: &Error) -> Result<String, RunFault>
     ensures help { IfOk result (λ _. IsHelpKind (kind_of error.now)) }
     ensures fault { IfErr result (λ found. (found ≡ fault.Memory)
@@ -33,13 +33,13 @@ fn told(alloc: Global, error: &Error) -> Result<String, RunFault>
     }
 }
 
-/// The values that `clap` finds in the words after a program's name, or the text of help or
-/// version where they ask for one. The program must have no groups and no global arguments, and no
+/// Returns the values that `clap` finds in the words after a program's name, or the text of help or
+/// version if they ask for one. The program must have no groups and no global arguments, and no
 /// argument with a rule on another. It takes memory.
 ///
 /// # Errors
 ///
-/// `Usage` where `clap` refuses the words; `Memory` where memory was refused.
+/// `Usage` if `clap` refuses the words; `Memory` if memory was refused.
 pub fn read_line<'a>(
     alloc: Global,
     program: Command<'a>,

@@ -8,12 +8,12 @@ use clap::ArgMatches;
 use engine_core::{RunFault, pattern_of};
 use shape_core::Shape;
 
-/// The pattern that GLYPHS, COLOUR and `--diamond` spell. It takes no memory.
+/// Returns the pattern that GLYPHS, COLOUR and `--diamond` spell. It takes no memory.
 ///
 /// # Errors
 ///
-/// `Usage` where the glyphs or the colour are missing, or the colour is none; else `Glyph` where
-/// the glyphs are not those of a pattern.
+/// `Usage` if the glyphs or the colour are missing, or if the colour is none; else `Glyph` if the
+/// glyphs are not those of a pattern.
 pub fn spelled_pattern(matches: &ArgMatches<'_>) -> Result<Shape, RunFault>
     ensures shape { IfOk result (IsSpelled (rows_in matches.now)) }
     ensures fault { IfErr result (IsSpellingFault (rows_in matches.now)) }

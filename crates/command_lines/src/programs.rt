@@ -1,4 +1,4 @@
-//! Programs and subcommands, defined for `clap`, and how arguments are added to them.
+//! Defines programs and subcommands for `clap`, and adds arguments to them.
 ghost use Rattle.std.specs.Prelude.{◌≡◌, false, IfOk};
 ghost use Rattle.clap.specs.Words.{app_of, new_app, rule_of, with_rule, with_subcommand};
 ghost use Rattle.clap.specs.declared.Command.TheViews.{out-Command as fields_of};
@@ -7,11 +7,11 @@ ghost use Rattle.command_lines.specs.Arguments.{bare_app};
 use clap::{Arg, Command};
 use std::alloc::{AllocError, Global};
 
-/// The version of all programs, which is that on top of `CHANGELOG.md`.
+/// The version of all programs, which is the one at the top of `CHANGELOG.md`.
 const VERSION: &str = "1.1.0";
 
-/// A subcommand of this name, without arguments. Its help says what it is about, how it is used
-/// and, at the end, these notes. It takes no memory.
+/// Defines a subcommand of this name, without arguments. Its help says what it is about, how it is
+/// used and, at the end, these notes. It takes no memory.
 pub fn command_named<'a>(
     alloc: Global,
     name: &'a str,
@@ -28,9 +28,9 @@ pub fn command_named<'a>(
         .after_help(notes)
 }
 
-/// The program of this name, without arguments and subcommands. Its help says what it is about, how
-/// it is used and, at the end, these notes; `--version` prints its name and version. Its name is
-/// not among its words. It takes no memory.
+/// Defines the program of this name, without arguments and subcommands. Its help says what it is
+/// about, how it is used and, at the end, these notes; `--version` prints its name and version. The
+/// words it is given do not begin with its name. It takes no memory.
 pub fn program_named<'a>(
     alloc: Global,
     name: &'a str,
@@ -45,11 +45,11 @@ pub fn program_named<'a>(
         .no_binary_name(true)
 }
 
-/// The command with this argument after those that it has. It takes memory.
+/// Adds an argument to the command, after its other arguments. It takes memory.
 ///
 /// # Errors
 ///
-/// `AllocError` where memory was refused.
+/// `AllocError` if memory was refused.
 pub fn with_argument<'a>(command: Command<'a>, argument: Arg<'a>) -> Result<Command<'a>, AllocError>
     requires { argument.global ≡ false }
     ensures app { IfOk result (λ new.
@@ -64,7 +64,7 @@ pub fn with_argument<'a>(command: Command<'a>, argument: Arg<'a>) -> Result<Comm
 ///
 /// # Errors
 ///
-/// `AllocError` where memory was refused.
+/// `AllocError` if memory was refused.
 pub fn with_command<'a>(command: Command<'a>, other: Command<'a>) -> Result<Command<'a>, AllocError>
     requires { (fields_of other).has_globals ≡ false }
     ensures { IfOk result (λ new.

@@ -1,4 +1,4 @@
-//! The text of a dictionary that `--text` names.
+//! Which of the three texts of a dictionary `--text` asks for.
 ghost use Rattle.std.specs.Prelude.{◌≡◌, ◌≢◌, codes, IfSome, IfNone};
 ghost use Rattle.command_lines.specs.Texts.{HasNoText, number_of};
 ghost use Rattle.command_lines.specs.Values.{IsNumberOf, rows_in};
@@ -8,7 +8,7 @@ use crate::values::small_number;
 use clap::ArgMatches;
 use shape_dict::Text;
 
-/// The text of this number, where there is one.
+/// Returns the text of this number, from 1 to 3, or None if there is none.
 fn text_numbered(number: u8) -> Option<Text>
     ensures text { IfSome result (λ text. number ≡ number_of text) }
     ensures none { IfNone result ((text : Text) → number ≢ number_of text) }
@@ -21,7 +21,8 @@ fn text_numbered(number: u8) -> Option<Text>
     }
 }
 
-/// Which of the three texts `--text` asks for, or None where it names none. It takes no memory.
+/// Returns which of the three texts `--text` asks for, or None if it names none. It takes no
+/// memory.
 pub fn text_of(matches: &ArgMatches<'_>) -> Option<Text>
     ensures text { IfSome result (λ text. IsNumberOf (codes "text") (rows_in matches.now)
         (number_of text)) }

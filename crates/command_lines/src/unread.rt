@@ -2,8 +2,8 @@
 use std::fs::File;
 use std::io::ErrorKind;
 
-/// Why the file of this name can't be opened, in a few words, or None where it can be, as the
-/// system tells it now.
+/// Tries to open the file of this name, and returns in a few words why it can't be opened, or None
+/// if it can be.
 pub fn why_unread(rt: &HostRuntime, name: &str) -> Option<&'static str> {
     match File::open(rt, name) {
         Ok(_) => None,

@@ -1,4 +1,4 @@
-//! The value or values of one option, word or flag.
+//! Looks up the value or values of one option, word or flag.
 ghost use Rattle.std.specs.Prelude.{◌≡◌, ◌^◌, map, option_map, IfOk, IfSome, IfNone};
 ghost use Rattle.clap.specs.Words.{first_of};
 ghost use Rattle.command_lines.specs.Values.{HasNoNumber, HasNoOptionalNumber, IsChoiceOf, IsNumberOf};
@@ -9,19 +9,19 @@ use clap::ArgMatches;
 use shape_core::Kind;
 use std::alloc::{AllocError, Global};
 
-/// The first value of the option or word of this name, where it has one. It takes no memory.
+/// Returns the first value of the option or word of this name, if it has one. It takes no memory.
 pub fn word_of<'a>(matches: &ArgMatches<'a>, name: &str) -> Option<&'a str>
     ensures { option_map (λ word. word.now) result ≡ first_of name.now (rows_in matches.now) }
 {
     matches.get_str(name)
 }
 
-/// The values of the option or words of this name, in their order: none where it is not given. It
-/// takes memory.
+/// Returns the values of the option or words of this name, in their order: none if it is not given.
+/// It takes memory.
 ///
 /// # Errors
 ///
-/// `AllocError` where memory was refused.
+/// `AllocError` if memory was refused.
 pub fn words_of<'a>(
     alloc: Global,
     matches: &ArgMatches<'a>,
@@ -37,7 +37,7 @@ pub fn words_of<'a>(
     Ok(words)
 }
 
-/// The number that the option of this name has, where it has one. It takes no memory.
+/// Returns the number that the option of this name has, if it has one. It takes no memory.
 pub fn number(matches: &ArgMatches<'_>, name: &str) -> Option<u64>
     ensures number { IfSome result (IsNumberOf name.now (rows_in matches.now)) }
     ensures none { IfNone result (HasNoNumber (2 ^ 64) name.now (rows_in matches.now)) }
@@ -45,8 +45,8 @@ pub fn number(matches: &ArgMatches<'_>, name: &str) -> Option<u64>
     matches.get_one::<u64>(name)
 }
 
-/// The number that the option of this name has: none where it isn't given, and no answer where its
-/// value is no number. It takes no memory.
+/// Returns the number of the option of this name: `Some(None)` if the option isn't given, and None
+/// if its value is no number. It takes no memory.
 pub fn optional_number(matches: &ArgMatches<'_>, name: &str) -> Option<Option<u64>>
     ensures number { IfSome result (IsOptionalNumberOf name.now (rows_in matches.now)) }
     ensures none { IfNone result (HasNoOptionalNumber name.now (rows_in matches.now)) }
@@ -60,7 +60,7 @@ pub fn optional_number(matches: &ArgMatches<'_>, name: &str) -> Option<Option<u6
     }
 }
 
-/// The number that the option of this name has, where it has one that is below 256. It takes no
+/// Returns the number that the option of this name has, if it has one below 256. It takes no
 /// memory.
 pub fn small_number(matches: &ArgMatches<'_>, name: &str) -> Option<u8>
     ensures number { IfSome result (IsNumberOf name.now (rows_in matches.now)) }
@@ -69,14 +69,15 @@ pub fn small_number(matches: &ArgMatches<'_>, name: &str) -> Option<u8>
     matches.get_one::<u8>(name)
 }
 
-/// Which of two the flag of this name says: the first where it is given. It takes no memory.
+/// Returns `given` if the flag of this name is given, else `other`. It takes no memory.
 pub fn choice<T: Copy>(matches: &ArgMatches<'_>, flag: &str, given: T, other: T) -> T
     ensures { IsChoiceOf flag.now given other (rows_in matches.now) result }
 {
     if matches.get_flag(flag) { given } else { other }
 }
 
-/// The kind of pattern that GLYPHS are of, by `--diamond`. It takes no memory.
+/// Returns the kind of pattern that GLYPHS spell: diamonds if `--diamond` is given, else squares.
+/// It takes no memory.
 pub fn kind_of(matches: &ArgMatches<'_>) -> Kind
     ensures { IsKindOf (rows_in matches.now) result }
 {

@@ -13,15 +13,15 @@ use std::sync::Wait;
 use std::thread::Threads;
 use tally_core::{Report, Settings};
 
-/// How many threads make a text at least, also for one worker: counting is over then. They are more
-/// than most processors are, since parts of a text end unevenly.
+/// How many threads make a text at least, even for one worker, since counting is over then. They
+/// are more than most machines have processors, since parts of a text end unevenly.
 const LEAST_THREADS: usize = 8;
 
 /// How many threads make a text at most. With more, each part would be too small for large pages.
 const MOST_THREADS: usize = 16;
 
-/// The text of the dictionary of the input's games, in parts, and how many trees it has of each
-/// sort.
+/// Counts an input, and returns the text of the dictionary of its games, in parts, and how many
+/// trees it has of each sort.
 #[tactic(auto, using(crate::proofs::Order::comes_first))]
 fn counted_text<T: Threads + Wait + Sync, G: Gate>(
     rt: &T,
@@ -41,12 +41,12 @@ fn counted_text<T: Threads + Wait + Sync, G: Gate>(
     Ok((written, counted.report))
 }
 
-/// Reads a collection, writes a text of the dictionary of its games, and answers how many trees it
-/// has of each sort. The kinds of pattern that are counted are those of the settings: where
-/// diamonds are not counted, texts 2 and 3 say so, and text 1 is that of the squares. The text is
-/// the same for every number of workers. `harvest` counts, and says on how many threads; 4 to 16
-/// threads, as many as there are workers, make the text in parts that are written one after
-/// another. It takes memory for the input, for what `harvest` takes, and for the text.
+/// Reads a collection, writes a text of the dictionary of its games, and returns how many trees it
+/// has of each sort. The kinds of pattern that are counted are those of the settings: if diamonds
+/// are not counted, texts 2 and 3 say so, and text 1 is that of the squares. The text is the same
+/// for every number of workers. `harvest` counts, and says on how many threads; 8 to 16 threads, as
+/// many as there are workers, make the text in parts that are written one after another. It takes
+/// memory for the input, for what `harvest` takes, and for the text.
 ///
 /// The gate is for a test or a display of progress: it learns which worker is about to count which
 /// game. It changes no answer. That the call ends rests on those calls that wait for another thread
@@ -54,14 +54,14 @@ fn counted_text<T: Threads + Wait + Sync, G: Gate>(
 ///
 /// # Errors
 ///
-/// `Read` where the reader failed; `Memory` where memory for the input was refused, `Harvest` with
-/// F6 where that for counting was, `Dict` with X6 where that for the text of a collection that was
-/// counted was. Else `Harvest` with S4 where the collection has more than 2^28 bytes, else with its
-/// first fault of syntax (S1 to S3), else with F1 where it has more than 2^k patterns: the pattern
-/// with which they are first more, in the order of the games and of their walks, and the first game
-/// that has it. The input and the settings alone determine which of these comes. Nothing is written
-/// then. `Write` where the writer failed: exactly that number of bytes of the text is out. F2 to
-/// F4, F8 and F9 never come.
+/// `Read` if the reader failed. `Memory` if memory for the input was refused, `Harvest` with F6 if
+/// memory for counting was, and `Dict` with X6 if memory for the text of a collection that was
+/// counted was. Else `Harvest` with S4 if the collection has more than 2^28 bytes, else with its
+/// first fault of syntax (S1 to S3), else with F1 if it has more than 2^k patterns: F1 names the
+/// pattern with which they first become more, in the order of the games and of their walks, and the
+/// first game that has it. The input and the settings alone determine which of these comes. Nothing
+/// is written then. `Write` if the writer failed: exactly as many bytes of the text are out as it
+/// says. F2 to F4, F8 and F9 never come.
 pub fn run_count<T: Threads + Wait + Sync, G: Gate, R: Read, W: Write>(
     rt: &T,
     alloc: Global,

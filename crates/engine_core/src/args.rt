@@ -1,4 +1,4 @@
-//! The words of the command line.
+//! Fetches the words of the command line.
 ghost use Rattle.std.specs.Prelude.{◌≡◌, ◌⊎◌, IfErr};
 ghost use Rattle.engine_core.specs.declared.faults.RunFault.TheVariants as fault;
 
@@ -6,11 +6,11 @@ use crate::faults::RunFault;
 use std::env;
 use std::io::ErrorKind;
 
-/// The words after the program's name.
+/// Returns the words after the program's name.
 ///
 /// # Errors
 ///
-/// `Usage` where a word is not UTF-8, which is none that a program knows; `Memory` where memory was
+/// `Usage` if a word is not UTF-8, since no program knows such a word; `Memory` if memory was
 /// refused.
 pub fn own_words(rt: &HostRuntime) -> Result<Vec<String>, RunFault>
     ensures { IfErr result (λ found. (found ≡ fault.Usage) ⊎ (found ≡ fault.Memory)) }

@@ -26,7 +26,7 @@ pub enum Outcome {
     NotFound,
 }
 
-/// The text of a game's final position.
+/// Replays a game, and returns the text of its final position.
 fn final_text(alloc: Global, game_record: &Record) -> Result<Vec<u8>, RunFault>
     ensures text { IfOk result (λ text. (final : Position) × IsFinal game_record.now final
         × (text.items ≡ position_text game_record.now.size final)) }
@@ -38,8 +38,8 @@ fn final_text(alloc: Global, game_record: &Record) -> Result<Vec<u8>, RunFault>
     Ok(board_text(alloc, &board)?)
 }
 
-/// The text of the first tree's final position, or None where there is no tree or it is of another
-/// game.
+/// Returns the text of the final position of the first tree's game. None if there is no tree or it
+/// is of another game than Go.
 #[tactic(auto, using(crate::proofs::Runs::sgf_cause))]
 fn first_text(alloc: Global, input: &[u8]) -> Result<Option<Vec<u8>>, RunFault>
     ensures text { IfOk result (λ found. IfSome found (λ text. IsBoardText input.now text.items)) }
@@ -58,14 +58,14 @@ fn first_text(alloc: Global, input: &[u8]) -> Result<Option<Vec<u8>>, RunFault>
 
 /// Reads a collection and writes the final position of its first game: its rows from the top, `.`
 /// for an empty point, `X` for Black, `O` for White, each row ended by a line feed. Bytes after the
-/// first tree are not judged. Where there is no tree, or the first is of another game, it writes
-/// nothing and answers `NotFound`.
+/// first tree are not judged. If there is no tree, or the first is of another game than Go, it
+/// writes nothing and answers `NotFound`.
 ///
 /// # Errors
 ///
-/// The fault of the collection (S1 to S5), of the record (G1 to G4) or of the board (B1), `Read`
-/// where the reader failed, `Memory` where memory for the input or the text was refused: nothing is
-/// written then. `Write` where the writer failed: exactly that number of bytes of the text is out.
+/// The fault of the collection (S1 to S5), of the record (G1 to G4) or of the board (B1), `Read` if
+/// the reader failed, `Memory` if memory for the input or the text was refused: nothing is written
+/// then. `Write` if the writer failed: exactly that number of bytes of the text is out.
 pub fn run_board<R: Read, W: Write>(
     alloc: Global,
     reader: &mut R,

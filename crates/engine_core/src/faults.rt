@@ -14,13 +14,13 @@ use std::alloc::{AllocError, AllocFailed};
 use std::fmt;
 use thiserror::Error;
 
-/// Why a run ended without its answer. Its text follows `shapes: ` on standard error.
+/// Why a run ended without its answer. The fault's text follows `shapes: ` on standard error.
 #[derive(Clone, Copy, Debug, PartialEq, Eq, Error)]
 pub enum RunFault {
-    /// The collection is not one that can be read.
+    /// The collection cannot be read.
     #[error("{0}")]
     Sgf(SgfFault),
-    /// The tree gives no record.
+    /// A tree of the collection gives no record of a game.
     #[error("{0}")]
     Record(RecordFault),
     /// There was no memory for the board.
@@ -32,11 +32,11 @@ pub enum RunFault {
     /// The collection was not counted.
     #[error("{0}")]
     Harvest(HarvestFault),
-    /// The input's dictionary of this number, from 1, is none that can be read, or it cannot be
-    /// added to those before it.
+    /// The input's dictionary of this number, from 1, cannot be read, or it cannot be added to
+    /// those before it.
     #[error("{}", DictLine {n: *.n, fault: *.fault})]
     Dict { n: usize, fault: DictFault },
-    /// The words of the command line are none that the program knows.
+    /// The program does not know the words of the command line.
     #[error("U1 usage")]
     Usage,
     /// A read of the input failed.
@@ -82,7 +82,7 @@ impl From<HarvestFault> for RunFault {
     }
 }
 
-/// The fault of the only dictionary of a run, or of its first.
+/// Makes the fault of dictionary 1, the only dictionary of a run or its first.
 impl From<DictFault> for RunFault {
     ghost from_gives = { λ cause fault. fault ≡ Dict 1 cause };
 
@@ -107,7 +107,7 @@ impl<T: Drop> From<AllocFailed<T>> for RunFault {
     }
 }
 
-/// The line of a dictionary's fault. Too large an input and a lack of memory concern no one
+/// The text of a dictionary's fault. Too large an input and a lack of memory concern no one
 /// dictionary, so they are said without a number.
 #[derive(Clone, Copy)]
 struct DictLine {

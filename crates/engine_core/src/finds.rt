@@ -1,4 +1,4 @@
-//! `find`: the uses of one pattern in a dictionary.
+//! `find`: how often one pattern was there and was played, by a dictionary.
 ghost use Rattle.std.specs.Prelude.{◌≡◌, IfOk, IfErr};
 ghost use Rattle.engine_core.specs.Finds.{IsEntryOf, IsFoundText, IsAbsentText, IsFindText};
 ghost use Rattle.engine_core.specs.Finds.{IsFindFault};
@@ -16,7 +16,7 @@ use shape_dict::{Dictionary, Entry, FirstGame, Text, push_line};
 use std::alloc::{AllocError, Global};
 use std::io::{Read, Write};
 
-/// The pattern's entry in the dictionary whose text the input is, or None.
+/// Returns the pattern's entry in the dictionary whose text the input is, or None if it has none.
 fn entry_in(alloc: Global, input: &[u8], shape: Shape) -> Result<Option<Entry>, RunFault>
     ensures found { IfOk result (IsEntryOf shape input.now) }
     ensures fault { IfErr result (IsFindFault input.now) }
@@ -25,8 +25,8 @@ fn entry_in(alloc: Global, input: &[u8], shape: Shape) -> Result<Option<Entry>, 
     Ok(dictionary.find(shape))
 }
 
-/// A pattern's line: its word in 13 hexadecimal digits, how often it was there, and how often it
-/// was played.
+/// Makes a pattern's line: its word in 13 hexadecimal digits, how often it was there, and how often
+/// it was played.
 fn found_line(alloc: Global, entry: &Entry) -> Result<Vec<u8>, AllocError>
     ensures { IfOk result (λ line. line.items ≡ line_text kind.One entry.now) }
 {
@@ -35,7 +35,8 @@ fn found_line(alloc: Global, entry: &Entry) -> Result<Vec<u8>, AllocError>
     Ok(line)
 }
 
-/// The pattern's line in the dictionary whose text the input is, and whether it has the pattern.
+/// Returns the pattern's line by the dictionary whose text the input is, and whether the dictionary
+/// has the pattern.
 fn answer(alloc: Global, input: &[u8], shape: Shape) -> Result<(Vec<u8>, Outcome), RunFault>
     ensures done { IfOk result (λ p. p.1 ≡ outcome.Done → IsFoundText shape input.now p.0.items) }
     ensures not_found { IfOk result (λ p. p.1 ≡ outcome.NotFound
@@ -58,15 +59,15 @@ fn answer(alloc: Global, input: &[u8], shape: Shape) -> Result<(Vec<u8>, Outcome
 }
 
 /// Reads one dictionary, in any of the three texts, and writes the pattern's line: its word in 13
-/// hexadecimal digits, how often it was there, and how often it was played. Where the dictionary
-/// has no such pattern the line says 0 twice, and the answer is `NotFound`. It takes memory for the
+/// hexadecimal digits, how often it was there, and how often it was played. If the dictionary has
+/// no such pattern, the line says 0 twice, and the answer is `NotFound`. It takes memory for the
 /// input, the dictionary and the line.
 ///
 /// # Errors
 ///
-/// `Dict` with 1 and the first fault of the text (X1 to X6, X8), `Read` where the reader failed,
-/// `Memory` where memory for the input or the line was refused: nothing is written then. `Write`
-/// where the writer failed: exactly that number of bytes of the line is out.
+/// `Dict` with 1 and the first fault of the text (X1 to X6, X8), `Read` if the reader failed,
+/// `Memory` if memory for the input or the line was refused: nothing is written then. `Write` if
+/// the writer failed: exactly that number of bytes of the line is out.
 pub fn run_find<R: Read, W: Write>(
     alloc: Global,
     shape: Shape,

@@ -1,23 +1,23 @@
-//! Dictionaries one after another, joined by halves of their bytes: none is in more joins than they
-//! can be halved.
+//! Joins dictionaries that follow one another by halves of their bytes: none is in more joins than
+//! the bytes can be halved.
 ghost use Rattle.std.specs.Prelude.{◌≡◌, ℕ, ◌+◌, ◌^◌, ◌<◌, ◌≤◌, List, length, IfSome};
 ghost use Rattle.engine_core.specs.Inner.Batches.{IsBatch, AreBatches};
 
 use shape_dict::Dictionary;
 use std::alloc::Global;
 
-/// Dictionaries that were read one after another, at least one, and joined.
+/// A batch: dictionaries, at least one, that were read one after another and joined.
 #[derive(Drop)]
 pub(crate) struct Batch {
-    /// Their join.
+    /// The join of the dictionaries.
     pub(crate) sum: Dictionary,
-    /// How many they are.
+    /// How many dictionaries they are.
     pub(crate) number: usize,
-    /// How many bytes their texts have.
+    /// How many bytes the texts of the dictionaries have.
     pub(crate) length: usize,
 }
 
-/// The first dictionary alone, or None where it cannot be read, or memory was refused.
+/// Reads the first dictionary alone. None if it cannot be read, or memory was refused.
 fn read_one(alloc: Global, bytes: &[u8]) -> Option<Batch>
     ensures batch { IfSome result (IsBatch bytes.now) }
     ensures some { IfSome result (λ batch. 1 ≤ batch.length) }
@@ -32,8 +32,8 @@ fn read_one(alloc: Global, bytes: &[u8]) -> Option<Batch>
     }
 }
 
-/// Two batches, of which the second follows the first, as one; or None where they cannot be joined,
-/// or memory was refused.
+/// Joins two batches, of which the second follows the first, into one. None if they cannot be
+/// joined, or memory was refused.
 pub(crate) fn join_two(alloc: Global, first: &Batch, next: &Batch) -> Option<Batch>
     requires number { first.now.number + next.now.number < 2 ^ 64 }
     requires length { first.now.length + next.now.length < 2 ^ 64 }
@@ -51,10 +51,10 @@ pub(crate) fn join_two(alloc: Global, first: &Batch, next: &Batch) -> Option<Bat
     }
 }
 
-/// The dictionaries at the front of the bytes whose texts have `least` bytes or more, and no more
-/// of them than that takes: those of the first half of these bytes, those of what is left of them,
-/// and both joined. So each is in no more joins than `least` can be halved. None where one of them
-/// cannot be read or joined, or memory was refused.
+/// Reads and joins the dictionaries at the front of the bytes whose texts have `least` bytes or
+/// more, and no more of them than that takes. It joins those of the first half of these bytes,
+/// those of what is left of them, and then both. So each dictionary is in no more joins than
+/// `least` can be halved. None if one of them cannot be read or joined, or memory was refused.
 pub(crate) fn join_front(alloc: Global, bytes: &[u8], least: usize) -> Option<Batch>
     requires { least ≤ length bytes.now }
     ensures batch { IfSome result (IsBatch bytes.now) }

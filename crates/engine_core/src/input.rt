@@ -1,4 +1,4 @@
-//! The whole input, read up to one byte more than a run may have.
+//! Reads the whole input, up to one byte more than a run may have.
 ghost use Rattle.std.specs.Prelude.{◌≡◌, ◌+◌, ◌<◌, ◌≤◌, ◌⊎◌, [], length, take, IfOk, IfErr};
 ghost use Rattle.std.specs.Prelude.{IfSome, OnOk};
 ghost use Rattle.std.specs.Io.KnownBytes.{Consumes, IsAtEnd};
@@ -12,10 +12,10 @@ use sgf_core::MOST_BYTES;
 use std::alloc::Global;
 use std::io::Read;
 
-/// How many bytes are asked for at once.
+/// How many bytes a read asks for at once.
 const BLOCK: usize = 1 << 16;
 
-/// Reads once, and answers how many bytes it read. Unless the buffer is empty, 0 is the end.
+/// Reads once, and returns how many bytes it read. Unless the buffer is empty, 0 is the end.
 fn read_some<R: Read>(reader: &mut R, room: &mut [u8]) -> Result<usize, RunFault>
     ensures within { IfOk result (λ count. count ≤ length room.new) }
     ensures taken { IfOk result (λ count. Consumes (R.remaining reader.old)
@@ -27,7 +27,7 @@ fn read_some<R: Read>(reader: &mut R, room: &mut [u8]) -> Result<usize, RunFault
     reader.read(room).map_err(|_| RunFault::Read)
 }
 
-/// Reads by a block, up to the end, or one byte more than a run may have.
+/// Reads in blocks, up to the end, or up to one byte more than a run may have.
 fn read_by_block<R: Read>(
     reader: &mut R,
     block: &mut [u8],
@@ -52,13 +52,13 @@ fn read_by_block<R: Read>(
     Ok(())
 }
 
-/// The reader's bytes up to its end, or the first 2^28 + 1 of them. A read of no bytes is the end.
-/// It takes memory for the bytes and a block more.
+/// Reads the reader's bytes up to its end, or the first 2^28 + 1 of them. A read of no bytes is the
+/// end. It takes memory for the bytes and one block more.
 ///
 /// # Errors
 ///
-/// `Read` where the reader failed, `Memory` where memory was refused: the bytes that were read by
-/// then are lost.
+/// `Read` if the reader failed, `Memory` if memory was refused: the bytes that were read by then
+/// are lost.
 pub fn read_input<R: Read>(alloc: Global, reader: &mut R) -> Result<Vec<u8>, RunFault>
     ensures input { IfOk result (λ input. IfSome (R.remaining reader.old)
         (λ all. input.items ≡ take (most_bytes + 1) all)) }

@@ -1,4 +1,4 @@
-//! `join`: dictionaries read one after another, and their join.
+//! `join`: reads dictionaries that follow one another, and writes their join.
 ghost use Rattle.std.specs.Prelude.{◌≡◌, ◌<◌, ◌≤◌, length, IfOk, IfErr, IfSome};
 ghost use Rattle.engine_core.specs.Inner.Batches.{IsBatch};
 ghost use Rattle.engine_core.specs.Joins.{IsJoinedText, IsJoinText};
@@ -18,8 +18,8 @@ use shape_dict::{DictFault, Dictionary, Text};
 use std::alloc::Global;
 use std::io::{Read, Write};
 
-/// The join of `sum` and the dictionary of the text that the bytes begin with, and how many bytes
-/// that text has.
+/// Reads the dictionary at the front of the bytes and joins it to `sum`. Returns the join, and how
+/// many bytes the dictionary's text has.
 fn add_next(alloc: Global, sum: &Dictionary, bytes: &[u8]) -> Result<(Dictionary, usize), DictFault>
     ensures added { IfOk result (λ p. IsAdded sum.now bytes.now p.1 p.0) }
     ensures fault { IfErr result (IsAddFault sum.now bytes.now) }
@@ -29,7 +29,8 @@ fn add_next(alloc: Global, sum: &Dictionary, bytes: &[u8]) -> Result<(Dictionary
     Ok((both, length))
 }
 
-/// The batch at the front of the input, and the dictionary that follows it.
+/// Adds the dictionary that follows a batch (the joined dictionaries at the front of the input) to
+/// it.
 ///
 /// `RunFault::Dict` has the number of that dictionary, from 1, and why it cannot be read or added,
 /// or out of memory.
@@ -52,9 +53,9 @@ fn add_one(alloc: Global, input: &[u8], before: &Batch) -> Result<Batch, RunFaul
     }
 }
 
-/// The batch at the front of the input, and the dictionaries that follow it up to the byte of this
-/// number at least, which are joined before they are added. None where one of them cannot be read
-/// or joined, or memory was refused.
+/// Adds to a batch at the front of the input the dictionaries that follow it, up to byte `end` at
+/// least. They are joined before they are added. None if one of them cannot be read or joined, or
+/// memory was refused.
 fn add_joined(alloc: Global, input: &[u8], before: &Batch, end: usize) -> Option<Batch>
     requires before { IsBatch input.now before.now }
     requires more { before.now.length ≤ end }
@@ -66,10 +67,10 @@ fn add_joined(alloc: Global, input: &[u8], before: &Batch, end: usize) -> Option
     join_two(alloc, before, &next)
 }
 
-/// The batch at the front of the input, and the dictionaries that follow it up to the byte of this
-/// number at least. Where they cannot be joined before they are added, those of the first half of
-/// the bytes are added, and then the others: so the first fault is met, and each time only half of
-/// the bytes are read again.
+/// Adds to a batch at the front of the input the dictionaries that follow it, up to byte `end` at
+/// least. If they cannot be joined before they are added, those of the first half of the bytes are
+/// added, and then the others: so the first fault is met, and each time only half of the bytes are
+/// read again.
 fn add_up_to(alloc: Global, input: &[u8], before: Batch, end: usize) -> Result<Batch, RunFault>
     requires few { length input.now ≤ most_bytes }
     requires before { IsBatch input.now before }
@@ -95,7 +96,7 @@ fn add_up_to(alloc: Global, input: &[u8], before: Batch, end: usize) -> Result<B
     }
 }
 
-/// The join of all dictionaries whose texts the input is, and how many they are.
+/// Joins all dictionaries whose texts the input is, and returns how many they are too.
 fn join_all(alloc: Global, input: &[u8]) -> Result<(Dictionary, usize), RunFault>
     requires { length input.now ≤ most_bytes }
     ensures joined { IfOk result (λ p. IsJoinedText input.now p.1 p.0) }
@@ -111,7 +112,7 @@ fn join_all(alloc: Global, input: &[u8]) -> Result<(Dictionary, usize), RunFault
     Ok((all.sum, all.number))
 }
 
-/// The text of the join of all dictionaries whose texts the input is.
+/// Returns the text of the join of all dictionaries whose texts the input is.
 fn joined_text(alloc: Global, text: Text, input: &[u8]) -> Result<Vec<u8>, RunFault>
     ensures written { IfOk result (λ written. IsJoinText text input.now written.items) }
     ensures fault { IfErr result (IsJoinRunFault input.now) }
@@ -138,10 +139,10 @@ fn joined_text(alloc: Global, text: Text, input: &[u8]) -> Result<Vec<u8>, RunFa
 ///
 /// `Dict` with the number of the first dictionary, from 1, that cannot be read (X1 to X5) or added
 /// to those before it (X7, X9), and its fault; an input without a byte is X1 of dictionary 1.
-/// `Dict` with X8 where the whole input has more than 2^28 bytes, and with X6 where memory for a
-/// dictionary, a join or the text was refused. `Read` where the reader failed, `Memory` where
-/// memory for the input was refused. Nothing is written then. `Write` where the writer failed:
-/// exactly that number of bytes of the text is out.
+/// `Dict` with X8 if the whole input has more than 2^28 bytes, and with X6 if memory for a
+/// dictionary, a join or the text was refused. `Read` if the reader failed, `Memory` if memory for
+/// the input was refused. Nothing is written then. `Write` if the writer failed: exactly that
+/// number of bytes of the text is out.
 pub fn run_join<R: Read, W: Write>(
     alloc: Global,
     text: Text,

@@ -1,5 +1,5 @@
-//! What the engines of all programs read, write and answer by, and three of the four of `shapes`:
-//! each reads its input whole, makes one text of it, and writes that text.
+//! What all programs share to read, write and report faults, and the engines of `board`, `find` and
+//! `join`: each reads its input whole, makes one text of it, and writes that text.
 #![tactic(auto)]
 
 // the engines, and the pattern that `find` is asked for

@@ -1,4 +1,4 @@
-//! A text, written whole or up to the byte at which the writer failed.
+//! Writes a text whole, or up to the byte at which the writer failed.
 ghost use Rattle.std.specs.Prelude.{◌<◌, length, take, OnOk, IfErr};
 ghost use Rattle.std.specs.Io.KnownBytes.{Appends};
 ghost use Rattle.shape_dict.specs.Parts.{joined};
@@ -7,7 +7,7 @@ ghost use Rattle.engine_core.specs.Output.{WroteFront};
 use crate::faults::RunFault;
 use std::io::Write;
 
-/// Writes bytes. The error is how many of them are out, where the writer failed or wrote none.
+/// Writes bytes. If the writer fails or writes none, the error is how many of the bytes are out.
 fn write_bytes<W: Write>(writer: &mut W, bytes: &[u8]) -> Result<(), usize>
     ensures whole { OnOk result (Appends (W.contents writer.old) (W.contents writer.new) bytes.now) }
     ensures short { IfErr result (λ written. written < length bytes.now) }
@@ -28,7 +28,7 @@ fn write_bytes<W: Write>(writer: &mut W, bytes: &[u8]) -> Result<(), usize>
 ///
 /// # Errors
 ///
-/// `Write` where the writer failed, or wrote no bytes: exactly that number of bytes of the text is
+/// `Write` if the writer failed, or wrote no bytes: exactly that number of bytes of the text is
 /// out.
 pub fn write_output<W: Write>(writer: &mut W, text: &[u8]) -> Result<(), RunFault>
     ensures whole { OnOk result (Appends (W.contents writer.old) (W.contents writer.new) text.now) }
@@ -45,9 +45,9 @@ pub fn write_output<W: Write>(writer: &mut W, text: &[u8]) -> Result<(), RunFaul
 ///
 /// # Errors
 ///
-/// `Write` where the writer failed, or wrote no bytes: exactly that number of bytes of the text is
-/// out. So also before a part that would take the text past 2^64 - 1 bytes, which is more than
-/// memory holds.
+/// `Write` if the writer failed, or wrote no bytes: exactly that number of bytes of the text is
+/// out. It also comes before a part that would take the text past 2^64 - 1 bytes, which is more
+/// than memory holds.
 pub fn write_parts<W: Write>(writer: &mut W, parts: &[Vec<u8>]) -> Result<(), RunFault>
     ensures whole { OnOk result (Appends (W.contents writer.old) (W.contents writer.new)
         (joined parts.now)) }

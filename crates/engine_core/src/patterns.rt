@@ -10,7 +10,7 @@ use crate::faults::RunFault;
 use go_board::Colour;
 use shape_core::{GlyphFault, Kind, Shape, Word, canonical, from_diamond_glyphs, from_glyphs};
 
-/// The colour that a word names.
+/// Returns the colour that a word names, `black` or `white`, or None if it names neither.
 fn colour_of(text: &str) -> Option<Colour>
     ensures some { IfSome result (λ colour. text.now ≡ colour_text colour) }
     ensures none { IfNone result ((colour : Mover) → text.now ≢ colour_text colour) }
@@ -24,7 +24,7 @@ fn colour_of(text: &str) -> Option<Colour>
     None
 }
 
-/// The word of these glyphs, read as those of a square or a diamond.
+/// Reads these glyphs as those of a square or a diamond, and returns the word they spell.
 fn word_of(kind: Kind, glyphs: &str) -> Result<Word, GlyphFault>
     ensures spelled { IfOk result (λ word. glyphs_of word ≡ glyphs.now) }
     ensures small { IfOk result (λ word. word < 2 ^ 51) }
@@ -37,12 +37,12 @@ fn word_of(kind: Kind, glyphs: &str) -> Result<Word, GlyphFault>
     }
 }
 
-/// The pattern of these glyphs with this mover, `black` or `white`: its canonical form.
+/// Returns the pattern of these glyphs with this mover, `black` or `white`: its canonical form.
 ///
 /// # Errors
 ///
-/// `Usage` exactly where the mover is neither, and else `Glyph` where the glyphs are not 25 (H2) or
-/// one is none (H1).
+/// `Usage` exactly if the mover is neither, and else `Glyph` if the glyphs are not 25 (H2) or one
+/// is none (H1).
 pub fn pattern_of(kind: Kind, glyphs: &str, mover: &str) -> Result<Shape, RunFault>
     ensures shape { IfOk result (IsPatternOf kind glyphs.now mover.now) }
     ensures fault { IfErr result (IsPatternFault glyphs.now mover.now) }

@@ -1,4 +1,4 @@
-//! The text of a board.
+//! Makes the text of a board.
 ghost use Rattle.std.specs.Prelude.{◌≡◌, ◌++◌, ◌<◌, OnOk, IfOk};
 ghost use Rattle.go_board.specs.Board.{position_of};
 ghost use Rattle.engine_core.specs.Boards.{glyph_of, row_text, position_text};
@@ -6,7 +6,7 @@ ghost use Rattle.engine_core.specs.Boards.{glyph_of, row_text, position_text};
 use go_board::{Board, Point, Stone};
 use std::alloc::{AllocError, Global};
 
-/// The glyph of a point.
+/// Returns the glyph of a point: `.`, `X` or `O`.
 fn glyph(stone: Stone) -> u8
     ensures { result ≡ glyph_of stone }
 {
@@ -30,7 +30,7 @@ fn push_row(text: &mut Vec<u8>, board: &Board, row: u8) -> Result<(), AllocError
     Ok(())
 }
 
-/// The text of a board: its rows from the top, each ended by a line feed.
+/// Makes the text of a board: its rows from the top, each ended by a line feed.
 pub(crate) fn board_text(alloc: Global, board: &Board) -> Result<Vec<u8>, AllocError>
     ensures { IfOk result (λ text. text.items
         ≡ position_text board.now.size (position_of board.now)) }

@@ -5,7 +5,7 @@ use thiserror::Error;
 /// Why no next game was read.
 #[derive(Clone, Copy, Debug, PartialEq, Eq, Error)]
 pub enum GamesFault {
-    /// The input is not one that can be read.
+    /// The input has this fault: it is too large, or a tree has a fault of syntax.
     #[error("{0}")]
     Sgf(SgfFault),
     /// Memory was refused.

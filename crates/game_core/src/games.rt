@@ -22,7 +22,7 @@ use sgf_core::{SgfFault, Tree, Trees};
 use std::alloc::Global;
 use std::marker::Model;
 
-/// Whether a tree may come, or why none does.
+/// Whether another tree may come, and if not, why.
 #[derive(Clone, Copy)]
 enum Stage {
     /// The next tree is looked for.
@@ -33,12 +33,12 @@ enum Stage {
     Fault(GamesFault),
 }
 
-/// What one tree gave.
+/// What reading one tree gave.
 #[derive(Drop)]
 enum Step<'a> {
     /// The job of its game.
     Job(Job<'a>),
-    /// It is passed over.
+    /// The tree is passed over: it is of another game, or its record has a fault.
     Passed,
     /// No tree was left.
     End,
@@ -52,8 +52,8 @@ struct Recorded {
     recorded: Result<Kind, RecordFault>,
 }
 
-/// Reads the games of an input, which are numbered from 0 in their order, and counts what its trees
-/// are.
+/// A reader of the games of an input, which are numbered from 0 in their order. It counts which
+/// trees are games, which are of other games, and which are refused.
 ///
 /// Contracts see the input, the place `from` up to which its trees were read, the report on these,
 /// the `fault` that was met, if any, and whether the reader has `ended`: no tree was left.
@@ -87,8 +87,8 @@ impl<'a> Model for Games<'a> {
         × (games.trees.bytes ≡ games.bytes.now) };
 }
 
-/// The next tree, or None where none is left. A fault of syntax is the one that the reader keeps
-/// from then on.
+/// The next tree, or None if none is left. The reader of trees keeps a fault of syntax and answers
+/// it from then on.
 fn next_tree<'a>(alloc: Global, trees: &mut Trees<'a>) -> Result<Option<Tree<'a>>, GamesFault>
     ensures tree { IfOk result (λ found. IfSome found (λ read. (tree : GameTree)
         × IsNextTree trees.old.bytes trees.old.from read.at read.end tree
@@ -107,7 +107,7 @@ fn next_tree<'a>(alloc: Global, trees: &mut Trees<'a>) -> Result<Option<Tree<'a>
     }
 }
 
-/// What was read of a tree's record, faults included, but an error where memory was refused.
+/// Passes on what reading a record gave, faults included, but makes out of memory an error.
 fn unless_memory(
     recorded: Result<Kind, RecordFault>,
 ) -> Result<Result<Kind, RecordFault>, GamesFault>
@@ -123,7 +123,7 @@ fn unless_memory(
     }
 }
 
-/// The next tree's bounds and record, or None where no tree is left.
+/// The next tree's bounds and record, or None if no tree is left.
 fn next_record(alloc: Global, trees: &mut Trees<'_>) -> Result<Option<Recorded>, GamesFault>
     ensures record { IfOk result (λ found.
         IfSome found (IsNextRecord trees.old.bytes trees.old.from)) }
@@ -143,7 +143,7 @@ fn next_record(alloc: Global, trees: &mut Trees<'_>) -> Result<Option<Recorded>,
     }))
 }
 
-/// Counts a tree by its record, which comes back where the tree is a game.
+/// Counts a tree in the report by its record, and returns the record if the tree is a game.
 fn count(report: &mut Report, recorded: Result<Kind, RecordFault>) -> Option<Record>
     requires { (report.old.games < most_bytes) × (report.old.others < most_bytes)
         × (report.old.refused < most_bytes) }
@@ -165,7 +165,7 @@ impl<'a> Games<'a> {
     ///
     /// # Errors
     ///
-    /// `Sgf` with `SgfFault::TooLarge`, exactly where the input has more than 2^28 bytes.
+    /// `Sgf` with `SgfFault::TooLarge`, exactly if the input has more than 2^28 bytes.
     pub fn new(bytes: &'a [u8]) -> Result<Games<'a>, GamesFault>
         ensures small { IsOk result ↔ (length bytes.now ≤ most_bytes) }
         ensures begins { IfOk result (λ games. games ≡ record {
@@ -232,18 +232,18 @@ impl<'a> Games<'a> {
         }
     }
 
-    /// The job of the next game, or None where no game is left. Trees of other games, and those
-    /// whose records have a fault, are counted and passed over.
+    /// The job of the next game, or None if no game is left. Trees of other games, and those whose
+    /// records have a fault, are counted and passed over.
     ///
     /// It takes memory for a tree and its record. After None each later call answers None and
     /// changes nothing.
     ///
     /// # Errors
     ///
-    /// `Sgf` where the tree after those that were passed over has a fault of syntax; `Memory` where
-    /// memory was refused, which is asked for only where that tree is whole, so never in place of a
+    /// `Sgf` if the tree after those that were passed over has a fault of syntax. `Memory` if
+    /// memory was refused, which is asked for only if that tree is whole, so never in place of a
     /// fault of syntax. The report is then that of the trees before this one. Each later call
-    /// answers the same fault, out of memory too, and changes nothing.
+    /// answers the same fault, even out of memory, and changes nothing.
     pub fn next_job(&mut self, alloc: Global) -> Result<Option<Job<'a>>, GamesFault>
         ensures bytes { self.new.bytes ≡ self.old.bytes }
         ensures job { IfOk result (λ found. IfSome found (IsNextGame self.old self.new)) }
@@ -265,7 +265,8 @@ impl<'a> Games<'a> {
         }
     }
 
-    /// What the trees are that were read so far. It takes no memory.
+    /// How many of the trees read so far are games of Go, are of other games, and are refused. It
+    /// takes no memory.
     pub fn report(&self) -> Report
         ensures report { result ≡ self.now.report }
         ensures read { HasRead self.now.bytes self.now.from self.now.report }

@@ -8,7 +8,7 @@ ghost use Rattle.game_core.specs.Collection.{AreTrees, record_of_tree, games_amo
 ghost use Rattle.game_core.specs.Games.{IsGameOf};
 
 /// An input has one list of trees, so the record of a job is that of the game of its number: among
-/// all trees, and among the first of them where they have a game of that number.
+/// all trees, and among any first trees that have a game of that number.
 pub fn a_number_is_of_one_game()
     ensures all { (bytes : List ℕ) (trees : List GameTree) (end game at stop : ℕ)
         → (actions : Actions)

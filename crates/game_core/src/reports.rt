@@ -1,4 +1,4 @@
-//! What the trees of a collection are.
+//! The report on a collection: how many of its trees are games, of other games, or refused.
 /// How many trees a collection has of each sort.
 #[derive(Clone, Copy, Debug, PartialEq, Eq)]
 pub struct Report {

@@ -4,7 +4,7 @@ ghost use Rattle.game_files.specs.Causes.{packed_cause, is_wide, cause_of};
 
 use std::fmt;
 
-/// What an input is that has no tree.
+/// What an input without a tree may be.
 #[derive(Clone, Copy, Debug, PartialEq, Eq)]
 pub enum Cause {
     /// It has no byte.
@@ -43,7 +43,7 @@ impl fmt::Display for Cause {
     }
 }
 
-/// What packed an input with these first bytes, where something did.
+/// What packed an input with these first bytes, if something did.
 fn packed_cause(front: &[u8]) -> Option<Cause>
     ensures { result ≡ packed_cause front.now }
 {
@@ -62,8 +62,8 @@ fn packed_cause(front: &[u8]) -> Option<Cause>
     }
 }
 
-/// Whether these are the first bytes of a text in UTF-16: a mark of the order of bytes, or a
-/// parenthesis in two bytes.
+/// Whether these are the first bytes of a text in UTF-16: a byte order mark, or a parenthesis in
+/// two bytes.
 fn is_wide(front: &[u8]) -> bool
     ensures { result ≡ is_wide front.now }
 {
@@ -73,8 +73,8 @@ fn is_wide(front: &[u8]) -> bool
         || front.starts_with(b"\x00(")
 }
 
-/// What an input may be that has no tree, by its first eight bytes, or all where it has fewer. It
-/// takes no memory.
+/// Returns what an input without a tree may be, by its first eight bytes, or all if it has fewer.
+/// It takes no memory.
 pub fn cause_of(front: &[u8]) -> Cause
     ensures { result ≡ cause_of front.now }
 {

@@ -6,8 +6,8 @@ use std::marker::Model;
 /// How many first bytes are kept.
 const KEPT: usize = 8;
 
-/// A reader that reads from another one, and keeps its first eight bytes, or all where they are
-/// fewer. It takes no memory.
+/// A reader that reads from another one, and keeps its first eight bytes, or all if they are fewer.
+/// It takes no memory.
 #[derive(Drop)]
 pub struct Fronted<'a, R: Read> {
     reader: &'a mut R,
@@ -34,7 +34,7 @@ impl<'a, R: Read> Fronted<'a, R> {
     ghost use Rattle.game_files.specs.Causes.{cause_of};
     ghost use Rattle.game_files.specs.Fronts.{kept_after, IsFrontOf};
 
-    /// A reader that gives what this one gives, and has kept no byte yet.
+    /// Wraps a reader: the new one gives the same bytes, and has kept none yet.
     pub fn new(reader: &'a mut R) -> Fronted<'a, R>
         ensures kept { result.kept ≡ [] }
         ensures remaining { result.remaining ≡ R.remaining reader.old }
@@ -46,7 +46,7 @@ impl<'a, R: Read> Fronted<'a, R> {
         }
     }
 
-    /// Keeps those of the bytes for which there is room.
+    /// Keeps as many of the bytes as there is room for.
     fn keep(&mut self, bytes: &[u8])
         ensures kept { self.new.kept ≡ kept_after self.old.kept bytes.now }
         ensures remaining { self.new.remaining ≡ self.old.remaining }
@@ -57,7 +57,7 @@ impl<'a, R: Read> Fronted<'a, R> {
         self.kept = end;
     }
 
-    /// What the input may be, where it has no tree: `cause_of` of all bytes that were given so far.
+    /// What the input may be, if it has no tree: `cause_of` of all bytes that were given so far.
     pub fn cause(&self) -> Cause
         ensures kept { result ≡ cause_of self.now.kept }
         ensures given { (given : List ℕ) → IsFrontOf self.now.kept given
@@ -75,7 +75,7 @@ impl<R: Read> Read for Fronted<'_, R> {
 
     ghost remaining = { λ f. f.remaining };
 
-    /// What the other reader gives. Nothing is kept where it fails.
+    /// Reads what the other reader gives. Nothing is kept if it fails.
     fn read(&mut self, buf: &mut [u8]) -> io::Result<usize>
         ensures bound { ReadsAtMost result buf.new }
         ensures bytes { ReadConsumes self.old.remaining self.new.remaining result buf.new }

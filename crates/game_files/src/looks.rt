@@ -10,7 +10,7 @@ use std::io::ErrorKind;
 use std::os::unix::fs::MetadataExt;
 use std::{fs, io};
 
-/// A folder, by its device and its number there.
+/// The identity of a folder: its device, and its number there.
 #[derive(Clone, Copy, PartialEq, Eq)]
 pub(crate) struct Place {
     device: u64,
@@ -23,17 +23,17 @@ pub(crate) enum Seen {
     Folder(Place),
     /// A regular file.
     File,
-    /// Something else that may be read, as a pipe.
+    /// Something else that may be read, such as a pipe.
     Other,
-    /// Nothing that can be looked at.
+    /// Nothing that can be looked at, for this reason.
     Unseen(Why),
 }
 
-/// Why the system failed.
+/// Returns why the system failed.
 ///
 /// # Errors
 ///
-/// `AllocError` where memory was refused.
+/// `AllocError` if memory was refused.
 pub(crate) fn why_of(error: &io::Error) -> Result<Why, AllocError>
     ensures { IfOk result (λ why. status_of why ≡ 6) }
 {
@@ -46,11 +46,11 @@ pub(crate) fn why_of(error: &io::Error) -> Result<Why, AllocError>
     }
 }
 
-/// What a name stands for, where links lead.
+/// Returns what a name stands for, links followed.
 ///
 /// # Errors
 ///
-/// `AllocError` where memory was refused.
+/// `AllocError` if memory was refused.
 pub(crate) fn look(rt: &HostRuntime, name: &str) -> Result<Seen, AllocError>
     ensures { IfOk result HasStatus }
 {
@@ -65,12 +65,12 @@ pub(crate) fn look(rt: &HostRuntime, name: &str) -> Result<Seen, AllocError>
     }
 }
 
-/// Opens the file of this name, to be read from its beginning; or why it can't be, which has the
-/// exit status 6.
+/// Opens the file of this name, to be read from its beginning. If it can't be opened, the answer is
+/// why, which has the exit status 6.
 ///
 /// # Errors
 ///
-/// `AllocError` where memory was refused.
+/// `AllocError` if memory was refused.
 pub fn open_file(rt: &HostRuntime, name: &str) -> Result<Result<File, Why>, AllocError>
     ensures { IfOk result (λ opened. IfErr opened (λ why. status_of why ≡ 6)) }
 {

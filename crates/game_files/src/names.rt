@@ -13,8 +13,8 @@ pub fn is_game_name(name: &str) -> bool
     ending.eq_ignore_ascii_case(b".sgf")
 }
 
-/// Puts names into the order of their bytes, a name that is the front of another before it, and
-/// leaves each name there once. It takes no memory.
+/// Sorts names by their bytes, and leaves each name there once. A name that another one begins with
+/// stands before that. It takes no memory.
 pub fn sort_names(names: &mut Vec<String>)
     ensures sorted { IsStrictlySortedBy string_cmp names.new.items }
     ensures kept { (name : List ℕ) → HasName names.old.items name → HasName names.new.items name }

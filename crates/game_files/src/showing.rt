@@ -5,19 +5,19 @@ ghost use Rattle.game_files.specs.Shown.{shown_byte, shown_name};
 use std::alloc::AllocError;
 use std::fmt;
 
-/// What stands for a byte of a name where the name is shown.
+/// The byte that is shown for a byte of a name.
 fn shown_byte(byte: u8) -> u8
     ensures { result ≡ shown_byte byte }
 {
     if byte < 32 || byte == 127 { b'?' } else { byte }
 }
 
-/// Appends a name as it is shown: a control byte, that is one below 32 and byte 127, is a `?`, and
+/// Appends a name as it is shown: a control byte, which is one below 32 or byte 127, is a `?`, and
 /// each other byte stands as it is. So a name is never more than a line, and has no tab.
 ///
 /// # Errors
 ///
-/// `AllocError` where memory was refused.
+/// `AllocError` if memory was refused.
 pub fn push_name(text: &mut Vec<u8>, name: &str) -> Result<(), AllocError>
     ensures { OnOk result (text.new.items ≡ text.old.items ++ shown_name name.now) }
 {

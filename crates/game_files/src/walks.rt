@@ -9,7 +9,7 @@ use std::alloc::AllocError;
 use std::fs;
 use std::io::ErrorKind;
 
-/// A name that is still to be looked at, and how many folders it stands in.
+/// A name that the walk has yet to look at, and how many folders it stands in.
 #[derive(Drop)]
 struct Waiting {
     path: String,
@@ -38,8 +38,8 @@ struct Walk<'a> {
 }
 
 impl Walk<'_> {
-    /// The names in a folder wait. A folder that it stands in has been walked, so a link to it ends
-    /// the walk there.
+    /// Enters a folder, whose names wait to be looked at. A folder that it stands in has been
+    /// entered before, so a link to that ends the walk there.
     fn enter(&mut self, path: String, place: Place) -> Result<(), AllocError>
         ensures { self.new.below.files ≡ self.old.below.files }
     {
@@ -53,7 +53,7 @@ impl Walk<'_> {
         }
     }
 
-    /// The names of a folder wait.
+    /// Has the names in a folder wait to be looked at.
     fn wait_for(&mut self, entries: fs::ReadDir, folder: String) -> Result<(), AllocError>
         ensures { self.new.below.files ≡ self.old.below.files }
     {
@@ -73,8 +73,8 @@ impl Walk<'_> {
         Ok(())
     }
 
-    /// A name could not be looked at. One that leads nowhere and is not that of a file of games is
-    /// no fault.
+    /// Takes note that a name could not be looked at. One that leads nowhere and is not that of a
+    /// file of games is no fault.
     fn fail(&mut self, name: String, why: Why) -> Result<(), AllocError>
         ensures { self.new.below.files ≡ self.old.below.files }
     {
@@ -85,7 +85,7 @@ impl Walk<'_> {
         Ok(())
     }
 
-    /// Looks at one name that waits. The answer is whether one did.
+    /// Looks at one name that waits. Returns whether there was one.
     fn step(&mut self) -> Result<bool, AllocError>
         ensures { OnOk result (AreGames self.old.below.files.items
             → AreGames self.new.below.files.items) }
@@ -108,7 +108,7 @@ impl Walk<'_> {
     }
 }
 
-/// A walk at the folder of this name.
+/// A walk that begins at the folder of this name.
 fn walk_at<'a>(rt: &'a HostRuntime, folder: &str) -> Result<Walk<'a>, AllocError>
     ensures { IfOk result (λ walk. walk.below.files.items ≡ []) }
 {
@@ -129,7 +129,8 @@ fn walk_at<'a>(rt: &'a HostRuntime, folder: &str) -> Result<Walk<'a>, AllocError
     })
 }
 
-/// What is below the folder of this name: its files in the order of their whole names, each once.
+/// Returns what is below the folder of this name: its files in the order of their whole names, each
+/// once.
 pub(crate) fn walk_below(rt: &HostRuntime, folder: &str) -> Result<Below, AllocError>
     ensures { IfOk result (λ below. AreGameFiles below.files.items) }
 {

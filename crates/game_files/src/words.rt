@@ -16,7 +16,7 @@ pub enum Source {
     Input,
     /// The file of this name.
     File(String),
-    /// No input: this is to be said.
+    /// No input: this is wrong with a name.
     Flaw(Flaw),
 }
 
@@ -34,7 +34,7 @@ fn push_flaw(
     Ok(())
 }
 
-/// Appends that names of a folder were passed over, where some were.
+/// Appends how many names of a folder were passed over, if some were.
 fn push_passed_over(
     rt: &HostRuntime,
     folder: &str,
@@ -59,7 +59,7 @@ fn push_flaws(flaws: Vec<Flaw>, all: &mut Vec<Source>) -> Result<(), AllocError>
     Ok(())
 }
 
-/// Appends files.
+/// Appends files as inputs.
 fn push_files(files: Vec<String>, all: &mut Vec<Source>) -> Result<(), AllocError>
     ensures { OnOk result (all.new.items ≡ all.old.items ++ map source.File files.items) }
 {
@@ -69,7 +69,7 @@ fn push_files(files: Vec<String>, all: &mut Vec<Source>) -> Result<(), AllocErro
     Ok(())
 }
 
-/// Appends what was found below a folder, or that nothing was.
+/// Appends what was found below a folder; if that is nothing, the flaw that it has no games.
 fn push_below(
     rt: &HostRuntime,
     folder: &str,
@@ -86,7 +86,7 @@ fn push_below(
     push_files(below.files, all)
 }
 
-/// Appends what a folder means.
+/// Appends the inputs that a folder stands for.
 fn push_folder(rt: &HostRuntime, folder: &str, all: &mut Vec<Source>) -> Result<(), AllocError>
     ensures { OnOk result (Grew IsBelow all.old.items all.new.items) }
 {
@@ -95,7 +95,7 @@ fn push_folder(rt: &HostRuntime, folder: &str, all: &mut Vec<Source>) -> Result<
     push_below(rt, folder, below, all)
 }
 
-/// Appends what a word means.
+/// Appends the inputs that a word stands for, or what is wrong with it.
 fn push_word(rt: &HostRuntime, word: &str, all: &mut Vec<Source>) -> Result<(), AllocError>
     ensures { OnOk result (Grew (IsMeant word.now) all.old.items all.new.items) }
 {
@@ -113,21 +113,21 @@ fn push_word(rt: &HostRuntime, word: &str, all: &mut Vec<Source>) -> Result<(), 
     }
 }
 
-/// What these words mean, each in its place: `-` is standard input, and so is a line without words.
-/// A word that is a file is that file, whatever its name is. A folder stands for all files below it
-/// whose names end in `.sgf` (`is_game_name`), links followed, in the order of their whole names
-/// (`sort_names`); a link to a folder that it stands in is not followed. What is wrong with names
-/// of a folder comes before its files.
+/// Returns the inputs that these words stand for, each in its place. `-` is standard input, and so
+/// is a line without words. A word that is a file is that file, whatever its name is. A folder
+/// stands for all files below it whose names end in `.sgf` (`is_game_name`), links followed, in the
+/// order of their whole names (`sort_names`). A link to a folder that it stands in is not followed.
+/// What is wrong with names of a folder comes before its files.
 ///
-/// A name that can't be looked at is a `Flaw` in its place, but for one below a folder that leads
-/// nowhere and does not end in `.sgf`. A folder without a file of games is one, unless something
-/// of it could not be looked at. Names below a folder that are not UTF-8 are passed over, and how
-/// many they are is one more. A file that two words mean comes twice. It takes memory for all
-/// names; no file is opened.
+/// A name that can't be looked at is a `Flaw` in its place, except for one below a folder that
+/// leads nowhere and does not end in `.sgf`. A folder without a file of games is a `Flaw`, unless
+/// something of it could not be looked at. Names below a folder that are not UTF-8 are passed over,
+/// and how many they are is one `Flaw` more. A file that two words stand for comes twice. It takes
+/// memory for all names; no file is opened.
 ///
 /// # Errors
 ///
-/// `AllocError` where memory was refused.
+/// `AllocError` if memory was refused.
 pub fn sources(rt: &HostRuntime, words: &[&str]) -> Result<Vec<Source>, AllocError>
     ensures none { words.now ≡ [] → IfOk result (λ all. all.items ≡ source.Input ∷ []) }
     ensures some { words.now ≢ [] → IfOk result (λ all.

@@ -1,4 +1,4 @@
-//! What workers count by words becomes a dictionary, and its patterns get numbers in a table.
+//! Makes a dictionary of what workers count by words, and gives its patterns numbers in a table.
 #![tactic(auto)]
 
 // what one worker has counted

@@ -9,14 +9,14 @@ use shape_core::Shape;
 use shape_dict::FirstGame;
 use slot_table::{Pass, SlotTable};
 
-/// The key of a pattern: its canonical word.
+/// Returns the key of a pattern: its canonical word.
 pub fn key_of(shape: Shape) -> Key
     ensures { result ≡ shape }
 {
     Key::new(shape.word().bits()).unwrap()
 }
 
-/// Marks a game at a number, unless one is marked there that is no later. Where no game is given
+/// Marks a game at a number, unless a game that is no later is marked there. If no game is given,
 /// nothing is done.
 pub fn mark_first<O: ProbeOrder>(
     table: &SlotTable<O>,

@@ -1,4 +1,4 @@
-//! Patterns get their numbers, and their first games are marked there.
+//! Gives patterns their numbers in a table, and marks their first games there.
 ghost use Rattle.std.specs.Prelude.{◌≡◌, ℕ, ◌∷◌, [], All, IfErr, IfSome, OnOk};
 ghost use Rattle.slot_table.specs.Passes.{IsPassOf};
 ghost use Rattle.gather_core.specs.Entering.{CallsOnly};
@@ -11,8 +11,8 @@ use probe_core::{Answer, ProbeOrder};
 use shape_dict::Entry;
 use slot_table::{Pass, SlotTable};
 
-/// No number is free for the pattern of an entry. The fault has its first game, and 0 where it has
-/// none.
+/// Returns the fault that no number is free for the pattern of an entry. It has the pattern's first
+/// game, or 0 if it has none.
 fn full(entry: &Entry) -> HarvestFault
     ensures { (game : ℕ) × (result ≡ fault.Full game entry.now.shape)
         × IfSome entry.now.first (λ first. game ≡ first) }
@@ -23,11 +23,11 @@ fn full(entry: &Entry) -> HarvestFault
     }
 }
 
-/// Enters the pattern of an entry, and marks its first game at its number.
+/// Enters the pattern of an entry into the table, and marks the entry's first game at its number.
 ///
 /// # Errors
 ///
-/// `Full` where no number is free for the pattern.
+/// `Full` if no number is free for the pattern.
 fn number_one<O: ProbeOrder>(
     table: &SlotTable<O>,
     pass: &mut Pass<O>,
@@ -48,16 +48,15 @@ fn number_one<O: ProbeOrder>(
     Ok(())
 }
 
-/// Enters the pattern of each entry into the table, and marks the entry's first game at its number
-/// there.
+/// Enters the pattern of each entry into the table, and marks the entry's first game at its number.
 ///
 /// No other pattern is entered, and no other game marked. The pass must be of the table. It takes
 /// no memory.
 ///
 /// # Errors
 ///
-/// `Full` where no number is free for a pattern, with its first game. Numbers in the table and
-/// marks may have come of patterns of these entries then.
+/// `Full` if no number is free for a pattern, with its first game. By then patterns of these
+/// entries may have got numbers and marks in the table.
 pub fn number_entries<O: ProbeOrder>(
     table: &SlotTable<O>,
     pass: &mut Pass<O>,

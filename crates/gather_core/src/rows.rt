@@ -1,4 +1,4 @@
-//! What was counted of a pattern.
+//! What one share, a worker's counts, has for one pattern.
 use shape_core::Shape;
 use shape_dict::FirstGame;
 

@@ -1,5 +1,5 @@
-//! Ranges by places, taken by threads: each is added up, its patterns get their numbers, and are
-//! dealt to ranges of words.
+//! Threads take ranges of patterns by places: each range is added up, its patterns get their
+//! numbers and are dealt to ranges of words.
 ghost use Rattle.std.specs.Prelude.{◌≡◌, ◌++◌, ◌∷◌, [], true, List, length, IfOk, IfErr, IfSome};
 ghost use Rattle.std.specs.Prelude.{OnOk};
 ghost use Rattle.std.specs.Bool.{OnTrue};
@@ -21,19 +21,19 @@ use slot_table::{Pass, SlotTable};
 use std::alloc::Global;
 use std::thread::{Threads, join};
 
-/// What threads share that take ranges.
+/// What the threads that take ranges share.
 #[derive(Drop)]
 pub(crate) struct Numbering<'t, O: ProbeOrder> {
     pub alloc: Global,
     pub table: &'t SlotTable<O>,
-    /// Where the ranges of words begin.
+    /// The words that part one range of words from the next.
     pub cuts: &'t Cuts,
-    /// How many entries there is room for in each list by words, at first.
+    /// How many entries each list by words has room for at first.
     pub room: usize,
 }
 
-/// What ranges by places become: a pass that gave their patterns numbers, and lists by ranges of
-/// words.
+/// What is made of ranges by places: lists by ranges of words, and the pass with which their
+/// patterns got numbers.
 #[derive(Drop)]
 pub(crate) struct Taken<O: ProbeOrder> {
     pub pass: Pass<O>,
@@ -42,7 +42,7 @@ pub(crate) struct Taken<O: ProbeOrder> {
     pub numbered: bool,
 }
 
-/// What a thread makes of one range after another.
+/// The memory in which a thread works on one range after another.
 #[derive(Drop)]
 struct Workspace {
     sums: Sums,
@@ -53,7 +53,7 @@ struct Workspace {
 }
 
 /// Gives the patterns of these entries their numbers, unless `numbered` says that the numbers ran
-/// out before. The answer is whether they lasted, before and now.
+/// out before. Returns whether they have lasted so far.
 fn number_more<O: ProbeOrder>(
     table: &SlotTable<O>,
     pass: &mut Pass<O>,
@@ -74,11 +74,11 @@ fn number_more<O: ProbeOrder>(
 }
 
 /// Adds a range up, gives its patterns numbers while there are any, and deals them to ranges of
-/// words. The answer is whether it can be added up: a sum that passes 2^64 - 1 cannot.
+/// words. Returns whether the range can be added up: a sum that passes 2^64 - 1 cannot.
 ///
 /// # Errors
 ///
-/// `Memory` where memory was refused.
+/// `Memory` if memory was refused.
 fn take_range<O: ProbeOrder>(
     numbering: &Numbering<'_, O>,
     pass: &mut Pass<O>,
@@ -108,11 +108,11 @@ fn take_range<O: ProbeOrder>(
     Ok(true)
 }
 
-/// Takes one range after another. None where one cannot be added up.
+/// Takes one range after another in this thread. Returns None if one cannot be added up.
 ///
 /// # Errors
 ///
-/// `Memory` where memory was refused.
+/// `Memory` if memory was refused.
 fn take_alone<O: ProbeOrder>(
     numbering: &Numbering<'_, O>,
     pass: Pass<O>,
@@ -149,12 +149,12 @@ fn take_alone<O: ProbeOrder>(
     }))
 }
 
-/// What two threads have taken, together: numbered where what each has taken is. None where one of
-/// them has nothing. The pass gets the calls of both.
+/// Puts together what two threads have taken: all is numbered if what each has taken is. Returns
+/// None if one of them has nothing. The pass gets the calls of both.
 ///
 /// # Errors
 ///
-/// `Memory` where memory was refused.
+/// `Memory` if memory was refused.
 fn both_taken<O: ProbeOrder>(
     numbering: &Numbering<'_, O>,
     low: Option<Taken<O>>,
@@ -189,7 +189,7 @@ fn both_taken<O: ProbeOrder>(
     }))
 }
 
-/// Takes the ranges of two halves, each in a thread of its own where one can be started.
+/// Takes the ranges of two halves, each in a thread of its own if one can be started.
 #[cycle(taking)]
 fn take_both<R: Threads + Sync, O: ProbeOrder + Send + Sync>(
     rt: &R,
@@ -224,15 +224,15 @@ fn take_both<R: Threads + Sync, O: ProbeOrder + Send + Sync>(
     both_taken(numbering, low?, high?)
 }
 
-/// Takes ranges by places, halves of them in threads of their own where these can be started, and
-/// halves of these, `depth` times. None where a sum passes 2^64 - 1. A pattern for which no number
-/// is free is taken without one, and then not all are numbered. The pass must be of the table. It
-/// takes memory for the entries of each pattern once more, and gives back that of the ranges one by
-/// one.
+/// Takes ranges by places: halves of them in threads of their own if these can be started, and
+/// halves of these, `depth` times. Returns None if a sum passes 2^64 - 1. A pattern for which no
+/// number is free is taken without one, and then not all are numbered. The pass must be of the
+/// table. It takes memory for the entries of each pattern once more, and gives back that of the
+/// ranges one by one.
 ///
 /// # Errors
 ///
-/// `Memory` where memory was refused.
+/// `Memory` if memory was refused.
 #[cycle(taking)]
 pub(crate) fn take_ranges<R: Threads + Sync, O: ProbeOrder + Send + Sync>(
     rt: &R,

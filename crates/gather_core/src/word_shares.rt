@@ -1,5 +1,5 @@
-//! What one worker has counted by words: the patterns of its games, in lists, before they have
-//! numbers.
+//! Word shares: what one worker has counted by words, the patterns of its games in lists, before
+//! they have numbers.
 ghost use Rattle.std.specs.Prelude.{◌≡◌, ◌+◌, ◌^◌, ◌<◌, ℕ, Some, OnOk};
 ghost use Rattle.range_core.specs.Totals.{total_of, together, all_of};
 ghost use Rattle.gather_core.specs.Inner.Met.{met_entry, met_entries};
@@ -13,7 +13,7 @@ use std::alloc::{AllocError, Global};
 use std::marker::Model;
 use tally_core::{Meeting, Walk};
 
-/// Appends what a game has met of a pattern to lists, unless it counts nothing.
+/// Appends to lists what a game has met of a pattern, its counts, unless both counts are 0.
 #[inline(always)]
 fn append_one(lists: &mut PlaceLists, meeting: &Meeting, first: FirstGame) -> Result<(), AllocError>
     ensures { OnOk result ((game : ℕ) → first ≡ Some game → (shape : ℕ)
@@ -32,12 +32,12 @@ fn append_one(lists: &mut PlaceLists, meeting: &Meeting, first: FirstGame) -> Re
     Ok(())
 }
 
-/// Appends what a game has met to lists, but for what counts nothing. It takes memory where lists
-/// have no room.
+/// Appends to lists what a game has met of all patterns, except what counts nothing. It takes
+/// memory if lists have no room.
 ///
 /// # Errors
 ///
-/// `AllocError` where memory was refused: some may have been appended then.
+/// `AllocError` if memory was refused: some may have been appended then.
 fn append_all(lists: &mut PlaceLists, meetings: &[Meeting], game: u64) -> Result<(), AllocError>
     requires { game + 1 < 2 ^ 64 }
     ensures { OnOk result ((shape : ℕ) → total_of shape (all_of lists.new)
@@ -53,7 +53,7 @@ fn append_all(lists: &mut PlaceLists, meetings: &[Meeting], game: u64) -> Result
 
 /// What one worker has counted: games, each with all its patterns, which have no numbers yet.
 ///
-/// Contracts see what they see of a share. A pattern may have several rows, all with the number 0.
+/// Contracts see it as a share. A pattern may have several rows, all with the number 0.
 #[derive(Drop)]
 pub struct WordShare {
     worker: usize,
@@ -90,12 +90,12 @@ impl WordShare {
     ghost use Rattle.gather_core.specs.Adding.{IsAdded};
     ghost use Rattle.gather_core.specs.WordShares.{unnumbered, IsWordFault};
 
-    /// Nothing was counted yet by the worker with this number. Each of its lists has room for this
+    /// Makes an empty share for the worker with this number. Each of its lists has room for this
     /// many patterns. It takes memory for that.
     ///
     /// # Errors
     ///
-    /// `AllocError` where memory was refused.
+    /// `AllocError` if memory was refused.
     pub fn begin(
         alloc: Global,
         worker: usize,
@@ -121,12 +121,12 @@ impl WordShare {
     }
 
     /// Counts a game into the share. It uses no table of numbers. It takes memory for the game's
-    /// board, and where a list is full.
+    /// board, and when a list is full.
     ///
     /// # Errors
     ///
-    /// `Memory` where memory was refused; `Overflow` where the share's moves might pass 2^64 - 1,
-    /// or the game has more actions than any input. After either some of the game's patterns may be
+    /// `Memory` if memory was refused; `Overflow` if the share's moves might pass 2^64 - 1, or if
+    /// the game has more actions than any input. After either some of the game's patterns may be
     /// counted, so nothing is known of the sums any more.
     pub fn add(&mut self, game: u64, game_record: &Record) -> Result<(), HarvestFault>
         requires share { IsShare self.old }
@@ -145,21 +145,21 @@ impl WordShare {
         Ok(())
     }
 
-    /// The games, in the order in which they were added.
+    /// Returns the games, in the order in which they were added.
     pub fn games(&self) -> &[u64]
         ensures { result.now ≡ self.now.games }
     {
         self.games.as_slice()
     }
 
-    /// How many moves onto empty points the games have.
+    /// The number of moves onto empty points in the games.
     pub fn moves(&self) -> u64
         ensures { result ≡ self.now.moves }
     {
         self.moves
     }
 
-    /// What was counted, as entries in lists by ranges of places.
+    /// Returns what was counted, as entries in lists by ranges of places.
     pub fn into_lists(self) -> Lists
         ensures rows { map unnumbered (all_of result) ≡ self.rows }
         ensures len { length result ≡ place_ranges }

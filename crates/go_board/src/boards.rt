@@ -55,7 +55,7 @@ impl Board {
     ///
     /// # Errors
     ///
-    /// `Memory` where memory was refused. No board is made then.
+    /// `Memory` if memory was refused. No board is made then.
     pub fn new(alloc: Global, size: Size) -> Result<Board, BoardFault>
         ensures size { IfOk result (λ board. board.size ≡ size) }
         ensures empty { IfOk result (λ board. (q : Point) → IsOn size q
@@ -79,7 +79,7 @@ impl Board {
     ///
     /// # Errors
     ///
-    /// `Memory` where memory was refused. No board is made then.
+    /// `Memory` if memory was refused. No board is made then.
     pub fn copied(&self, alloc: Global) -> Result<Board, BoardFault>
         ensures size { IfOk result (λ board. board.size ≡ self.now.size) }
         ensures stones { IfOk result (λ board. board.stones ≡ self.now.stones) }
@@ -119,9 +119,9 @@ impl Board {
         self.stones[index] = stone;
     }
 
-    /// Plays a move, by the rule of capture: the stone is placed, whatever stood there; then the
-    /// stones of the other colour that are next to it, or joined to such, and have no liberty are
-    /// removed; then its own group if that has none. The point is on the board.
+    /// Plays a move, by the rule of capture: the stone is placed, whatever stood there; then each
+    /// group of the other colour that is next to it and has no liberty is removed; then its own
+    /// group, if that has none. The point is on the board.
     ///
     /// It takes no memory, and its time is that of the groups that it looks at.
     pub fn play(&mut self, colour: Colour, point: Point) -> Played
@@ -159,9 +159,9 @@ impl Board {
         }
     }
 
-    /// Whether the stone on a point, or one joined to it, has an empty neighbour. The point is on
-    /// the board, and a stone stands there. The position stays, and the points that the last move
-    /// emptied stay listed.
+    /// Whether the group of the stone on a point has a liberty: an empty neighbour of one of its
+    /// stones. The point is on the board, and a stone stands there. The position stays, and the
+    /// points that the last move emptied stay listed.
     pub fn has_liberty(&mut self, point: Point) -> bool
         requires on_board { IsOn self.old.size point }
         requires stone { position_of self.old point ≢ kind.Empty }

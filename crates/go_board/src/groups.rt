@@ -12,8 +12,8 @@ use crate::around::neighbours;
 use crate::point_sets::PointSet;
 use crate::points::{Colour, Point, Size, Stone};
 
-/// Whether the point has an empty neighbour; where it has none, its neighbours with this stone are
-/// put into the group.
+/// Whether the point has an empty neighbour. If it has none, its neighbours with this stone are put
+/// into the group.
 fn visit(size: Size, stones: &[Stone], group: &mut PointSet, stone: Stone, point: Point) -> bool
     requires on_board { IsOn size point }
     requires board { length stones.now ≡ size.columns * size.rows }
@@ -39,7 +39,7 @@ fn visit(size: Size, stones: &[Stone], group: &mut PointSet, stone: Stone, point
     false
 }
 
-/// Whether the group of a point has a liberty; where it has none, `group` is that group afterwards.
+/// Whether the group of a point has a liberty. If it has none, `group` is that group afterwards.
 pub(crate) fn is_alive(size: Size, stones: &[Stone], group: &mut PointSet, point: Point) -> bool
     requires on_board { IsOn size point }
     requires board { length stones.now ≡ size.columns * size.rows }
@@ -82,7 +82,7 @@ fn remove(size: Size, stones: &mut [Stone], group: &PointSet, removed: &mut Poin
     }
 }
 
-/// Removes the group of a point where such a stone stands there and the group has no liberty.
+/// Removes the group of a point if this stone stands there and the group has no liberty.
 pub(crate) fn remove_if_dead(
     size: Size,
     stones: &mut [Stone],
@@ -111,8 +111,8 @@ pub(crate) fn remove_if_dead(
     }
 }
 
-/// Removes the stones that a move of this colour at a point captures; the stone of the move stands
-/// already.
+/// Removes the stones that a move of this colour at a point captures. The stone of the move is
+/// already on the board.
 pub(crate) fn capture(
     size: Size,
     stones: &mut [Stone],

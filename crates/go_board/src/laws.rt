@@ -1,4 +1,4 @@
-//! Laws of the definitions, each the contract of a function that does nothing.
+//! The law that a move has one result, as the contract of a function that does nothing.
 ghost use Rattle.go_board.specs.declared.points.Point.{Point};
 ghost use Rattle.go_board.specs.declared.points.Colour.{Colour};
 ghost use Rattle.go_board.specs.Extent.{Extent};
@@ -6,8 +6,8 @@ ghost use Rattle.go_board.specs.Point.{IsOn};
 ghost use Rattle.go_board.specs.Position.{Position, AreSame};
 ghost use Rattle.go_board.specs.Play.{Plays};
 
-/// A move makes one position of a position: what it makes of two that are the same on the board is
-/// the same there.
+/// A move has one result: if two positions are the same on the board, they are the same there after
+/// the move.
 pub fn moves_have_one_result()
     ensures { (size : Extent) (before again : Position) (mover : Colour) (at : Point)
         (first second : Position) →

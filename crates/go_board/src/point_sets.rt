@@ -3,7 +3,7 @@ use crate::points::{Point, Size};
 use std::alloc::{AllocError, Global};
 use std::marker::Model;
 
-/// A set of points, in the order in which they came, with a mark at each of them.
+/// A set of points, in the order in which they were added, with a mark at each of them.
 #[derive(Debug, Drop)]
 pub(crate) struct PointSet {
     size: Size,
@@ -30,7 +30,7 @@ impl PointSet {
     ghost use Rattle.go_board.specs.Inner.Gathered.{Gathered};
     ghost use Rattle.go_board.specs.Point.{IsOn};
 
-    /// The set of no points, with room for each point of a board of this size.
+    /// An empty set, with room for each point of a board of this size.
     pub fn new(alloc: Global, size: Size) -> Result<PointSet, AllocError>
         ensures { IfOk result (λ set. set ≡ record { size = size; points = [] }) }
     {
@@ -55,7 +55,7 @@ impl PointSet {
         self.count
     }
 
-    /// The points.
+    /// The points, in the order in which they were added.
     pub fn points(&self) -> &[Point]
         ensures value { result.now ≡ self.now.points }
         ensures gathered { IsGathered self.now.size self.now.points }
@@ -63,7 +63,7 @@ impl PointSet {
         &self.members[..self.count]
     }
 
-    /// Puts a point in, unless the set has it.
+    /// Adds a point, unless the set has it.
     pub fn add(&mut self, point: Point)
         requires { IsOn self.old.size point }
         ensures size { self.new.size ≡ self.old.size }
@@ -78,7 +78,7 @@ impl PointSet {
         }
     }
 
-    /// Takes all points out. The time is that of the points in the set, not of the board.
+    /// Removes all points. The time is that of the points in the set, not of the board.
     pub fn clear(&mut self)
         ensures { self.new ≡ record { size = self.old.size; points = [] } }
     {

@@ -8,7 +8,7 @@ pub struct Point {
     pub row: u8,
 }
 
-/// Who moves.
+/// The colour of a player.
 #[derive(Clone, Copy, Debug, PartialEq, Eq)]
 pub enum Colour {
     Black,
@@ -73,7 +73,7 @@ impl Size {
     ghost use Rattle.go_board.specs.Extent.{IsExtent};
     ghost use Rattle.go_board.specs.Point.{IsOn, index_of};
 
-    /// The size, or None where a side is outside 1 to 52.
+    /// The size, or None if a side is outside 1 to 52.
     pub fn new(columns: u8, rows: u8) -> Option<Size>
         ensures some { IsSome result ↔ IsExtent (record { columns = columns; rows = rows }) }
         ensures value { IfSome result (λ size. size ≡ record { columns = columns; rows = rows }) }
@@ -120,7 +120,8 @@ impl Size {
         point.row as usize * self.columns as usize + point.column as usize
     }
 
-    /// The point at this place of such a list, which is below `area`.
+    /// The point at this place of a list with an item for each point, in the order of `index`. The
+    /// place is below `area`.
     pub fn point(self, index: usize) -> Point
         requires { index < self.columns * self.rows }
         ensures on_board { IsOn self result }

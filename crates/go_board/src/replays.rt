@@ -1,4 +1,4 @@
-//! What a game is replayed on.
+//! The trait of boards on which a game can be replayed.
 ghost use Rattle.std.specs.Prelude.{◌≡◌, List, [], ◌∷◌};
 ghost use Rattle.go_board.specs.Board.{Stones, position_of};
 ghost use Rattle.go_board.specs.declared.points.Point.{Point as At};
@@ -8,12 +8,12 @@ ghost use Rattle.go_board.specs.Point.{IsOn};
 use crate::boards::{Board, Played};
 use crate::points::{Colour, Point, Stone};
 
-/// A board, or what keeps a board and more: a game can be replayed on it.
+/// A board on which a game can be replayed, or something that keeps a board and more.
 pub trait Replayable {
     /// The board as it is now.
     ghost board_of: { Self → Stones };
 
-    /// How what it keeps beside the board may change from the first to the second. For a board
+    /// How what is kept beside the board may change from the first state to the second. For a board
     /// alone this says nothing.
     ghost Stays: { Self → Self → Type 0 };
 
@@ -24,11 +24,11 @@ pub trait Replayable {
     ghost stays_on: { (before between after : Self) → Stays before between
         → Stays between after → Stays before after };
 
-    /// What of the rest may change from the first to the second where only the stones of these
-    /// points do. For a board alone this says nothing.
+    /// How what is kept beside the board may change from the first state to the second if only the
+    /// stones on these points change. For a board alone this says nothing.
     ghost Touches: { List At → Self → Self → Type 0 };
 
-    /// Puts a stone on a point, or empties it, whatever stood there; nothing is captured. Where the
+    /// Puts a stone on a point, or empties it, whatever stood there; nothing is captured. If this
     /// stone was there, no point's stone changes. The point is on the board. It takes no memory.
     fn put(&mut self, point: Point, stone: Stone)
         requires { IsOn (board_of self.old).size point }

@@ -1,7 +1,7 @@
-//! What a record does, one action after another.
+//! The actions of a game's record: points set, stones played and passes.
 use go_board::{Colour, Point, Stone};
 
-/// One action of a record.
+/// One action of a game's record.
 #[derive(Clone, Copy, Debug, PartialEq, Eq)]
 pub enum Action {
     /// Every point of a rectangle is set; `low` has its lesser column and row, `high` its greater.

@@ -13,7 +13,8 @@ use crate::names::{Round, deed_in};
 use go_board::Size;
 use sgf_core::{MainLine, Node, Value};
 
-/// Adds what the values of a property do.
+/// Appends the action that each of a property's values stands for, if it stands for one, in order.
+/// `deed` says what the property does with a value. It fails at the first value with a fault.
 fn add_values(
     size: Size,
     deed: Deed,
@@ -33,7 +34,7 @@ fn add_values(
     Ok(())
 }
 
-/// Adds what the properties of a node do in a round.
+/// Appends the actions of a node's properties in this round: those of its setups, or its moves.
 fn add_round(
     size: Size,
     round: Round,
@@ -53,7 +54,8 @@ fn add_round(
     Ok(())
 }
 
-/// Adds what the nodes of a main line do, in order.
+/// Appends the actions of a main line's nodes to `actions`: of each node its setups, then its
+/// moves.
 pub(crate) fn add_nodes(
     size: Size,
     line: MainLine<'_, '_>,

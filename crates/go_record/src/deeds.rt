@@ -23,7 +23,7 @@ fn is_pass(size: Size, text: &[u8]) -> bool
     }
 }
 
-/// The move of a value.
+/// The move or the pass that a value spells.
 fn move_of(size: Size, colour: Colour, value: Value<'_>) -> Result<Action, RecordFault>
     ensures value { result ≡ move_of size colour (value_of value.entry) }
     ensures on_board { IfOk result (IsActionOn size) }
@@ -45,7 +45,8 @@ fn move_of(size: Size, colour: Colour, value: Value<'_>) -> Result<Action, Recor
     }
 }
 
-/// The whole rectangle that two points span, of a value at a place.
+/// The action that sets the rectangle between two corners, spelled by the value at `at`. A corner
+/// is None if it is misspelled.
 fn spanned(
     size: Size,
     stone: Stone,
@@ -76,7 +77,7 @@ fn spanned(
     }
 }
 
-/// The setup of a value, or None where it sets nothing.
+/// The setup that a value spells, or None if it is empty and sets nothing.
 fn setup_of(size: Size, stone: Stone, value: Value<'_>) -> Result<Option<Action>, RecordFault>
     ensures value { result ≡ setup_of size stone (value_of value.entry) }
     ensures on_board { IfOk result (λ deed. IfSome deed (IsActionOn size)) }
@@ -107,7 +108,7 @@ impl Deed {
     ghost use Rattle.go_record.specs.Inner.Adding.{action_of};
     ghost use Rattle.go_record.specs.declared.faults.RecordFault.TheVariants as fault;
 
-    /// What it does with a value, or None where that is nothing.
+    /// The action of one of the property's values, or None if the value does nothing.
     pub(crate) fn action(self, size: Size, value: Value<'_>) -> Result<Option<Action>, RecordFault>
         ensures value { result ≡ action_of size self (value_of value.entry) }
         ensures on_board { IfOk result (λ action. IfSome action (IsActionOn size)) }

@@ -1,4 +1,4 @@
-//! Trees to records of games.
+//! Reads game trees into records of games, and replays records on a board.
 #![tactic(auto)]
 
 mod actions;

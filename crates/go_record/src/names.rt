@@ -1,4 +1,4 @@
-//! Which properties set stones, which play them, and the first value of a name.
+//! Which properties set stones, which play them, and a node's first value of a given name.
 ghost use Rattle.std.specs.Prelude.{◌≡◌};
 ghost use Rattle.std.specs.Option.{option_map};
 ghost use Rattle.sgf_core.specs.Values.{value_of};
@@ -17,7 +17,7 @@ fn is_named(prop: &Prop<'_>, name: &[u8]) -> bool
     prop.is(name)
 }
 
-/// What a setup property sets.
+/// What a setup property puts on its points, or None if the property is no setup.
 fn setup_stone(prop: &Prop<'_>) -> Option<Stone>
     ensures { result ≡ setup_stone prop.now }
 {
@@ -32,7 +32,7 @@ fn setup_stone(prop: &Prop<'_>) -> Option<Stone>
     }
 }
 
-/// Whose moves a property has.
+/// The colour whose moves a property has, or None if it has no moves.
 fn move_colour(prop: &Prop<'_>) -> Option<Colour>
     ensures { result ≡ move_colour prop.now }
 {
@@ -51,12 +51,12 @@ fn front_value<'a>(prop: &Prop<'a>) -> Option<Value<'a>>
     prop.values().first().copied()
 }
 
-/// The two rounds through the properties of a node.
+/// One of the two rounds through the properties of a node.
 #[derive(Clone, Copy)]
 pub(crate) enum Round {
-    /// That of the setups, which comes first.
+    /// The round of the setups, which comes first.
     Setups,
-    /// That of the moves.
+    /// The round of the moves.
     Moves,
 }
 

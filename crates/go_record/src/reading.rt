@@ -1,4 +1,4 @@
-//! A tree, read into a record.
+//! Reads a tree's main line into the record of a game.
 ghost use Rattle.std.specs.Prelude.{◌≡◌, All, Ok, IfOk, IfErr};
 ghost use Rattle.sgf_core.specs.Tree.{GameTree, main_line_of};
 ghost use Rattle.sgf_core.specs.Marks.{marks_of};
@@ -51,7 +51,7 @@ fn board_of(value: Option<Value<'_>>) -> Result<Size, RecordFault>
     }
 }
 
-/// What is done on a board of this size along a main line.
+/// The actions of a main line, on a board of this size.
 fn actions_of(alloc: Global, size: Size, line: MainLine<'_, '_>) -> Result<Vec<Action>, RecordFault>
     ensures actions { IfOk result (λ actions. collected (flat_map (node_deeds size) line.entry)
         ≡ Ok actions.items) }
@@ -63,23 +63,23 @@ fn actions_of(alloc: Global, size: Size, line: MainLine<'_, '_>) -> Result<Vec<A
     Ok(actions)
 }
 
-/// The record of a tree's main line, or that the tree is of another game.
+/// Returns the record of a tree's main line, or `Other` if the tree is of another game.
 ///
-/// GM and SZ count in the first node only, the first of each, and of its values the first; no GM,
-/// an empty value and the number 1 are Go, no SZ and an empty value are 19 by 19. In each node all
+/// Only the first GM and the first SZ of the first node count, each by its first value. No GM, an
+/// empty value and the number 1 are Go; no SZ and an empty value are 19 by 19. In each node all
 /// setup properties come first, in their order, and then all moves, in theirs; each value is an
-/// action of its own, but for an empty setup value, which does nothing (this project's reading of
+/// action of its own, except an empty setup value, which does nothing (this project's reading of
 /// SGF FF[4]).
 ///
 /// # Errors
 ///
-/// None where the tree is of another game, whatever its SZ is. `BadSize` where the value of SZ is
-/// no size from 1 to 52 by 1 to 52. Otherwise the first of these, in the order of the actions:
-/// `BadPoint` where a value spells no point, rectangle or pass, and `OffBoard` where a point of it
-/// is off the board. Each has the place of its value. `Memory` where memory for the actions was
-/// refused, which is asked for only where an action comes before the first fault: never for a tree
-/// of another game, with a bad size, or without an action before its first fault. The tree is only
-/// read, so the call may be tried again.
+/// None if the tree is of another game, whatever its SZ is. `BadSize` if the value of SZ is no size
+/// from 1 to 52 by 1 to 52. Otherwise the first of these, in the order of the actions: `BadPoint`
+/// if a value spells no point, rectangle or pass, and `OffBoard` if a point of it is off the board.
+/// Each has the place of its value. `Memory` if memory for the actions was refused. It is asked for
+/// only if an action comes before the first fault: never for a tree of another game, with a bad
+/// size, or without an action before its first fault. The tree is only read, so the call may be
+/// tried again.
 pub fn read_record(alloc: Global, tree: &Tree<'_>) -> Result<Kind, RecordFault>
     ensures reads { (game : GameTree) → tree.now.marks ≡ marks_of game
         → IsRecordOrMemory (main_line_of game) result }

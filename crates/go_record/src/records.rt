@@ -3,7 +3,7 @@ use crate::actions::Action;
 use go_board::Size;
 use std::marker::Model;
 
-/// What a tree's main line gives.
+/// What a tree's main line is: a game of Go, with its record, or another game.
 #[derive(Debug, Drop)]
 pub enum Kind {
     /// A game of Go.
@@ -12,7 +12,8 @@ pub enum Kind {
     Other,
 }
 
-/// A game of Go: the size of its board, and what was done on it. Every point of it is on the board.
+/// A game of Go: the size of its board, and the actions on it. Every point of these is on the
+/// board.
 #[derive(Debug, Drop)]
 pub struct Record {
     size: Size,
@@ -33,7 +34,7 @@ impl Record {
     ghost use Rattle.std.specs.Prelude.{◌≡◌, All};
     ghost use Rattle.go_record.specs.Actions.{AreOnBoard, IsActionOn};
 
-    /// The record of these actions, every point of which is on the board.
+    /// The record of these actions on a board of this size. Each of their points is on the board.
     pub(crate) fn new(size: Size, actions: Vec<Action>) -> Record
         requires { All (IsActionOn size) actions.items }
         ensures { result ≡ record { size = size; actions = actions.items } }

@@ -11,7 +11,7 @@ ghost use Rattle.go_record.specs.Replay.{filled, Does, Replays};
 use crate::actions::Action;
 use go_board::{Point, Replayable, Stone};
 
-/// Sets each point of one row from a column to another.
+/// Sets each point of one row from column `first` to column `last`.
 fn fill_row<B: Replayable>(board: &mut B, row: u8, first: u8, last: u8, stone: Stone)
     requires on_board { IsOn (B.board_of board.old).size (record { column = last; row = row }) }
     requires corners { first ≤ last }

@@ -42,7 +42,7 @@ fn without_white_back(bytes: &[u8]) -> &[u8]
     rest
 }
 
-/// Without the white bytes at both ends.
+/// The bytes without the white bytes at both ends.
 pub(crate) fn trimmed(bytes: &[u8]) -> &[u8]
     ensures { result.now ≡ trimmed bytes.now }
 {
@@ -55,7 +55,7 @@ fn is_digit(byte: u8) -> bool
     byte.is_ascii_digit()
 }
 
-/// The number of decimal digits, up to the cap.
+/// The number that decimal digits spell, at most `CAP`, or None if they spell none.
 fn unsigned(digits: &[u8]) -> Option<u32>
     ensures { result ≡ option_map (λ n. min n CAP) (unsigned_of digits.now) }
 {
@@ -72,7 +72,7 @@ fn unsigned(digits: &[u8]) -> Option<u32>
     Some(total)
 }
 
-/// The number that a text spells, up to the cap.
+/// The number that a text spells, at most `CAP`, or None if it spells none.
 pub(crate) fn number(text: &[u8]) -> Option<u32>
     ensures { result ≡ option_map (λ n. min n CAP) (number_of text.now) }
 {
@@ -91,14 +91,14 @@ fn sides(columns: &[u8], rows: &[u8]) -> Option<Size>
     Size::new(columns as u8, rows as u8)
 }
 
-/// The place of the first colon.
+/// The place of the first colon, if there is one.
 fn colon_at(text: &[u8]) -> Option<usize>
     ensures { result ≡ position is_colon text.now }
 {
     text.iter().position(|byte| *byte == b':')
 }
 
-/// The parts before and after the first colon.
+/// The parts before and after the first colon, or None if there is no colon.
 pub(crate) fn split_colon(text: &[u8]) -> Option<(&[u8], &[u8])>
     ensures { MatchOption result (list_any is_colon text.now ≡ false)
         (λ parts. (list_any is_colon text.now ≡ true)
@@ -119,7 +119,7 @@ fn coordinate(letter: u8) -> Option<u8>
     }
 }
 
-/// The point that a text spells.
+/// The point that a text spells, or None if it spells none.
 pub(crate) fn point(text: &[u8]) -> Option<Point>
     ensures { result ≡ point_of text.now }
 {
@@ -132,7 +132,7 @@ pub(crate) fn point(text: &[u8]) -> Option<Point>
     }
 }
 
-/// The size that a value of SZ spells.
+/// The size that a value of SZ spells, or None if it spells none. An empty value is 19 by 19.
 pub(crate) fn size(bytes: &[u8]) -> Option<Size>
     ensures { result ≡ size_of bytes.now }
 {

@@ -1,9 +1,9 @@
-//! Gates: what is called before each game.
+//! Gates: what a worker calls before it counts each game.
 
-/// What whoever counts a game calls before it. A gate changes no answer.
+/// What whoever counts a game calls before counting it. A gate changes no answer.
 pub trait Gate: Sync {
-    /// A worker is about to count a game. Workers are numbered from 0; over a table of somebody
-    /// else's 0 is the thread that reads.
+    /// A worker is about to count a game. Workers are numbered from 0; if the table is somebody
+    /// else's, 0 is the thread that reads.
     fn at(&self, worker: usize, game: u64);
 }
 

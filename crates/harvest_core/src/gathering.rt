@@ -1,4 +1,4 @@
-//! A collection counted by several threads, each by words: the dictionary of what they have met.
+//! Several threads count a collection by words, and one dictionary is made of what they have met.
 ghost use Rattle.std.specs.Prelude.{◌≡◌, ◌⊎◌, ◌<◌, ◌≤◌, ℕ, List, length, IfOk, IfErr};
 ghost use Rattle.std.specs.Prelude.{IfSome, IsErrAnd};
 ghost use Rattle.sgf_core.specs.Limit.{most_bytes};
@@ -26,10 +26,10 @@ use std::thread;
 use std::thread::Threads;
 use tally_core::{Counted, count_plain};
 
-/// How many threads count at least: one reads, and the other counts meanwhile.
+/// The least number of threads that count: one reads, and the other counts meanwhile.
 const LEAST_THREADS: u8 = 2;
 
-/// How many games the queue holds at most.
+/// The most games that the queue holds.
 const PLACES: usize = 128;
 
 /// What was counted, and whether each pattern has its number in the table.
@@ -39,9 +39,10 @@ pub(crate) struct Harvested {
     pub numbered: bool,
 }
 
-/// How many threads count, where this many workers were asked for: they and the one that reads, but
-/// no more than there are processors, for which those beyond would only wait, and two at least.
-/// Where the system does not say how many processors there are, all that were asked for.
+/// Returns how many threads count if this many workers were asked for: the workers and the thread
+/// that reads, but no more than there are processors, since those beyond would only wait, and at
+/// least two. If the system does not say how many processors there are, it is all that were asked
+/// for.
 fn threads_for<R: Threads>(rt: &R, asked: u8) -> u8 {
     let processors = match thread::available_parallelism(rt) {
         Ok(count) => u8::try_from(count.get()).unwrap_or(u8::MAX),
@@ -50,12 +51,12 @@ fn threads_for<R: Threads>(rt: &R, asked: u8) -> u8 {
     asked.saturating_add(1).min(processors).max(LEAST_THREADS)
 }
 
-/// The dictionary of what was counted by words, of an input that was read. None where a sum passes
-/// 2^64 - 1.
+/// Makes the dictionary of what was counted by words, once the input was read. Returns None if a
+/// sum passes 2^64 - 1.
 ///
 /// # Errors
 ///
-/// `Memory` where memory was refused.
+/// `Memory` if memory was refused.
 fn dictionary_of<R: Threads + Sync>(
     rt: &R,
     alloc: Global,
@@ -85,11 +86,11 @@ fn dictionary_of<R: Threads + Sync>(
     }))
 }
 
-/// A table, and what was counted beside it.
+/// Returns the table and what was counted while it was made, unless one of them failed.
 ///
 /// # Errors
 ///
-/// The fault of the count; else `Memory` where memory for the table was refused.
+/// The fault of the count; else `Memory` if memory for the table was refused.
 fn both_of(
     shared: &Shared<'_, '_>,
     made: Result<Numbering, HarvestFault>,
@@ -108,12 +109,12 @@ fn both_of(
     Ok((made?, ended))
 }
 
-/// Counts all games of an input, and makes a table of this capacity meanwhile, in a thread more
-/// where one can be started.
+/// Counts all games of an input, and makes a table of this capacity meanwhile, in one more thread
+/// if one can be started.
 ///
 /// # Errors
 ///
-/// Those of `count_all`; `Memory` where memory for the table was refused.
+/// Those of `count_all`; `Memory` if memory for the table was refused.
 fn count_beside_table<'q, 'a, R: Threads + Wait + Sync, G: Gate>(
     rt: &R,
     shared: &Shared<'q, 'a>,
@@ -146,18 +147,18 @@ fn count_beside_table<'q, 'a, R: Threads + Wait + Sync, G: Gate>(
 }
 
 /// Counts a collection by words in several threads: as many as there are workers, and this one, but
-/// no more than there are processors, and two at least. This one reads, and puts a job of each game
-/// into a queue, from which the others draw; it counts what the queue has no room for, and draws
-/// too when all is read. Their patterns get numbers in one new table of 2^exponent slots, which one
-/// thread more makes meanwhile. None where a sum of all threads passes 2^64 - 1.
+/// no more than there are processors, and at least two. This thread reads, and puts a job for each
+/// game into a queue, from which the others draw. It counts what the queue has no room for, and
+/// draws too when all is read. The patterns get numbers in one new table of 2^exponent slots, which
+/// one more thread makes meanwhile. Returns None if a sum of all threads passes 2^64 - 1.
 ///
 /// It takes memory for the queue, for the records of the games in it, for the table, for each
 /// thread for what its games meet and for the board, and for the dictionary.
 ///
 /// # Errors
 ///
-/// `Sgf` with S4 where the input has more than 2^28 bytes, else with its first fault of syntax;
-/// `Overflow` where a count of one thread might be too large; `Memory` where memory was refused.
+/// `Sgf` with S4 if the input has more than 2^28 bytes, else with its first fault of syntax;
+/// `Overflow` if a count of one thread might be too large; `Memory` if memory was refused.
 pub(crate) fn count_by_words<R: Threads + Wait + Sync, G: Gate>(
     rt: &R,
     alloc: Global,
@@ -191,14 +192,14 @@ pub(crate) fn count_by_words<R: Threads + Wait + Sync, G: Gate>(
     dictionary_of(rt, alloc, kinds, numbering, ended)
 }
 
-/// Counts as `count_by_words` does, but where a sum passes 2^64 - 1, or might, this thread counts
-/// all again alone, and gives no numbers. More than 2^exponent patterns are no fault: they are all
+/// Counts as `count_by_words` does, but if a sum passes 2^64 - 1, or might, this thread counts all
+/// again alone, and gives no numbers. More than 2^exponent patterns are no fault: they are all
 /// counted. In both cases `numbered` is false.
 ///
 /// # Errors
 ///
-/// `Sgf` with S4 where the input has more than 2^28 bytes, else with its first fault of syntax;
-/// `Memory` where memory was refused.
+/// `Sgf` with S4 if the input has more than 2^28 bytes, else with its first fault of syntax;
+/// `Memory` if memory was refused.
 pub(crate) fn count_in_threads<R: Threads + Wait + Sync, G: Gate>(
     rt: &R,
     alloc: Global,

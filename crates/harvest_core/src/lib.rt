@@ -1,4 +1,4 @@
-//! A whole collection counted by workers.
+//! Workers count a whole collection, each in a thread of its own.
 #![tactic(auto)]
 
 mod gates;

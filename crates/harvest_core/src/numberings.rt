@@ -15,11 +15,11 @@ pub(crate) struct Numbering {
     pub pass: Pass<OddRuns>,
 }
 
-/// A table of this capacity of which no number is taken.
+/// Makes a table of this capacity in which no number is taken.
 ///
 /// # Errors
 ///
-/// `Memory` where memory was refused.
+/// `Memory` if memory was refused.
 pub(crate) fn numbering_of(alloc: Global, capacity: Capacity) -> Result<Numbering, HarvestFault>
     ensures pass { IfOk result (λ made. IsPassOf made.table made.pass) }
     ensures fault { IfErr result (λ found. found ≡ fault.Memory) }

@@ -1,4 +1,4 @@
-//! A whole collection, counted with nothing of anybody else's.
+//! Counts a whole collection with a table and a queue made for this count alone.
 ghost use Rattle.std.specs.Prelude.{◌≡◌, ◌⊎◌, ◌^◌, ◌<◌, ◌≤◌, length, IfOk, IfErr, IsErrAnd};
 ghost use Rattle.sgf_core.specs.Limit.{most_bytes};
 ghost use Rattle.slot_table.specs.Passes.{IsPassOf};
@@ -26,7 +26,8 @@ use tally_core::{Counted, Settings};
 /// points then have a new pattern of each kind, so few inputs need more.
 const SLOTS_A_BYTE: usize = 16;
 
-/// The exponent of a table that mostly holds the patterns of this many bytes, but at most `most`.
+/// Returns the exponent of a table that mostly holds the patterns of this many bytes, at most
+/// `most`.
 fn likely_exponent(bytes: usize, most: u32) -> u32
     ensures { result ≤ most }
 {
@@ -34,12 +35,12 @@ fn likely_exponent(bytes: usize, most: u32) -> u32
     (slots.ilog2() + 1).min(most)
 }
 
-/// What was counted of a collection, where it has at most this many patterns.
+/// Returns what was counted of a collection, if it has at most this many patterns.
 ///
 /// # Errors
 ///
-/// `Full` with the pattern with which they are first more, and the first game that has it; `Memory`
-/// where memory was refused.
+/// `Full` with the pattern with which there are first more than `most`, and the first game that has
+/// it; `Memory` if memory was refused.
 fn within(
     alloc: Global,
     kinds: Kinds,
@@ -57,7 +58,7 @@ fn within(
     Ok(counted)
 }
 
-/// Numbers the patterns of lists, list after list, up to one that finds no number.
+/// Numbers the patterns of lists, list after list, until one finds no number.
 fn number_pieces<O: ProbeOrder>(table: &SlotTable<O>, pass: &mut Pass<O>, pieces: &[Vec<Entry>])
     requires { IsPassOf table.now pass.old }
 {
@@ -72,7 +73,7 @@ fn number_pieces<O: ProbeOrder>(table: &SlotTable<O>, pass: &mut Pass<O>, pieces
 ///
 /// # Errors
 ///
-/// `Memory` where memory for the table was refused.
+/// `Memory` if memory for the table was refused.
 fn number_again(alloc: Global, k: u32, dictionary: &PieceDictionary) -> Result<(), HarvestFault>
     requires { k ≤ 22 }
     ensures { IfErr result (λ found. found ≡ fault.Memory) }
@@ -85,20 +86,20 @@ fn number_again(alloc: Global, k: u32, dictionary: &PieceDictionary) -> Result<(
     Ok(())
 }
 
-/// Counts a whole collection by workers, with at most 2^k patterns, where the settings have the
-/// number of workers, the exponent k and the kinds of pattern. It answers what `count_plain`
-/// answers, whatever the gate, the number of workers and their turns. This project's own.
+/// Counts a whole collection by workers, with at most 2^k patterns. The settings have the number of
+/// workers, the exponent k and the kinds of pattern. It answers what `count_plain` answers,
+/// whatever the gate, the number of workers and their turns. This is the project's own.
 ///
 /// As many threads count as the settings have workers, and this one, but no more than there are
-/// processors, and two at least; one more makes the table meanwhile. They are numbered from 0. This
-/// one is 0: it reads, and puts a job of each game into a queue, from which the others draw. It
-/// counts a game itself when the queue is full, and draws with the others when all is read.
-/// Each appends what its games meet to lists of its own; the gate is called before each game. Each
-/// game is counted once, as all ends of the queue prove together. Where a thread cannot be started,
-/// the others draw its games. When no game is left, threads add the lists up, give the patterns
-/// numbers in one table, which has 2^k slots, or fewer for a small input, and put them in order.
-/// Where that table had no number for a pattern, this thread numbers all of them once more, in a
-/// table of 2^k slots; nothing is counted twice.
+/// processors, and at least two; one more makes the table meanwhile. They are numbered from 0. This
+/// thread is 0: it reads, and puts a job for each game into a queue, from which the others draw. It
+/// counts a game itself when the queue is full, and draws with the others when all is read. Each
+/// appends what its games meet to lists of its own; the gate is called before each game. Each game
+/// is counted once, as all ends of the queue prove together. If a thread cannot be started, the
+/// others draw its games. When no game is left, threads add the lists up, give the patterns numbers
+/// in one table, which has 2^k slots, or fewer for a small input, and put them in order. If that
+/// table had no number for a pattern, this thread numbers all of them once more, in a table of 2^k
+/// slots; nothing is counted twice.
 ///
 /// Calls at the queue may wait for a thread that is in the middle of one, and each thread waits for
 /// items until it has drawn an end: that this call ends rests on the calls that wait keeping their
@@ -108,11 +109,11 @@ fn number_again(alloc: Global, k: u32, dictionary: &PieceDictionary) -> Result<(
 ///
 /// # Errors
 ///
-/// `Memory` where memory was refused. Else the answer is determined by the input and the settings:
-/// `Sgf` with S4 where the input has more than 2^28 bytes, else with its first fault of syntax;
-/// else `Full` where it has more than 2^k patterns. `Full` names the pattern with which the
-/// patterns, in the order of the games and of their walks, are first more than 2^k, and the first
-/// game that has it. No other fault comes.
+/// `Memory` if memory was refused. Else the answer is determined by the input and the settings:
+/// `Sgf` with S4 if the input has more than 2^28 bytes, else with its first fault of syntax; else
+/// `Full` if it has more than 2^k patterns. `Full` names the pattern with which the patterns, in
+/// the order of the games and of their walks, are first more than 2^k, and the first game that has
+/// it. No other fault comes.
 pub fn harvest<R: Threads + Wait + Sync, G: Gate>(
     rt: &R,
     alloc: Global,
@@ -148,13 +149,13 @@ pub fn harvest<R: Threads + Wait + Sync, G: Gate>(
 
 /// Counts a whole collection by workers, however many patterns it has, and gives no pattern a
 /// number. It answers what `count_plain` answers, whatever the gate, the number of workers and
-/// their turns. Threads, waiting and memory are those of `harvest`, but for the table. This
-/// project's own.
+/// their turns. Threads, waiting and memory are those of `harvest`, except for the table. This is
+/// the project's own.
 ///
 /// # Errors
 ///
-/// `Memory` where memory was refused; `Sgf` with S4 where the input has more than 2^28 bytes, else
-/// with its first fault of syntax. No other fault comes.
+/// `Memory` if memory was refused; `Sgf` with S4 if the input has more than 2^28 bytes, else with
+/// its first fault of syntax. No other fault comes.
 pub fn harvest_all<R: Threads + Wait + Sync, G: Gate>(
     rt: &R,
     alloc: Global,

@@ -1,5 +1,5 @@
-//! The game with which the patterns of a counted collection are first more than some number, by its
-//! dictionary alone: each pattern has its first game there.
+//! Finds the game with which a counted collection first has more patterns than some number, from
+//! the first games in its dictionary alone.
 ghost use Rattle.std.specs.Prelude.{◌≡◌, ◌+◌, ◌<◌, ◌≤◌, ◌^◌, ℕ, cond, length, get_or, IfOk, IfErr};
 ghost use Rattle.harvest_faults.specs.declared.faults.HarvestFault.TheVariants as fault;
 ghost use Rattle.shape_dict.specs.Pieces.{entries_in};
@@ -10,11 +10,11 @@ use harvest_faults::HarvestFault;
 use shape_dict::{Entry, PieceDictionary};
 use std::alloc::Global;
 
-/// Of how many games one pass counts the patterns that each is the first to have: so many counts
-/// stay in a processor's first cache.
+/// For how many games one look through the dictionary counts the patterns that each is the first to
+/// have: so many counts stay in a processor's first cache.
 const FEW_GAMES: u64 = 4096;
 
-/// Games from one number up to another, and how many patterns the games below them have.
+/// Games from `low` up to `high`, and how many patterns the games below `low` have.
 #[derive(Clone, Copy)]
 struct Span {
     low: u64,
@@ -29,7 +29,7 @@ pub(crate) struct Reached {
     pub before: usize,
 }
 
-/// Whether a pattern's first game is below this one.
+/// Whether a pattern's first game is below this game.
 fn is_before(entry: &Entry, game: u64) -> bool
     ensures { result ≡ is_below game entry.now.first }
 {
@@ -39,7 +39,7 @@ fn is_before(entry: &Entry, game: u64) -> bool
     }
 }
 
-/// How many patterns of a list have their first games below this one.
+/// Counts the patterns of a list whose first games are below this game.
 fn before_in(entries: &[Entry], game: u64) -> usize
     ensures { result ≡ length (entries_before game entries.now) }
 {
@@ -52,8 +52,8 @@ fn before_in(entries: &[Entry], game: u64) -> usize
     count
 }
 
-/// How many patterns of lists have their first games below this one: those that the games below it
-/// have.
+/// Counts the patterns of lists whose first games are below this game: those that the games below
+/// it have.
 fn before(pieces: &[Vec<Entry>], game: u64) -> usize
     requires { length (entries_in pieces.now) < 2 ^ 63 }
     ensures { result ≡ length (entries_before game (entries_in pieces.now)) }
@@ -65,8 +65,8 @@ fn before(pieces: &[Vec<Entry>], game: u64) -> usize
     count
 }
 
-/// Some games, 4096 at most, of which one is the first with whose patterns there are more than
-/// `most`. It looks at all patterns as often as the games have to be halved.
+/// Returns a span of at most 4096 games, one of which is the first with whose patterns there are
+/// more than `most`. It looks at all patterns as often as the games have to be halved.
 fn span_of(pieces: &[Vec<Entry>], games: u64, most: usize) -> Span
     requires small { length (entries_in pieces.now) < 2 ^ 63 }
     requires many { most < length (entries_before games (entries_in pieces.now)) }
@@ -93,7 +93,8 @@ fn span_of(pieces: &[Vec<Entry>], games: u64, most: usize) -> Span
     span
 }
 
-/// Counts a pattern for its first game, where that is one of those from `low` on that have a count.
+/// Counts a pattern for its first game, if that is one of the games from `low` on that have a
+/// count.
 fn count_first(counts: &mut [usize], low: u64, first: Option<u64>)
     requires few { (i : ℕ) → i < length counts.old → get_or counts.old i 0 + 1 < 2 ^ 64 }
     ensures long { length counts.new ≡ length counts.old }
@@ -112,7 +113,7 @@ fn count_first(counts: &mut [usize], low: u64, first: Option<u64>)
     }
 }
 
-/// Counts the patterns of a list for their first games.
+/// Counts each pattern of a list for its first game.
 fn count_firsts(counts: &mut [usize], low: u64, entries: &[Entry])
     requires few { (i : ℕ) → i < length counts.old
         → get_or counts.old i 0 + length entries.now < 2 ^ 64 }
@@ -125,8 +126,8 @@ fn count_firsts(counts: &mut [usize], low: u64, entries: &[Entry])
     }
 }
 
-/// How many patterns each of `many` games from `low` on is the first to have. It takes memory for
-/// these counts.
+/// Returns how many patterns each of `many` games from `low` on is the first to have. It takes
+/// memory for these counts.
 fn counts_of(
     alloc: Global,
     pieces: &[Vec<Entry>],
@@ -145,7 +146,7 @@ fn counts_of(
     Ok(counts)
 }
 
-/// The game of these with whose patterns there are first more than `most`.
+/// Returns the game of a span with whose patterns there are first more than `most`.
 fn reached_in(
     alloc: Global,
     pieces: &[Vec<Entry>],
@@ -178,8 +179,8 @@ fn reached_in(
     unreachable!()
 }
 
-/// The game with whose patterns there are first more than `most`: the games below it have no more,
-/// and with it there are more. It takes memory for 4096 counts at most.
+/// Returns the game with whose patterns there are first more than `most`: the games below it have
+/// at most `most`, and together with it they have more. It takes memory for at most 4096 counts.
 pub(crate) fn game_of(
     alloc: Global,
     dictionary: &PieceDictionary,

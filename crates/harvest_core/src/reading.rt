@@ -1,4 +1,4 @@
-//! The thread that reads: it puts a job of each game into the queue, and counts too.
+//! The thread that reads: it puts a job for each game into the queue, and counts too.
 ghost use Rattle.std.specs.Prelude.{◌≡◌, true, ℕ, List, IfErr, OnOk};
 ghost use Rattle.game_core.specs.Games.{HasReadAll};
 ghost use Rattle.job_core.specs.declared.items.Item.TheVariants as item;
@@ -15,7 +15,7 @@ use job_core::{Games, Item, Job};
 use std::sync::Wait;
 use tally_core::Report;
 
-/// Puts a job into the queue, and counts its game here where the queue is full.
+/// Puts a job into the queue, or counts its game in this thread if the queue is full.
 fn offer<'a, R: Wait, G: Gate>(
     rt: &R,
     shared: &Shared<'_, 'a>,
@@ -35,11 +35,11 @@ fn offer<'a, R: Wait, G: Gate>(
     }
 }
 
-/// Deals out all games that are left: each is put into the queue, or counted here.
+/// Reads all games that are left: each is put into the queue, or counted here.
 ///
 /// # Errors
 ///
-/// `Sgf` with the input's first fault of syntax; `Memory` where memory was refused.
+/// `Sgf` with the input's first fault of syntax; `Memory` if memory was refused.
 fn deal_all<'a, R: Wait, G: Gate>(
     rt: &R,
     shared: &Shared<'_, 'a>,
@@ -63,9 +63,9 @@ fn deal_all<'a, R: Wait, G: Gate>(
     }
 }
 
-/// Puts an end for each thread that counts, also for this one. Where the queue is full this thread
-/// makes room: it draws an item itself and counts its game, since no other may be there to draw.
-/// Should that item be an end, one more is put.
+/// Puts an end into the queue for each thread that counts, also for this one. If the queue is full,
+/// this thread makes room: it draws an item itself and counts its game, since no other thread may
+/// be there to draw. If that item is an end, one more is put.
 fn close<R: Wait, G: Gate>(rt: &R, shared: &Shared<'_, '_>, gate: &G, own: &mut Worker<'_, '_>)
     requires writes { own.old.endpoint.writes ≡ true }
     requires work { IsAtWork shared.now own.old }
@@ -88,14 +88,14 @@ fn close<R: Wait, G: Gate>(rt: &R, shared: &Shared<'_, '_>, gate: &G, own: &mut 
 #[derive(Drop)]
 pub(crate) struct Reading<'q, 'a> {
     pub own: Worker<'q, 'a>,
-    /// What the trees are that were read.
+    /// How many of the trees that were read are games of Go, are of other games, and are refused.
     pub report: Report,
-    /// Why not all trees were read, where they were not.
+    /// Why not all trees were read, if they were not.
     pub outcome: Result<(), HarvestFault>,
 }
 
-/// Reads all games and deals them out, puts an end for each thread, and counts with the others
-/// until it draws an end. It waits for the workers.
+/// Reads all games and deals them out, puts an end into the queue for each thread, and counts with
+/// the others until it draws an end. It waits for the workers.
 pub(crate) fn read<'q, 'a, R: Wait, G: Gate>(
     rt: &R,
     shared: &Shared<'_, 'a>,

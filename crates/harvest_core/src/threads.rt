@@ -1,4 +1,4 @@
-//! The thread that reads and the workers beside it, and what they have counted together.
+//! The threads of a count, one that reads and the workers, and what they have counted together.
 ghost use Rattle.std.specs.Prelude.{◌≡◌, ◌+◌, [], All, length, IfOk, IfErr};
 ghost use Rattle.job_core.specs.Which.{id_of};
 ghost use Rattle.job_core.specs.Rule.{all_parts};
@@ -25,18 +25,20 @@ use tally_core::Report;
 pub(crate) struct Ended {
     /// What each thread has counted.
     pub shares: Vec<WordShare>,
-    /// What the trees of the input are.
+    /// How many trees of the input are games of Go, are of other games, and are refused.
     pub report: Report,
 }
 
-/// What a worker has before its thread begins, which then takes memory for what it counts.
+/// What a worker has before its thread begins: its number and its end of the queue. The thread then
+/// takes memory for what it counts.
 #[derive(Drop)]
 struct Seat<'q, 'a> {
     number: usize,
     endpoint: Endpoint<'q, 'a>,
 }
 
-/// The seats of the workers beside the thread that reads, each with a part of this endpoint.
+/// Makes the seats of the workers beside the thread that reads, each with a part of this endpoint
+/// of the queue.
 fn seats_beside<'q, 'a>(
     shared: &Shared<'q, 'a>,
     endpoint: &mut Endpoint<'q, 'a>,
@@ -54,9 +56,9 @@ fn seats_beside<'q, 'a>(
     Ok(seats)
 }
 
-/// A worker begins on each of these seats and counts until it has drawn an end, each in a thread of
-/// its own where one can be started. One for which none can be draws nothing but its end, after
-/// another one's.
+/// Starts a worker on each of these seats, in a thread of its own if one can be started, and
+/// returns the workers when each has drawn an end. One for which no thread can be started draws
+/// only its end, after another worker has drawn one.
 fn count_beside<'q, 'a, R: Threads + Wait + Sync, G: Gate>(
     rt: &R,
     shared: &Shared<'_, '_>,
@@ -77,11 +79,11 @@ fn count_beside<'q, 'a, R: Threads + Wait + Sync, G: Gate>(
     thread::map_vec(rt, seats, &one)
 }
 
-/// Takes up the endpoints of all workers: their shares.
+/// Takes the endpoints of all workers back into this one, and returns the workers' shares.
 ///
 /// # Errors
 ///
-/// The fault of a worker that could not count a game; `Memory` where memory was refused.
+/// The fault of a worker that could not count a game; `Memory` if memory was refused.
 fn take_up<'q, 'a>(
     shared: &Shared<'q, 'a>,
     endpoint: &mut Endpoint<'q, 'a>,
@@ -106,13 +108,13 @@ fn take_up<'q, 'a>(
     Ok(shares)
 }
 
-/// What workers have counted, and the thread that reads. Each game of the input is in these shares
-/// once, as the endpoints tell together.
+/// Puts together what the workers and the thread that reads have counted. Each game of the input is
+/// in these shares once, as the endpoints tell together.
 ///
 /// # Errors
 ///
-/// `Sgf` with the input's first fault of syntax; `Overflow` where a count might be too large;
-/// `Memory` where memory was refused.
+/// `Sgf` with the input's first fault of syntax; `Overflow` if a count might be too large; `Memory`
+/// if memory was refused.
 fn joined<'q, 'a>(
     shared: &Shared<'q, 'a>,
     reading: Reading<'q, 'a>,
@@ -146,8 +148,8 @@ fn joined<'q, 'a>(
 ///
 /// # Errors
 ///
-/// `Sgf` with the input's first fault of syntax; `Overflow` where a count might be too large;
-/// `Memory` where memory was refused.
+/// `Sgf` with the input's first fault of syntax; `Overflow` if a count might be too large; `Memory`
+/// if memory was refused.
 pub(crate) fn count_all<'q, 'a, R: Threads + Wait + Sync, G: Gate>(
     rt: &R,
     shared: &Shared<'q, 'a>,

@@ -1,5 +1,5 @@
-//! The pattern with which those of a counted collection are first more than some number: its
-//! dictionary tells the game, which is walked again, and no other.
+//! Finds the pattern with which a counted collection first has more patterns than some number: its
+//! dictionary tells the game, and that game alone is walked again.
 ghost use Rattle.std.specs.Prelude.{◌≡◌, ◌<◌, length, nat_eq, IfOk, IfErr, OnOk, filter, slice_get};
 ghost use Rattle.std.specs.HashSet.{contains};
 ghost use Rattle.harvest_faults.specs.declared.faults.HarvestFault.TheVariants as fault;
@@ -22,16 +22,16 @@ use std::alloc::Global;
 use std::collections::HashSet;
 use tally_core::{Counted, Meeting, Walk};
 
-/// Where the patterns of a collection are first more than some number.
+/// The pattern with which a collection first has more patterns than some number, and its game.
 #[derive(Clone, Copy)]
 struct FirstBeyond {
-    /// The pattern with which they are.
+    /// The first pattern beyond that number.
     shape: Shape,
     /// The first game that has it.
     game: u64,
 }
 
-/// Whether a pattern's first game is this one.
+/// Whether a pattern's first game is this game.
 fn is_new(entry: &Entry, game: u64) -> bool
     ensures { result ≡ is_game game entry.now.first }
 {
@@ -41,7 +41,7 @@ fn is_new(entry: &Entry, game: u64) -> bool
     }
 }
 
-/// Puts the words of the patterns of a list that this game is the first to have into a set.
+/// Puts into a set the words of those patterns of a list which this game is the first to have.
 fn put_new(words: &mut HashSet<u64>, entries: &[Entry], game: u64) -> Result<(), HarvestFault>
     ensures put { OnOk result (HasPut words.old (new_words game entries.now) words.new) }
     ensures fault { IfErr result (λ found. found ≡ fault.Memory) }
@@ -54,7 +54,7 @@ fn put_new(words: &mut HashSet<u64>, entries: &[Entry], game: u64) -> Result<(),
     Ok(())
 }
 
-/// The words of the patterns that this game is the first to have. It takes memory for them.
+/// Returns the words of the patterns that this game is the first to have. It takes memory for them.
 fn new_of(alloc: Global, pieces: &[Vec<Entry>], game: u64) -> Result<HashSet<u64>, HarvestFault>
     ensures has { IfOk result
         (λ words. HasWords words (new_words game (entries_in pieces.now))) }
@@ -67,8 +67,8 @@ fn new_of(alloc: Global, pieces: &[Vec<Entry>], game: u64) -> Result<HashSet<u64
     Ok(words)
 }
 
-/// The job of this game. Those before it are read and passed over. It takes memory for a tree and
-/// its record.
+/// Returns the job of this game. The games before it are read and passed over. It takes memory for
+/// a tree and its record.
 fn job_of<'a>(alloc: Global, bytes: &'a [u8], game: u64) -> Result<Job<'a>, HarvestFault>
     requires { HasGame bytes.now game }
     ensures job { IfOk result (λ job. (job.bytes ≡ bytes.now) × (job.game ≡ game)) }
@@ -83,7 +83,8 @@ fn job_of<'a>(alloc: Global, bytes: &'a [u8], game: u64) -> Result<Job<'a>, Harv
     unreachable!()
 }
 
-/// Walks this game. It takes memory for its tree, its record, the board and what the game meets.
+/// Walks this game, so that `walk` has what it meets. It takes memory for the game's tree, its
+/// record, the board and what the game meets.
 fn walk_game(alloc: Global, walk: &mut Walk, bytes: &[u8], game: u64) -> Result<(), HarvestFault>
     requires { HasGame bytes.now game }
     ensures met { OnOk result (HasMet walk.old.kinds bytes.now game walk.new.meetings) }
@@ -97,8 +98,8 @@ fn walk_game(alloc: Global, walk: &mut Walk, bytes: &[u8], game: u64) -> Result<
     Ok(())
 }
 
-/// The pattern at this place, from 0, among those that were met and whose words are in a set, each
-/// where it was first met. The words up to it are taken out.
+/// Returns the pattern at this place, from 0, among the patterns that were met and whose words are
+/// in a set, in the order in which each was first met. The words up to it are taken out of the set.
 fn shape_at(words: &mut HashSet<u64>, meetings: &[Meeting], place: usize) -> Option<Shape>
     ensures { result ≡ slice_get (filter (contains nat_eq words.old)
         (once_each (shapes_of meetings.now))) place }
@@ -115,7 +116,8 @@ fn shape_at(words: &mut HashSet<u64>, meetings: &[Meeting], place: usize) -> Opt
     None
 }
 
-/// Walks this game for the pattern at this place, from 0, among those whose words are in a set.
+/// Walks this game, and returns the pattern at this place, from 0, among those whose words are in a
+/// set.
 fn shape_of(
     alloc: Global,
     walk: &mut Walk,
@@ -133,8 +135,8 @@ fn shape_of(
     Ok(shape_at(words, walk.meetings(), place))
 }
 
-/// The pattern at this place, from 0, among those that this game is the first to have, as its walk
-/// meets them.
+/// Returns the pattern at this place, from 0, among those that this game is the first to have, in
+/// the order in which its walk meets them.
 fn new_at(
     alloc: Global,
     kinds: Kinds,
@@ -152,7 +154,8 @@ fn new_at(
     shape_of(alloc, &mut walk, &mut words, bytes, game, place)
 }
 
-/// Where the patterns of a counted collection are first more than `most`.
+/// Returns the pattern with which a counted collection first has more patterns than `most`, and its
+/// first game.
 fn first_of(
     alloc: Global,
     kinds: Kinds,
@@ -177,8 +180,9 @@ fn first_of(
     }
 }
 
-/// Why a counted collection with more patterns than `most` is refused: F1 with the pattern with
-/// which they are first more, and the first game that has it; or `Memory` where memory was refused.
+/// Returns why a counted collection with more patterns than `most` is refused: F1 with the pattern
+/// with which there are first more, and the first game that has it; or `Memory` if memory was
+/// refused.
 ///
 /// The games up to that one are read, and it alone is walked. It takes memory for the largest tree
 /// of those games and its record, and for the board and the patterns of the one that is walked.

@@ -1,4 +1,4 @@
-//! A worker: it draws jobs and counts their games by words, until it draws an end.
+//! A worker: it draws jobs from the queue and counts their games by words, until it draws an end.
 use crate::gates::Gate;
 use gather_core::WordShare;
 use harvest_faults::HarvestFault;
@@ -15,27 +15,27 @@ pub(crate) struct Shared<'q, 'a> {
     pub alloc: Global,
     /// The kinds of pattern that are counted.
     pub kinds: Kinds,
-    /// How many threads count, the one that reads among them.
+    /// How many threads count, including the one that reads.
     pub workers: u8,
     /// The whole input.
     pub bytes: &'a [u8],
-    /// The queue of its games.
+    /// The queue of the input's games.
     pub queue: &'q Jobs<'a>,
 }
 
-/// What one thread counts with.
+/// What one thread counts with: its number, its end of the queue and its share.
 #[derive(Drop)]
 pub(crate) struct Worker<'q, 'a> {
-    /// Workers are numbered from 0, which is the thread that reads.
+    /// The worker's number, from 0, which is the thread that reads.
     pub number: usize,
-    /// Where it draws its jobs; at the thread that reads, where that puts them too.
+    /// Where the worker draws its jobs; the thread that reads also puts them there.
     pub endpoint: Endpoint<'q, 'a>,
-    /// What it has counted, or why a game of it was not. Then nothing more is counted.
+    /// What the worker has counted, or why a game was not counted. Then nothing more is counted.
     pub counted: Result<WordShare, HarvestFault>,
 }
 
-/// How many patterns games of this many bytes mostly meet, each game anew: three a byte, but
-/// no more than 2^22.
+/// Returns how many patterns games of this many bytes mostly meet, counted anew in each game: three
+/// a byte, but no more than 2^22.
 fn likely_meetings(bytes: usize) -> usize {
     bytes.saturating_mul(3).min(1 << 22)
 }
@@ -47,7 +47,7 @@ impl<'q, 'a> Worker<'q, 'a> {
 
     /// Makes the worker of this number, at this endpoint. It takes memory for its lists: for what
     /// as many games meet as it is likely to draw, and a quarter more, since the thread that reads
-    /// draws fewer. Where that is refused, the worker has the fault.
+    /// draws fewer. If that is refused, the worker has the fault.
     pub(crate) fn begin(
         shared: &Shared<'_, '_>,
         number: usize,
@@ -69,10 +69,10 @@ impl<'q, 'a> Worker<'q, 'a> {
         }
     }
 
-    /// Counts the game of a job, for which the gate is called first. Where a game before could not
-    /// be counted, the job is dropped. It takes memory for the patterns of the game, and for its
-    /// board and walk; where that is refused, or a count might be too large, the worker has the
-    /// fault from then on.
+    /// Counts the game of a job, after it has called the gate. If an earlier game could not be
+    /// counted, the job is dropped. It takes memory for the patterns of the game, and for its board
+    /// and walk. If that is refused, or a count might be too large, the worker has the fault from
+    /// then on.
     pub(crate) fn count<G: Gate>(&mut self, shared: &Shared<'_, '_>, gate: &G, job: &Job<'_>)
         requires job { job.now.bytes ≡ shared.now.bytes.now }
         requires counted { (games : List ℕ) × HasCounted shared.now games self.old.counted }
@@ -89,8 +89,8 @@ impl<'q, 'a> Worker<'q, 'a> {
         }
     }
 
-    /// Draws an item and counts its game. It answers whether the item was an end. While the queue
-    /// is empty it lets other threads run.
+    /// Draws an item and, if it is a job, counts its game. Returns whether the item was an end.
+    /// While the queue is empty it lets other threads run.
     pub(crate) fn turn<R: Wait, G: Gate>(
         &mut self,
         rt: &R,
@@ -109,8 +109,8 @@ impl<'q, 'a> Worker<'q, 'a> {
         false
     }
 
-    /// Draws items and counts their games until it draws an end, and comes back. It waits for
-    /// whoever puts.
+    /// Draws items and counts their games until it draws an end, and returns the worker. It waits
+    /// for whoever puts items into the queue.
     pub(crate) fn work<R: Wait, G: Gate>(
         self,
         rt: &R,

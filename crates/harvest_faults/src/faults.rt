@@ -1,4 +1,4 @@
-//! What can go wrong in counting with shares.
+//! What can go wrong in counting with shares, each of which is what one worker has counted.
 ghost use Rattle.std.specs.Prelude.{◌≡◌};
 ghost use Rattle.harvest_faults.specs.declared.faults.HarvestFault.TheVariants.{Memory};
 
@@ -25,10 +25,10 @@ pub enum HarvestFault {
     /// Shares have this game twice.
     #[error("F3 game {0} twice")]
     Twice(u64),
-    /// Rows and the table do not go together at this number: `of_share` is the pattern of a row of
-    /// it, None where no share has one, and `of_table` the table's pattern there, None where the
-    /// number is free. From `confirm_full` both may be the same: then a row has the refused
-    /// pattern.
+    /// The shares and the table disagree at this number, which the table gives to a pattern:
+    /// `of_share` is the pattern of a share's row of this number, None if no share has one, and
+    /// `of_table` is the table's pattern there, None if the number is free. From `confirm_full`
+    /// both may be the same: then a row has the refused pattern.
     #[error("F4 stranger at number {number}")]
     Stranger {
         number: usize,
@@ -41,7 +41,7 @@ pub enum HarvestFault {
     /// Memory was refused.
     #[error("F6 no memory")]
     Memory,
-    /// The collection is not one that can be read.
+    /// The collection has this fault: it is too large, or a tree has a fault of syntax.
     #[error("{0}")]
     Sgf(SgfFault),
     /// A count is over 2^64 - 1, or a game has more actions than any input.
@@ -61,8 +61,8 @@ impl HarvestFault {
     ghost use Rattle.harvest_faults.specs.declared.faults.HarvestFault.TheVariants as fault;
     ghost use Rattle.harvest_faults.specs.Faults.{same_fault};
 
-    /// A share's row of a number has this word, and the number has another one in the table, or
-    /// none.
+    /// The `Stranger` fault: a share's row of a number has this word, and the number has another
+    /// word in the table, or none.
     pub fn stranger(number: usize, held: Word, of_table: Option<Word>) -> HarvestFault
         ensures { result ≡ fault.Stranger number (Some held) of_table }
     {
@@ -73,7 +73,8 @@ impl HarvestFault {
         }
     }
 
-    /// A fault of counting on one thread, under its name here. It takes no memory.
+    /// The `HarvestFault` of the same name for a fault of counting on one thread. It takes no
+    /// memory.
     pub fn of_tally(fault: TallyFault) -> HarvestFault
         ensures { result ≡ same_fault fault }
     {

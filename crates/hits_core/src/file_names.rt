@@ -7,7 +7,7 @@ use crate::writing::push_point;
 use shape_dict::push_number;
 use std::alloc::{AllocError, Global};
 
-/// Appends zeros.
+/// Appends this many zeros.
 fn push_zeros(text: &mut Vec<u8>, count: usize) -> Result<(), AllocError>
     ensures { OnOk result (text.new.items ≡ text.old.items ++ replicate count 48) }
 {
@@ -32,13 +32,13 @@ fn push_padded(
     text.extend_from_slice(&spelled)
 }
 
-/// The name of the file of a hit: the number of the game, in six digits or more, that of the move,
-/// in three or more, and the point, as SGF has it. Hits at the same point before the same move of a
-/// game have the same name, and the same file. It takes memory for the name.
+/// Returns the name of the file of a hit: the number of the game, in six digits or more, that of
+/// the move, in three or more, and the point, as SGF has it. Hits at the same point before the same
+/// move of a game have the same name, and the same file. It takes memory for the name.
 ///
 /// # Errors
 ///
-/// `AllocError` where memory was refused.
+/// `AllocError` if memory was refused.
 pub fn file_name(alloc: Global, hit: &Hit) -> Result<Vec<u8>, AllocError>
     ensures { IfOk result (λ name. name.items ≡ file_name hit.now) }
 {

@@ -31,8 +31,8 @@ fn find_one(
     }
 }
 
-/// The first hits of these games, as many as are asked for. Once that number is found, no further
-/// game is replayed. It takes memory for the hits, and for one game's board.
+/// Returns the first hits of these games, as many as are asked for. Once that number is found, no
+/// further game is replayed. It takes memory for the hits, and for one game's board.
 pub(crate) fn find_in(
     alloc: Global,
     wanted: &Wanted,

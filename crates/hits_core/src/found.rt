@@ -6,16 +6,16 @@ ghost use Rattle.hits_core.specs.Inner.Finding.{IsFull, GrowsBy};
 use crate::hits::Hit;
 use tally_core::TallyFault;
 
-/// The first hits, no more than are asked for.
+/// The first hits that were found, no more than are asked for.
 #[derive(Drop)]
 pub(crate) struct Found {
     pub(crate) hits: Vec<Hit>,
-    /// How many are asked for; None for all.
+    /// How many hits are asked for; None for all.
     pub(crate) most: Option<u64>,
 }
 
 impl Found {
-    /// Whether there are as many as are asked for.
+    /// Whether there are as many hits as are asked for.
     pub(crate) fn is_full(&self) -> bool
         ensures { MatchBool result (IsFull self.now.most self.now.hits.items)
             (IsFull self.now.most self.now.hits.items → ⊥) }
@@ -26,7 +26,7 @@ impl Found {
         }
     }
 
-    /// Adds a hit, unless there are as many as are asked for.
+    /// Adds a hit, unless there are as many as are asked for already.
     pub(crate) fn push(&mut self, hit: Hit) -> Result<(), TallyFault>
         ensures grown { OnOk result (GrowsBy self.old self.new (hit ∷ [])) }
         ensures fault { IfErr result (λ found. found ≡ fault.Memory) }

@@ -4,10 +4,10 @@ use go_record::Record;
 /// A game, kept until its hits are found.
 #[derive(Drop)]
 pub struct Game {
-    /// Its number among the collection's games, from 0.
+    /// The game's number among the collection's games, from 0.
     pub number: u64,
     /// The place of the first parenthesis of its tree, a byte offset in the input, from 0.
     pub place: usize,
-    /// Its record.
+    /// The game's record.
     pub recorded: Record,
 }

@@ -1,8 +1,8 @@
-//! A hit: where a pattern was played, or was there.
+//! A hit: a time that a pattern was played, or was there.
 use go_board::{Colour, Point};
 use shape_core::Shape;
 
-/// A pattern in a game of a collection.
+/// A time that a pattern was played, or was there, in a game of a collection.
 #[derive(Clone, Copy, Debug, PartialEq, Eq)]
 pub struct Hit {
     /// The number of the game among the collection's games, from 0.
@@ -11,7 +11,7 @@ pub struct Hit {
     pub number: u64,
     /// The point that has the pattern before that move.
     pub at: Point,
-    /// Who was to move.
+    /// The player who was to move.
     pub mover: Colour,
     /// The place of the first parenthesis of the game's tree, a byte offset in the input, from 0.
     pub place: usize,

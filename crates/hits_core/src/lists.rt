@@ -27,15 +27,16 @@ pub enum WordsFault {
     Memory,
 }
 
-/// Reads a list of words: a canonical word, as a dictionary has it, stands first in each line, and
-/// what follows a space is skipped. Squares and diamonds may be mixed, and a word may come again.
-/// Of the reader it takes the bytes up to its end, or 2^28 + 1 of them, and no more, unless the
-/// reader fails or memory is refused. It takes memory for the list and its words.
+/// Reads a list of words, and returns the patterns that it asks for. In each line a canonical word,
+/// as a dictionary has it, stands first, and what follows a space is skipped. Squares and diamonds
+/// may be mixed, and a word may come again. It takes the reader's bytes up to its end, or 2^28 + 1
+/// of them, and no more, unless the reader fails or memory is refused. It takes memory for the list
+/// and its words.
 ///
 /// # Errors
 ///
-/// `TooLarge` where the list has more than 2^28 bytes, else `BadLine` with the first line that does
-/// not begin with a word; `Unread` where the reader failed, `Memory` where memory was refused.
+/// `TooLarge` if the list has more than 2^28 bytes, else `BadLine` with the first line that does
+/// not begin with a word; `Unread` if the reader failed, `Memory` if memory was refused.
 pub fn read_wanted<R: Read>(alloc: Global, reader: &mut R) -> Result<Wanted, WordsFault>
     ensures read { HasReadList result (R.remaining reader.old) (R.remaining reader.new) }
     ensures words { IfOk result (IsWantedOf (R.remaining reader.old)) }
@@ -56,8 +57,8 @@ pub fn read_wanted<R: Read>(alloc: Global, reader: &mut R) -> Result<Wanted, Wor
     }
 }
 
-/// The exit status of a fault: 2 where the list is refused, 6 where it was not read, and 5 where
-/// memory was refused.
+/// The exit status of a fault: 2 if the list is refused, 6 if it was not read, and 5 if memory was
+/// refused.
 pub fn status_of(fault: &WordsFault) -> u8
     ensures { result ≡ status_of fault.now }
 {

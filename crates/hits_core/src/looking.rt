@@ -21,7 +21,8 @@ pub(crate) struct Sight {
     pub(crate) diamond: Option<Shape>,
 }
 
-/// An occasion: its game's number, place and rows, the number of its move, and who moves.
+/// An occasion: its game's number, place and rows, the number of its move, and the player who
+/// moves.
 #[derive(Clone, Copy)]
 pub(crate) struct Moment {
     pub(crate) game: u64,
@@ -31,7 +32,7 @@ pub(crate) struct Moment {
     pub(crate) mover: Colour,
 }
 
-/// What a point of a board has.
+/// Returns those patterns of a point of a board that are looked for.
 pub(crate) fn see_board(board: &Board, wanted: &Wanted, mover: Colour, point: Point) -> Sight
     requires { IsOn board.now.size point }
     ensures { patterns_in result
@@ -47,7 +48,7 @@ pub(crate) fn see_board(board: &Board, wanted: &Wanted, mover: Colour, point: Po
     Sight { square, diamond }
 }
 
-/// Adds what a point has to the hits.
+/// Adds a hit for each pattern of a point that is looked for.
 pub(crate) fn push_sight(
     found: &mut Found,
     moment: Moment,
@@ -71,7 +72,7 @@ impl Moment {
     ghost use Rattle.std.specs.Prelude.{◌≡◌};
     ghost use Rattle.hits_core.specs.Inner.Finding.{hit_in, moment_on};
 
-    /// The occasion of a move by this colour, the move of this number, in a game.
+    /// The occasion of the move of this number in a game, by this colour.
     pub(crate) fn of(game: &Game, number: u64, mover: Colour) -> Moment
         ensures { result ≡ moment_on game.now number mover }
     {
@@ -84,7 +85,7 @@ impl Moment {
         }
     }
 
-    /// The hit of a pattern at a point.
+    /// The hit of a pattern at a point, at this occasion.
     fn hit(self, at: Point, word: Shape) -> Hit
         ensures { result ≡ hit_in self at word }
     {

@@ -1,4 +1,4 @@
-//! The hits of all games, which threads find.
+//! The hits of all games, which threads find in parts.
 ghost use Rattle.std.specs.Prelude.{◌≡◌, ◌<◌, IsOk, All, IfOk, IfErr, OnOk};
 ghost use Rattle.std.specs.List.{flat_map};
 ghost use Rattle.tally_core.specs.declared.faults.TallyFault.TheVariants as fault;
@@ -17,15 +17,15 @@ use std::thread;
 use std::thread::Threads;
 use tally_core::TallyFault;
 
-/// How many games a part has, where this many threads have all.
+/// How many games a part has, if this many threads share all games.
 fn part_length(games: usize, threads: usize) -> usize
     ensures { 0 < result }
 {
     games.div_ceil(threads.max(1)).max(1)
 }
 
-/// The first hits of each of some parts of the games, in order. At most this many threads find
-/// them, and each part may be refused memory.
+/// Returns the first hits of each part of the games, in order. At most this many threads find them,
+/// and each part may be refused memory.
 fn made_parts<T: Threads + Sync>(
     rt: &T,
     alloc: Global,
@@ -48,7 +48,7 @@ fn made_parts<T: Threads + Sync>(
     )
 }
 
-/// Adds hits, as far as they are asked for.
+/// Adds hits, no more than are asked for.
 fn push_all(found: &mut Found, hits: &[Hit]) -> Result<(), TallyFault>
     ensures grown { OnOk result (GrowsBy found.old found.new hits.now) }
     ensures fault { IfErr result (λ found. found ≡ fault.Memory) }
@@ -59,7 +59,7 @@ fn push_all(found: &mut Found, hits: &[Hit]) -> Result<(), TallyFault>
     Ok(())
 }
 
-/// The first hits of all parts, one part after another.
+/// Joins the hits of all parts in order, and returns the first, no more than are asked for.
 fn joined(
     alloc: Global,
     most: Option<u64>,
@@ -80,8 +80,8 @@ fn joined(
     Ok(found.hits)
 }
 
-/// The first hits of the games, as many as are asked for: at most this many threads find them. It
-/// takes memory for the hits, and for each thread for one game's board.
+/// Returns the first hits of the games, as many as are asked for. At most this many threads find
+/// them. It takes memory for the hits, and for each thread for one game's board.
 pub(crate) fn find_all<T: Threads + Sync>(
     rt: &T,
     alloc: Global,

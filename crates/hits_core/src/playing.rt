@@ -1,4 +1,4 @@
-//! The hits of a game where patterns are looked for that were played: one look at each occasion.
+//! Finds each time in a game that a wanted pattern was played, with one look at each occasion.
 ghost use Rattle.std.specs.Prelude.{◌≡◌, ◌+◌, ◌<◌, ◌^◌, map, IfErr, OnOk};
 ghost use Rattle.std.specs.List.{flat_map};
 ghost use Rattle.go_board.specs.Board.{position_of};
@@ -19,7 +19,7 @@ use go_record::{Action, apply};
 use std::alloc::Global;
 use tally_core::TallyFault;
 
-/// The number of the next move after an action, where it is `number` before it.
+/// The number of the next move after an action; `number` is that of the next move before it.
 pub(crate) fn number_after(number: u64, action: Action) -> u64
     requires { number + 1 < 2 ^ 64 }
     ensures { result ≡ number_after number action }
@@ -30,7 +30,7 @@ pub(crate) fn number_after(number: u64, action: Action) -> u64
     }
 }
 
-/// Adds the hit of an action where it is an occasion at which a wanted pattern is played.
+/// Adds the hits of an action, if it is an occasion at which a wanted pattern is played.
 fn look(
     board: &Board,
     wanted: &Wanted,

@@ -7,13 +7,13 @@ use game_core::{Games, Report};
 use std::alloc::Global;
 use tally_core::TallyFault;
 
-/// All games of an input, of which the first has this number, and what its trees are. It takes
-/// memory for the records of the games, and for a tree at a time.
+/// Returns all games of an input, of which the first has this number, and the report on its trees.
+/// It takes memory for the records of the games, and for a tree at a time.
 ///
 /// # Errors
 ///
-/// `Sgf` with S4 where the input has more than 2^28 bytes, else with its first fault of syntax;
-/// `Memory` where memory was refused; `Overflow` where a game's number would be over 2^64 - 1.
+/// `Sgf` with S4 if the input has more than 2^28 bytes, else with its first fault of syntax;
+/// `Memory` if memory was refused; `Overflow` if a game's number would be over 2^64 - 1.
 pub(crate) fn read_games(
     alloc: Global,
     input: &[u8],

@@ -7,11 +7,11 @@ use game_core::Report;
 /// What a search has found in an input.
 #[derive(Drop)]
 pub struct Results {
-    /// `Done` where there is a hit, and `NotFound` where there is none.
+    /// `Done` if there is a hit, and `NotFound` if there is none.
     pub outcome: Outcome,
-    /// What the trees of the input are.
+    /// How many of the input's trees are games, of other games, and refused.
     pub report: Report,
-    /// Its games, in order.
+    /// The games of the input, in order.
     pub games: Vec<Game>,
     /// The first hits, as many as are asked for.
     pub hits: Vec<Hit>,

@@ -19,7 +19,7 @@ use std::io::{Read, Write};
 use std::thread::Threads;
 use tally_core::TallyFault;
 
-/// The fault of a run that a fault of reading or finding is.
+/// Returns the fault of a run for a fault of reading or finding.
 fn run_fault(fault: TallyFault) -> RunFault
     ensures { (input : List ℕ) → IsReadFault input fault → IsHitsFault input result }
 {
@@ -29,7 +29,7 @@ fn run_fault(fault: TallyFault) -> RunFault
     }
 }
 
-/// How many hits are looked for, where this number is asked for: one at least, by which it is known
+/// How many hits are looked for, if this number is asked for: one at least, by which it is known
 /// whether there are any.
 fn limit_of(most: Option<u64>) -> Option<u64>
     ensures { result ≡ limit_of most }
@@ -40,7 +40,7 @@ fn limit_of(most: Option<u64>) -> Option<u64>
     }
 }
 
-/// Whether there is a hit.
+/// The outcome of a search: whether there is a hit.
 fn outcome_of(hits: &[Hit]) -> Outcome
     ensures { IsAnswer result hits.now }
 {
@@ -51,7 +51,7 @@ fn outcome_of(hits: &[Hit]) -> Outcome
     }
 }
 
-/// No more hits than are asked for: the first of all.
+/// Keeps the first hits, no more than are asked for.
 fn cut(hits: &mut Vec<Hit>, most: Option<u64>)
     ensures { hits.new.items ≡ first_of most hits.old.items }
 {
@@ -61,7 +61,7 @@ fn cut(hits: &mut Vec<Hit>, most: Option<u64>)
     }
 }
 
-/// The games of an input, what its trees are, and the first hits.
+/// Returns the games of an input, the report on its trees, and the first hits.
 fn find<T: Threads + Sync>(
     rt: &T,
     alloc: Global,
@@ -86,7 +86,7 @@ fn find<T: Threads + Sync>(
     })
 }
 
-/// The lines of the first hits of an input, and what was found.
+/// Returns the lines of the first hits of an input, and what was found.
 fn hits_text<T: Threads + Sync>(
     rt: &T,
     alloc: Global,
@@ -106,28 +106,28 @@ fn hits_text<T: Threads + Sync>(
     Ok((text, results))
 }
 
-/// Reads a collection and writes a line for each hit of the patterns that are looked for, in the
-/// order of games, moves and points (row by row from the top, each row from the left), at one point
-/// the square before the diamond: the game's number, the number of the move, the point, who was to
-/// move, the place of the game's tree, and the name of the file where it has one. The games'
-/// numbers begin with that of the search. The answer has the games, what the trees of the input
-/// are, the hits that are written, and whether there is any; where there is none, nothing is
-/// written.
+/// Reads a collection and writes a line for each hit of the patterns that are looked for. The lines
+/// are in the order of games, moves and points (row by row from the top, each row from the left),
+/// at one point the square before the diamond. A line has the game's number, the number of the
+/// move, the point, who was to move, the place of the game's tree, and the name of the file if it
+/// has one. The games' numbers begin with that of the search. The answer has the games, the report
+/// on the trees of the input, the hits that are written, and whether there is any. If there is
+/// none, nothing is written.
 ///
-/// Where no more than some number of hits is asked for, the first of all are written. The whole
-/// input is judged all the same; once that number is found, and one at least, a thread replays no
-/// further game. Games are numbered and replayed as `count` does. At most as many threads as
-/// `workers` says replay them; the text is the same whatever their number.
+/// If no more than some number of hits is asked for, the first of all are written. The whole input
+/// is judged all the same; once that number is found, and one at least, a thread replays no further
+/// game. Games are numbered and replayed as `count` does. At most as many threads as `workers` says
+/// replay them; the text is the same whatever their number.
 ///
 /// It takes memory for the input, for the records of all games, for a tree at a time, for each
 /// thread for a board, for the hits, and for their lines.
 ///
 /// # Errors
 ///
-/// `Read` where the reader failed; `Memory` where memory was refused, which says nothing of the
-/// collection, since memory for that is asked first; else `Sgf` with S4 where the collection has
-/// more than 2^28 bytes, else with its first fault of syntax (S1 to S3). Nothing is written then.
-/// `Write` where the writer failed: exactly that number of bytes of the text is out.
+/// `Read` if the reader failed. `Memory` if memory was refused, which says nothing of the
+/// collection, since memory for that is asked first. Else `Sgf` with S4 if the collection has more
+/// than 2^28 bytes, else with its first fault of syntax (S1 to S3). Nothing is written then.
+/// `Write` if the writer failed: exactly that number of bytes of the text is out.
 pub fn run_hits<T: Threads + Sync, R: Read, W: Write>(
     rt: &T,
     alloc: Global,

@@ -1,4 +1,4 @@
-//! What is asked for.
+//! What a search asks for, beside its patterns.
 
 /// Which times a pattern is listed.
 #[derive(Clone, Copy, Debug, PartialEq, Eq)]
@@ -9,16 +9,16 @@ pub enum Sought {
     There,
 }
 
-/// What the lines show.
+/// What the lines of hits show.
 #[derive(Clone, Copy, Debug, PartialEq, Eq)]
 pub enum Shown {
     /// The game, the move, the point, the colour and the place.
     Places,
-    /// The word before these.
+    /// The pattern's word before these.
     WordsToo,
 }
 
-/// How points are written.
+/// How points are written in the lines.
 #[derive(Clone, Copy, Debug, PartialEq, Eq)]
 pub enum Spelling {
     /// As SGF has them: the letter of the column, and that of the row from the top.
@@ -28,7 +28,7 @@ pub enum Spelling {
     Coordinates,
 }
 
-/// What is asked for of an input, beside the patterns.
+/// What a search asks for of an input, beside the patterns.
 #[derive(Clone, Copy, Debug, PartialEq, Eq)]
 pub struct Search<'a> {
     /// Which times a pattern is listed.
@@ -37,10 +37,10 @@ pub struct Search<'a> {
     pub most: Option<u64>,
     /// What the lines show.
     pub shown: Shown,
-    /// How their points are written.
+    /// How the points in the lines are written.
     pub spelling: Spelling,
-    /// The number of the input's first game: those of inputs before it are counted through.
+    /// The number of the input's first game: games are numbered through all inputs.
     pub first: u64,
-    /// The name of the input's file, in which each line ends; None for none.
+    /// The name of the input's file, with which each line ends; None for none.
     pub name: Option<&'a str>,
 }

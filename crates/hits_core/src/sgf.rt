@@ -1,4 +1,4 @@
-//! The file of a hit, in SGF.
+//! The SGF file of a hit: its game up to the position that was looked at.
 ghost use Rattle.std.specs.Prelude.{◌≡◌, ◌++◌, ◌≤◌, OnOk, IfOk, None, length, take, drop};
 ghost use Rattle.hits_core.specs.Lines.{point_text};
 ghost use Rattle.hits_core.specs.Sgf.{actions_before, actions_from, value_text, size_text};
@@ -13,7 +13,7 @@ use go_record::{Action, Record};
 use shape_dict::push_number;
 use std::alloc::{AllocError, Global};
 
-/// How many actions come before the move that comes after this number of moves and passes.
+/// How many actions come before the move or pass that follows this number of moves and passes.
 fn place_of(actions: &[Action], moves: u64) -> usize
     ensures inside { result ≤ length actions.now }
     ensures before { take result actions.now ≡ actions_before moves actions.now }
@@ -34,7 +34,7 @@ fn place_of(actions: &[Action], moves: u64) -> usize
     actions.len()
 }
 
-/// Appends a value that is a point.
+/// Appends a point as a value in brackets.
 fn push_point_value(text: &mut Vec<u8>, point: Point) -> Result<(), AllocError>
     ensures { OnOk result (text.new.items ≡ text.old.items ++ value_text (point_text point)) }
 {
@@ -43,7 +43,7 @@ fn push_point_value(text: &mut Vec<u8>, point: Point) -> Result<(), AllocError>
     text.extend_from_slice(b"]")
 }
 
-/// Appends the size of a board.
+/// Appends the size of a board, as SGF has it.
 #[tactic(auto, unfolding(crate::specs::Sgf::size_text))]
 fn push_size(text: &mut Vec<u8>, size: Size) -> Result<(), AllocError>
     ensures { OnOk result (text.new.items ≡ text.old.items ++ size_text size) }
@@ -56,7 +56,7 @@ fn push_size(text: &mut Vec<u8>, size: Size) -> Result<(), AllocError>
     push_number(text, u64::from(size.rows()))
 }
 
-/// Appends a value that is the size of a board.
+/// Appends the size of a board as a value in brackets.
 fn push_size_value(text: &mut Vec<u8>, size: Size) -> Result<(), AllocError>
     ensures { OnOk result (text.new.items ≡ text.old.items ++ value_text (size_text size)) }
 {
@@ -65,7 +65,8 @@ fn push_size_value(text: &mut Vec<u8>, size: Size) -> Result<(), AllocError>
     text.extend_from_slice(b"]")
 }
 
-/// Appends what begins the first node.
+/// Appends the beginning of the file: the first node with the version of SGF, Go, and the board's
+/// size.
 fn push_root(text: &mut Vec<u8>, size: Size) -> Result<(), AllocError>
     ensures { OnOk result (text.new.items ≡ text.old.items ++ root_text size) }
 {
@@ -85,7 +86,7 @@ fn push_span(text: &mut Vec<u8>, low: Point, high: Point) -> Result<(), AllocErr
     push_point(text, high)
 }
 
-/// The property that sets a stone, or takes it away.
+/// The name of the property that sets a stone, or takes it away.
 fn setup_name(stone: Stone) -> &'static [u8]
     ensures { result.now ≡ setup_name stone }
 {
@@ -96,7 +97,7 @@ fn setup_name(stone: Stone) -> &'static [u8]
     }
 }
 
-/// The property of a colour's moves.
+/// The name of the property of a colour's moves.
 fn colour_name(colour: Colour) -> &'static [u8]
     ensures { result.now ≡ colour_name colour }
 {
@@ -118,7 +119,7 @@ fn is_same_stone(one: Stone, other: Stone) -> bool
     }
 }
 
-/// Whether setup of a stone is a further value of the property of the action before.
+/// Whether setup of this stone is one more value of the property of the action before it.
 fn goes_on(before: Option<Action>, stone: Stone) -> bool
     ensures { result ≡ goes_on before stone }
 {
@@ -128,7 +129,8 @@ fn goes_on(before: Option<Action>, stone: Stone) -> bool
     }
 }
 
-/// Appends where a property of setup begins, unless the one before it goes on.
+/// Appends the name of a setup property, unless it goes on with that of the action before. It
+/// stands in a new node if there is an action before.
 fn push_setup_front(
     text: &mut Vec<u8>,
     before: Option<Action>,
@@ -146,7 +148,7 @@ fn push_setup_front(
     text.extend_from_slice(setup_name(stone))
 }
 
-/// Appends an action after another.
+/// Appends an action; `before` is the action before it, if there is one.
 fn push_action(text: &mut Vec<u8>, before: Option<Action>, action: Action) -> Result<(), AllocError>
     ensures { OnOk result (text.new.items ≡ text.old.items ++ action_text before action) }
 {
@@ -170,7 +172,7 @@ fn push_action(text: &mut Vec<u8>, before: Option<Action>, action: Action) -> Re
     }
 }
 
-/// Appends actions, the first of which comes right after the beginning of the first node.
+/// Appends actions; what the first of them sets up stands in the first node.
 fn push_actions(text: &mut Vec<u8>, actions: &[Action]) -> Result<(), AllocError>
     ensures { OnOk result (text.new.items ≡ text.old.items ++ actions_text None actions.now) }
 {
@@ -182,7 +184,7 @@ fn push_actions(text: &mut Vec<u8>, actions: &[Action]) -> Result<(), AllocError
     Ok(())
 }
 
-/// Appends the mark on a point.
+/// Appends a mark on a point, a triangle.
 fn push_mark(text: &mut Vec<u8>, point: Point) -> Result<(), AllocError>
     ensures { OnOk result (text.new.items ≡ text.old.items ++ mark_text point) }
 {
@@ -190,7 +192,7 @@ fn push_mark(text: &mut Vec<u8>, point: Point) -> Result<(), AllocError>
     push_point_value(text, point)
 }
 
-/// Appends the branch with the position that was looked at.
+/// Appends the branch that shows the position that was looked at: who is to move, and the mark.
 fn push_position(text: &mut Vec<u8>, hit: &Hit) -> Result<(), AllocError>
     ensures { OnOk result (text.new.items ≡ text.old.items ++ position_branch hit.now) }
 {
@@ -201,7 +203,7 @@ fn push_position(text: &mut Vec<u8>, hit: &Hit) -> Result<(), AllocError>
     text.extend_from_slice(b")")
 }
 
-/// Appends the branch with the first of these actions, where that is a move.
+/// Appends the branch with the first of these actions, if that is a move or a pass.
 fn push_played(text: &mut Vec<u8>, actions: &[Action]) -> Result<(), AllocError>
     ensures { OnOk result (text.new.items ≡ text.old.items ++ played_text actions.now) }
 {
@@ -221,14 +223,14 @@ fn push_played(text: &mut Vec<u8>, actions: &[Action]) -> Result<(), AllocError>
     }
 }
 
-/// The file of a hit of a game with this record: the game up to the position that was looked at,
-/// with a mark on the hit's point, and two branches. The first, in which the main line ends, has
-/// no move: it has the mark again, and says who is to move. The other has the move that was
-/// played. It takes memory for the text.
+/// Returns the SGF file of a hit of a game with this record: the game up to the position that was
+/// looked at, with a mark on the hit's point, and two branches. The first, in which the main line
+/// ends, has no move: it has the mark again, and says who is to move. The other has the move that
+/// was played. It takes memory for the text.
 ///
 /// # Errors
 ///
-/// `AllocError` where memory was refused.
+/// `AllocError` if memory was refused.
 pub fn sgf_of(alloc: Global, game: &Record, hit: &Hit) -> Result<Vec<u8>, AllocError>
     ensures { IfOk result (λ text. text.items ≡ sgf_text game.now hit.now) }
 {

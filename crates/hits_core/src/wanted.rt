@@ -8,14 +8,14 @@ use shape_core::{Kind, Kinds, Shape};
 use std::alloc::{AllocError, Global};
 use std::marker::Model;
 
-/// The patterns that are looked for.
+/// The patterns that a search looks for.
 ///
 /// Contracts see their words, in some order.
 #[derive(Debug, Drop)]
 pub struct Wanted {
     /// The patterns, in rising order.
     words: Vec<Shape>,
-    /// Diamonds among them, or squares alone.
+    /// `Both` if there are diamonds among them, else `Squares`.
     kinds: Kinds,
 }
 
@@ -30,7 +30,7 @@ impl Model for Wanted {
     ghost invariant = { λ w. AreWanted w.kinds w.words.items };
 }
 
-/// Squares alone, where all of these are squares.
+/// The kinds among these patterns: `Squares` if all are squares, else `Both`.
 fn kinds_among(words: &[Shape]) -> Kinds
     ensures { result ≡ kinds.Squares → All (λ word. kind_of word ≡ kind.Square) words.now }
 {
@@ -48,7 +48,7 @@ impl Wanted {
     ghost use Rattle.hits_core.specs.Wanted.{is_wanted};
     ghost use Rattle.hits_core.specs.Inner.Finding.{listed};
 
-    /// These patterns, in any order, and each as often as it may be. It takes no memory.
+    /// Looks for these patterns, in any order, and each as often as it may be. It takes no memory.
     pub fn new(words: Vec<Shape>) -> Wanted
         ensures { (word : ℕ) → is_wanted result word ≡ is_wanted words.items word }
     {
@@ -58,11 +58,11 @@ impl Wanted {
         Wanted { words, kinds }
     }
 
-    /// One pattern.
+    /// Looks for one pattern.
     ///
     /// # Errors
     ///
-    /// `AllocError` where memory was refused.
+    /// `AllocError` if memory was refused.
     pub fn one(alloc: Global, shape: Shape) -> Result<Wanted, AllocError>
         ensures { IfOk result (λ wanted. (word : ℕ) → is_wanted wanted word ≡ (shape == word)) }
     {
@@ -77,7 +77,7 @@ impl Wanted {
         self.kinds
     }
 
-    /// The pattern, where it is looked for.
+    /// Returns the pattern if it is looked for.
     pub(crate) fn pick(&self, shape: Shape) -> Option<Shape>
         ensures { listed result ≡ filter (is_wanted self.now) (shape ∷ []) }
     {

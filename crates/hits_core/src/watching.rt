@@ -1,5 +1,5 @@
-//! The hits of a game where patterns are looked for that were there: for each colour the points
-//! that may have one are kept, and only these are looked at.
+//! Finds each time in a game that a wanted pattern was there: for each colour it keeps the points
+//! that may have one, and looks only at these.
 ghost use Rattle.std.specs.Prelude.{◌≡◌, ◌<◌, ◌∷◌, [], map, false, ℕ, List, IfOk, IfErr, OnOk};
 ghost use Rattle.std.specs.List.{flat_map};
 ghost use Rattle.go_board.specs.Board.{position_of};
@@ -28,8 +28,9 @@ use shape_core::{Field, Kinds, kinds_stay};
 use std::alloc::Global;
 use tally_core::TallyFault;
 
-/// A game that is being replayed, and for each colour the points that have to be looked at when it
-/// is to move: for each row a bit for each column. Each other point has no wanted pattern for it.
+/// A game that is being replayed. For each colour it has the points that have to be looked at when
+/// that colour is to move: for each row a bit for each column. Each other point has no wanted
+/// pattern for that colour.
 #[derive(Drop)]
 pub(crate) struct Watch {
     pub(crate) field: Field,
@@ -37,7 +38,8 @@ pub(crate) struct Watch {
     pub(crate) white: Vec<u64>,
 }
 
-/// What a point of a field has. The field keeps the kinds that are wanted.
+/// Returns those patterns of a point of a field that are looked for. The field keeps the words of
+/// the kinds that are wanted.
 fn see_field(field: &Field, wanted: &Wanted, mover: Colour, point: Point) -> Sight
     requires on_board { IsOn field.now.board.size point }
     requires kinds { KeepsWanted field.now wanted.now }
@@ -54,7 +56,7 @@ fn see_field(field: &Field, wanted: &Wanted, mover: Colour, point: Point) -> Sig
     Sight { square, diamond }
 }
 
-/// Looks at a point, and adds what it has to the hits. The answer is whether it has anything.
+/// Looks at a point, and adds a hit for each wanted pattern. Returns whether it has any.
 fn see_point(
     field: &Field,
     wanted: &Wanted,
@@ -78,8 +80,8 @@ fn see_point(
     Ok(sight.square.is_some() || sight.diamond.is_some())
 }
 
-/// Looks at a point of a row if its bit is set. The answer is the bit if the point has anything,
-/// and else 0. Where its bit is not set it has nothing.
+/// Looks at a point of a row if its bit is set. Returns the bit if the point has a wanted pattern,
+/// and else 0. If its bit is not set it has none.
 fn see_bit(
     field: &Field,
     wanted: &Wanted,
@@ -106,8 +108,8 @@ fn see_bit(
     Ok(1 << point.column)
 }
 
-/// Looks at the points of these bits of a row, from the left. The answer is the bits of those that
-/// have anything. The other points of the row have nothing.
+/// Looks at the points of these bits of a row, from the left. Returns the bits of those that have a
+/// wanted pattern. The other points of the row have none.
 fn see_row(
     field: &Field,
     wanted: &Wanted,
@@ -135,7 +137,7 @@ fn see_row(
 }
 
 /// Looks at the points that have to be looked at, row by row from the top, each row from the left,
-/// and adds what they have to the hits. Those that have nothing leave the set.
+/// and adds their hits. Points without a wanted pattern leave the set.
 fn see(
     field: &Field,
     wanted: &Wanted,
@@ -158,8 +160,8 @@ fn see(
 }
 
 impl Watch {
-    /// The empty board of a game, where every point has to be looked at. It takes memory for each
-    /// point.
+    /// Begins with the empty board of a game: every point has to be looked at. It takes memory for
+    /// each point.
     fn begin(alloc: Global, wanted: &Wanted, game: &Game) -> Result<Watch, TallyFault>
         ensures watched { IfOk result (IsWatched wanted.now) }
         ensures begun { IfOk result (IsNewWatch game.now.recorded.size) }
@@ -178,7 +180,7 @@ impl Watch {
         })
     }
 
-    /// Adds the hits of an action where it is an occasion.
+    /// Adds the hits before an action, if it is an occasion.
     fn look(
         &mut self,
         wanted: &Wanted,
@@ -210,7 +212,8 @@ impl Watch {
         }
     }
 
-    /// Does an action. The points whose words change have to be looked at again, by both colours.
+    /// Applies an action to the board. The points whose words change have to be looked at again,
+    /// for both colours.
     fn act(&mut self, action: Action)
         requires on_board { IsActionOn self.old.field.board.size action }
         requires watched { (words : List ℕ) × IsWatched words self.old }

@@ -27,7 +27,7 @@ impl<T: Drop> From<AllocFailed<T>> for ListFault {
     }
 }
 
-/// Whether this may follow a word in its line.
+/// Whether these bytes may follow a word in its line: none, or a space and any others.
 fn is_skipped(rest: &[u8]) -> bool
     ensures { MatchBool result (IsSkipped rest.now) (IsSkipped rest.now → ⊥) }
 {
@@ -37,7 +37,7 @@ fn is_skipped(rest: &[u8]) -> bool
     }
 }
 
-/// The word that a line begins with.
+/// The word that a line begins with, if it does.
 fn word_of(line: &[u8]) -> Option<Shape>
     ensures found { IfSome result (HasWord line.now) }
     ensures only { IfNone result ((word : ℕ) → HasWord line.now word → ⊥) }
@@ -49,7 +49,7 @@ fn word_of(line: &[u8]) -> Option<Shape>
     Shape::of_word(Word::new(bits)?)
 }
 
-/// The first line, and the others.
+/// Splits bytes into the first line and the others.
 fn split_line(bytes: &[u8]) -> (&[u8], &[u8])
     requires { bytes.now ≢ [] }
     ensures line { result.0.now ≡ first_line bytes.now }
@@ -62,14 +62,14 @@ fn split_line(bytes: &[u8]) -> (&[u8], &[u8])
     }
 }
 
-/// The place of the first line feed.
+/// The place of the first line feed, if there is one.
 fn line_end(bytes: &[u8]) -> Option<usize>
     ensures { result ≡ position is_line_feed bytes.now }
 {
     bytes.iter().position(|byte| *byte == b'\n')
 }
 
-/// The words of the lines, in their order.
+/// Returns the words of the lines, in their order.
 pub(crate) fn words_of(alloc: Global, bytes: &[u8]) -> Result<Vec<Shape>, ListFault>
     ensures words { IfOk result (λ words. AreWordsOf bytes.now words.items) }
     ensures fault { IfErr result (IsListFault bytes.now) }

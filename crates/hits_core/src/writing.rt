@@ -1,4 +1,4 @@
-//! The lines of hits.
+//! The lines of hits, appended to bytes.
 ghost use Rattle.std.specs.Prelude.{◌≡◌, ◌++◌, OnOk, IfOk, option_map};
 ghost use Rattle.std.specs.List.{flat_map};
 ghost use Rattle.hits_core.specs.Lines.{letter_of, point_text, colour_text, front_text};
@@ -42,7 +42,7 @@ fn column_letter(column: u8) -> u8
     }
 }
 
-/// Appends the letters of a column.
+/// Appends the letter or letters of a column, as boards have them.
 fn push_column(text: &mut Vec<u8>, column: u8) -> Result<(), AllocError>
     ensures { OnOk result (text.new.items ≡ text.old.items ++ column_text column) }
 {
@@ -60,7 +60,7 @@ fn push_coordinates(text: &mut Vec<u8>, rows: u8, point: Point) -> Result<(), Al
     push_number(text, u64::from(rows.saturating_sub(point.row)))
 }
 
-/// Appends a point of a board of this many rows.
+/// Appends a point of a board of this many rows, in this spelling.
 fn push_spelled(
     text: &mut Vec<u8>,
     spelling: Spelling,
@@ -85,7 +85,7 @@ fn push_colour(text: &mut Vec<u8>, colour: Colour) -> Result<(), AllocError>
     }
 }
 
-/// Appends the word that begins a line, where words are shown.
+/// Appends the word that begins a line, if words are shown.
 fn push_front(text: &mut Vec<u8>, shown: Shown, word: Shape) -> Result<(), AllocError>
     ensures { OnOk result (text.new.items ≡ text.old.items ++ front_text shown word) }
 {
@@ -119,7 +119,7 @@ fn push_where(text: &mut Vec<u8>, spelling: Spelling, hit: &Hit) -> Result<(), A
     push_number(text, hit.place as u64)
 }
 
-/// Appends the end of a line: the name of the file, where there is one.
+/// Appends the end of a line: the name of the file, if there is one.
 fn push_ending(text: &mut Vec<u8>, name: Option<&str>) -> Result<(), AllocError>
     ensures { OnOk result (text.new.items ≡ text.old.items
         ++ ending (option_map (λ n. n.now) name.entry)) }
@@ -141,7 +141,7 @@ fn push_line(text: &mut Vec<u8>, search: Search<'_>, hit: &Hit) -> Result<(), Al
     push_ending(text, search.name)
 }
 
-/// The text with a line for each hit, in their order.
+/// Returns the text with a line for each hit, in their order.
 pub(crate) fn text_of(
     alloc: Global,
     search: Search<'_>,

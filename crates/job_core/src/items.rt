@@ -1,11 +1,11 @@
-//! What the queue holds: jobs, and ends.
+//! The items that the queue of jobs holds: jobs, and ends for workers.
 use game_core::Job;
 
-/// What the queue holds: a job, or the end for one worker.
+/// An item of the queue: a job, or the end for one worker.
 #[derive(Drop)]
 pub enum Item<'a> {
     /// A game that is to be counted.
     Job(Job<'a>),
-    /// For the worker that draws it: no job comes after it.
+    /// The end for the worker that draws it: no job comes after it.
     End,
 }

@@ -1,4 +1,4 @@
-//! What the passes of the queue know, and its rule.
+//! What the passes of the queue know, each a thread's right to call it, and the queue's rule.
 ghost use Rattle.std.specs.Prelude.{◌≡◌, ⊤};
 
 use crate::items::Item;
@@ -7,7 +7,7 @@ use crossbeam_queue::{Pass, RuledArrayQueue};
 use std::collections::LinkedList;
 use std::marker::{Brand, Model, PhantomData};
 
-/// Which queue of jobs it is. No value of it is made.
+/// The identity of a queue of jobs. No value of it is made.
 pub struct QueueName;
 
 impl Model for QueueName {
@@ -21,10 +21,10 @@ impl Model for QueueName {
     ghost view = { λ _. nowhere };
 }
 
-/// What a pass knows: the queue and the input, once they are named; its parts of the right to know
-/// all that was put and drawn; the games that it put, if it may put any, and those that it drew;
-/// those that passes drew which it took up, in no order; how many ends it put, and how many it and
-/// those drew. No value of it is made.
+/// What a pass knows: the queue and the input, once they are named, and its parts of the right to
+/// know all that was put and drawn. It knows the games that it put, if it may put any, those that
+/// it drew and, in no order, those that were drawn by passes that it took up. It knows how many
+/// ends it put, and how many it and these passes drew. No value of it is made.
 pub struct Knowledge {
     pub queue: QueueName,
     pub parts: u64,
@@ -38,10 +38,10 @@ pub struct Knowledge {
     pub ends_drawn: u64,
 }
 
-/// The rule of the queue: all passes name the same input, each queued job holds it, the queued
-/// games rise, each is above every game that was drawn, and none is above the last that was put.
-/// Nothing is lost: what was put was drawn or is queued, by the parts of all passes together, and
-/// no job comes after an end.
+/// The rule of the queue: all passes name the same input, each queued job is of this input, the
+/// queued games rise, each is above every game that was drawn, and none is above the last that was
+/// put. Nothing is lost: what was put was drawn or is queued, by the parts of all passes together,
+/// and no job comes after an end.
 pub struct InTurn;
 
 impl<'a> Protocol<Item<'a>, Knowledge> for InTurn {
@@ -56,10 +56,10 @@ impl<'a> Protocol<Item<'a>, Knowledge> for InTurn {
 /// A queue of jobs, which threads share.
 pub type Jobs<'a> = RuledArrayQueue<Item<'a>, Knowledge, InTurn>;
 
-/// A pass of a queue of jobs.
+/// A pass of a queue of jobs: the right of one thread to call it.
 pub type Seat<'a> = Pass<Item<'a>, Knowledge>;
 
-/// An item is put.
+/// What a pass knows after it put an item.
 pub(crate) struct Puts;
 
 impl<'a> Outcome<Item<'a>, Knowledge> for Puts {
@@ -73,7 +73,7 @@ impl<'a> Lesson<Item<'a>, Knowledge> for Puts {
     ghost fact = { λ v items. ⊤ };
 }
 
-/// An item is drawn.
+/// What a pass knows after it drew an item.
 pub(crate) struct Takes;
 
 impl<'a> Outcome<Item<'a>, Knowledge> for Takes {
@@ -87,7 +87,7 @@ impl<'a> Lesson<Item<'a>, Knowledge> for Takes {
     ghost fact = { λ v items. ⊤ };
 }
 
-/// What the pass learns that has all parts.
+/// What a pass that has all parts learns of the whole queue.
 pub(crate) struct Settles;
 
 impl<'a> Lesson<Item<'a>, Knowledge> for Settles {
@@ -115,8 +115,8 @@ impl Input for Brand {
     ghost bytes = { [] };
 }
 
-/// The first pass becomes the reader's, of this queue and input; one comes beside it that has no
-/// part.
+/// The split in which the first pass becomes the reader's, of this queue and input. The pass beside
+/// it has no part.
 pub(crate) struct Names<B> {
     input: PhantomData<B>,
 }
@@ -130,7 +130,7 @@ impl<B: Input> Split<Knowledge> for Names<B> {
     ghost right = { λ v. spent };
 }
 
-/// A part of a pass goes to a worker's.
+/// The split in which one part of a pass goes to a worker's pass.
 pub(crate) struct Cut;
 
 impl Split<Knowledge> for Cut {
@@ -142,7 +142,7 @@ impl Split<Knowledge> for Cut {
     ghost right = { λ v. worker v.queue v.bytes [] };
 }
 
-/// A pass is taken up by another, with its parts and what it drew.
+/// The join in which a pass takes up another one, with its parts and what it drew.
 pub(crate) struct Joined;
 
 impl Join<Knowledge> for Joined {

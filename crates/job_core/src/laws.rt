@@ -5,8 +5,8 @@ ghost use Rattle.job_core.specs.Rising.{Rising, past};
 
 pub use game_core::a_number_is_of_one_game;
 
-/// The end of a list of rising numbers rises, from the end of its front on. So the games that a
-/// worker draws in one call rise, whatever its pass drew before.
+/// If the numbers of a list rise, so do those of its last part, all above the numbers before it. So
+/// the games that a worker draws in one call rise, whatever its pass drew before.
 pub fn the_end_of_rising_numbers_rises()
     ensures { (low high : ℕ) (before : List ℕ) (after : List ℕ)
         → Rising low (before ++ after) high → Rising (past before) after high }

@@ -16,12 +16,12 @@ use std::marker::{Brand, Model};
 use std::sync::Wait;
 use tally_core::TallyFault;
 
-/// A new queue of that number of places, above 0, and its first pass. It takes memory for the
+/// Makes a queue with this many places, above 0, and its first pass. It takes memory for the
 /// places.
 ///
 /// # Errors
 ///
-/// `Memory` where memory was refused.
+/// `Memory` if memory was refused.
 pub fn new_queue<'a>(alloc: Global, places: usize) -> Result<(Jobs<'a>, Seat<'a>), TallyFault>
     requires places { 0 < places }
     ensures pass { IfOk result (λ new. IsPassOf new.0 new.1 × (view new.1 ≡ blank)) }
@@ -31,7 +31,7 @@ pub fn new_queue<'a>(alloc: Global, places: usize) -> Result<(Jobs<'a>, Seat<'a>
     Ok(Jobs::ruled(alloc, places)?)
 }
 
-/// Names the queue and the input.
+/// Names the queue and the input to the first pass, and returns the pass that comes beside it.
 fn name<'a, B: Input>(queue: &Jobs<'a>, pass: &mut Seat<'a>, bytes: &[u8]) -> Seat<'a>
     requires queue { id_of queue.now ≡ B.queue }
     requires bytes { bytes.now ≡ B.bytes }
@@ -43,7 +43,7 @@ fn name<'a, B: Input>(queue: &Jobs<'a>, pass: &mut Seat<'a>, bytes: &[u8]) -> Se
     queue.another::<Names<B>>(pass)
 }
 
-/// The first pass of a new queue becomes the reader's, of this input. The pass that comes beside it
+/// Makes the first pass of a new queue the reader's, of this input. The pass that comes beside it
 /// has no part, so that nothing goes with it.
 fn open<'a>(queue: &Jobs<'a>, pass: &mut Seat<'a>, bytes: &[u8])
     requires pass { IsPassOf queue.now pass.old × (view pass.old ≡ blank) }
@@ -53,7 +53,8 @@ fn open<'a>(queue: &Jobs<'a>, pass: &mut Seat<'a>, bytes: &[u8])
     let _spent = name::<Brand>(queue, pass, bytes);
 }
 
-/// A pass of a queue of jobs, beside its queue: the right of one thread to put or to draw.
+/// An endpoint of a queue of jobs, which has a pass of it: the right of one thread to put or to
+/// draw.
 ///
 /// Contracts see at which `queue` it is, and what the pass knows: its `parts`, the `bytes` of the
 /// input, whether it `writes`, the games that it `put`, those that it has `drawn`, those that were
@@ -61,8 +62,8 @@ fn open<'a>(queue: &Jobs<'a>, pass: &mut Seat<'a>, bytes: &[u8])
 /// `ends_put` and `ends_drawn`.
 ///
 /// The parts of all endpoints of a queue are 1024, and each has one at least. An endpoint that is
-/// dropped takes its parts along, so an endpoint has all 1024 only where each that was made of it
-/// came back.
+/// dropped takes its parts along, so an endpoint has all 1024 only if each that was made of it came
+/// back.
 #[derive(Drop)]
 pub struct Endpoint<'q, 'a> {
     queue: &'q Jobs<'a>,
@@ -81,8 +82,8 @@ impl<'q, 'a> Model for Endpoint<'q, 'a> {
 }
 
 impl<'q, 'a> Endpoint<'q, 'a> {
-    /// The reader's endpoint at a new queue, for the jobs of this input, with all parts. It takes
-    /// no memory.
+    /// Makes the reader's endpoint at a new queue, for the jobs of this input, with all parts. It
+    /// takes no memory.
     ///
     /// The pass must be the first of the queue, and new.
     pub fn open(queue: &'q Jobs<'a>, pass: Seat<'a>, bytes: &'a [u8]) -> Endpoint<'q, 'a>
@@ -94,8 +95,8 @@ impl<'q, 'a> Endpoint<'q, 'a> {
         Endpoint { queue, pass }
     }
 
-    /// A worker's endpoint at the same queue. It gets one part of this one, which must have more.
-    /// It takes no memory.
+    /// Makes a worker's endpoint at the same queue. It gets one part of this endpoint, which must
+    /// have more than one. It takes no memory.
     pub fn another(&mut self) -> Endpoint<'q, 'a>
         requires { 1 < self.old.parts }
         ensures lent { self.new ≡ record self.old { parts = self.old.parts - 1 } }
@@ -108,8 +109,8 @@ impl<'q, 'a> Endpoint<'q, 'a> {
         }
     }
 
-    /// A worker's endpoint at the same queue comes back: this one has the parts of both, and knows
-    /// what was drawn at both. It takes no memory.
+    /// Takes back a worker's endpoint at the same queue: this endpoint then has the parts of both,
+    /// and knows what was drawn at both. It takes no memory.
     pub fn take_up(&mut self, theirs: Endpoint<'q, 'a>)
         requires queue { theirs.queue ≡ self.old.queue }
         requires draws { theirs.writes ≡ false }
@@ -121,12 +122,12 @@ impl<'q, 'a> Endpoint<'q, 'a> {
 
     /// Puts an item. It takes no memory, and may wait for a thread that is in the middle of a call.
     ///
-    /// The reader alone puts. A job is of the input of the queue, its game is above all that were
-    /// put, and no end was put before it.
+    /// The reader alone puts. A job must be of the input of the queue, its game above all that were
+    /// put, and no end may have been put before it.
     ///
     /// # Errors
     ///
-    /// The item itself, where the queue is full; then the endpoint is as it was.
+    /// The item itself, if the queue is full. The endpoint is then as it was.
     pub fn put<R: Wait>(&mut self, rt: &R, item: Item<'a>) -> Result<(), Item<'a>>
         requires { MayPut self.old item }
         ensures { MatchResult result (λ _. self.new ≡ putting self.old item.entry)
@@ -135,7 +136,7 @@ impl<'q, 'a> Endpoint<'q, 'a> {
         self.queue.push_as::<Puts, R>(rt, &mut self.pass, item)
     }
 
-    /// Draws an item, or answers None where it finds the queue empty. A job that is drawn is of the
+    /// Draws an item, or returns None if it finds the queue empty. A job that is drawn is of the
     /// input of the queue, and its game is above all that this endpoint drew before. The items come
     /// in the queue's own order, that of first in, first out, of which no clause speaks. It takes
     /// no memory, and may wait for a thread that is in the middle of a call.
@@ -146,9 +147,9 @@ impl<'q, 'a> Endpoint<'q, 'a> {
         self.queue.pop_as::<Takes, R>(rt, &mut self.pass)
     }
 
-    /// What an endpoint with all parts knows of the whole queue: no game was drawn more often than
-    /// it was put, and once an end was drawn, each game was drawn just as often. It changes
-    /// nothing, and takes no memory.
+    /// Lets a proof conclude what an endpoint with all parts knows of the whole queue: no game was
+    /// drawn more often than it was put, and once an end was drawn, each game was drawn just as
+    /// often. It changes nothing, and takes no memory.
     pub fn settle(&mut self)
         requires { self.old.parts ≡ all_parts }
         ensures same { self.new ≡ self.old }

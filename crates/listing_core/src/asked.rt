@@ -1,4 +1,4 @@
-//! What of an input is written, and how.
+//! What a listing writes of an input, and how.
 use crate::conditions::Condition;
 
 /// What is written of each tree that is chosen.
@@ -12,16 +12,16 @@ pub enum Form {
     Trees,
 }
 
-/// What of an input is written, and how.
+/// What a listing writes of an input, and how.
 #[derive(Clone, Copy, Debug)]
 pub struct Asked<'a> {
     /// What is written of each tree that is chosen.
     pub form: Form,
-    /// What a game has to meet to be chosen. Where there is none, all trees are listed, and all
-    /// games are cut out.
+    /// The conditions that a game has to meet to be chosen. If there are none, all trees are
+    /// listed, or all games are cut out, as the form says.
     pub conditions: &'a [Condition<'a>],
-    /// The number of the first game.
+    /// The number that the input's first game has.
     pub first: u64,
-    /// The name of the file, with which each line ends.
+    /// The name of the input's file, if each line is to end with it.
     pub name: Option<&'a str>,
 }

@@ -14,7 +14,8 @@ use crate::writing::{push_fault, push_line};
 use sgf_core::{SgfFault, Tree};
 use std::alloc::{AllocError, Global};
 
-/// Whether what is no game has a line.
+/// Whether trees that are no games have lines: only without conditions, and not if trees are cut
+/// out.
 fn lists_all(asked: &Asked<'_>) -> bool
     ensures { result ≡ lists_all asked.now.form asked.now.conditions.now }
 {
@@ -24,7 +25,7 @@ fn lists_all(asked: &Asked<'_>) -> bool
     }
 }
 
-/// Whether a tree that is this is chosen.
+/// Whether a tree is chosen; `what` is what the tree is by its record.
 fn is_chosen(
     alloc: Global,
     asked: &Asked<'_>,
@@ -51,7 +52,7 @@ fn push_cut(text: &mut Vec<u8>, input: &[u8], from: usize, to: usize) -> Result<
     Ok(())
 }
 
-/// Appends what is written of a tree that is chosen.
+/// Appends a chosen tree in the form that is asked for: its line, its columns, or the tree itself.
 fn push_form(
     asked: &Asked<'_>,
     input: &[u8],
@@ -71,7 +72,7 @@ fn push_form(
     }
 }
 
-/// Appends what is written of a tree.
+/// Appends what is written of a tree: nothing if it is not chosen.
 pub(crate) fn push_piece(
     alloc: Global,
     asked: &Asked<'_>,
@@ -90,7 +91,7 @@ pub(crate) fn push_piece(
     Ok(())
 }
 
-/// Appends the last line of an input with a fault of syntax, where all trees have lines.
+/// Appends the last line of an input with a fault of syntax, if all trees have lines.
 pub(crate) fn push_fault_piece(
     asked: &Asked<'_>,
     from: usize,

@@ -19,7 +19,7 @@ use go_record::RecordFault;
 use sgf_core::{MainLine, Node, Prop, Tree, Value};
 use std::alloc::AllocError;
 
-/// What stands for the columns that only a game has.
+/// The tabs in place of the columns that only a game has.
 pub(crate) const NO_COLUMNS: &[u8] = b"\t\t\t\t\t\t\t\t\t\t\t";
 
 fn front_value<'a>(prop: &Prop<'a>) -> Option<Value<'a>>
@@ -40,7 +40,7 @@ fn first_value<'a>(node: &Node<'_, 'a>, name: &[u8]) -> Option<Value<'a>>
     None
 }
 
-/// The first value of this name in the first node of a main line.
+/// The first value of the property of this name in the first node of a main line.
 fn root_value<'a>(mut line: MainLine<'_, 'a>, name: &[u8]) -> Option<Value<'a>>
     ensures { option_map value_of result ≡ first_value name.now (root_of line.entry) }
 {
@@ -48,7 +48,7 @@ fn root_value<'a>(mut line: MainLine<'_, 'a>, name: &[u8]) -> Option<Value<'a>>
     first_value(&root, name)
 }
 
-/// Appends what a value says.
+/// Appends what a value says, as simple text; nothing if there is none.
 fn push_value(text: &mut Vec<u8>, value: Option<Value<'_>>) -> Result<(), AllocError>
     ensures { OnOk result (text.new.items
         ≡ text.old.items ++ value_text (option_map value_of value.entry)) }
@@ -59,7 +59,7 @@ fn push_value(text: &mut Vec<u8>, value: Option<Value<'_>>) -> Result<(), AllocE
     }
 }
 
-/// Appends what the tree's first node says under a name.
+/// Appends what the tree's first node says in the property of this name.
 fn push_property(text: &mut Vec<u8>, name: &[u8], tree: &Tree<'_>) -> Result<(), AllocError>
     ensures { (game : GameTree) → tree.now.marks ≡ marks_of game
         → OnOk result (text.new.items
@@ -68,7 +68,7 @@ fn push_property(text: &mut Vec<u8>, name: &[u8], tree: &Tree<'_>) -> Result<(),
     push_value(text, root_value(tree.main_line(), name))
 }
 
-/// Appends what a game with a board of this size says of a key.
+/// Appends what a game says of a key: the size of its board, or a property of its first node.
 pub(crate) fn push_key_value(
     text: &mut Vec<u8>,
     key: Key,
@@ -141,7 +141,7 @@ fn push_what_columns(text: &mut Vec<u8>, tree: &Tree<'_>, what: What) -> Result<
     }
 }
 
-/// Appends the columns of a tree in a file of this name.
+/// Appends the columns of a tree, and at the end the name of its file, if there is one.
 pub(crate) fn push_columns(
     text: &mut Vec<u8>,
     name: Option<&str>,

@@ -1,4 +1,4 @@
-//! What a game has to meet to be chosen, as `KEY=VALUE` says it.
+//! The conditions that a game has to meet to be chosen, spelled as `KEY=VALUE`.
 ghost use Rattle.std.specs.Prelude.{◌≡◌, ◌≢◌, ◌∷◌, [], IfSome, IfNone, OnOk, IfOk};
 ghost use Rattle.sgf_core.specs.Marks.{marks_of};
 ghost use Rattle.sgf_core.specs.Tree.{GameTree, main_line_of};
@@ -14,18 +14,18 @@ use go_board::Size;
 use sgf_core::Tree;
 use std::alloc::{AllocError, Global};
 
-/// What a game has to meet: the key says this value, or a text that begins with it.
+/// A condition for a game: what it says of the key is this value, or a text that begins with it.
 #[derive(Clone, Copy, Debug, PartialEq, Eq)]
 pub struct Condition<'a> {
-    /// What is looked at.
+    /// The key that is looked at.
     pub key: Key,
-    /// What it has to say, or has to begin with.
+    /// What the game has to say of the key, or how that has to begin.
     pub value: &'a [u8],
-    /// Whether anything may follow.
+    /// Whether anything may follow the value.
     pub is_front: bool,
 }
 
-/// The key of these two letters.
+/// The key of these two letters, if there is one.
 fn key_of(first: u8, second: u8) -> Option<Key>
     ensures some { IfSome result (λ found. key_text found ≡ first ∷ second ∷ []) }
     ensures none { IfNone result ((found : Key) → key_text found ≢ first ∷ second ∷ []) }
@@ -44,9 +44,9 @@ fn key_of(first: u8, second: u8) -> Option<Key>
     }
 }
 
-/// The condition that a text spells: `KEY=VALUE`, where KEY is one of SZ, PB, PW, BR, WR, DT, RE,
-/// HA and KM. A `*` at the end stands for any rest of the text. None where the text spells none. It
-/// takes no memory.
+/// Returns the condition that a text spells: `KEY=VALUE`, where KEY is one of SZ, PB, PW, BR, WR,
+/// DT, RE, HA and KM. A `*` at the end stands for any rest of the text. None if the text spells no
+/// condition. It takes no memory.
 pub fn condition_of(text: &str) -> Option<Condition<'_>>
     ensures spelled { IfSome result (IsSpelled text.now) }
     ensures none { IfNone result (SpellsNone text.now) }
@@ -82,7 +82,7 @@ fn fits(condition: &Condition<'_>, text: &[u8]) -> bool
     }
 }
 
-/// Whether the side of a square board is what the condition asks for.
+/// Whether the side of a board is what the condition asks for; a board that is not square has none.
 fn side_fits(alloc: Global, condition: &Condition<'_>, size: Size) -> Result<bool, AllocError>
     ensures { IfOk result (λ found. found ≡ side_fits condition.now size) }
 {

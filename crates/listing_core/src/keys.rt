@@ -1,4 +1,4 @@
-//! What a game is asked for: the size of its board, and properties of its first node.
+//! Keys of columns and conditions: the size of a game's board, and properties of its first node.
 ghost use Rattle.std.specs.Prelude.{◌≡◌};
 ghost use Rattle.listing_core.specs.Columns.{key_text, shown_keys};
 

@@ -37,8 +37,8 @@ pub fn listings_agree_with_counts()
 }
 
 /// The text of trees that are cut out is read back as just those trees, in their order, and nothing
-/// else: each is the one that is chosen, with its values at other places, and a game among them is
-/// the game that it was.
+/// else. Each is the tree that is chosen, with its values at other places. A game among them is the
+/// game that it was.
 pub fn cuts_are_read_back()
     ensures trees { (asked : Asked) (input : List ℕ) (number place end : ℕ)
         (trees : List GameTree) (lines : List Line) → asked.form ≡ form.Trees

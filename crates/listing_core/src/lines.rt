@@ -18,14 +18,15 @@ pub enum What {
     Refused(RecordFault),
 }
 
-/// A tree of a collection, as a listing has it. Places are byte offsets in the whole input, from 0.
+/// What a listing says of a tree of a collection. Places are byte offsets in the whole input, from
+/// 0.
 #[derive(Clone, Copy, Debug, PartialEq, Eq)]
 pub struct Line {
-    /// The number of the game among the collection's games, from 0; None where the tree is no game.
+    /// The number of the game among the collection's games, from 0; None if the tree is no game.
     pub number: Option<u64>,
-    /// The place of the tree's first parenthesis.
+    /// The place of the parenthesis with which the tree begins.
     pub from: usize,
-    /// The place after its last.
+    /// The place after the parenthesis with which the tree ends.
     pub to: usize,
     /// What the tree is.
     pub what: What,

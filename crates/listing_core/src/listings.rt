@@ -1,4 +1,4 @@
-//! The listing of an input.
+//! The listing of an input: what is written of its trees, and how it ends.
 ghost use Rattle.std.specs.Prelude.{◌≡◌, ◌≤◌, ◌<◌, ◌+◌, ◌^◌, [], length, IfOk, IfErr};
 ghost use Rattle.sgf_core.specs.Limit.{most_bytes};
 ghost use Rattle.listing_core.specs.Listing.{most_first, listed_of, IsListing, IsListingFault};
@@ -26,17 +26,17 @@ pub enum Listed {
     Fault(SgfFault),
 }
 
-/// How a listing ended, and what the trees are that are listed.
+/// How a listing ended, and how many trees of each sort it met.
 #[derive(Clone, Copy, Debug, PartialEq, Eq)]
 pub struct Summary {
-    /// How it ended.
+    /// How the listing ended.
     pub listed: Listed,
-    /// How many of its trees are games, of other games, and refused.
+    /// How many of the input's trees are games, of other games, and refused.
     pub report: Report,
 }
 
-/// Where the last tree ends, 0 where there is none, what the trees are, and why no further one was
-/// read.
+/// How the reading of trees ended: where the last tree ends (0 if there is none), how many trees of
+/// each sort there are, and the fault for which no further one was read, if there is one.
 #[derive(Clone, Copy)]
 pub(crate) struct Ending {
     pub(crate) end: usize,
@@ -44,7 +44,7 @@ pub(crate) struct Ending {
     pub(crate) fault: Option<SgfFault>,
 }
 
-/// The report on a tree more, which is this.
+/// Returns the report with one more tree in it, which is `what`.
 fn counted(report: Report, what: What) -> Report
     requires { report.games + report.others + report.refused < 2 ^ 63 }
     ensures { result ≡ counted report what }
@@ -58,7 +58,7 @@ fn counted(report: Report, what: What) -> Report
     report
 }
 
-/// Appends what is written of all trees of this input.
+/// Appends what is written of all trees of this input, and returns how they ended.
 fn push_lines(
     alloc: Global,
     asked: &Asked<'_>,
@@ -95,8 +95,8 @@ fn push_lines(
     }
 }
 
-/// How a listing ended, by the fault of syntax that ended it, if one did, and what its trees are.
-/// It takes no memory.
+/// Returns how a listing ended, by the fault of syntax that ended it, if one did, and by the report
+/// on its trees. It takes no memory.
 pub fn listed_by(fault: Option<SgfFault>, report: Report) -> Listed
     ensures { result ≡ listed_of fault report }
 {
@@ -109,7 +109,7 @@ pub fn listed_by(fault: Option<SgfFault>, report: Report) -> Listed
     Listed::Done
 }
 
-/// The listing of an input.
+/// Returns the text of an input's listing, and its summary.
 pub(crate) fn listing_of(
     alloc: Global,
     asked: &Asked<'_>,

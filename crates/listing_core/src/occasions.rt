@@ -25,7 +25,7 @@ fn is_move(action: &Action) -> bool
     }
 }
 
-/// How many occasions an action is: one where it is a move onto an empty point, else none.
+/// How many occasions an action is: one if it is a move onto an empty point, else none.
 fn occasions_of(board: &Board, action: Action) -> usize
     requires { IsActionOn board.now.size action }
     ensures number { result ≡ occasions_of (position_of board.now) action }
@@ -37,7 +37,7 @@ fn occasions_of(board: &Board, action: Action) -> usize
     }
 }
 
-/// Does the actions in order, and counts their occasions.
+/// Applies the actions to a board in order, and counts their occasions.
 pub(crate) fn count_occasions(board: &mut Board, actions: &[Action]) -> usize
     requires { All (IsActionOn board.old.size) actions.now }
     ensures { HasNumberFrom board.old.size actions.now (position_of board.old) result }

@@ -6,12 +6,12 @@ ghost use Rattle.listing_core.specs.Simple.{text_byte, meaning, next, simple_tex
 use sgf_core::is_white;
 use std::alloc::AllocError;
 
-/// What the bytes before a byte of a value mean for it.
+/// What the bytes before a byte of a value do to its meaning.
 #[derive(Clone, Copy)]
 pub(crate) enum After {
     /// Nothing.
     Plain,
-    /// A backslash takes its meaning away.
+    /// A backslash, which takes the byte's meaning away.
     Backslash,
     /// A carriage return, with which a line feed is one line break.
     Return,
@@ -30,7 +30,7 @@ fn ends_break(before: After, byte: u8) -> bool
     }
 }
 
-/// Whether a backslash takes the meaning of the byte away.
+/// Whether a backslash before the byte takes its meaning away.
 fn is_escaped(before: After) -> bool
     ensures { result ≡ is_escaped before }
 {
@@ -40,14 +40,14 @@ fn is_escaped(before: After) -> bool
     }
 }
 
-/// Whether the byte is one of a line break.
+/// Whether the byte is a line feed or a carriage return.
 fn breaks(byte: u8) -> bool
     ensures { result ≡ breaks byte }
 {
     byte == b'\n' || byte == b'\r'
 }
 
-/// Whether nothing stands for the byte.
+/// Whether nothing stands for the byte in the simple text.
 fn is_left_out(before: After, byte: u8) -> bool
     ensures { result ≡ is_left_out before byte }
 {
@@ -61,14 +61,14 @@ fn is_left_out(before: After, byte: u8) -> bool
     }
 }
 
-/// What stands for a byte that is not left out.
+/// The byte of simple text that stands for a byte that is not left out: a space for white space.
 fn text_byte(byte: u8) -> u8
     ensures { result ≡ text_byte byte }
 {
     if is_white(byte) { b' ' } else { byte }
 }
 
-/// What a byte means for the one after it, where it is not the second one of a line break.
+/// What a byte means for the one after it, if it is not the second one of a line break.
 fn meaning(before: After, byte: u8) -> After
     ensures { result ≡ meaning before byte }
 {
@@ -96,7 +96,7 @@ fn next(before: After, byte: u8) -> After
     }
 }
 
-/// Appends the simple text that the bytes of a value say.
+/// Appends the simple text of a value's bytes.
 pub(crate) fn push_simple(text: &mut Vec<u8>, bytes: &[u8]) -> Result<(), AllocError>
     ensures { OnOk result (text.new.items ≡ text.old.items ++ simple_text bytes.now) }
 {

@@ -1,4 +1,4 @@
-//! The trees of an input, one line after another.
+//! The trees of an input, read one after another, and the line of each.
 ghost use Rattle.std.specs.Prelude.{◌≡◌, ◌≤◌, List, length, IfOk, IfErr, Result, Ok};
 ghost use Rattle.sgf_core.specs.Tree.{GameTree, Node, main_line_of};
 ghost use Rattle.sgf_core.specs.Marks.{marks_of};
@@ -33,7 +33,7 @@ pub(crate) enum Step {
     Fault(SgfFault),
 }
 
-/// What a game is.
+/// Returns what a game is: its board, and how many moves and occasions it has.
 fn game_of(alloc: Global, game_record: &Record) -> Result<What, Want>
     ensures what { IfOk result (IsWhat (Ok (kind.Go game_record.now))) }
     ensures wanted { IfErr result (λ found. found ≡ want.Board) }
@@ -48,7 +48,7 @@ fn game_of(alloc: Global, game_record: &Record) -> Result<What, Want>
     })
 }
 
-/// What a tree is, by its record. It is an error where memory for the record was refused.
+/// Returns what a tree is, by its record. It is an error if memory for the record was refused.
 fn what_of(alloc: Global, recorded: Result<Kind, RecordFault>) -> Result<What, Want>
     ensures what { (line : List Node) → IsRecordOrMemory line recorded
         → IfOk result (IsWhat (record_of line)) }
@@ -63,7 +63,7 @@ fn what_of(alloc: Global, recorded: Result<Kind, RecordFault>) -> Result<What, W
     }
 }
 
-/// The number of a tree, where `next` is the number of the next game.
+/// The number of a tree, if it is a game; `next` is the number of the next game.
 fn number_of(what: &What, next: u64) -> Option<u64>
     ensures { (recorded : Result Kind RecordFault) → IsWhat recorded what.now
         → result ≡ number_of recorded next }
@@ -74,7 +74,7 @@ fn number_of(what: &What, next: u64) -> Option<u64>
     }
 }
 
-/// The line of a tree that is this, where `next` is the number of the next game.
+/// The line of a tree; `what` is what the tree is, and `next` is the number of the next game.
 fn line_of(tree: &Tree<'_>, next: u64, what: What) -> Line
     ensures line { (recorded : Result Kind RecordFault) → IsWhat recorded what
         → IsLineOf recorded next result }
@@ -88,8 +88,7 @@ fn line_of(tree: &Tree<'_>, next: u64, what: What) -> Line
     }
 }
 
-/// Appends what is written of a tree, where `next` is the number of the next game. The answer is
-/// its line.
+/// Appends what is written of a tree, and returns its line; `next` is the number of the next game.
 fn push_tree(
     alloc: Global,
     asked: &Asked<'_>,
@@ -111,8 +110,8 @@ fn push_tree(
     Ok(line)
 }
 
-/// Appends what is written of the next tree of this input, where `next` is the number of the next
-/// game.
+/// Appends what is written of the next tree of this input, and returns what was met; `next` is the
+/// number of the next game.
 pub(crate) fn push_next(
     alloc: Global,
     asked: &Asked<'_>,

@@ -19,7 +19,7 @@ pub enum Want {
     Record,
     /// The board of a game: B1.
     Board,
-    /// All else, as what is written.
+    /// All else, such as what is written.
     Text,
 }
 

@@ -13,7 +13,7 @@ use sgf_core::SgfFault;
 use shape_dict::push_number;
 use std::alloc::AllocError;
 
-/// Appends a number of bytes, a place or a count.
+/// Appends a number of bytes, a place or a count, in decimal.
 pub(crate) fn push_count(text: &mut Vec<u8>, count: usize) -> Result<(), AllocError>
     ensures { OnOk result (text.new.items ≡ text.old.items ++ decimal count) }
 {
@@ -53,7 +53,7 @@ fn push_sgf_fault(text: &mut Vec<u8>, fault: SgfFault) -> Result<(), AllocError>
     }
 }
 
-/// Appends the number of a game, or that there is none.
+/// Appends the number of a game, or `-` if there is none.
 fn push_game_number(text: &mut Vec<u8>, number: Option<u64>) -> Result<(), AllocError>
     ensures { OnOk result (text.new.items ≡ text.old.items ++ number_text number) }
 {
@@ -63,7 +63,7 @@ fn push_game_number(text: &mut Vec<u8>, number: Option<u64>) -> Result<(), Alloc
     }
 }
 
-/// Appends the number of a game, and where its tree begins and ends, with this after each.
+/// Appends the number of a game, and where its tree begins and ends, with `between` after each.
 pub(crate) fn push_place(
     text: &mut Vec<u8>,
     between: &[u8],
@@ -116,7 +116,7 @@ fn push_what(text: &mut Vec<u8>, what: What) -> Result<(), AllocError>
     }
 }
 
-/// Appends the end of a line: the name of the file, where there is one, after this.
+/// Appends the end of a line: `before` and the name of the file, if there is one, and a line feed.
 pub(crate) fn push_ending(
     text: &mut Vec<u8>,
     before: &[u8],
@@ -147,8 +147,8 @@ pub(crate) fn push_line(
     push_ending(text, b" ", name)
 }
 
-/// Appends the last line of an input with a fault of syntax, in a file of this name: its parts with
-/// this between them, and these columns after the fault.
+/// Appends the last line of an input with a fault of syntax: its parts with `between` between them,
+/// these columns after the fault, and the name of the file, if there is one.
 pub(crate) fn push_fault(
     text: &mut Vec<u8>,
     between: &[u8],

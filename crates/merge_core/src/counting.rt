@@ -1,4 +1,4 @@
-//! How many patterns stay of a join, and how often they were played.
+//! Counts the patterns that a join keeps, and how often they were played.
 ghost use Rattle.std.specs.Prelude.{◌≡◌, ◌≤◌, ◌<◌, ◌^◌, ℕ, Bool, List, length, MatchResult, IfOk};
 ghost use Rattle.shape_dict.specs.declared.entries.Entry.{Entry as One};
 ghost use Rattle.shape_dict.specs.Contents.{Contents};
@@ -18,7 +18,7 @@ use crate::tallies::{Tally, no_tally, with_kept};
 use crate::trees::{Tree, next_of};
 use std::alloc::Global;
 
-/// The tally of those entries of a join that stay.
+/// Counts the entries of a join that are kept, and returns their tally.
 pub(crate) fn count_entries<E: Entries>(
     mut tree: Tree<E>,
     least: Option<u64>,
@@ -44,8 +44,8 @@ pub(crate) fn count_entries<E: Entries>(
     Err(NextFault::Changed)
 }
 
-/// The totals of the first `count` dictionaries, and the tally of what stays of their join. Each is
-/// read to its end: where there is an answer, all of them are judged.
+/// Joins the first `count` dictionaries, and returns their totals and the tally of the entries that
+/// are kept. Each is read to its end: if there is an answer, all of them are judged.
 pub(crate) fn count_join<S: Sources>(
     alloc: Global,
     sources: &S,

@@ -1,20 +1,20 @@
-//! Entries that come one after another.
+//! Sources of entries, which are taken one after another, and why the next entry may not come.
 use shape_dict::Entry;
 
-/// Why the next entry of a join was not given.
+/// Why the next entry of a join was not returned.
 #[derive(Clone, Copy, Debug, PartialEq, Eq)]
 pub enum NextFault {
     /// A sum is over 2^64 - 1.
     Overflow,
-    /// A read of the dictionary of this number, from 1, failed, or what it gave is no text.
+    /// A read of the dictionary of this number, from 1, failed, or the bytes read are no text.
     Read(usize),
-    /// What was read fits nothing that was read before.
+    /// What was read does not fit what was read before.
     Changed,
     /// Memory was refused.
     Memory,
 }
 
-/// Entries that come one after another, as the lines of a dictionary do.
+/// A source of entries that come one after another, as the lines of a dictionary do.
 pub trait Entries: Drop {
     ghost use Rattle.std.specs.Prelude.{List, MatchResult, IfOk};
     ghost use Rattle.shape_dict.specs.declared.entries.Entry.{Entry as One};
@@ -23,15 +23,15 @@ pub trait Entries: Drop {
     /// Whether these are the entries that are still to come.
     ghost yields: { Self → List One → Type 0 };
 
-    /// What is known where these entries come from here on, and then the end.
+    /// What is known if these entries come from here on, and then the end.
     ghost came: { Self → List One → Type 0 };
 
-    /// The next entry, or None at the end.
+    /// Returns the next entry, or None at the end.
     ///
     /// # Errors
     ///
-    /// `Overflow` where the counts of an entry that is still to come are too large; `Read` where a
-    /// reader failed. What comes after an error is not said.
+    /// `Overflow` if the counts of an entry that is still to come are too large; `Read` if a reader
+    /// failed. What comes after an error is not said.
     fn next_entry(&mut self) -> Result<Option<Entry>, NextFault>
         ensures next { (entries : List One) → yields self.old entries
             → MatchResult result (IsNext (yields self.new) entries) (IsNextFault entries) }

@@ -1,4 +1,4 @@
-//! How a join is written: which text of it, and which of its patterns.
+//! How a join is written: in which of the three texts of dictionaries, and which of its patterns.
 ghost use Rattle.std.specs.Prelude.{◌≡◌};
 ghost use Rattle.shape_dict.specs.Contents.{is_square};
 ghost use Rattle.merge_core.specs.Entries.{IsSmallUse};
@@ -7,14 +7,14 @@ ghost use Rattle.merge_core.specs.Least.{is_kept};
 use shape_core::Kind;
 use shape_dict::{Entry, Text};
 
-/// Which text of a join is written, and which of its patterns.
+/// In which text a join is written, and which of its patterns.
 #[derive(Clone, Copy, Debug, PartialEq, Eq)]
 pub struct Form {
-    /// Which text of it is written.
+    /// The text, one of the three forms of a dictionary.
     pub text: Text,
-    /// Where there is a number, only the squares are written that were there as often or oftener,
-    /// and the header's moves are those at which one of them was played. Else all that the text
-    /// has is written.
+    /// If there is a number, only the squares that were there at least as often are written, and
+    /// the header's moves are those at which one of them was played. Else all that the text has is
+    /// written.
     pub least: Option<u64>,
 }
 
@@ -26,7 +26,7 @@ pub(crate) fn is_square(entry: Entry) -> bool
     entry.shape.word().kind() == Kind::Square
 }
 
-/// Whether a pattern is kept in the join.
+/// Whether the join keeps a pattern, by the least number of times that it must have been there.
 pub(crate) fn is_kept(least: Option<u64>, entry: &Entry) -> bool
     ensures kept { result ≡ is_kept least entry.now }
     ensures small { IsSmallUse entry.now }

@@ -1,4 +1,4 @@
-//! The tree of the joins of dictionaries that follow one another.
+//! Builds the tree that joins dictionaries which follow one another.
 ghost use Rattle.std.specs.Prelude.{◌≡◌, ◌≤◌, ◌<◌, ◌+◌, ◌^◌, ℕ, List, Bool, length, MatchResult};
 ghost use Rattle.std.specs.Prelude.{IfOk};
 ghost use Rattle.shape_dict.specs.Contents.{Contents};
@@ -19,14 +19,14 @@ use crate::sources::Sources;
 use crate::trees::{Tree, next_of};
 use std::alloc::Global;
 
-/// A tree, and the totals of the dictionaries of its leaves.
+/// A tree of joins, and the totals of the dictionaries at its leaves.
 #[derive(Drop)]
 pub(crate) struct Grown<E> {
     pub(crate) tree: Tree<E>,
     pub(crate) totals: Totals,
 }
 
-/// The join of the lists that two trees give, of which the first entries are read.
+/// Joins the lists that two trees give into one tree. The first entry of each list is read.
 fn pair<E: Entries>(alloc: Global, left: Grown<E>, right: Grown<E>) -> Result<Grown<E>, NextFault>
     ensures next { (mine : List One) → (other : List One) → Yields E.yields left.tree mine
         → Yields E.yields right.tree other → MatchResult result
@@ -73,8 +73,9 @@ fn pair<E: Entries>(alloc: Global, left: Grown<E>, right: Grown<E>) -> Result<Gr
     })
 }
 
-/// The tree of `count` dictionaries, from the one of this number on, from 0: those of the first
-/// half and those of the other, so that no entry meets more nodes than `count` can be halved.
+/// Builds the tree of `count` dictionaries, from the one of this number on, from 0. It joins the
+/// tree of the first half and that of the other, so that no entry meets more nodes than `count` can
+/// be halved.
 pub(crate) fn grow<S: Sources>(
     alloc: Global,
     sources: &S,

@@ -1,4 +1,4 @@
-//! The next entries of two lists, and the join of them.
+//! The next entries of two lists that are joined.
 ghost use Rattle.std.specs.Prelude.{◌≡◌, ◌<◌, ◌≤◌, ◌+◌, ◌^◌, ◌⊎◌, IfOk, IfErr, Some};
 ghost use Rattle.shape_dict.specs.Merging.{moved_entry, summed_entry};
 ghost use Rattle.merge_core.specs.Inner.Trees.{IsFirst};
@@ -7,7 +7,7 @@ ghost use Rattle.merge_core.specs.declared.entries.NextFault.TheVariants as faul
 use crate::entries::NextFault;
 use shape_dict::Entry;
 
-/// The next entries of two lists, where there are any, and how many games the left one has.
+/// The next entries of two lists, if there are any, and how many games the left list has.
 #[derive(Clone, Copy)]
 pub(crate) struct Heads {
     pub(crate) games: u64,
@@ -15,7 +15,7 @@ pub(crate) struct Heads {
     pub(crate) right: Option<Entry>,
 }
 
-/// Which of the two has the lesser word.
+/// Which of two next entries has the lesser word.
 #[derive(Clone, Copy)]
 pub(crate) enum First {
     Neither,
@@ -25,7 +25,7 @@ pub(crate) enum First {
 }
 
 impl Heads {
-    /// Which of the two has the lesser word.
+    /// Returns which of the two entries has the lesser word.
     #[inline(always)]
     pub(crate) fn first(&self) -> First
         ensures { IsFirst self.now result }
@@ -49,9 +49,9 @@ impl Heads {
     }
 }
 
-/// An entry of the right alone, whose first game follows the left's games. The numbers of games add
-/// up to less than 2^64 in dictionaries that were judged, so a sum that is too large is a
-/// dictionary that has changed.
+/// Returns an entry of the right list alone, with its first game moved up by the left's games. The
+/// numbers of games add up to less than 2^64 in dictionaries that were judged, so a sum that is too
+/// large means that a dictionary has changed.
 #[inline(always)]
 pub(crate) fn moved(entry: Entry, games: u64) -> Result<Option<Entry>, NextFault>
     ensures ok { IfOk result (λ moved. moved ≡ Some (moved_entry games entry)) }
@@ -61,7 +61,7 @@ pub(crate) fn moved(entry: Entry, games: u64) -> Result<Option<Entry>, NextFault
     Ok(Some(moved))
 }
 
-/// An entry of both.
+/// Returns the sum of the entries of both lists for the same pattern.
 #[inline(always)]
 pub(crate) fn summed(left: Entry, right: Entry) -> Result<Option<Entry>, NextFault>
     ensures ok { IfOk result (λ both. both ≡ Some (summed_entry left right)) }

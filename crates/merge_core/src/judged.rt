@@ -1,4 +1,4 @@
-//! What is kept of dictionaries that were judged.
+//! What is kept of dictionaries that were judged: their totals.
 ghost use Rattle.std.specs.Prelude.{IfOk, IfErr};
 ghost use Rattle.merge_core.specs.Inner.Judging.{IsTotal, IsBoth, IsBothFault};
 
@@ -12,14 +12,15 @@ pub(crate) struct Totals {
     pub(crate) counts_diamonds: bool,
 }
 
-/// Their totals, and how often all their patterns were there, or 2^64 - 1 where that is more.
+/// The totals of dictionaries, and how often all their patterns were there, or 2^64 - 1 if that is
+/// more.
 #[derive(Clone, Copy)]
 pub(crate) struct Judged {
     pub(crate) totals: Totals,
     pub(crate) there: u64,
 }
 
-/// The totals of two that follow one another.
+/// Adds up the totals of two dictionaries, or runs of them, that follow one another.
 pub(crate) fn total_of(before: Totals, next: Totals) -> Result<Totals, DictFault>
     ensures ok { IfOk result (IsTotal before next) }
     ensures fault { IfErr result (IsBothFault before next) }
@@ -40,7 +41,7 @@ pub(crate) fn total_of(before: Totals, next: Totals) -> Result<Totals, DictFault
     })
 }
 
-/// What two that follow one another are together, where all patterns' sums are small.
+/// Adds up what was judged of two that follow one another, if all sums of patterns are small.
 pub(crate) fn both_of(before: Judged, next: Judged) -> Result<Judged, DictFault>
     ensures ok { IfOk result (IsBoth before next) }
     ensures fault { IfErr result (IsBothFault before.totals next.totals) }

@@ -1,4 +1,4 @@
-//! Dictionaries judged one after another: each by itself, and then as one more to be added.
+//! Judges dictionaries one after another: each by itself, and then as one more to be added.
 ghost use Rattle.std.specs.Prelude.{◌≡◌, ◌+◌, ◌<◌, ◌≤◌, ◌^◌, ◌++◌};
 ghost use Rattle.std.specs.Prelude.{◌∷◌, [], ℕ, List, Some, length, MatchResult};
 ghost use Rattle.std.specs.Prelude.{OnOk, IfErr};
@@ -24,8 +24,8 @@ use std::alloc::Global;
 use std::io::Read;
 use stream_core::{Lines, StreamFault};
 
-/// How often all patterns of a text were there, or 2^64 - 1 where that is more. The text is read to
-/// its end.
+/// Returns how often all patterns of a text were there, or 2^64 - 1 if that is more. The text is
+/// read to its end.
 fn total_of<R: Read + Drop>(lines: &mut Lines<R>) -> Result<u64, StreamFault>
     ensures { (whole : List ℕ) → HasGiven lines.old whole [] → MatchResult result
         (λ there. (entries : List One) × IsTextOf (contents_of lines.old.header entries) whole
@@ -43,7 +43,7 @@ fn total_of<R: Read + Drop>(lines: &mut Lines<R>) -> Result<u64, StreamFault>
     Err(StreamFault::Read)
 }
 
-/// A fault of a text with the number of its dictionary, from 1.
+/// Makes a fault of a text into one that names its dictionary by number, from 1.
 fn numbered(fault: StreamFault, n: usize) -> MergeFault
     ensures value { result ≡ numbered n fault }
     ensures quiet { written_of result ≡ 0 }
@@ -88,8 +88,8 @@ fn judge_one<S: Sources>(alloc: Global, sources: &S, n: usize) -> Result<Judged,
 }
 
 /// Judges the dictionary of this number, from 0, by itself, and as one to be added to those before
-/// it. Where the sum of all that was there is below 2^64 - 1, no pattern's sum is too large; else
-/// the join is made, and not written.
+/// it. If the sum of all that was there is below 2^64 - 1, no pattern's sum is too large; else the
+/// join is made, and not written.
 fn judge_next<S: Sources>(
     alloc: Global,
     sources: &S,
@@ -151,9 +151,9 @@ fn judge_each<S: Sources>(alloc: Global, sources: &S, count: usize) -> Result<Ju
     Ok(judged)
 }
 
-/// Judges all dictionaries: the totals of their join, and the tally of what stays of it. Where one
-/// pass over all of them gives no join, they are judged one after another, and the first fault is
-/// the answer.
+/// Judges all dictionaries, and returns the totals of their join and the tally of the patterns that
+/// are kept. If one pass over all of them gives no join, they are judged one after another, and the
+/// first fault is the answer.
 pub(crate) fn judge_all<S: Sources>(
     alloc: Global,
     sources: &S,

@@ -1,4 +1,4 @@
-//! The lines of one dictionary, which was judged before.
+//! The leaves of a tree of joins: the lines of one dictionary each, which was judged before.
 ghost use Rattle.std.specs.Prelude.{◌≡◌, ◌<◌, ◌+◌, ◌^◌, ◌⊎◌, ℕ, [], List, Some, MatchResult, IfOk};
 ghost use Rattle.std.specs.Prelude.{IfErr};
 ghost use Rattle.shape_dict.specs.declared.entries.Entry.{Entry as One};
@@ -18,7 +18,7 @@ use std::alloc::Global;
 use std::io::Read;
 use stream_core::{Lines, StreamFault};
 
-/// The lines of the dictionary of this number, from 1.
+/// A leaf: the lines that are left of the dictionary of this number, from 1.
 #[derive(Drop)]
 pub(crate) struct Leaf<R: Read> {
     pub(crate) number: usize,
@@ -44,7 +44,7 @@ impl<R: Read + Drop> Entries for Leaf<R> {
     }
 }
 
-/// The lines of a dictionary, from 0, and what its header says of it.
+/// Opens the dictionary of this number, from 0, and returns its lines and its header's totals.
 pub(crate) fn open_leaf<S: Sources>(
     alloc: Global,
     sources: &S,

@@ -1,4 +1,4 @@
-//! The join of dictionaries of any number and size, each read line by line.
+//! Joins dictionaries of any number and size, each read line by line.
 #![tactic(auto)]
 
 mod counting;

@@ -1,4 +1,4 @@
-//! How much is in ranges of words, counted in threads.
+//! Counts in threads how many patterns are in ranges of words, and how often they were played.
 ghost use Rattle.std.specs.Prelude.{◌≡◌, ◌<◌, ◌+◌, ◌*◌, ◌/◌, ◌%◌, ◌^◌, ℕ, List, Option, min, IfOk, length};
 ghost use Rattle.std.specs.Prelude.{vec_len};
 ghost use Rattle.std.specs.Thread.{IsSend, IsSync};
@@ -15,14 +15,14 @@ use crate::tallies::{Tally, both_tallies, count_of, each_tally};
 use std::alloc::{AllocError, Global};
 use std::thread::{Threads, map_indices};
 
-/// How much is in a range: in what stays of the join, and in each dictionary by itself.
+/// The tallies of a range: of what the join keeps, and of each dictionary by itself.
 #[derive(Drop)]
 pub(crate) struct Ranged {
     pub(crate) joined: Tally,
     pub(crate) each: Vec<Tally>,
 }
 
-/// How much is in the range from the cut of this number, from 0, up to the next one.
+/// Counts the range from the cut of this number, from 0, up to the next cut.
 fn count_one<S: Sources>(
     alloc: Global,
     sources: &S,
@@ -47,7 +47,7 @@ fn count_one<S: Sources>(
     })
 }
 
-/// The same, in memory of its own.
+/// Copies the tallies of a range into memory of their own.
 fn copied(alloc: Global, ranged: &Ranged) -> Result<Ranged, NextFault>
     ensures joined { IfOk result (λ copy. copy.joined ≡ ranged.now.joined) }
     ensures each { IfOk result (λ copy. copy.each.items ≡ ranged.now.each.items) }
@@ -61,7 +61,7 @@ fn copied(alloc: Global, ranged: &Ranged) -> Result<Ranged, NextFault>
     }
 }
 
-/// How much is in two ranges that follow one another.
+/// Adds up the tallies of two ranges that follow one another.
 fn both_ranged(alloc: Global, left: &Ranged, right: &Ranged) -> Result<Ranged, NextFault>
     ensures joined { IfOk result (λ both. both.joined ≡ sum_of left.now.joined right.now.joined) }
     ensures each { IfOk result (λ both. both.each.items
@@ -76,7 +76,7 @@ fn both_ranged(alloc: Global, left: &Ranged, right: &Ranged) -> Result<Ranged, N
     }
 }
 
-/// How much is in the ranges from the cut of one number, from 0, up to that of another.
+/// Counts the ranges from the cut of one number, from 0, up to the cut of another.
 fn count_ranges<S: Sources>(
     alloc: Global,
     sources: &S,
@@ -105,7 +105,7 @@ fn count_ranges<S: Sources>(
     Ok(total)
 }
 
-/// How much is in one block of `size` ranges; the last block has those that are left.
+/// Counts one block of `size` ranges; the last block has the ranges that are left.
 fn count_block<S: Sources>(
     alloc: Global,
     sources: &S,
@@ -126,8 +126,8 @@ fn count_block<S: Sources>(
     count_ranges(alloc, sources, plan, from, last.min(from + size))
 }
 
-/// How much is in each block of `size` ranges, up to the cut of this number, from 0: each counted
-/// in a thread of its own where one can be made.
+/// Counts each block of `size` ranges, up to the cut of this number, from 0: each in a thread of
+/// its own if one can be started.
 fn blocks_of<T: Threads + Sync, S: Sources + Sync>(
     rt: &T,
     alloc: Global,
@@ -158,7 +158,7 @@ fn blocks_of<T: Threads + Sync, S: Sources + Sync>(
     )
 }
 
-/// How much is in blocks of ranges that follow one another.
+/// Adds up the tallies of blocks of ranges that follow one another.
 fn sum_up(alloc: Global, blocks: &[Result<Ranged, NextFault>]) -> Result<Ranged, NextFault>
     ensures { (bytes : ℕ → Option (List ℕ)) → (plan : Cuts) → (end : ℕ → ℕ)
         → AreBlocks bytes plan end blocks.now
@@ -188,8 +188,8 @@ fn sum_up(alloc: Global, blocks: &[Result<Ranged, NextFault>]) -> Result<Ranged,
     Ok(total)
 }
 
-/// How much is in all ranges of a plan up to the cut of a number, from 0, counted by about this
-/// many threads, where they can be made.
+/// Counts all ranges of a plan up to the cut of a number, from 0, by about this many threads, if
+/// they can be started.
 pub(crate) fn count_all<T: Threads + Sync, S: Sources + Sync>(
     rt: &T,
     alloc: Global,

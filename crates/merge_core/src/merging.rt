@@ -1,4 +1,4 @@
-//! The join of two lists of entries in memory.
+//! Joins two lists of entries in memory.
 ghost use Rattle.std.specs.Prelude.{◌≡◌, ◌++◌, ◌∷◌, [], ◌+◌, map, OnOk, IfOk};
 ghost use Rattle.shape_dict.specs.Merging.{moved_entry, summed_entry};
 ghost use Rattle.shape_dict.specs.Inner.Merging.{merged};
@@ -7,7 +7,7 @@ use crate::entries::NextFault;
 use shape_dict::Entry;
 use std::alloc::Global;
 
-/// An entry of the right alone, whose first game follows the left's games.
+/// Returns an entry of the right list alone, with its first game moved up by the left's games.
 #[inline(always)]
 fn moved(entry: Entry, games: u64) -> Result<Entry, NextFault>
     ensures { IfOk result (λ moved. moved ≡ moved_entry games entry) }
@@ -15,7 +15,7 @@ fn moved(entry: Entry, games: u64) -> Result<Entry, NextFault>
     entry.moved(games).ok_or(NextFault::Changed)
 }
 
-/// An entry of both.
+/// Returns the sum of the entries of both lists for the same pattern.
 #[inline(always)]
 fn summed(left: Entry, right: Entry) -> Result<Entry, NextFault>
     ensures { IfOk result (λ both. both ≡ summed_entry left right) }
@@ -34,7 +34,7 @@ fn push(entries: &mut Vec<Entry>, entry: Entry) -> Result<(), NextFault>
     }
 }
 
-/// Appends the entries of the left.
+/// Appends the entries of the left list, as they are.
 fn push_kept(entries: &mut Vec<Entry>, left: &[Entry]) -> Result<(), NextFault>
     ensures ok { OnOk result (entries.new.items ≡ entries.old.items ++ left.now) }
 {
@@ -44,7 +44,7 @@ fn push_kept(entries: &mut Vec<Entry>, left: &[Entry]) -> Result<(), NextFault>
     Ok(())
 }
 
-/// Appends the entries of the right alone.
+/// Appends the entries of the right list, with their first games moved up by the left's games.
 fn push_moved(entries: &mut Vec<Entry>, right: &[Entry], games: u64) -> Result<(), NextFault>
     ensures ok { OnOk result (entries.new.items
         ≡ entries.old.items ++ map (moved_entry games) right.now) }
@@ -55,12 +55,12 @@ fn push_moved(entries: &mut Vec<Entry>, right: &[Entry], games: u64) -> Result<(
     Ok(())
 }
 
-/// The join of two lists of entries whose words rise, where the left has this number of games.
+/// Joins two lists of entries whose words rise. The left list is of this number of games.
 ///
 /// # Errors
 ///
-/// `Overflow` where a sum is over 2^64 - 1, `Changed` where a first game is, and `Memory` where
-/// memory was refused.
+/// `Overflow` if a sum is over 2^64 - 1, `Changed` if a first game is, and `Memory` if memory was
+/// refused.
 pub(crate) fn merge(
     alloc: Global,
     games: u64,

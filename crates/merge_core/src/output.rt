@@ -1,4 +1,4 @@
-//! Bytes, written block by block.
+//! Writes bytes block by block.
 ghost use Rattle.std.specs.Prelude.{◌≡◌, ◌<◌, ◌+◌, [], length, take, OnOk, IfOk, IfErr};
 ghost use Rattle.std.specs.Io.KnownBytes.{Appends};
 ghost use Rattle.merge_core.specs.Inner.Writing.{IsCutIn, WroteSome};
@@ -9,7 +9,7 @@ use std::io::Write;
 /// How many bytes are written at once, or a few more.
 const BLOCK: usize = 1 << 16;
 
-/// Writes bytes. The error is how many of them are out, where the writer failed or wrote none.
+/// Writes bytes. If the writer fails or writes none, the error is how many of the bytes are out.
 fn write_bytes<W: Write>(writer: &mut W, bytes: &[u8]) -> Result<(), usize>
     ensures whole { OnOk result (Appends (W.contents writer.old) (W.contents writer.new) bytes.now) }
     ensures short { IfErr result (λ written. written < length bytes.now) }
@@ -26,7 +26,7 @@ fn write_bytes<W: Write>(writer: &mut W, bytes: &[u8]) -> Result<(), usize>
     Ok(())
 }
 
-/// Writes bytes after this number of others, and answers how many are out then.
+/// Writes bytes after this number of others, and returns how many are out then.
 pub(crate) fn write_more<W: Write>(
     writer: &mut W,
     bytes: &[u8],
@@ -48,7 +48,7 @@ pub(crate) fn write_more<W: Write>(
     }
 }
 
-/// Writes all that is pending after this number of bytes, and answers how many are out then.
+/// Writes all that is pending after this number of bytes, and returns how many are out then.
 pub(crate) fn write_pending<W: Write>(
     writer: &mut W,
     pending: &mut Vec<u8>,
@@ -69,7 +69,7 @@ pub(crate) fn write_pending<W: Write>(
     }
 }
 
-/// Writes what is pending where it is a block or more, and answers how many bytes are out then.
+/// Writes what is pending if it is a block or more, and returns how many bytes are out then.
 pub(crate) fn write_block<W: Write>(
     writer: &mut W,
     pending: &mut Vec<u8>,

@@ -1,4 +1,4 @@
-//! The lines that one dictionary has in a range of words.
+//! Reads the lines that one dictionary has in a range of words.
 ghost use Rattle.std.specs.Prelude.{◌≡◌, ◌≤◌, ◌<◌, ◌+◌, ◌^◌, ℕ, List, Some, IfOk, IsTrue, length};
 ghost use Rattle.std.specs.Io.KnownBytes.{Consumes};
 ghost use Rattle.merge_core.specs.Inner.Ranges.{IsWithin, IsPiece, Piece};
@@ -11,7 +11,7 @@ use std::alloc::Global;
 use std::io::Read;
 use stream_core::read_rows;
 
-/// Two cuts, and the headers of the dictionaries whose lines lie between them.
+/// A range of words: two cuts, and the headers of the dictionaries whose lines lie between them.
 #[derive(Clone, Copy)]
 pub(crate) struct Range<'a> {
     pub(crate) headers: &'a [Header],
@@ -19,7 +19,7 @@ pub(crate) struct Range<'a> {
     pub(crate) high: &'a Cut,
 }
 
-/// Fills bytes from a reader, and says whether they are full.
+/// Fills the vector with bytes from a reader, and returns whether it is full.
 fn fill<R: Read>(reader: &mut R, bytes: &mut Vec<u8>) -> bool
     ensures size { length bytes.new.items ≡ length bytes.old.items }
     ensures full { IsTrue result → Consumes (R.remaining reader.old) (R.remaining reader.new)
@@ -28,7 +28,7 @@ fn fill<R: Read>(reader: &mut R, bytes: &mut Vec<u8>) -> bool
     reader.read_exact(bytes).is_ok()
 }
 
-/// The bytes of the dictionary of this number, from 0, from one place up to another.
+/// Reads the bytes of the dictionary of this number, from 0, from one place up to another.
 pub(crate) fn read_bytes<S: Sources>(
     alloc: Global,
     sources: &S,
@@ -72,12 +72,12 @@ pub(crate) fn ends_at<S: Sources>(sources: &S, n: usize, place: usize) -> bool
     count == 0
 }
 
-/// What the dictionary of this number, from 0, has between two cuts.
+/// Reads the entries that the dictionary of this number, from 0, has between two cuts.
 ///
 /// # Errors
 ///
-/// `Memory` where memory was refused, and `Read` where a read failed, or a line isn't one that is
-/// read here, or the cuts don't have this dictionary.
+/// `Memory` if memory was refused, and `Read` if a read failed, or if a line isn't one that is read
+/// here, or if the cuts don't have this dictionary.
 pub(crate) fn piece_of<S: Sources>(
     alloc: Global,
     sources: &S,

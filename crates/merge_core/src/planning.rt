@@ -1,5 +1,5 @@
-//! Where dictionaries are cut, so that ranges are about even. Nothing rests on it: what is between
-//! the cuts is judged.
+//! Plans where dictionaries are cut, so that ranges are about even. Nothing rests on it: what is
+//! between the cuts is judged.
 ghost use Rattle.std.specs.Prelude.{◌≡◌, ◌≤◌, ◌<◌, ◌+◌, ◌^◌, IfSome, length};
 
 use crate::cuts::{Cut, Plan};
@@ -16,33 +16,33 @@ const LEAST: usize = 1 << 18;
 /// About how many bytes of all dictionaries together are in a range.
 const RANGE: usize = 1 << 19;
 
-/// How many words are looked at for each range.
+/// How many words are sampled for each range.
 const SAMPLES: usize = 8;
 
-/// How many bytes are read to find the next line, which is shorter.
+/// How many bytes are read to find the next line: more than any line has.
 const LINE: usize = 1 << 7;
 
-/// How many bytes are read at once where lines are looked at one after another.
+/// How many bytes are read at once when lines are looked at one after another.
 const BLOCK: usize = 1 << 12;
 
 /// How far the first step goes in the search for a line.
 const STEP: usize = 1 << 14;
 
-/// No search takes more steps.
+/// The most steps that a search takes.
 const MOST_STEPS: usize = 128;
 
-/// Room for words that are looked at, 16 MiB. The C library takes so much from the system and gives
-/// it back, and then keeps smaller pieces that are given back to it: the memory of a range, which
-/// the system would have to clear for each range anew.
+/// Room for sampled words, 16 MiB. The C library takes that much from the system and gives it back.
+/// From then on it keeps smaller pieces that are given back to it, such as the memory of a range,
+/// which the system would otherwise have to clear anew for each range.
 const ROOM: usize = 1 << 21;
 
-/// The words of diamonds begin here, and those of squares are below.
+/// The least word of a diamond; the words of squares are below it.
 const DIAMONDS: u64 = 1 << 50;
 
-/// All words are below.
+/// The bound of all words, which are below it.
 const END: u64 = 1 << 51;
 
-/// How far after the beginning of bytes a line begins, after the first line feed.
+/// Returns where the line after the first line feed begins, if there is a line feed.
 fn next_line(bytes: &[u8]) -> Option<usize>
     ensures { IfSome result (λ start. start ≤ length bytes.now) }
 {
@@ -54,8 +54,8 @@ fn next_line(bytes: &[u8]) -> Option<usize>
     None
 }
 
-/// The first line of a dictionary that begins after a place, and its word; None where there is
-/// none before `end`.
+/// Finds the first line of a dictionary that begins after a place: its place and its word. None if
+/// none begins before `end`.
 fn line_after<S: Sources>(
     alloc: Global,
     sources: &S,
@@ -73,8 +73,8 @@ fn line_after<S: Sources>(
     Some((place.saturating_add(start), word))
 }
 
-/// The place of the first line from a place on whose word is not below this one, or the end. The
-/// lines up to there are in a block.
+/// Returns the place, from a line's beginning on, of the first line whose word is not below this
+/// one, or the end. The bytes up to there are read as one block.
 fn place_in_block<S: Sources>(
     alloc: Global,
     sources: &S,
@@ -97,8 +97,9 @@ fn place_in_block<S: Sources>(
     Some(to)
 }
 
-/// The place of the first line from a line on whose word is not below this one, or the end. It is
-/// mostly near, so steps grow until it is passed, and only then are halved.
+/// Searches, from a line's beginning on, for the first line whose word is not below this one, and
+/// returns its place, or the end. The line is mostly near, so steps grow until it is passed, and
+/// only then are halved.
 fn place_of<S: Sources>(
     alloc: Global,
     sources: &S,
@@ -130,7 +131,7 @@ fn place_of<S: Sources>(
     place_in_block(alloc, sources, n, word, low, high)
 }
 
-/// A cut of dictionaries at a word, from the places of an earlier one up to the ends.
+/// Cuts dictionaries at a word, searching from the places of an earlier cut up to the ends.
 fn cut_of<S: Sources>(
     alloc: Global,
     sources: &S,
@@ -149,7 +150,7 @@ fn cut_of<S: Sources>(
     Some(Cut { word, places })
 }
 
-/// The cuts at these words, which rise.
+/// Cuts dictionaries at each of these words, which rise.
 fn cuts_of<S: Sources>(
     alloc: Global,
     sources: &S,
@@ -169,7 +170,7 @@ fn cuts_of<S: Sources>(
     Some(cuts)
 }
 
-/// Dictionaries before they are cut: their headers, where their lines begin, and where they end.
+/// Dictionaries before they are cut: their headers, and where their lines begin and end.
 #[derive(Drop)]
 struct Fronts {
     headers: Vec<Header>,
@@ -177,7 +178,7 @@ struct Fronts {
     ends: Vec<usize>,
 }
 
-/// What all dictionaries begin with, and their sizes.
+/// Reads the headers of all dictionaries, where their lines begin, and their sizes.
 fn fronts_of<S: Sources>(alloc: Global, sources: &S) -> Option<Fronts> {
     let mut fronts = Fronts {
         headers: Vec::new(alloc),
@@ -196,8 +197,8 @@ fn fronts_of<S: Sources>(alloc: Global, sources: &S) -> Option<Fronts> {
     Some(fronts)
 }
 
-/// Appends the words of a dictionary's lines, about `step` bytes apart, the first of them `skip`
-/// bytes after the beginning.
+/// Appends the words of some lines of a dictionary: about `step` bytes apart, the first of them
+/// `skip` bytes after the beginning.
 fn push_words<S: Sources>(
     alloc: Global,
     sources: &S,
@@ -223,8 +224,8 @@ fn push_words<S: Sources>(
     Some(())
 }
 
-/// Words that are spread over all dictionaries, rising: as if their bytes followed one another, one
-/// each `step` bytes.
+/// Samples words from all dictionaries, rising: one each `step` bytes, as if their bytes followed
+/// one another.
 fn sample<S: Sources>(alloc: Global, sources: &S, ends: &[usize], step: usize) -> Option<Vec<u64>> {
     let mut words = Vec::with_capacity(alloc, ROOM).ok()?;
     let mut skip: usize = 0;
@@ -242,8 +243,8 @@ fn sample<S: Sources>(alloc: Global, sources: &S, ends: &[usize], step: usize) -
     Some(words)
 }
 
-/// The words of the cuts between the first and the last: every eighth of these, and where the
-/// diamonds begin.
+/// Returns the words of the cuts between the first and the last: every eighth of the sampled words,
+/// and the word where the diamonds begin.
 fn cut_words(alloc: Global, samples: &[u64]) -> Option<Vec<u64>> {
     let mut words = Vec::new(alloc);
     words.push(DIAMONDS).ok()?;
@@ -256,7 +257,7 @@ fn cut_words(alloc: Global, samples: &[u64]) -> Option<Vec<u64>> {
     Some(words)
 }
 
-/// The cuts of dictionaries between the first and the last, found by that many threads.
+/// Makes the cuts of dictionaries between the first cut and the last, by that many threads.
 fn inner_cuts<T: Threads + Sync, S: Sources + Sync>(
     rt: &T,
     alloc: Global,
@@ -286,8 +287,8 @@ fn inner_cuts<T: Threads + Sync, S: Sources + Sync>(
     Some(cuts)
 }
 
-/// A plan for dictionaries that are large enough for one, made by that many threads; None where
-/// there is none.
+/// Makes a plan for dictionaries that are large enough for one, by that many threads. None if there
+/// is no plan.
 pub(crate) fn plan_for<T: Threads + Sync, S: Sources + Sync>(
     rt: &T,
     alloc: Global,

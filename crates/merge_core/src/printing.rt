@@ -1,4 +1,4 @@
-//! The lines of the join of dictionaries, made range by range in threads.
+//! Makes the lines of the join of dictionaries, range by range, in threads.
 ghost use Rattle.std.specs.Prelude.{◌≡◌, ◌<◌, ◌+◌, ◌^◌, IfOk, vec_len};
 ghost use Rattle.std.specs.Thread.{IsSend, IsSync};
 ghost use Rattle.merge_core.specs.Inner.Printing.{ArePrinted, IsPrinted};
@@ -17,7 +17,7 @@ use std::thread::{Threads, map_indices};
 /// About how many bytes a line has.
 const LINE: usize = 24;
 
-/// The lines that a text has of what stays of entries.
+/// Makes the lines of a text for the entries that are kept.
 fn lines_of(alloc: Global, form: Form, entries: &[Entry]) -> Result<Vec<u8>, NextFault>
     ensures { IfOk result (λ lines. lines.items ≡ lines_of form entries.now) }
 {
@@ -33,7 +33,7 @@ fn lines_of(alloc: Global, form: Form, entries: &[Entry]) -> Result<Vec<u8>, Nex
     Ok(lines)
 }
 
-/// The lines of the join in the range from the cut of this number, from 0, up to the next one.
+/// Makes the lines of the join in the range from the cut of this number, from 0, up to the next.
 fn print_one<S: Sources>(
     alloc: Global,
     sources: &S,
@@ -52,15 +52,15 @@ fn print_one<S: Sources>(
     }
 }
 
-/// The lines of ranges that follow one another, from the one of a number on, from 0.
+/// A round: the lines of ranges that follow one another, from the range of a number on, from 0.
 #[derive(Drop)]
 pub(crate) struct Round {
     pub(crate) from: usize,
     pub(crate) made: Vec<Result<Vec<u8>, NextFault>>,
 }
 
-/// The lines of `count` ranges from the one of this number on, from 0, each made in a thread of its
-/// own where one can be made.
+/// Makes the lines of `count` ranges from the one of this number on, from 0, each in a thread of
+/// its own if one can be started.
 pub(crate) fn print_round<T: Threads + Sync, S: Sources + Sync>(
     rt: &T,
     alloc: Global,
@@ -98,7 +98,7 @@ impl Round {
     ghost use Rattle.merge_core.specs.declared.cuts.Plan.{Plan as Cuts};
     ghost use Rattle.merge_core.specs.Inner.Printing.{ArePrinted, IsPrinted};
 
-    /// The lines of the range of this number, from 0.
+    /// Returns the lines of the range of this number, from 0.
     pub(crate) fn lines_at(&self, n: usize) -> Result<&[u8], NextFault>
         ensures { (bytes : ℕ → Option (List ℕ)) → (plan : Cuts) → (form : Shown)
             → ArePrinted bytes plan form self.now

@@ -1,4 +1,4 @@
-//! The join of what all dictionaries have in a range of words.
+//! Joins what all dictionaries have in a range of words.
 ghost use Rattle.std.specs.Prelude.{◌≡◌, ◌≤◌, ◌<◌, ◌+◌, ◌++◌, ◌∷◌, [], ◌^◌, List, IfOk, length, vec_len};
 ghost use Rattle.merge_core.specs.declared.tallies.Tally.{Tally as Sums};
 ghost use Rattle.shape_dict.specs.Inner.Merging.{merged};
@@ -15,15 +15,15 @@ use crate::tallies::{Tally, tally_of};
 use shape_dict::Entry;
 use std::alloc::Global;
 
-/// What dictionaries that follow one another have in a range: the join of it, and how many games
-/// they have.
+/// The join of what dictionaries that follow one another have in a range, and how many games these
+/// dictionaries have.
 #[derive(Drop)]
 pub(crate) struct Joined {
     pub(crate) games: u64,
     pub(crate) entries: Vec<Entry>,
 }
 
-/// What the dictionary of this number, from 0, has in a range. Its tally is appended.
+/// Reads what the dictionary of this number, from 0, has in a range. Its tally is appended.
 fn one_joined<S: Sources>(
     alloc: Global,
     sources: &S,
@@ -58,7 +58,7 @@ fn one_joined<S: Sources>(
     })
 }
 
-/// The join of what two have that follow one another.
+/// Joins what two dictionaries, or runs of them, that follow one another have in a range.
 fn both_joined(alloc: Global, left: &Joined, right: &Joined) -> Result<Joined, NextFault>
     ensures games { IfOk result (λ both. both.games ≡ left.now.games + right.now.games) }
     ensures entries { IfOk result (λ both. both.entries.items
@@ -73,8 +73,8 @@ fn both_joined(alloc: Global, left: &Joined, right: &Joined) -> Result<Joined, N
     }
 }
 
-/// What `count` dictionaries have in a range, from the one of this number on, from 0: the join of
-/// what the first half has and what the other has. The tally of each is appended.
+/// Joins what `count` dictionaries have in a range, from the one of this number on, from 0: what
+/// the first half has with what the other half has. The tally of each dictionary is appended.
 pub(crate) fn join_range<S: Sources>(
     alloc: Global,
     sources: &S,
@@ -107,8 +107,8 @@ pub(crate) fn join_range<S: Sources>(
     both_joined(alloc, &left, &right)
 }
 
-/// What all dictionaries have in the range from the cut of this number, from 0, up to the next one.
-/// The tally of each is appended.
+/// Joins what all dictionaries have in the range from the cut of this number, from 0, up to the
+/// next cut. The tally of each dictionary is appended.
 pub(crate) fn join_at<S: Sources>(
     alloc: Global,
     sources: &S,

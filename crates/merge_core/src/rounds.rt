@@ -1,4 +1,4 @@
-//! The text of a join, written range by range.
+//! Writes the text of a join range by range.
 ghost use Rattle.std.specs.Prelude.{◌≡◌, ◌≤◌, ◌+◌, ◌++◌, ℕ, List, length, vec_len, IfErr, MatchResult};
 ghost use Rattle.std.specs.Io.KnownBytes.{Appends};
 ghost use Rattle.shape_dict.specs.declared.entries.Entry.{Entry as One};
@@ -18,11 +18,11 @@ use std::alloc::Global;
 use std::io::Write;
 use std::thread::{Threads, available_parallelism};
 
-/// No more ranges are made at a time.
+/// The most ranges that are made at a time.
 const MOST_THREADS: usize = 16;
 
-/// How many ranges are counted or made at a time: twice as many as there are processors, so that
-/// none of these waits for the longest range, and 16 at most.
+/// Returns how many ranges are counted or made at a time: twice as many as there are processors, so
+/// that no processor waits for the longest range, and at most 16.
 pub(crate) fn ranges_at_once<T: Threads>(rt: &T) -> usize
     ensures some { 1 ≤ result }
     ensures few { result ≤ 16 }
@@ -33,21 +33,21 @@ pub(crate) fn ranges_at_once<T: Threads>(rt: &T) -> usize
     }
 }
 
-/// The header of a join, and how many patterns it names.
+/// The header of a join, and how many patterns the header names.
 #[derive(Drop)]
 pub(crate) struct Front {
     pub(crate) header: Vec<u8>,
     pub(crate) patterns: u64,
 }
 
-/// How many lines there are.
+/// Counts the lines: the line feeds.
 fn count_lines(lines: &[u8]) -> u64 {
     lines.iter().filter(|byte| **byte == b'\n').count() as u64
 }
 
-/// Writes the header of a join, and the lines of its ranges: those of a round are made at the same
-/// time, and written one after another. Before the last are written, their number is compared with
-/// that of the header.
+/// Writes the header of a join, and the lines of its ranges. The lines of a round's ranges are made
+/// at the same time, and written one after another. Before the last are written, the number of all
+/// lines is compared with that of the header.
 pub(crate) fn write_ranges<T: Threads + Sync, S: Sources + Sync, W: Write>(
     rt: &T,
     alloc: Global,

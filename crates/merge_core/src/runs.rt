@@ -1,4 +1,4 @@
-//! From sources to a writer: the join of their dictionaries.
+//! Joins the dictionaries of some sources and writes the join to a writer.
 ghost use Rattle.std.specs.Prelude.{◌≡◌, ℕ, List, length, vec_len, OnOk, IfErr};
 ghost use Rattle.std.specs.Io.KnownBytes.{Appends};
 ghost use Rattle.merge_core.specs.Merge.{AreInputs, IsMergeText, IsMergeFault, Took, written_of};
@@ -21,7 +21,7 @@ use std::alloc::Global;
 use std::io::Write;
 use std::thread::Threads;
 
-/// Joins dictionaries line by line, in this thread alone: they are judged, in whatever order it
+/// Joins dictionaries line by line, in this thread alone. They are judged, in whatever order it
 /// takes to tell the first fault, and then written.
 fn merge_lines<S: Sources, W: Write>(
     alloc: Global,
@@ -89,27 +89,27 @@ fn merge_ranges<T: Threads + Sync, S: Sources + Sync, W: Write>(
     write_ranges(rt, alloc, form, sources, plan, &front, writer)
 }
 
-/// Reads dictionaries, each a text of its own in any of the three texts and of any size, and writes
-/// a text of their join: the earlier ones are the left of each join. Where the form has a least
-/// number, the text is that of another dictionary: its games are those of the join, its patterns
-/// are the squares of the join that were there as often or oftener, and its moves are those at
-/// which one of them was played. Each input is read twice: to be judged while what the join has is
-/// counted, and to be written. Where they are large, twice as many threads as there are processors,
-/// 16 at most, do that side by side, each with a range of the words; it takes memory for a range of
-/// about half a megabyte for each. Where they are small, or something is odd, this thread reads
-/// them line by line, with a block of 65,536 bytes of each in memory, and one more; where there is
-/// a fault, they are judged again, one after another.
+/// Joins dictionaries and writes the text of their join. Each input is a text of its own, in any of
+/// the three texts and of any size; the earlier ones are the left of each join. If the form has a
+/// least number, the text is that of another dictionary: its games are those of the join, its
+/// patterns are the squares of the join that were there at least as often, and its moves are those
+/// at which one of them was played. Each input is read twice: to be judged while what the join has
+/// is counted, and to be written. If they are large, twice as many threads as there are processors,
+/// at most 16, do that side by side, each with a range of the words; it takes memory for a range of
+/// about half a megabyte for each. If they are small, or something is odd, this thread reads them
+/// line by line, with a block of 65,536 bytes of each in memory, and one more; if there is a fault,
+/// they are judged again, one after another.
 ///
 /// # Errors
 ///
-/// `Empty` where there is no dictionary. `Dict` with the number of the first dictionary, from 1,
-/// that cannot be read (X1 to X5) or added to those before it (X7, X9), and its fault: nothing is
-/// written then. `Read` where a dictionary could not be opened or read, or what it gave in the
-/// second reading is no text, or has a word outside of the range that is read; `Changed` where the
-/// join of the second reading can't be made, or what stays of it has another number of patterns
-/// than in the first; `Memory` where memory was refused; `Write` where the writer failed. Each of
-/// these has the number of bytes that are out. Any other change between the readings goes unseen,
-/// and what is written is then the join of neither.
+/// `Empty` if there is no dictionary. `Dict` with the number of the first dictionary, from 1, that
+/// cannot be read (X1 to X5) or added to those before it (X7, X9), and its fault: nothing is
+/// written then. `Read` if a dictionary could not be opened or read, or if what it gave in the
+/// second reading is no text, or has a word outside of the range that is read; `Changed` if the
+/// join of the second reading can't be made, or what is kept of it has another number of patterns
+/// than in the first; `Memory` if memory was refused; `Write` if the writer failed. Each of these
+/// has the number of bytes that are out. Any other change between the readings goes unseen, and
+/// what is written is then the join of neither.
 pub fn run_merge<T: Threads + Sync, S: Sources + Sync, W: Write>(
     rt: &T,
     alloc: Global,

@@ -1,4 +1,4 @@
-//! Dictionaries judged range by range: either all are known to be good, or nothing is known of
+//! Judges dictionaries range by range: either all are known to be good, or nothing is known of
 //! them, and they are joined line by line instead.
 ghost use Rattle.std.specs.Prelude.{◌≡◌, ◌≤◌, ◌<◌, ◌+◌, ◌^◌, ℕ, List, Some, IfOk, IfSome, IsTrue};
 ghost use Rattle.std.specs.Prelude.{length, vec_len, slice_get};
@@ -16,13 +16,13 @@ use shape_dict::{Header, read_header};
 use std::alloc::Global;
 use std::thread::Threads;
 
-/// A plan of as many ranges is not judged; none has as many.
+/// A plan with this many ranges or more is not judged; no plan has as many.
 const MOST_RANGES: usize = 1 << 32;
 
-/// No header has more bytes.
+/// How many bytes are read for a header: no header has more.
 const LONGEST: usize = 1 << 7;
 
-/// The header of the dictionary of this number, from 0, and the place where its lines begin.
+/// Reads the header of the dictionary of this number, from 0, and the place where its lines begin.
 pub(crate) fn read_front<S: Sources>(
     alloc: Global,
     sources: &S,
@@ -47,7 +47,7 @@ pub(crate) fn read_front<S: Sources>(
     Ok((header, front.len() - rest.len()))
 }
 
-/// Whether the lines of a dictionary are as many, and were played as often, as its header says.
+/// Whether a dictionary has as many lines, played as often, as its header says.
 fn fits(header: &Header, tally: Tally) -> bool
     ensures { IsTrue result → Fits header.now tally }
 {
@@ -71,7 +71,8 @@ fn is_same(one: &Header, other: &Header) -> bool
 }
 
 /// Whether the lines between the first cut and the last, which have this tally, are all that the
-/// dictionary of this number, from 0, has after its header, and are as many as that says.
+/// dictionary of this number, from 0, has after its header, and whether they are as many as the
+/// header says.
 fn is_whole<S: Sources>(
     alloc: Global,
     sources: &S,
@@ -103,7 +104,7 @@ fn is_whole<S: Sources>(
     ends_at(sources, n, to)
 }
 
-/// The same of each dictionary.
+/// Whether this is so for each dictionary whose tally is listed.
 fn are_whole<S: Sources>(
     alloc: Global,
     sources: &S,
@@ -124,8 +125,8 @@ fn are_whole<S: Sources>(
     true
 }
 
-/// How many games and moves the headers say together; None where a sum is over 2^64 - 1, or where
-/// some count diamonds and others don't.
+/// Adds up the games and moves of the headers. None if a sum is over 2^64 - 1, or if some count
+/// diamonds and others don't.
 fn totals_of(headers: &[Header]) -> Option<Totals>
     ensures { IfSome result (IsTotalsOf headers.now) }
 {
@@ -148,9 +149,10 @@ fn totals_of(headers: &[Header]) -> Option<Totals>
     })
 }
 
-/// The totals of the join of dictionaries that are cut by this plan, and the tally of its patterns
-/// that are written (all, or by `plan.least`), counted by about this many threads. None where they
-/// can't be made: it says nothing of the dictionaries, which are then joined line by line.
+/// Judges the dictionaries that are cut by this plan, by about this many threads, and returns the
+/// totals of their join and the tally of its patterns that are written (all, or by `plan.least`).
+/// None if these can't be made: it says nothing of the dictionaries, which are then joined line by
+/// line.
 pub(crate) fn survey<T: Threads + Sync, S: Sources + Sync>(
     rt: &T,
     alloc: Global,

@@ -1,4 +1,4 @@
-//! How many patterns there are, and how often they were played.
+//! Tallies: how many patterns there are, and how often they were played.
 ghost use Rattle.std.specs.Prelude.{◌≡◌, ◌+◌, ◌++◌, ◌∷◌, [], ℕ, IfOk, IfSome, List, Option, length};
 ghost use Rattle.shape_dict.specs.declared.entries.Entry.{Entry as One};
 ghost use Rattle.merge_core.specs.Inner.Ranges.{IsCountOf, IsTally};
@@ -18,7 +18,7 @@ pub(crate) struct Tally {
     pub(crate) diamonds_played: u64,
 }
 
-/// The tally of no entry.
+/// Returns the tally of no entries.
 pub(crate) fn no_tally() -> Tally
     ensures { (least : Option ℕ) → IsCountOf least [] result }
 {
@@ -30,7 +30,7 @@ pub(crate) fn no_tally() -> Tally
     }
 }
 
-/// The tally of one entry more; None where a sum is over 2^64 - 1.
+/// Adds one more entry to a tally; None if a sum is over 2^64 - 1.
 #[inline(always)]
 fn with(tally: Tally, entry: Entry) -> Option<Tally>
     ensures { IfSome result (λ next. (before : List One) → IsTally before tally
@@ -50,7 +50,7 @@ fn with(tally: Tally, entry: Entry) -> Option<Tally>
     })
 }
 
-/// The tally of entries; None where a sum is over 2^64 - 1.
+/// Returns the tally of these entries; None if a sum is over 2^64 - 1.
 pub(crate) fn tally_of(entries: &[Entry]) -> Option<Tally>
     ensures { IfSome result (IsTally entries.now) }
 {
@@ -69,7 +69,7 @@ pub(crate) fn tally_of(entries: &[Entry]) -> Option<Tally>
     Some(tally)
 }
 
-/// The tally of what stays of entries, with one entry more; None where a sum is over 2^64 - 1.
+/// Adds one more entry to a tally, if the join keeps it; None if a sum is over 2^64 - 1.
 pub(crate) fn with_kept(least: Option<u64>, tally: Tally, entry: &Entry) -> Option<Tally>
     ensures { IfSome result (λ next. (before : List One) → IsCountOf least before tally
         → IsCountOf least (before ++ entry.now ∷ []) next) }
@@ -81,7 +81,7 @@ pub(crate) fn with_kept(least: Option<u64>, tally: Tally, entry: &Entry) -> Opti
     }
 }
 
-/// The tally of what stays of entries; None where a sum is over 2^64 - 1.
+/// Returns the tally of those entries that the join keeps; None if a sum is over 2^64 - 1.
 pub(crate) fn count_of(least: Option<u64>, entries: &[Entry]) -> Option<Tally>
     ensures { IfSome result (IsCountOf least entries.now) }
 {
@@ -95,7 +95,7 @@ pub(crate) fn count_of(least: Option<u64>, entries: &[Entry]) -> Option<Tally>
     Some(tally)
 }
 
-/// The tally of what two tallies are of; None where a sum is over 2^64 - 1.
+/// Adds up two tallies; None if a sum is over 2^64 - 1.
 pub(crate) fn both_tallies(left: Tally, right: Tally) -> Option<Tally>
     ensures { IfSome result (IsSum left right) }
 {
@@ -107,12 +107,12 @@ pub(crate) fn both_tallies(left: Tally, right: Tally) -> Option<Tally>
     })
 }
 
-/// The tallies of each of several by itself.
+/// Adds up two lists of tallies, place by place.
 ///
 /// # Errors
 ///
-/// `Memory` where memory was refused, `Overflow` where a sum is over 2^64 - 1, and `Changed` where
-/// there are not as many on both sides.
+/// `Memory` if memory was refused, `Overflow` if a sum is over 2^64 - 1, and `Changed` if there are
+/// not as many on both sides.
 pub(crate) fn each_tally(
     alloc: Global,
     left: &[Tally],

@@ -1,4 +1,4 @@
-//! The join of several lists of entries as a tree of joins of two.
+//! Joins several lists of entries by a tree of joins of two.
 ghost use Rattle.std.specs.Prelude.{List, MatchResult, IfOk, OnOk};
 ghost use Rattle.shape_dict.specs.declared.entries.Entry.{Entry as One};
 ghost use Rattle.merge_core.specs.Entries.{IsNext, IsNextFault, WasNext};
@@ -20,8 +20,8 @@ pub(crate) enum Tree<E> {
     },
 }
 
-/// Puts the next entry of the join, or None at the end, where it is wanted. In a tree of many
-/// levels an entry would else be moved several times at each of them.
+/// Puts the next entry of the join into `next`, or None at the end. In a tree of many levels a
+/// returned entry would be moved several times at each level.
 #[tactic(auto, using(crate::proofs::Unmerged::left_fault, crate::proofs::Unmerged::right_fault, crate::proofs::Unmerged::both_fault))]
 fn advance<E: Entries>(tree: &mut Tree<E>, next: &mut Option<Entry>) -> Result<(), NextFault>
     ensures next { (entries : List One) → Yields E.yields tree.old entries → MatchResult result
@@ -80,7 +80,7 @@ fn advance<E: Entries>(tree: &mut Tree<E>, next: &mut Option<Entry>) -> Result<(
     }
 }
 
-/// The next entry of the join, or None at the end.
+/// Returns the next entry of the join, or None at the end.
 #[inline(always)]
 pub(crate) fn next_of<E: Entries>(tree: &mut Tree<E>) -> Result<Option<Entry>, NextFault>
     ensures next { (entries : List One) → Yields E.yields tree.old entries

@@ -1,4 +1,4 @@
-//! The text of a join, written as it is made.
+//! Writes the text of a join as it is made.
 ghost use Rattle.std.specs.Prelude.{◌≡◌, ◌++◌, ◌∷◌, [], List, OnOk, IfOk, IfErr, MatchResult};
 ghost use Rattle.std.specs.Io.KnownBytes.{Appends};
 ghost use Rattle.shape_dict.specs.declared.entries.Entry.{Entry as One};
@@ -20,7 +20,7 @@ use shape_dict::{Entry, Text, push_header, push_line};
 use std::alloc::{AllocError, Global};
 use std::io::Write;
 
-/// How many moves a header names.
+/// Returns the header's moves: how often kept squares were played, if there is a least number.
 fn moves_for(least: Option<u64>, totals: Totals, counts: Tally) -> u64
     ensures { result ≡ moves_for least totals counts }
 {
@@ -30,7 +30,7 @@ fn moves_for(least: Option<u64>, totals: Totals, counts: Tally) -> u64
     }
 }
 
-/// How many diamonds a header names.
+/// Returns the number of diamonds for the header, or None if the header names none.
 fn diamonds_for(least: Option<u64>, totals: Totals, counts: Tally) -> Option<u64>
     ensures { result ≡ diamonds_for least totals counts }
 {
@@ -46,7 +46,7 @@ fn diamonds_for(least: Option<u64>, totals: Totals, counts: Tally) -> Option<u64
     }
 }
 
-/// The header of what stays of a join.
+/// Makes the header of the text of what a join keeps.
 pub(crate) fn header_of(
     alloc: Global,
     form: Form,
@@ -70,7 +70,7 @@ pub(crate) fn header_of(
     Ok(header)
 }
 
-/// Appends the line that a text has of an entry, or none.
+/// Appends an entry's line, if the text has one for its pattern.
 fn push_one(out: &mut Vec<u8>, text: Text, entry: &Entry) -> Result<(), AllocError>
     ensures line { OnOk result (out.new.items
         ≡ out.old.items ++ text_lines text (entry.now ∷ [])) }
@@ -87,7 +87,7 @@ fn push_one(out: &mut Vec<u8>, text: Text, entry: &Entry) -> Result<(), AllocErr
     }
 }
 
-/// Appends the line that a text has of an entry that stays, or none.
+/// Appends an entry's line, if the join keeps the entry and the text has a line for its pattern.
 pub(crate) fn push_entry(out: &mut Vec<u8>, form: Form, entry: &Entry) -> Result<(), AllocError>
     ensures line { OnOk result (out.new.items
         ≡ out.old.items ++ lines_of form (entry.now ∷ [])) }
@@ -98,7 +98,7 @@ pub(crate) fn push_entry(out: &mut Vec<u8>, form: Form, entry: &Entry) -> Result
     push_one(out, form.text, entry)
 }
 
-/// A fault of a tree, after this number of bytes.
+/// Returns the fault that a fault of a tree is after this number of bytes are out.
 pub(crate) fn stopped(fault: NextFault, written: usize) -> MergeFault
     ensures { result ≡ stopped written fault }
 {
@@ -109,7 +109,7 @@ pub(crate) fn stopped(fault: NextFault, written: usize) -> MergeFault
     }
 }
 
-/// Writes the header, which is pending, and a line for each entry of the join that stays and that
+/// Writes the header, which is pending, and a line for each entry of the join that is kept and that
 /// the text has. Their tally is compared with that of the first reading before the last block is
 /// written.
 pub(crate) fn write_lines<E: Entries, W: Write>(

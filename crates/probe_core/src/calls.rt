@@ -1,12 +1,12 @@
-//! What a table is asked, what it answers, and the steps that a call takes on its words.
+//! What a table is asked, what it answers, and the steps that a call takes on the table's words.
 use crate::keys::Key;
 
-/// What a table is asked of a key.
+/// What a table is asked about a key.
 #[derive(Clone, Copy, Debug, PartialEq, Eq)]
 pub enum Call {
-    /// The key's number, a free one where it has none.
+    /// Asks for the key's number; if the key has none, a free number becomes the key's.
     Enter(Key),
-    /// The key's number.
+    /// Asks for the key's number, and changes nothing.
     LookUp(Key),
 }
 
@@ -30,7 +30,7 @@ pub enum Want {
     Swap {
         /// The word's place.
         place: usize,
-        /// The key and 1 more.
+        /// The value to store: the key plus 1.
         value: u64,
     },
 }

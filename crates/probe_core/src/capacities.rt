@@ -3,7 +3,7 @@ use std::marker::Model;
 
 /// How many slots a table has: a power of two, up to 2^22. This is the project's own.
 ///
-/// Contracts see it as the exponent, a number up to 22.
+/// Contracts see it as the exponent of 2, a number up to 22.
 #[derive(Clone, Copy, Debug, PartialEq, Eq, PartialOrd, Ord)]
 pub struct Capacity {
     exponent: u32,
@@ -24,7 +24,7 @@ impl Model for Capacity {
 impl Capacity {
     ghost use Rattle.std.specs.Prelude.{◌≡◌, ◌≤◌, ◌^◌, SomeIff};
 
-    /// The capacity of 2^k slots, or None where k is above 22. It takes no memory.
+    /// Returns the capacity of 2^k slots, or None if k is above 22. It takes no memory.
     pub fn new(k: u32) -> Option<Capacity>
         ensures { SomeIff result (k ≤ 22) k }
     {
@@ -35,8 +35,7 @@ impl Capacity {
         }
     }
 
-    /// How many slots there are: 2 to the power of the exponent, from 1 to 2^22. It takes no
-    /// memory.
+    /// The number of slots: 2 to the power of the exponent, from 1 to 2^22. It takes no memory.
     pub fn slots(self) -> usize
         ensures value { result ≡ 2 ^ self }
         ensures some { 1 ≤ result }
@@ -45,7 +44,7 @@ impl Capacity {
         1 << self.exponent
     }
 
-    /// The exponent of the number of slots.
+    /// The exponent k of the 2^k slots.
     pub(crate) fn exponent(self) -> u32
         ensures value { result ≡ self }
         ensures small { self ≤ 22 }

@@ -1,7 +1,7 @@
-//! What callers do at a table in the order of their steps, and the calls that have ended.
+//! Events: which caller of a table begins a call or takes a step, and the calls that have ended.
 use crate::calls::{Answer, Call};
 
-/// One event of a schedule. Callers are numbered from 0.
+/// One event of a schedule of callers at a table. Callers are numbered from 0.
 #[derive(Clone, Copy, Debug, PartialEq, Eq)]
 pub enum Event {
     /// This caller begins this call, if it exists and is idle.
@@ -13,14 +13,14 @@ pub enum Event {
 /// A call that has ended.
 #[derive(Clone, Copy, Debug, PartialEq, Eq)]
 pub struct Finished {
-    /// Whose call it was.
+    /// The number of the caller.
     pub caller: usize,
     /// What was asked.
     pub call: Call,
     /// What was answered.
     pub answer: Answer,
-    /// The number of the event that began it; events count from 0.
+    /// The number of the event that began the call; events count from 0.
     pub begun: usize,
-    /// The number of the event of its last step.
+    /// The number of the event of the call's last step.
     pub ended: usize,
 }

@@ -5,7 +5,7 @@ ghost use Rattle.probe_core.specs.declared.faults.ProbeFault.TheVariants.{Memory
 use std::alloc::{AllocError, AllocFailed};
 use thiserror::Error;
 
-/// Why a table, or a world of callers at a table, was not made, or its events were not run.
+/// Why a table, or a world of callers at a table, was not made, or why its events were not run.
 #[derive(Clone, Copy, Debug, PartialEq, Eq, Error)]
 pub enum ProbeFault {
     /// Memory was refused.

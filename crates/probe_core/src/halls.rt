@@ -18,8 +18,8 @@ pub(crate) struct UnderWay<O: ProbeOrder> {
     since: usize,
 }
 
-/// The words of a table, for each caller nothing or its call, the finished calls and the count of
-/// events.
+/// A table's words, its callers, each idle or with a call under way, the calls that have ended, and
+/// the count of events.
 #[derive(Drop)]
 pub(crate) struct Hall<O: ProbeOrder> {
     pub(crate) order: O,
@@ -30,7 +30,7 @@ pub(crate) struct Hall<O: ProbeOrder> {
 }
 
 impl<O: ProbeOrder> Hall<O> {
-    /// `callers` idle callers at a free word for each slot of the order.
+    /// Makes a hall of this number of idle callers, with a free word for each slot of the order.
     pub(crate) fn new(alloc: Global, order: O, callers: usize) -> Result<Hall<O>, AllocError>
         ensures order { IfOk result (λ hall. hall.order ≡ order) }
         ensures world { IfOk result (λ hall. world_of hall
@@ -49,7 +49,7 @@ impl<O: ProbeOrder> Hall<O> {
         })
     }
 
-    /// What an event does, and the count. The finished calls have room for the one that it may end.
+    /// Carries out an event and counts it. The list of ended calls must have room for one more.
     pub(crate) fn happen(&mut self, event: Event)
         requires fitted { IsFitted O.exponent self.old }
         requires room { HasRoom self.old (event ∷ []) }
@@ -71,14 +71,14 @@ impl<O: ProbeOrder> Hall<O> {
         self.events += 1;
     }
 
-    /// The caller exists and has no call.
+    /// Whether the caller exists and has no call under way.
     fn is_idle(&self, caller: usize) -> bool
         ensures { IsTrue result ↔ (slice_get self.now.callers.items caller ≡ Some None) }
     {
         caller < self.callers.len() && self.callers[caller].is_none()
     }
 
-    /// An idle caller begins a call.
+    /// Begins a call, if the caller exists and is idle.
     fn begin(&mut self, caller: usize, call: Call)
         requires { IsFitted O.exponent self.old }
         ensures order { self.new.order ≡ self.old.order }
@@ -95,7 +95,8 @@ impl<O: ProbeOrder> Hall<O> {
         }
     }
 
-    /// A busy caller takes its next step. The finished calls have room for its call.
+    /// Takes the next step of the caller's call, if the caller exists and is busy. The list of
+    /// ended calls must have room for that call.
     fn step(&mut self, caller: usize)
         requires fitted { IsFitted O.exponent self.old }
         requires room { vec_len self.old.finished < vec_capacity self.old.finished }
@@ -116,7 +117,8 @@ impl<O: ProbeOrder> Hall<O> {
         }
     }
 
-    /// The next step of a call that was taken from its caller, who has it again if it goes on.
+    /// Takes the next step of a call that was taken from its caller. The caller gets the call back
+    /// if it has not ended.
     fn go_on(&mut self, caller: usize, call: UnderWay<O>)
         requires fitted { IsFitted O.exponent self.old }
         requires ordered { call.probe.order ≡ self.old.order }
@@ -146,7 +148,7 @@ impl<O: ProbeOrder> Hall<O> {
     }
 }
 
-/// `count` callers without a call.
+/// Returns a list of this number of callers, each without a call.
 fn idle_callers<O: ProbeOrder>(
     alloc: Global,
     count: usize,

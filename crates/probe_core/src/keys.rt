@@ -1,4 +1,4 @@
-//! Keys: the numbers that the table numbers.
+//! Keys: the whole numbers to which the table gives numbers of its own.
 use std::marker::Model;
 
 /// A key: a whole number below 2^51. The key of a pattern is its canonical word. This is the
@@ -23,7 +23,7 @@ impl Model for Key {
 impl Key {
     ghost use Rattle.std.specs.Prelude.{◌≡◌, ◌<◌, ◌^◌, SomeIff};
 
-    /// The key that is this number, or None where it is 2^51 or more. It takes no memory.
+    /// Returns the key that is this number, or None if it is 2^51 or more. It takes no memory.
     pub fn new(bits: u64) -> Option<Key>
         ensures { SomeIff result (bits < 2 ^ 51) bits }
     {
@@ -34,7 +34,7 @@ impl Key {
         }
     }
 
-    /// The number that the key is. It takes no memory.
+    /// Returns the whole number that the key is. It takes no memory.
     pub fn bits(self) -> u64
         ensures value { result ≡ self }
         ensures small { self < 2 ^ 51 }

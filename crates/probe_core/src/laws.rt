@@ -11,10 +11,10 @@ ghost use Rattle.probe_core.specs.Way.{IsOnWay, Tells};
 
 use crate::orders::ProbeOrder;
 
-/// What a load or an exchange tells a call on its way over orderly words: the call goes on its way
-/// and the words stay, or its answer is a step of the sequential table from what the words showed
-/// to what they show then. The words are orderly again, and every other call on its way stays so.
-/// It takes no memory.
+/// What a step, a load or an exchange, tells a call that is under way on orderly words. Either the
+/// call goes on and the words stay, or its answer is a step of the sequential table, from what the
+/// words showed before to what they show after. The words are orderly again, and every other call
+/// under way stays so. It takes no memory.
 pub fn steps_tell_of_the_key<O: ProbeOrder>(_order: &O)
     ensures tells { (words : List ℕ) (machine : Machine) →
         IsOrderly (2 ^ O.exponent _order.now) (O.place_of _order.now) words →
@@ -33,8 +33,8 @@ pub fn steps_tell_of_the_key<O: ProbeOrder>(_order: &O)
         (words_after words machine (place_in (O.place_of _order.now) machine)) other }
 {}
 
-/// A legal history goes on by a step of the sequential table from its content, which is then what
-/// the step made of it. It takes no memory.
+/// A legal history stays legal if a step of the sequential table from its content is appended. Its
+/// content is then what the step made of it. It takes no memory.
 pub fn legal_histories_go_on()
     ensures legal { (slots : ℕ) (history : List Answered) (entry : Answered) (new : Table) →
         IsLegal slots history →
@@ -45,9 +45,10 @@ pub fn legal_histories_go_on()
         content slots (history ++ entry ∷ []) ≡ new }
 {}
 
-/// The front of a legal history is legal, and what follows it is a run from the front's content.
-/// Numbers that keys have after the front they have after the whole, and words that show both have
-/// only grown. It takes no memory.
+/// The front of a legal history is legal, and the rest of the history is a run from the front's
+/// content. A number that a key has after the front is its number after the whole. If words show
+/// the front's content and later words show that of the whole, the words have only grown. It takes
+/// no memory.
 pub fn longer_histories_keep_numbers()
     ensures front { (slots : ℕ) (front rest : List Answered) → IsLegal slots (front ++ rest)
         → IsLegal slots front }
@@ -64,7 +65,7 @@ pub fn longer_histories_keep_numbers()
         HaveGrown words later }
 {}
 
-/// No key has two numbers after a legal history. It takes no memory.
+/// After a legal history no key has two numbers. It takes no memory.
 pub fn keys_have_one_number()
     ensures { (slots : ℕ) (history : List Answered) (key p q : ℕ) →
         IsLegal slots history →
@@ -73,9 +74,9 @@ pub fn keys_have_one_number()
         p ≡ q }
 {}
 
-/// Words are those of what they show: a number has the key x exactly where its word is x + 1. Words
-/// that are made of a table show it, and words that are made of what words show are those again. It
-/// takes no memory.
+/// Words and what they show determine each other: a number has the key x exactly if the number's
+/// word is x + 1. Words that are made of a table show that table, and words that are made of what
+/// words show are those words again. It takes no memory.
 pub fn words_are_of_what_they_show()
     ensures words { (words : List ℕ) (table : Table) → table ≡ table_of words
         → AreWordsOf words table }

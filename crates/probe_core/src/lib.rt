@@ -1,5 +1,5 @@
-//! A table of numbers for keys: where a call probes, what it makes of what it finds, and what
-//! happens with any number of callers at one table.
+//! A table that gives numbers to keys: which slots a call probes, what it learns from each, and
+//! what happens with any number of callers at one table.
 #![tactic(auto)]
 
 mod calls;

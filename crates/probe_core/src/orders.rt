@@ -1,4 +1,4 @@
-//! Probe orders: for each key, in which order the places of a table are probed.
+//! Probe orders: in which order the slots of a table are probed for each key.
 ghost use Rattle.std.specs.Prelude.{◌≡◌, ℕ, ◌+◌, ◌-◌, ◌*◌, ◌/◌, ◌%◌, ◌^◌, ◌<◌, ◌≤◌};
 ghost use Rattle.probe_core.specs.Order.{IsOrder, mixed_of, start_of, linear_place, step_of};
 ghost use Rattle.probe_core.specs.Order.{odd_place, runs_place};
@@ -7,7 +7,7 @@ ghost use Rattle.probe_core.specs.Stepping.{linear_is_order, steps_are_order, ru
 use crate::capacities::Capacity;
 use crate::keys::Key;
 
-/// An order in which a table's places are probed, for each key one.
+/// The order in which the places (the slots) of a table are probed for each key.
 ///
 /// For each key the places at the indices below the number of slots are all places, each once: that
 /// is a law, which each implementation proves.
@@ -18,11 +18,12 @@ pub trait ProbeOrder: Copy {
     /// The place of a key at an index.
     ghost place_of: { Self → ℕ → ℕ → ℕ };
 
-    /// How many slots the table has. It takes no memory.
+    /// The number of slots of the table. It takes no memory.
     fn capacity(&self) -> Capacity
         ensures { result ≡ exponent self.now };
 
-    /// The place that a key has at an index below the number of slots. It takes no memory.
+    /// Returns the place to probe for a key at this index of its order, for an index below the
+    /// number of slots. It takes no memory.
     fn place(&self, key: Key, i: usize) -> usize
         requires { i < 2 ^ exponent self.now }
         ensures { result ≡ place_of self.now key i };
@@ -35,7 +36,8 @@ pub trait ProbeOrder: Copy {
 /// The multiplier of keys: 2^64 over the golden ratio, made odd. No claim rests on it.
 const MULTIPLIER: u64 = 0x9E37_79B9_7F4A_7C15;
 
-/// What the places of a key are taken from.
+/// Returns the product of the key and the multiplier mod 2^64, from which the key's places are
+/// taken.
 fn mixed(key: Key) -> u64
     ensures value { result ≡ mixed_of key }
     ensures small { result < 2 ^ 64 }
@@ -43,7 +45,7 @@ fn mixed(key: Key) -> u64
     key.bits().wrapping_mul(MULTIPLIER)
 }
 
-/// The top bits of a mixed key, as many as the exponent: the first place.
+/// Returns the first place of a key: the top bits of its mixed value, as many as the exponent.
 fn start(mixed: u64, capacity: Capacity) -> usize
     ensures value { result ≡ start_of capacity mixed }
     ensures small { result < 2 ^ 22 }
@@ -51,13 +53,13 @@ fn start(mixed: u64, capacity: Capacity) -> usize
     (mixed >> 1 >> (63 - capacity.exponent())) as usize
 }
 
-/// The order that goes on to the next place, and from the last one to the first: linear probing.
+/// Linear probing: the order that goes on to the next place, and from the last place to the first.
 ///
 /// Place i of a key is `(start + i) mod N` for N = 2^k slots, where the start is the top k bits of
 /// the key's product with a constant mod 2^64.
 #[derive(Clone, Copy, Debug, PartialEq, Eq)]
 pub struct Linear {
-    /// How many slots the table has.
+    /// The number of slots of the table.
     pub capacity: Capacity,
 }
 
@@ -79,7 +81,8 @@ impl ProbeOrder for Linear {
     ghost is_order = { λ order key. linear_is_order order.capacity key };
 }
 
-/// Bits 20 and on of a mixed key, mod the number of slots, with the lowest bit set.
+/// Returns the odd step of a key: its mixed value over 2^20, mod the number of slots, with the
+/// lowest bit set.
 fn odd_step(mixed: u64, capacity: Capacity) -> usize
     ensures value { result ≡ step_of capacity mixed }
     ensures small { result ≤ 2 ^ 22 }
@@ -87,13 +90,14 @@ fn odd_step(mixed: u64, capacity: Capacity) -> usize
     ((mixed >> 20) as usize & (capacity.slots() - 1)) | 1
 }
 
-/// The order that goes on by a step of the key's own, which is odd. This is the project's own.
+/// The order that goes on by an odd step, which depends on the key. This is the project's own.
 ///
 /// Place i of a key is `(start + i * s) mod N` for N slots. The start is that of `Linear`. The step
-/// s is what the start is taken from, over 2^20, mod N, with its lowest bit set.
+/// s is the key's product with the constant of `Linear` mod 2^64, over 2^20, mod N, with its lowest
+/// bit set.
 #[derive(Clone, Copy, Debug, PartialEq, Eq)]
 pub struct OddStep {
-    /// How many slots the table has.
+    /// The number of slots of the table.
     pub capacity: Capacity,
 }
 
@@ -117,19 +121,19 @@ impl ProbeOrder for OddStep {
     ghost is_order = { λ order key. steps_are_order order.capacity key };
 }
 
-/// How many places of a run follow one another.
+/// The number of neighbouring places in a run.
 const RUN: usize = 16;
 
-/// The order that goes on to the next place within a run of 16 places, and from run to run by a
-/// step of the key's own, which is odd. This is the project's own.
+/// The order that goes on to the next place within a run of 16 places, and from run to run by an
+/// odd step, which depends on the key. This is the project's own.
 ///
 /// Place i of a key is `(start + i mod 16 + (i / 16) * 16 * s) mod N` for N slots, where the start
-/// and the step s are those of `OddStep`. So a place is mostly in the line of memory of the one
-/// before it or in the next one, and where a table is nearly full a key leaves the places that
-/// others of its start have taken.
+/// and the step s are those of `OddStep`. So a place mostly lies in the same cache line as the one
+/// before it, or in the next line. In a table that is nearly full, a key leaves the places that
+/// other keys with its start have taken.
 #[derive(Clone, Copy, Debug, PartialEq, Eq)]
 pub struct OddRuns {
-    /// How many slots the table has.
+    /// The number of slots of the table.
     pub capacity: Capacity,
 }
 

@@ -10,7 +10,7 @@ use crate::keys::Key;
 use crate::orders::ProbeOrder;
 use std::marker::Model;
 
-/// A call on its way through the places of its key.
+/// A call under way: it probes the places of its key one after another.
 #[derive(Drop)]
 pub struct Probe<O: ProbeOrder> {
     order: O,
@@ -41,7 +41,7 @@ impl<O: ProbeOrder> Model for Probe<O> {
     } };
 }
 
-/// What follows a step of a probe.
+/// What follows a step of a probe: the call goes on, or it has ended.
 #[derive(Drop)]
 pub enum Turn<O: ProbeOrder> {
     /// The call goes on.
@@ -50,7 +50,7 @@ pub enum Turn<O: ProbeOrder> {
     Done(Answer),
 }
 
-/// The key of a call.
+/// Returns the key that a call asks about.
 fn key_asked(call: Call) -> Key
     ensures { result ≡ key_of call }
 {
@@ -60,9 +60,11 @@ fn key_asked(call: Call) -> Key
 }
 
 impl<O: ProbeOrder> Probe<O> {
-    /// A call before its first step, a load of the first place of its key. It takes no memory.
+    /// Returns a call before its first step, which loads the first place of its key. It takes no
+    /// memory.
     ///
-    /// It has at most 2N steps before it for an Enter, and N for a LookUp, with N slots, whatever
+    /// An Enter takes at most 2N steps, and a LookUp at most N, with N slots, whatever other
+    /// callers do.
     /// others do.
     pub fn begin(order: &O, call: Call) -> Probe<O>
         ensures order { result.order ≡ order.now }
@@ -78,9 +80,10 @@ impl<O: ProbeOrder> Probe<O> {
         }
     }
 
-    /// A call before its load of the place that its key has at an index. It takes no memory.
+    /// Returns a call before its load of the place that its key has at this index. It takes no
+    /// memory.
     ///
-    /// The index must be below the number of slots. That the places before it were passed is for
+    /// The index must be below the number of slots. Whether the places before it were passed is for
     /// the caller to know.
     pub fn at(order: &O, call: Call, index: usize) -> Probe<O>
         requires { index < 2 ^ O.exponent order.now }
@@ -99,7 +102,7 @@ impl<O: ProbeOrder> Probe<O> {
         }
     }
 
-    /// The next step: a load, or a compare-exchange from 0 to the key and 1 more. Its place is
+    /// Returns the next step: a load, or a compare-exchange from 0 to the key plus 1. Its place is
     /// below the number of slots. It takes no memory.
     pub fn wants(&self) -> Want
         ensures step { result ≡ next_step self.now.machine
@@ -117,19 +120,20 @@ impl<O: ProbeOrder> Probe<O> {
         }
     }
 
-    /// The call. It takes no memory.
+    /// Returns what is asked. It takes no memory.
     pub(crate) fn call(&self) -> Call
         ensures { result ≡ self.now.machine.call }
     {
         self.call
     }
 
-    /// What follows the next step, where the word of its place held this value before it. It takes
-    /// no memory.
+    /// Returns what follows the next step, given the value that the word of its place held before
+    /// it. It takes no memory.
     ///
-    /// A free word is swapped by an Enter, and Absent for a LookUp. The key's word, or a swap that
-    /// won, is the answer Number. After another word the next place is loaded, and after the last
-    /// place the answer is Full. A probe that goes on has fewer steps left.
+    /// If the word is free, an Enter swaps it next, and a LookUp ends with Absent. If the word is
+    /// the key's, or a swap has won, the answer is Number. After any other word the next place is
+    /// loaded, and after the last place the answer is Full. A probe that goes on has fewer steps
+    /// left.
     pub fn told(self, value: u64) -> Turn<O>
         ensures turn { result ≡ turn_of self.order (follows (2 ^ O.exponent self.order)
             self.machine (place_in (O.place_of self.order) self.machine) value) }
@@ -139,7 +143,7 @@ impl<O: ProbeOrder> Probe<O> {
         self.turn(value)
     }
 
-    /// What follows a step that found this value.
+    /// Returns what follows a step that found this value.
     fn turn(self, value: u64) -> Turn<O>
         ensures turn { result ≡ turn_of self.order (follows (2 ^ O.exponent self.order)
             self.machine (place_in (O.place_of self.order) self.machine) value) }
@@ -160,7 +164,7 @@ impl<O: ProbeOrder> Probe<O> {
         }
     }
 
-    /// A load of the next place, or Full after the last one.
+    /// Goes on to load the next place, or ends with Full after the last one.
     fn moved_on(self) -> Turn<O>
         ensures { result ≡ turn_of self.order (followed_by (2 ^ O.exponent self.order) self.machine
             GoesOn) }
@@ -179,14 +183,14 @@ impl<O: ProbeOrder> Probe<O> {
         }
     }
 
-    /// The place that it is at.
+    /// Returns the place that the probe is at.
     fn place(&self) -> usize
         ensures { result ≡ place_in (O.place_of self.now.order) self.now.machine }
     {
         self.order.place(key_asked(self.call), self.index)
     }
 
-    /// The word of its key: the key and 1 more.
+    /// Returns the word that stands for its key: the key plus 1.
     fn coded(&self) -> u64
         ensures { result ≡ code_of (key_of self.now.machine.call) }
     {

@@ -1,4 +1,4 @@
-//! A table of one user.
+//! A table for one user, who alone calls it.
 ghost use Rattle.std.specs.Prelude.{◌≡◌, ◌^◌, IfOk, IsOkUnless, length};
 ghost use Rattle.probe_core.specs.Sequential.{Step};
 ghost use Rattle.probe_core.specs.History.{empty_table};
@@ -12,9 +12,9 @@ use crate::steps::{advance, look};
 use std::alloc::Global;
 use std::marker::Model;
 
-/// A table of one user: it gives each key a number, and keeps it.
+/// A table for one user: it gives each key a number and keeps it.
 ///
-/// All memory is taken by `new`, for each slot of the order.
+/// All memory is taken by `new`: a word for each slot of the order.
 #[derive(Drop)]
 pub struct SoloTable<O: ProbeOrder> {
     order: O,
@@ -36,13 +36,13 @@ impl<O: ProbeOrder> Model for SoloTable<O> {
 }
 
 impl<O: ProbeOrder> SoloTable<O> {
-    /// A table of the order's slots in which no key has a number.
+    /// Makes a table with the order's slots in which no key has a number.
     ///
     /// It takes memory for each slot.
     ///
     /// # Errors
     ///
-    /// `Memory` where memory was refused.
+    /// `Memory` if memory was refused.
     pub fn new(alloc: Global, order: O) -> Result<SoloTable<O>, ProbeFault>
         ensures order { IfOk result (λ table. table.order ≡ order) }
         ensures empty { IfOk result (λ table. table.table ≡ empty_table (2 ^ O.exponent order)) }
@@ -53,8 +53,8 @@ impl<O: ProbeOrder> SoloTable<O> {
         Ok(SoloTable { order, words })
     }
 
-    /// The key's number; where it has none, a free number, which is the key's from then on, or
-    /// `Full` where no number is free. It takes no memory.
+    /// Returns the key's number. If the key has none, a free number becomes the key's from then on,
+    /// or the answer is `Full` if no number is free. It takes no memory.
     pub fn enter(&mut self, key: Key) -> Answer
         ensures order { self.new.order ≡ self.old.order }
         ensures step { Step self.old.table (Call.Enter key) result self.new.table }
@@ -69,8 +69,8 @@ impl<O: ProbeOrder> SoloTable<O> {
         }
     }
 
-    /// The key's number; where it has none, `Absent` if some number is free, else `Full`. The table
-    /// stays as it is, and no memory is taken.
+    /// Returns the key's number. If the key has none, the answer is `Absent` if some number is
+    /// free, else `Full`. The table stays as it is, and no memory is taken.
     pub fn look_up(&self, key: Key) -> Answer
         ensures step { Step self.now.table (Call.LookUp key) result self.now.table }
         ensures whole { length self.now.table ≡ 2 ^ O.exponent self.now.order }

@@ -12,10 +12,10 @@ use crate::orders::ProbeOrder;
 use std::alloc::Global;
 use std::marker::Model;
 
-/// How many events all runs of a world have together at most.
+/// The most events that all runs of a world may have together.
 const MOST_EVENTS: usize = 1 << 62;
 
-/// The words of a table with callers at them, and the history of their calls.
+/// A table's words with the callers at them, and the history of their calls.
 ///
 /// Memory is taken by `new`, for each slot and caller, and by `run`, for each call that may end.
 #[derive(Drop)]
@@ -36,13 +36,13 @@ impl<O: ProbeOrder> Model for World<O> {
 }
 
 impl<O: ProbeOrder> World<O> {
-    /// A world of free words and this number of idle callers, before any event.
+    /// Makes a world of free words and this number of idle callers, before any event.
     ///
     /// It takes memory for each slot of the order and each caller.
     ///
     /// # Errors
     ///
-    /// `Memory` where memory was refused.
+    /// `Memory` if memory was refused.
     pub fn new(alloc: Global, order: O, callers: usize) -> Result<World<O>, ProbeFault>
         ensures order { IfOk result (λ world. world.order ≡ order) }
         ensures world { IfOk result (λ world. world.world
@@ -54,17 +54,16 @@ impl<O: ProbeOrder> World<O> {
         Ok(World { hall })
     }
 
-    /// Runs these events, in their order.
+    /// Runs these events in their order.
     ///
-    /// A Begin of a busy caller, a Step of an idle one and an event of a caller that does not exist
-    /// change the count of events and nothing else. Memory is taken first, for each call that may
-    /// end.
+    /// A Begin of a busy caller, a Step of an idle one, and an event of a caller that does not
+    /// exist change the count of events and nothing else. Memory is taken first, for each call that
+    /// may end.
     ///
     /// # Errors
     ///
-    /// `TooLong` exactly where the events of all runs together would be more than 2^62, judged
-    /// before memory is asked for; `Memory` where memory was refused. After either the world is as
-    /// it was.
+    /// `TooLong` exactly if the events of all runs together would be more than 2^62, judged before
+    /// memory is asked for; `Memory` if memory was refused. After either the world is as it was.
     pub fn run(&mut self, events: &[Event]) -> Result<(), ProbeFault>
         ensures order { self.new.order ≡ self.old.order }
         ensures world { OnOk result
@@ -88,7 +87,7 @@ impl<O: ProbeOrder> World<O> {
         Ok(())
     }
 
-    /// The calls that have ended, in the order of their last steps. It takes no memory.
+    /// Returns the calls that have ended, in the order of their last steps. It takes no memory.
     pub fn history(&self) -> &[Finished]
         ensures value { result.now ≡ self.now.world.finished }
         ensures lawful { IsLawful (2 ^ O.exponent self.now.order) self.now.world }
@@ -96,7 +95,7 @@ impl<O: ProbeOrder> World<O> {
         &self.hall.finished
     }
 
-    /// The words: 0 where a place is free, else its key and 1 more. It takes no memory.
+    /// Returns the words: 0 for a free place, else its key plus 1. It takes no memory.
     pub fn words(&self) -> &[u64]
         ensures value { result.now ≡ self.now.world.words }
         ensures lawful { IsLawful (2 ^ O.exponent self.now.order) self.now.world }
@@ -105,7 +104,7 @@ impl<O: ProbeOrder> World<O> {
     }
 }
 
-/// How many of these events may end a call.
+/// Counts the events that may end a call: the steps.
 fn count_steps(events: &[Event]) -> usize
     ensures { result ≡ count_by is_step events.now }
 {

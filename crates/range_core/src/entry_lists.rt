@@ -1,11 +1,12 @@
-//! Entries in the order in which they were appended.
+//! A list of entries, in the order in which they were appended.
 ghost use Rattle.std.specs.Prelude.{◌≡◌, IfOk};
 
 use shape_dict::Entry;
 use std::alloc::{AllocError, Global};
 use std::marker::Model;
 
-/// Entries, each of which counts something. A pattern may have several. Contracts see their list.
+/// A list of entries, each of which counts something. A pattern may have several entries. Contracts
+/// see the list.
 #[derive(Drop)]
 pub struct EntryList {
     entries: Vec<Entry>,
@@ -28,7 +29,7 @@ impl EntryList {
     ghost use Rattle.std.specs.Prelude.{IfOk, IfSome, IfNone, OnOk, OnErr};
     ghost use Rattle.range_core.specs.Entries.{IsCountedEntry};
 
-    /// No entries. It takes no memory.
+    /// An empty list. It takes no memory.
     pub fn new(alloc: Global) -> EntryList
         ensures { result ≡ [] }
     {
@@ -37,11 +38,11 @@ impl EntryList {
         }
     }
 
-    /// No entries, and room for this many. It takes 32 bytes for each.
+    /// An empty list with room for this many entries. It takes 32 bytes for each.
     ///
     /// # Errors
     ///
-    /// `AllocError` where memory was refused.
+    /// `AllocError` if memory was refused.
     pub(crate) fn with_room(alloc: Global, room: usize) -> Result<EntryList, AllocError>
         ensures { IfOk result (λ list. list ≡ []) }
     {
@@ -67,11 +68,11 @@ impl EntryList {
         self.entries
     }
 
-    /// Appends an entry, which must count something. It takes memory where the list is full.
+    /// Appends an entry, which must count something. It takes memory if the list is full.
     ///
     /// # Errors
     ///
-    /// `AllocError` where memory was refused: nothing changes then.
+    /// `AllocError` if memory was refused: nothing changes then.
     #[inline(always)]
     pub(crate) fn push(&mut self, entry: Entry) -> Result<(), AllocError>
         requires { 0 < entry.there + entry.played }
@@ -84,7 +85,7 @@ impl EntryList {
         Ok(())
     }
 
-    /// Takes the last entry away, where there is one. The memory stays.
+    /// Removes the last entry and returns it, if there is one. The memory stays.
     #[inline(always)]
     pub(crate) fn pop(&mut self) -> Option<Entry>
         ensures some { IfSome result (λ last. (self.old ≡ self.new ++ last ∷ [])
@@ -95,7 +96,7 @@ impl EntryList {
         Some(last)
     }
 
-    /// Takes all entries away. The memory stays.
+    /// Removes all entries. The memory stays.
     pub fn clear(&mut self)
         ensures { self.new ≡ [] }
     {

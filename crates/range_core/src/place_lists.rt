@@ -1,4 +1,4 @@
-//! What one worker has met: entries in lists by ranges of the shared table's places.
+//! The entries of one worker, in lists by ranges of the shared table's places.
 ghost use Rattle.std.specs.Prelude.{◌≡◌, ◌+◌, ◌<◌, ℕ, IfOk, OnOk, OnErr};
 ghost use Rattle.range_core.specs.Totals.{total_of, together, count_at};
 
@@ -10,13 +10,13 @@ use shape_dict::Entry;
 use std::alloc::{AllocError, Global};
 use std::marker::Model;
 
-/// How many ranges by places there are.
+/// How many ranges of places there are.
 pub const PLACE_RANGES: usize = 512;
 
 /// How many entries a list has room for at least.
 const LEAST_ROOM: usize = 16;
 
-/// The entries that were added up, in a list with this room.
+/// The entries of sums, in a list with room for this many.
 fn listed(alloc: Global, sums: &Sums, room: usize) -> Result<RecordList, AllocError>
     ensures { IfOk result (λ list. (shape : ℕ) → total_of shape list ≡ total_of shape sums.now) }
 {
@@ -25,8 +25,8 @@ fn listed(alloc: Global, sums: &Sums, room: usize) -> Result<RecordList, AllocEr
     Ok(list)
 }
 
-/// Adds up the entries of a full list, and doubles its capacity where the sums fill more than half.
-/// Where memory for the sums is refused, or one passes 2^64 - 1, the list is unchanged.
+/// Adds up the entries of a full list, and doubles its capacity if the sums fill more than half. If
+/// memory for the sums is refused, or one passes 2^64 - 1, the list is unchanged.
 #[inline(never)]
 fn make_room(alloc: Global, sums: &mut Sums, list: &mut RecordList)
     ensures { (shape : ℕ) → total_of shape list.new ≡ total_of shape list.old }
@@ -45,8 +45,8 @@ fn make_room(alloc: Global, sums: &mut Sums, list: &mut RecordList)
     }
 }
 
-/// Appends an entry, which must count something, to a list, for which room is made where it has
-/// none.
+/// Appends an entry, which must count something, to a list. If the list is full, room is made
+/// first.
 #[inline(always)]
 fn append_to(
     alloc: Global,
@@ -66,7 +66,8 @@ fn append_to(
     Ok(())
 }
 
-/// Entries in lists, each of which has the patterns of its own range. Contracts see the lists.
+/// Lists of entries, each of which has the patterns of its own range of places. Contracts see the
+/// lists.
 #[derive(Drop)]
 pub struct PlaceLists {
     alloc: Global,
@@ -94,11 +95,11 @@ impl PlaceLists {
     ghost use Rattle.range_core.specs.Ranges.{AreDealtBy};
     ghost use Rattle.range_core.specs.Places.{place_ranges, range_of_place};
 
-    /// No entries, and room for this many in each list. It takes memory for that.
+    /// Empty lists, each with room for this many entries. It takes memory for that.
     ///
     /// # Errors
     ///
-    /// `AllocError` where memory was refused.
+    /// `AllocError` if memory was refused.
     pub fn new(alloc: Global, room: usize) -> Result<PlaceLists, AllocError>
         ensures { IfOk result (λ lists. lists ≡ replicate place_ranges []) }
     {
@@ -109,13 +110,13 @@ impl PlaceLists {
         })
     }
 
-    /// Appends an entry, which must count something, to the list of its pattern's range. Where that
-    /// list has no room, the entries that it has are added up first. It takes memory where more
-    /// than half of its room is then still in use.
+    /// Appends an entry, which must count something, to the list of its pattern's range. If that
+    /// list is full, its entries are added up first. It takes memory if more than half of its room
+    /// is then still in use.
     ///
     /// # Errors
     ///
-    /// `AllocError` where memory was refused: each pattern counts what it counted before.
+    /// `AllocError` if memory was refused: each pattern counts what it counted before.
     #[inline(always)]
     pub fn append(&mut self, entry: Entry) -> Result<(), AllocError>
         requires { 0 < entry.there + entry.played }

@@ -1,4 +1,4 @@
-//! The places of rows, each found by its pattern: open addressing, each place followed by the next.
+//! Finds the row of a pattern in a list of rows, by open addressing from place to next place.
 ghost use Rattle.std.specs.Prelude.{◌≡◌, ◌+◌, ◌<◌, ℕ, [], not, length, IfSome, OnOk};
 ghost use Rattle.range_core.specs.Entries.{IsShape};
 ghost use Rattle.range_core.specs.Places.{mixed_of, home_of};
@@ -9,11 +9,11 @@ use shape_core::{Shape, Word, canonical};
 use shape_dict::{Entry, FirstGame};
 use std::alloc::AllocError;
 
-/// What the words of patterns are multiplied by: 2^64 over the golden ratio, made odd, as for the
-/// first places of the shared table. So a range of patterns has a part of that table.
+/// The factor by which words of patterns are multiplied: 2^64 over the golden ratio, made odd, as
+/// for the first places of the shared table. So each range of patterns has its part of that table.
 pub const MULTIPLIER: u64 = 0x9E37_79B9_7F4A_7C15;
 
-/// What the places of a pattern are taken from.
+/// The product of a pattern's word and the factor, from which its first place is taken.
 #[inline(always)]
 fn mixed(factor: u64, shape: Shape) -> u64
     ensures { result ≡ mixed_of factor shape }
@@ -49,8 +49,8 @@ pub fn is_free(row: &Entry) -> bool
     row.there == 0 && row.played == 0
 }
 
-/// Where a pattern's way leads to, from its first place on: to its row, or to the first free place.
-/// None where no place is free.
+/// The place of a pattern's row, or else the first free place, from its first place on. None if it
+/// has no row and no place is free.
 #[inline(always)]
 pub fn find(factor: u64, rows: &[Entry], shape: Shape) -> Option<usize>
     requires { AreRows factor rows.now }
@@ -71,7 +71,7 @@ pub fn find(factor: u64, rows: &[Entry], shape: Shape) -> Option<usize>
     None
 }
 
-/// The row of a place that is free.
+/// A row that counts nothing, for a free place.
 fn free_row() -> Entry
     ensures shape { IsShape result }
     ensures free { result.there + result.played ≡ 0 }
@@ -90,11 +90,11 @@ fn free_row() -> Entry
     }
 }
 
-/// Has this many places, all free. It takes memory where there were fewer.
+/// Makes `rows` have this many places, all free. It takes memory if there were fewer.
 ///
 /// # Errors
 ///
-/// `AllocError` where memory was refused: there is no place then.
+/// `AllocError` if memory was refused: there is no place then.
 pub fn free_rows(rows: &mut Vec<Entry>, places: usize) -> Result<(), AllocError>
     ensures rows { (factor : ℕ) → AreRows factor rows.new.items }
     ensures free { taken_of rows.new.items ≡ [] }

@@ -1,17 +1,17 @@
-//! An entry in 16 bytes, where what it counts is small enough for that.
+//! Packs an entry into 16 bytes, if what it counts is small enough for that.
 ghost use Rattle.std.specs.Prelude.{◌≡◌, IfSome};
 ghost use Rattle.range_core.specs.Inner.Records.{entry_of};
 
 use shape_core::Shape;
 use shape_dict::{Entry, FirstGame};
 
-/// The first games that a record has room for are below this.
+/// A record has room for a first game below this.
 const GAMES: u64 = 1 << 28;
 
-/// How often a pattern was played is below this.
+/// A record has room for a number of plays below this.
 const PLAYS: u64 = 1 << 12;
 
-/// How often it was there is below this.
+/// A record has room for how often a pattern was there, below this.
 const THERES: u64 = 1 << 24;
 
 /// An entry whose numbers are small: how often its pattern was there, how often it was played, and
@@ -22,7 +22,7 @@ pub(crate) struct Record {
     sums: u64,
 }
 
-/// The record of an entry. None where it has no first game, or a number is too large.
+/// The record of an entry, or None if its first game is unknown or a number is too large.
 #[inline(always)]
 pub(crate) fn packed(entry: &Entry) -> Option<Record>
     ensures { IfSome result (λ one. entry_of one ≡ entry.now) }

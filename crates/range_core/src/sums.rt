@@ -1,5 +1,5 @@
-//! What entries count of each pattern together: a row for each pattern, in a map that is small
-//! enough for a near cache.
+//! Adds up the entries of each pattern: a row for each pattern, in a map that is small enough for a
+//! near cache.
 ghost use Rattle.std.specs.Prelude.{◌≡◌, ◌+◌, ◌^◌, ◌≤◌, IfSome, IfNone};
 ghost use Rattle.range_core.specs.Totals.{earlier};
 ghost use Rattle.range_core.specs.Inner.Sums.{summed_row};
@@ -12,10 +12,11 @@ use shape_dict::{Entry, FirstGame};
 use std::alloc::{AllocError, Global};
 use std::marker::Model;
 
-/// What the words are multiplied by: the patterns of one range by places differ in what is left.
+/// The factor by which words are multiplied here: the patterns of one range of places differ in the
+/// bits that are left.
 const FACTOR: u64 = MULTIPLIER.wrapping_mul(PLACE_RANGES as u64);
 
-/// The lesser of two games, where one is known.
+/// The lesser of two first games, or the known one if only one is known.
 #[inline(always)]
 fn least(one: FirstGame, other: FirstGame) -> FirstGame
     ensures { result ≡ earlier one other }
@@ -27,7 +28,8 @@ fn least(one: FirstGame, other: FirstGame) -> FirstGame
     }
 }
 
-/// Two entries of one pattern together. None where a sum passes 2^64 - 1.
+/// The sum of two entries of one pattern, with the lesser first game. None if a sum passes 2^64 -
+/// 1.
 #[inline(always)]
 pub(crate) fn joined(one: &Entry, other: &Entry) -> Option<Entry>
     ensures some { IfSome result (λ both. both ≡ record other.now {
@@ -46,8 +48,8 @@ pub(crate) fn joined(one: &Entry, other: &Entry) -> Option<Entry>
     })
 }
 
-/// A row that was found for an entry's pattern, or is free, once it counts the entry besides. None
-/// where a sum passes 2^64 - 1.
+/// The row with the entry added to it. It is the row of the entry's pattern, or a free one. None if
+/// a sum passes 2^64 - 1.
 #[inline(always)]
 fn summed(row: &Entry, entry: &Entry) -> Option<Entry>
     ensures { IfSome result (λ more. more ≡ summed_row row.now entry.now) }
@@ -58,19 +60,19 @@ fn summed(row: &Entry, entry: &Entry) -> Option<Entry>
     joined(row, entry)
 }
 
-/// How many places there are for this many entries, so that none is without a place.
+/// How many places are needed so that none of this many entries is without a place.
 pub(crate) fn places_for(entries: usize) -> usize {
     entries.saturating_add(entries / 3).saturating_add(8)
 }
 
-/// The entries of patterns, each pattern once, with its sums and its least first game. Contracts
-/// see these entries, in the order of their places.
+/// A map of patterns, each once, with the sums of its entries and its least first game. Contracts
+/// see the summed entries, in the order of their places.
 #[derive(Drop)]
 pub struct Sums {
     rows: Vec<Entry>,
     /// How many rows count something.
     taken: usize,
-    /// How many rows may count something: with more the ways are long.
+    /// How many rows may count something: with more, finding a row takes long.
     most: usize,
 }
 
@@ -93,7 +95,7 @@ impl Sums {
     ghost use Rattle.shape_dict.specs.declared.entries.Entry.{Entry};
     ghost use Rattle.range_core.specs.Totals.{count_at, together, total_of};
 
-    /// No entries. It takes no memory.
+    /// An empty map. It takes no memory.
     pub fn new(alloc: Global) -> Sums
         ensures { result ≡ [] }
     {
@@ -104,11 +106,11 @@ impl Sums {
         }
     }
 
-    /// Forgets all entries, and has this many places. It takes memory where there were fewer.
+    /// Removes all entries, and makes this many places. It takes memory if there were fewer.
     ///
     /// # Errors
     ///
-    /// `AllocError` where memory was refused.
+    /// `AllocError` if memory was refused.
     pub(crate) fn clear(&mut self, places: usize) -> Result<(), AllocError>
         ensures { self.new ≡ [] }
     {
@@ -122,8 +124,8 @@ impl Sums {
         self.taken
     }
 
-    /// Adds an entry to the sums of its pattern. The answer is whether it was added: not what
-    /// counts nothing, nor where a sum passes 2^64 - 1, or no place is left.
+    /// Adds an entry to the sums of its pattern. Returns whether it was added: false if it counts
+    /// nothing, if a sum would pass 2^64 - 1, or if no place is left.
     #[inline(always)]
     pub(crate) fn add(&mut self, entry: &Entry) -> bool
         ensures { OnTrue result ((shape : ℕ) → total_of shape self.new
@@ -149,7 +151,8 @@ impl Sums {
         true
     }
 
-    /// Adds entries, each to the sums of its pattern. The answer is whether all were added.
+    /// Adds each entry to the sums of its pattern. Returns false at the first that `add` can't add;
+    /// those before it stay added.
     pub(crate) fn add_all(&mut self, entries: &[Entry]) -> bool
         ensures { OnTrue result ((shape : ℕ) → total_of shape self.new
             ≡ together (total_of shape self.old) (total_of shape entries.now)) }
@@ -166,7 +169,7 @@ impl Sums {
     ///
     /// # Errors
     ///
-    /// `AllocError` where memory was refused: some may have been appended then.
+    /// `AllocError` if memory was refused: some may have been appended then.
     pub fn append_to(&self, list: &mut EntryList) -> Result<(), AllocError>
         ensures { OnOk result (list.new ≡ list.old ++ self.now) }
     {
@@ -182,7 +185,7 @@ impl Sums {
     ///
     /// # Errors
     ///
-    /// `AllocError` where memory was refused: some may have been added then.
+    /// `AllocError` if memory was refused: some may have been added then.
     pub(crate) fn add_to(&self, list: &mut RecordList) -> Result<(), AllocError>
         ensures { OnOk result ((shape : ℕ) → total_of shape list.new
             ≡ together (total_of shape list.old) (total_of shape self.now)) }

@@ -17,7 +17,8 @@ pub(crate) fn is_letter(byte: u8) -> bool
     byte.is_ascii_alphabetic()
 }
 
-/// Whether this is the name of the property with this identifier.
+/// Whether `name` is the name of a property with this identifier: the identifier's upper-case
+/// letters, in order.
 pub(crate) fn is_name_of(name: &[u8], identifier: &[u8]) -> bool
     ensures { IsTrue result ↔ (name_of identifier.now ≡ name.now) }
 {

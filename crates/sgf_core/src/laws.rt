@@ -7,8 +7,8 @@ ghost use Rattle.sgf_core.specs.Next.{IsNextTree, HasNoTree};
 ghost use Rattle.sgf_core.specs.Reading.{IsFaultAt};
 ghost use Rattle.sgf_core.specs.declared.faults.SgfFault.{SgfFault};
 
-/// From a place on at most one tree is next, with one place where it begins and one where it ends.
-/// So the tree that is read is the one that is next.
+/// At most one tree is next from a given place on, with one place where it begins and one where it
+/// ends. So the tree that is read is the one that is next.
 pub fn one_next_tree()
     ensures { (bytes : List ℕ) (from at end : ℕ) (tree : GameTree) (other_at other_end : ℕ)
         (other : GameTree)
@@ -16,14 +16,15 @@ pub fn one_next_tree()
         → (at ≡ other_at) × (end ≡ other_end) × (tree ≡ other) }
 {}
 
-/// From a place on the next tree has at most one fault. So the fault that is answered is the one
-/// that it has.
+/// The next tree from a given place on has at most one fault. So the fault that is answered is the
+/// one that it has.
 pub fn one_fault()
     ensures { (bytes : List ℕ) (from : ℕ) (fault other : SgfFault)
         → IsFaultAt bytes from fault → IsFaultAt bytes from other → fault ≡ other }
 {}
 
-/// From a place on no two of these hold: a tree is next, the next tree has a fault, no tree begins.
+/// At most one of these holds from a given place on: a tree is next, the next tree has a fault, or
+/// no tree begins.
 pub fn one_answer()
     ensures tree_or_fault { (bytes : List ℕ) (from at end : ℕ) (tree : GameTree) (fault : SgfFault)
         → IsNextTree bytes from at end tree → IsFaultAt bytes from fault → ⊥ }
@@ -33,8 +34,8 @@ pub fn one_answer()
         → IsFaultAt bytes from fault → HasNoTree bytes from → ⊥ }
 {}
 
-/// A tree's main line has fewer values than the tree has bytes. So what is counted over the trees
-/// of a collection stays below the limit of its input.
+/// A tree's main line has fewer values than the tree has bytes. So a count of values over the trees
+/// of a collection stays below the limit on the input's bytes.
 pub fn few_values()
     ensures { (bytes : List ℕ) (from at end : ℕ) (tree : GameTree)
         → IsNextTree bytes from at end tree → at + value_count (main_line_of tree) < end }

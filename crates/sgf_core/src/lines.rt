@@ -7,7 +7,8 @@ use crate::marks::{Mark, Prop};
 use std::iter::FusedIterator;
 use std::marker::Model;
 
-/// The nodes of a main line, in order. It reads the tree's marks as it goes, and takes no memory.
+/// An iterator over the nodes of a tree's main line: from the root, always by the first variation.
+/// It reads the tree's marks as it goes, and takes no memory.
 #[derive(Debug, Drop)]
 pub struct MainLine<'t, 'a> {
     marks: &'t [Mark<'a>],
@@ -23,7 +24,7 @@ impl<'t, 'a> Model for MainLine<'t, 'a> {
     ghost view = { λ line. line_of line.marks.now };
 }
 
-/// The place of the first node's mark, where one comes before the first end of a tree.
+/// The index of the first node's mark, or None if no node comes before the first end of a tree.
 fn node_place(marks: &[Mark<'_>]) -> Option<usize>
     ensures { MatchOption result (line_of marks.now ≡ []) (λ place. (place < length marks.now)
         × (line_of marks.now ≡ leading_properties (drop (place + 1) marks.now) ∷ line_of
@@ -83,7 +84,7 @@ impl<'t, 'a> Model for Node<'t, 'a> {
 }
 
 impl<'t, 'a> Node<'t, 'a> {
-    /// The properties, in order. Nothing is copied.
+    /// The node's properties, in order. Nothing is copied.
     pub fn props(&self) -> Props<'t, 'a>
         ensures { result ≡ self.now }
     {
@@ -91,7 +92,8 @@ impl<'t, 'a> Node<'t, 'a> {
     }
 }
 
-/// The properties of a node, in order. It reads the tree's marks as it goes, and takes no memory.
+/// An iterator over the properties of a node, in order. It reads the tree's marks as it goes, and
+/// takes no memory.
 #[derive(Debug, Drop)]
 pub struct Props<'t, 'a> {
     marks: &'t [Mark<'a>],

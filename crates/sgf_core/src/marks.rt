@@ -11,7 +11,7 @@ use std::marker::Model;
 /// with their escapes.
 #[derive(Clone, Copy, Debug, Default, PartialEq, Eq)]
 pub struct Value<'a> {
-    /// The place of its first byte, which comes after the bracket: a byte offset in the whole
+    /// The place of its first byte, the one after the opening bracket: a byte offset in the whole
     /// input, from 0.
     pub at: usize,
     /// Its bytes: a slice of the input.
@@ -40,15 +40,15 @@ impl<'a> Model for Prop<'a> {
 }
 
 impl<'a> Prop<'a> {
-    /// Whether this is the property's name: the upper-case letters of its identifier, in order. So
-    /// `Black` is `B` and `SiZe` is `SZ`, as in older formats (this project's own reading).
+    /// Whether `name` is the property's name: the upper-case letters of its identifier, in order.
+    /// So `Black` is `B` and `SiZe` is `SZ`, as in older formats (this project's own reading).
     pub fn is(&self, name: &[u8]) -> bool
         ensures { IsTrue result ↔ (name_of self.now.identifier ≡ name.now) }
     {
         is_name_of(name, self.identifier)
     }
 
-    /// The values, in order. Nothing is copied.
+    /// The property's values, in order. Nothing is copied.
     pub fn values(&self) -> &[Value<'a>]
         ensures { map value_of result.now ≡ self.now.values }
     {

@@ -19,8 +19,8 @@ use crate::scan::white_end;
 use crate::written::Tree;
 use std::alloc::Global;
 
-/// The next mark from `from` on of the tree that begins at `at`, and the place after it. None
-/// stands for a property for whose values memory was refused.
+/// Reads the next mark, from `from` on, of the tree that begins at `at`, and returns it with the
+/// place after it. The mark is None if it is a property for whose values memory was refused.
 fn read_mark<'a>(
     alloc: Global,
     bytes: &'a [u8],
@@ -66,7 +66,7 @@ enum Turn {
     Closes,
 }
 
-/// What the mark does that was read; None stands for a property.
+/// What a mark that was read does to the number of open trees. None stands for a property.
 fn turn_of(mark: &Option<Mark<'_>>) -> Turn
     ensures { (read : Part) → IsKept mark.now read → IsTurn read result }
 {
@@ -81,7 +81,7 @@ fn turn_of(mark: &Option<Mark<'_>>) -> Turn
     }
 }
 
-/// Keeps a mark, if all before it were kept; the answer is whether all are.
+/// Appends a mark if all marks before it were kept, and returns whether all are kept now.
 fn keep_mark<'a>(marks: &mut Vec<Mark<'a>>, mark: Option<Mark<'a>>, kept: bool) -> bool
     ensures { result ≡ true → (kept ≡ true)
         × IsSomeAnd mark.entry (λ one. marks.new.items ≡ marks.old.items ++ one ∷ []) }
@@ -98,8 +98,8 @@ fn keep_mark<'a>(marks: &mut Vec<Mark<'a>>, mark: Option<Mark<'a>>, kept: bool) 
     }
 }
 
-/// Reads the tree whose first parenthesis is at `at`. Where memory was refused the rest is read all
-/// the same, and no longer kept: so out of memory is answered only where a tree is there.
+/// Reads the tree whose first parenthesis is at `at`. If memory is refused, the rest is read all
+/// the same, but no longer kept: so `Memory` is answered only if a whole tree is there.
 pub(crate) fn read_tree<'a>(alloc: Global, bytes: &'a [u8], at: usize) -> Result<Tree<'a>, SgfFault>
     requires small { length bytes.now ≤ most_bytes }
     requires begins { BeginsTree (drop at bytes.now) }

@@ -12,7 +12,7 @@ use crate::scan::{letters_end, value_end, white_end};
 use smallvec::SmallVec;
 use std::alloc::Global;
 
-/// Keeps a value, if all before it were kept; the answer is whether all are.
+/// Appends a value if all values before it were kept, and returns whether all are kept now.
 fn keep_value<'a>(values: &mut SmallVec<Value<'a>, 1>, value: Value<'a>, kept: bool) -> bool
     ensures { result ≡ true → (kept ≡ true) × (map value_of values.new.items
         ≡ map value_of values.old.items ++ value_of value.entry ∷ []) }
@@ -26,10 +26,10 @@ fn keep_value<'a>(values: &mut SmallVec<Value<'a>, 1>, value: Value<'a>, kept: b
     }
 }
 
-/// The property whose identifier begins at `from`, in the tree that begins at `at`, and the place
-/// after its values and the white bytes after them. Where memory was refused for a value, None
-/// stands for the property: the other values are read all the same, since out of memory comes after
-/// each fault.
+/// Reads the property whose identifier begins at `from`, in the tree that begins at `at`. Returns
+/// it with the place after its values and the white bytes after them. The property is None if
+/// memory was refused for a value: the other values are read all the same, since any fault comes
+/// before out of memory.
 pub(crate) fn read_property<'a>(
     alloc: Global,
     bytes: &'a [u8],

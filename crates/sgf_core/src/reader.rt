@@ -49,7 +49,7 @@ impl<'a> Model for Trees<'a> {
     }) };
 }
 
-/// The first place from `from` on at which a tree begins.
+/// The first place from `from` on at which a tree begins, or None if none begins.
 fn first_begin(bytes: &[u8], from: usize) -> Option<usize>
     requires { from ≤ length bytes.now }
     ensures { MatchOption result (HasNoTree bytes.now from) (λ at. IsFirstBegin bytes.now from at) }
@@ -65,7 +65,7 @@ fn first_begin(bytes: &[u8], from: usize) -> Option<usize>
     None
 }
 
-/// The fault that each later call answers: none after a lack of memory, since memory may come free.
+/// The fault that each later call answers: None after out of memory, since memory may come free.
 fn kept(fault: SgfFault) -> Option<SgfFault>
     ensures { result ≡ kept_fault fault }
 {
@@ -80,7 +80,7 @@ impl<'a> Trees<'a> {
     ///
     /// # Errors
     ///
-    /// `TooLarge` where the input has more than `MOST_BYTES` bytes, 2^28. No reader is made then.
+    /// `TooLarge` if the input has more than `MOST_BYTES` bytes, 2^28. No reader is made then.
     pub fn new(bytes: &'a [u8]) -> Result<Trees<'a>, SgfFault>
         ensures small { IsOk result ↔ (length bytes.now ≤ most_bytes) }
         ensures begins { IfOk result (λ trees. trees
@@ -97,17 +97,17 @@ impl<'a> Trees<'a> {
         })
     }
 
-    /// The next tree, or `None` where no tree begins any more.
+    /// The next tree, or `None` if no tree begins any more.
     ///
     /// # Errors
     ///
-    /// `Truncated` where the input ends within the next tree, `NoValue` where something else comes
-    /// in place of an identifier's first value, and `BadByte` at any other byte that can't come
-    /// where it is. The reader keeps such a fault, and each later call answers the same.
+    /// `Truncated` if the input ends within the next tree, `NoValue` if something else comes in
+    /// place of an identifier's first value, and `BadByte` at any other byte that can't come where
+    /// it is. The reader keeps such a fault, and each later call answers the same.
     ///
-    /// `Memory` where memory was refused for the tree's marks or for the values of a property
-    /// beside the first: only where a tree is next, and never in place of a fault. The reader is
-    /// then as it was before the call, so the call may be tried again.
+    /// `Memory` if memory was refused for the tree's marks or for a property's values other than
+    /// its first: only if a tree is next, and never in place of a fault. The reader is then as it
+    /// was before the call, so the call may be tried again.
     pub fn next_tree(&mut self, alloc: Global) -> Result<Option<Tree<'a>>, SgfFault>
         ensures tree { IfOk result (λ found. IfSome found (λ read. (tree : GameTree)
             × IsNextTree self.old.bytes self.old.from read.at read.end tree

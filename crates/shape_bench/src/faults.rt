@@ -1,18 +1,18 @@
-//! Why the program ends without its lines.
+//! Why the program ends without printing its lines.
 ghost use Rattle.std.specs.Prelude.{◌≡◌};
 ghost use Rattle.shape_bench.specs.declared.faults.BenchFault.TheVariants as fault;
 
 use go_board::BoardFault;
 use std::{fmt, io};
 
-/// What ends the program with status 2.
+/// What ends the program with exit status 2.
 #[derive(Debug, Drop)]
 pub enum BenchFault {
-    /// The words are not one whole number below 2^32.
+    /// The words are more than one, or the word is no whole number below 2^32.
     Usage,
     /// Memory was refused.
     Memory,
-    /// The results had a value that they can't have.
+    /// The results had a value that results can't have.
     Results,
     /// The arguments, the clock or standard output failed.
     System(io::Error),

@@ -1,5 +1,5 @@
-//! Numbers that look drawn by chance, the same at every run: each is the one before times a
-//! constant.
+//! A generator of numbers that look drawn by chance and are the same at every run: each is the one
+//! before times a constant.
 ghost use Rattle.std.specs.Prelude.{◌≡◌};
 ghost use Rattle.go_board.specs.Point.{IsOn};
 ghost use Rattle.shape_bench.specs.Drawn.{next_of, word_of, point_of};
@@ -7,24 +7,24 @@ ghost use Rattle.shape_bench.specs.Drawn.{next_of, word_of, point_of};
 use go_board::{Point, Size};
 use shape_core::Word;
 
-/// What each number is multiplied by, of 64 bits: Knuth's, for his generator MMIX.
+/// The constant that each number is multiplied by, of 64 bits: Knuth's, for his generator MMIX.
 const MULTIPLIER: u64 = 6364136223846793005;
 
-/// A generator, with the number that it gave last. Where that is odd, the next is too.
+/// A generator, with the number that it gave last. If that is odd, the next is too.
 #[derive(Drop)]
 pub struct Generator {
     state: u64,
 }
 
 impl Generator {
-    /// The generator that begins after 1.
+    /// Makes the generator that begins after 1.
     pub fn new() -> Generator
         ensures { result.state ≡ 1 }
     {
         Generator { state: 1 }
     }
 
-    /// The next number: the last times the constant, without what 64 bits don't hold.
+    /// Returns the next number: the last one times the constant, without what 64 bits don't hold.
     fn next(&mut self) -> u64
         ensures value { result ≡ next_of self.old.state }
         ensures kept { self.new.state ≡ result }
@@ -33,7 +33,7 @@ impl Generator {
         self.state
     }
 
-    /// The word of the upper 51 bits of the next number: a square or a diamond.
+    /// Returns the word of the upper 51 bits of the next number: a square or a diamond.
     pub fn word(&mut self) -> Word
         ensures value { result ≡ word_of (next_of self.old.state) }
         ensures kept { self.new.state ≡ next_of self.old.state }
@@ -41,8 +41,8 @@ impl Generator {
         Word::new(self.next() >> 13).unwrap()
     }
 
-    /// A point of a board of this size, by the upper 32 bits of the next number: 16 for each of its
-    /// coordinates.
+    /// Returns a point of a board of this size, by the upper 32 bits of the next number: 16 for
+    /// each of its coordinates.
     pub fn point(&mut self, size: Size) -> Point
         ensures on_board { IsOn size result }
         ensures value { result ≡ point_of size (next_of self.old.state) }

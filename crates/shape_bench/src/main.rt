@@ -1,7 +1,7 @@
-//! How many canonical forms and field plays a second takes.
+//! Measures how many canonical forms and field plays are made in a second.
 //!
-//! Without a word it makes a fixed number of each and prints how many. With a whole number N it
-//! makes N times as many, and prints besides how many it made in a second.
+//! Without a word on the command line it makes a fixed number of each and prints how many. With a
+//! whole number N it makes N times as many, and also prints how many it made in a second.
 #![tactic(auto)]
 
 ghost use Rattle.std.specs.Prelude.{◌≡◌, ◌≢◌, ◌%◌, IsOk};
@@ -18,7 +18,7 @@ use std::env;
 use std::process::ExitCode;
 use std::time::Instant;
 
-/// The number that is asked for, or None where there is no word.
+/// Returns the number that the command line asks for, or None if it has no word.
 fn times_asked(rt: &HostRuntime) -> Result<Option<u32>, BenchFault> {
     let mut words = env::args(rt)?.skip(1);
     let Some(word) = words.next() else {
@@ -33,8 +33,8 @@ fn times_asked(rt: &HostRuntime) -> Result<Option<u32>, BenchFault> {
     }
 }
 
-/// Looks at the results, so that none can be left out. It fails only where they had a value that
-/// they can't have.
+/// Looks at the results, so that none can be left out. It fails only if they have a value that
+/// results can't have.
 fn look_at(made: &Made) -> Result<(), BenchFault>
     ensures passed { IsOk result → made.now.mixed ≢ 0 }
     ensures odd { made.now.mixed % 2 ≡ 1 → IsOk result }
@@ -72,7 +72,7 @@ fn main(rt: HostRuntime) -> ExitCode {
     match run(&rt) {
         Ok(()) => ExitCode::SUCCESS,
         Err(fault) => {
-            // Where standard error takes nothing, the status still says that it failed.
+            // Even if standard error takes nothing, the status says that it failed.
             let _ = eprintln!(rt; "shape_bench: {fault}");
             ExitCode::from(2)
         }

@@ -1,8 +1,8 @@
-//! How many of a thing are made in a second.
+//! Computes how many of a thing are made in a second.
 ghost use Rattle.std.specs.Prelude.{◌≡◌, ◌*◌, ◌/◌, max};
 
-/// How many a second, rounded down, where `count` took `nanos` nanoseconds. No time at all counts
-/// as one nanosecond.
+/// Returns how many are made in a second, rounded down, if `count` took `nanos` nanoseconds. No
+/// time at all counts as one nanosecond.
 pub fn a_second(count: u64, nanos: u128) -> u128
     ensures { result ≡ count * 1_000_000_000 / max nanos 1 }
 {

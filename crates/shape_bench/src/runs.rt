@@ -7,18 +7,18 @@ use go_board::{BoardFault, Colour, Size};
 use shape_core::{Field, canonical};
 use std::alloc::Global;
 
-/// How much a run made.
+/// What a run made.
 #[derive(Clone, Copy, Debug)]
 pub struct Made {
-    /// How many forms or plays.
+    /// How many forms or plays the run made.
     pub count: u64,
-    /// All the results mixed: odd, whatever they are. Since it is looked at, no result can be left
-    /// out.
+    /// All results mixed into one number, which is odd whatever they are. Since it is looked at, no
+    /// result can be left out.
     pub mixed: u64,
 }
 
 impl Made {
-    /// Nothing.
+    /// A run that has made nothing yet.
     fn new() -> Made
         ensures count { result.count ≡ 0 }
         ensures odd { result.mixed % 2 ≡ 1 }
@@ -26,7 +26,7 @@ impl Made {
         Made { count: 0, mixed: 1 }
     }
 
-    /// Mixes a result in, by a product of odd numbers and an even number that is added.
+    /// Mixes a result into the others: their number times an odd number, plus an even number.
     fn mix(&mut self, value: u64)
         requires { self.old.mixed % 2 ≡ 1 }
         ensures count { self.new.count ≡ self.old.count }
@@ -37,13 +37,13 @@ impl Made {
     }
 }
 
-/// How many forms a run makes if nothing is asked.
+/// How many forms a run makes if no number is asked for.
 pub const FORMS: u64 = 10_000;
 
-/// How many plays a run makes if nothing is asked.
+/// How many plays a run makes if no number is asked for.
 pub const PLAYS: u64 = 2_000;
 
-/// The one who makes the move of this number: Black the even ones, White the odd ones.
+/// Returns the colour that makes the move of this number: Black the even ones, White the odd ones.
 fn mover(number: u64) -> Colour
     ensures black { number % 2 ≡ 0 → result ≡ Colour.Black }
     ensures white { number % 2 ≡ 1 → result ≡ Colour.White }
@@ -56,7 +56,7 @@ fn mover(number: u64) -> Colour
 }
 
 /// Makes this number of canonical forms, of squares and of diamonds, for Black and White in turn.
-/// Takes no memory.
+/// It takes no memory.
 pub fn make_forms(count: u64) -> Made
     ensures count { result.count ≡ count }
     ensures odd { result.mixed % 2 ≡ 1 }
@@ -75,10 +75,10 @@ pub fn make_forms(count: u64) -> Made
 /// that keeps squares and diamonds.
 ///
 /// A move may go where a stone stands, and the board is never cleared. So it is soon as full as
-/// captures leave it, and where a move puts a stone in place of one of its own colour no word
+/// captures leave it, and if a move puts a stone in place of one of its own colour, no word
 /// changes.
 ///
-/// It takes memory for the field alone. `BoardFault::Memory` comes where memory is refused.
+/// It takes memory for the field alone. `BoardFault::Memory` comes if memory is refused.
 pub fn make_plays(alloc: Global, count: u64) -> Result<Made, BoardFault>
     ensures count { IfOk result (λ made. made.count ≡ count) }
     ensures odd { IfOk result (λ made. made.mixed % 2 ≡ 1) }

@@ -6,7 +6,7 @@ use crate::diamond_bits::DIAMOND_BITS;
 use crate::square_bits::SQUARE_BITS;
 use crate::words::Kind;
 
-/// The bits of a cell in the eight words of a kind.
+/// The bits of a cell in a word of this kind and its images: eight, in the order of `SQUARE_BITS`.
 #[inline(always)]
 pub fn cell_bits(kind: Kind, cell: usize) -> &'static [u64; 8]
     requires { cell < 25 }

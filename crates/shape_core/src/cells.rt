@@ -7,7 +7,8 @@ ghost use Rattle.shape_core.specs.Inner.Table.{Sees};
 
 use go_board::{Point, Size};
 
-/// How far a cell lies from the middle: columns to the right and rows down, each three more.
+/// How far a cell lies from the middle: columns to the right and rows down, each with three added
+/// so that none is below 0.
 pub type Away = (u8, u8);
 
 /// The cells of a square, row by row from the top, each row from the left.
@@ -33,7 +34,7 @@ pub const DIAMOND_CELLS: [Away; 25] = [
 ];
 
 /// How many cells a row of a pattern has to each side of the middle, and how many rows down it
-/// lies, three more.
+/// lies, with three added.
 pub type AwayRow = (u8, u8);
 
 /// The rows of a square, from the top.
@@ -42,7 +43,7 @@ pub const SQUARE_ROWS: [AwayRow; 5] = [(2, 1), (2, 2), (2, 3), (2, 4), (2, 5)];
 /// The rows of a diamond, from the top.
 pub const DIAMOND_ROWS: [AwayRow; 7] = [(0, 0), (1, 1), (2, 2), (3, 3), (2, 4), (1, 5), (0, 6)];
 
-/// The point at this distance from a point, or None where that is off the board.
+/// The point at this distance from a point, or None if that is off the board.
 pub fn reached(size: Size, point: Point, away: Away) -> Option<Point>
     requires on_board { IsOn size point }
     requires columns { away.0 ≤ 6 }
@@ -57,8 +58,8 @@ pub fn reached(size: Size, point: Point, away: Away) -> Option<Point>
     size.has(reached).then_some(reached)
 }
 
-/// The row of the points that have this one in a row so far down, or None where that is off the
-/// board.
+/// The row of the points whose patterns have `point` in the row `down`, which has three added as in
+/// `AwayRow`. None if that is off the board.
 pub fn row_seeing(size: Size, point: Point, down: u8) -> Option<u8>
     requires on_board { IsOn size point }
     requires extent { IsExtent size }

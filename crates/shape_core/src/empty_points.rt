@@ -17,7 +17,8 @@ pub struct EmptyPoints {
 }
 
 impl EmptyPoints {
-    /// Those of a board without stones. It takes memory for each row.
+    /// The empty points of a board without stones, which are all its points. It takes memory for
+    /// each row.
     pub fn new(alloc: Global, size: Size) -> Result<EmptyPoints, AllocError>
         ensures { IfOk result (λ empties. (position : Position) →
             ((q : Point) → IsOn size q → position q ≡ stone.Empty) →
@@ -28,7 +29,7 @@ impl EmptyPoints {
         Ok(EmptyPoints { rows })
     }
 
-    /// The same points again. It takes memory for each row.
+    /// A copy of these points. It takes memory for each row.
     pub fn copied(&self, alloc: Global) -> Result<EmptyPoints, AllocError>
         ensures { IfOk result (λ empties. empties.rows.items ≡ self.now.rows.items) }
     {
@@ -37,7 +38,7 @@ impl EmptyPoints {
         Ok(EmptyPoints { rows })
     }
 
-    /// Makes the points follow a stone set on a point, or the point emptied.
+    /// Updates the empty points after a stone was set on a point, or the point was emptied.
     pub fn put(&mut self, point: Point, stone: Stone)
         requires { (size : Extent) × RowsOf size self.old.rows.items × IsOn size point }
         ensures follow { (size : Extent) → (position : Position) → IsExtent size →
@@ -53,7 +54,7 @@ impl EmptyPoints {
         }
     }
 
-    /// Makes the points follow these points emptied.
+    /// Updates the empty points after these points were emptied.
     pub fn empty(&mut self, points: &[Point])
         requires { (size : Extent) × RowsOf size self.old.rows.items × All (IsOn size) points.now }
         ensures { (size : Extent) → (position : Position) → IsExtent size →

@@ -1,4 +1,4 @@
-//! Fields: boards that keep the words of all their points.
+//! Fields: boards that keep the pattern words of all their points.
 use crate::empty_points::EmptyPoints;
 use crate::kept::KeptWords;
 use crate::marks::move_marks;
@@ -8,7 +8,8 @@ use go_board::{Board, BoardFault, Colour, Played, Point, Replayable, Size, Stone
 use std::alloc::Global;
 use std::marker::Model;
 
-/// A board with the word of every point kept, and marks on the points whose words have changed.
+/// A board that keeps the pattern words of all its points, with marks on the points whose words
+/// have changed.
 ///
 /// All memory is taken by `new`, `with_kinds` and `copied`.
 #[derive(Drop)]
@@ -53,7 +54,7 @@ impl Field {
     ///
     /// # Errors
     ///
-    /// `BoardFault::Memory` where memory was refused. No field is made then.
+    /// `BoardFault::Memory` if memory was refused. No field is made then.
     pub fn new(alloc: Global, size: Size) -> Result<Field, BoardFault>
         ensures size { IfOk result (λ field. field.board.size ≡ size) }
         ensures empty { IfOk result
@@ -72,7 +73,7 @@ impl Field {
     ///
     /// # Errors
     ///
-    /// `BoardFault::Memory` where memory was refused. No field is made then.
+    /// `BoardFault::Memory` if memory was refused. No field is made then.
     pub fn with_kinds(alloc: Global, size: Size, kinds: Kinds) -> Result<Field, BoardFault>
         ensures size { IfOk result (λ field. field.board.size ≡ size) }
         ensures empty { IfOk result
@@ -97,7 +98,7 @@ impl Field {
     ///
     /// # Errors
     ///
-    /// `BoardFault::Memory` where memory was refused. No field is made then.
+    /// `BoardFault::Memory` if memory was refused. No field is made then.
     pub fn copied(&self, alloc: Global) -> Result<Field, BoardFault>
         ensures size { IfOk result (λ field. field.board.size ≡ self.now.board.size) }
         ensures stones { IfOk result (λ field. field.board.stones ≡ self.now.board.stones) }
@@ -160,7 +161,7 @@ impl Field {
         self.board.removed()
     }
 
-    /// The square of a point, as it is now. The point is on the board.
+    /// The word of a point's square, as the board is now. The point is on the board.
     pub fn word(&self, point: Point) -> Word
         requires { IsOn self.now.board.size point }
         ensures { result
@@ -169,7 +170,8 @@ impl Field {
         self.kept.squares[self.kept.size.index(point)].word()
     }
 
-    /// The diamond of a point, as it is now. The point is on the board, and diamonds are kept.
+    /// The word of a point's diamond, as the board is now. The point is on the board, and diamonds
+    /// are kept.
     pub fn diamond(&self, point: Point) -> Word
         requires on_board { IsOn self.now.board.size point }
         requires kept { self.now.kinds ≡ Kinds.Both }
@@ -192,7 +194,8 @@ impl Field {
         least_seen(self.kept.squares[self.kept.size.index(point)], mover)
     }
 
-    /// That of its diamond. The point is on the board, and diamonds are kept. Takes no memory.
+    /// The canonical pattern of a point's diamond with this colour to move, as `canonical` for
+    /// squares. The point is on the board, and diamonds are kept. Takes no memory.
     pub fn canonical_diamond(&self, point: Point, mover: Colour) -> Shape
         requires on_board { IsOn self.now.board.size point }
         requires kept { self.now.kinds ≡ Kinds.Both }
@@ -203,8 +206,8 @@ impl Field {
         least_seen(self.kept.diamonds[self.kept.size.index(point)], mover)
     }
 
-    /// Unmarks all points, and joins those that were marked to two sets, each of which has a number
-    /// with a bit for each column for each row, as the marks have.
+    /// Unmarks all points, and adds those that were marked to each of two sets. A set has a number
+    /// for each row, with a bit for each column, as the marks have.
     pub fn move_changed(&mut self, first: &mut [u64], second: &mut [u64])
         requires first { length first.old ≡ self.old.board.size.rows }
         requires second { length second.old ≡ self.old.board.size.rows }
@@ -220,8 +223,8 @@ impl Field {
 
     /// Puts a stone on a point, or empties it, whatever stood there; nothing is captured. The point
     /// is on the board. Each point of which a kept word changes is marked, and none that is more
-    /// than two columns or rows away, three where diamonds are kept; none at all where the stone
-    /// was there. Takes no memory.
+    /// than two columns or rows away, three if diamonds are kept; none at all if the stone was
+    /// there. Takes no memory.
     pub fn set(&mut self, point: Point, stone: Stone)
         requires { IsOn self.old.board.size point }
         ensures sets { SetsOn self.old.board point stone self.new.board }
@@ -238,11 +241,11 @@ impl Field {
         self.empties.put(point, stone);
     }
 
-    /// Plays a move, as the board does: the stone is placed, whatever stood there; then the stones
-    /// of the other colour next to it without a liberty are removed; then its own group if that has
-    /// none. The point is on the board. Each point of which a kept word changes is marked, and none
-    /// that is more than two columns or rows away, three where diamonds are kept, from the move's
-    /// point and all that it emptied. Takes no memory.
+    /// Plays a move, as the board does: the stone is placed, whatever stood there; then each group
+    /// of the other colour that is next to it and has no liberty is removed; then its own group, if
+    /// that has none. The point is on the board. Each point of which a kept word changes is marked,
+    /// and none that is more than two columns or rows away, three if diamonds are kept, from the
+    /// move's point and all that it emptied. Takes no memory.
     pub fn play(&mut self, colour: Colour, point: Point) -> Played
         requires { IsOn self.old.board.size point }
         ensures plays { PlaysOn self.old.board colour point self.new.board result }

@@ -15,11 +15,11 @@ use std::simd::prelude::*;
 pub struct ImagedWord {
     /// The word, and its image with rows for columns.
     pair: u64x2,
-    /// These two with left and right exchanged.
+    /// The pair with left and right exchanged.
     flipped: u64x2,
-    /// With top and bottom exchanged.
+    /// The pair with top and bottom exchanged.
     turned: u64x2,
-    /// With both.
+    /// The pair with both exchanged.
     both: u64x2,
 }
 
@@ -42,10 +42,10 @@ impl Model for ImagedWord {
     } };
 }
 
-/// A code in each of the 25 cells is this number times the code.
+/// The number with code 1 in each of the 25 cells. Times a code, it has that code in each.
 const ONES: u64 = 0x1555555555555;
 
-/// In each lane the word with this change of codes in the cells of these bits.
+/// In each lane, the word with its codes changed by exclusive or in the cells of these bits.
 fn changed(words: u64x2, bits: u64x2, changes: u64x2) -> u64x2
     ensures { (a b m n p : ℕ) → words ≡ a ∷ b ∷ [] → bits ≡ m ∷ n ∷ [] → changes ≡ p ∷ p ∷ []
         → result ≡ bit_xor a (bit_and p m) ∷ bit_xor b (bit_and p n) ∷ [] }
@@ -78,8 +78,8 @@ impl ImagedWord {
         Word::of_bits(word)
     }
 
-    /// The word with the code of one cell changed in the bits that this change has, with its
-    /// images.
+    /// The word, with its images, after the code of one cell is changed by exclusive or with
+    /// `change`.
     #[inline(always)]
     pub fn with_change(self, cell: usize, change: u8) -> ImagedWord
         requires cell { cell < 25 }

@@ -1,5 +1,5 @@
-//! Words kept as a stone changes: one code changed in each word that has the point among its cells,
-//! and marks.
+//! Updates kept words as a stone changes: one code in each word that has the point among its cells,
+//! and the marks.
 ghost use Rattle.std.specs.Prelude.{◌≡◌, ◌<◌, ◌≤◌, ◌+◌, ◌*◌, ◌^◌, ◌⊎◌, ℕ, length, map, slice_index};
 ghost use Rattle.std.specs.Prelude.{◌-◌, bit_xor, All, [], ◌∷◌, true};
 ghost use Rattle.std.specs.List.{list_all};
@@ -23,8 +23,8 @@ use crate::imaged::ImagedWord;
 use crate::marks::mark_run;
 use go_board::{Point, Size};
 
-/// Makes a change of code in the words of a row from one column on, before another. In each column
-/// it is made one cell earlier than in the column to its left: in column 0 that would be the cell
+/// Changes the code of one cell in each word of a row, from column `left` on and before column
+/// `end`. The cell is one earlier than in the column to the left: in column 0 it would be the cell
 /// `last`.
 fn recode_run(
     size: Size,
@@ -58,9 +58,9 @@ fn recode_run(
     }
 }
 
-/// Changes a code, by exclusive or, in every word whose row of cells has this point, of which
-/// `first` is the first, and marks the points of these words. The further right such a point lies,
-/// the earlier the cell in which it has this one.
+/// Changes the code of `point`, by exclusive or, in each word that has it in this row of cells, and
+/// marks the points of these words. `first` is the first cell of the row. The further right a point
+/// lies, the earlier the cell in which its word has `point`.
 fn recode_row(
     size: Size,
     words: &mut [ImagedWord],
@@ -105,7 +105,7 @@ fn recode_row(
     }
 }
 
-/// Makes the words follow a stone placed at a point, where this is the change of its code: each
+/// Updates the words after a stone was placed at a point, which changed its code by `change`. Each
 /// point that has it in a cell of these rows has that cell's code changed, and is marked.
 pub fn recode(
     size: Size,

@@ -28,9 +28,10 @@ pub struct KeptWords {
     pub kinds: Kinds,
     /// The words of the squares with their images, row by row from the top, each row from the left.
     pub squares: Vec<ImagedWord>,
-    /// Those of the diamonds, or none where diamonds are not kept.
+    /// The words of the diamonds with their images, in the same order. Empty if diamonds are not
+    /// kept.
     pub diamonds: Vec<ImagedWord>,
-    /// For each row a bit for each column, set where the point is marked.
+    /// For each row a number with a bit for each column, set if the point is marked.
     pub changed: Vec<u64>,
 }
 
@@ -61,7 +62,7 @@ impl KeptWords {
         })
     }
 
-    /// The same words and marks again. It takes memory for each point of the board.
+    /// A copy of the words and marks. It takes memory for each point of the board.
     pub fn copied(&self, alloc: Global) -> Result<KeptWords, AllocError>
         requires room { HasRoom self.now }
         ensures size { IfOk result (λ kept. kept.size ≡ self.now.size) }
@@ -80,8 +81,8 @@ impl KeptWords {
         })
     }
 
-    /// Makes the words follow a stone set on a point, or the point emptied, and marks each point of
-    /// which a kept word changes.
+    /// Updates the words after a stone was set on a point, or the point was emptied, and marks each
+    /// point of which a kept word changes.
     pub fn change(&mut self, point: Point, stone: Stone)
         requires on_board { IsOn self.old.size point }
         requires room { HasRoom self.old }
@@ -117,7 +118,7 @@ impl KeptWords {
         }
     }
 
-    /// Makes the words follow these points emptied, and marks each point of which a kept word
+    /// Updates the words after these points were emptied, and marks each point of which a kept word
     /// changes.
     pub fn empty(&mut self, points: &[Point])
         requires on_board { All (IsOn self.old.size) points.now }
@@ -158,7 +159,7 @@ fn words_of(alloc: Global, board: &Board, kind: Kind) -> Result<Vec<ImagedWord>,
     Ok(words)
 }
 
-/// The word of this kind of a point.
+/// The word of a point's pattern of this kind.
 fn word_at(board: &Board, point: Point, kind: Kind) -> Word
     requires { IsOn board.now.size point }
     ensures { result ≡ word_around kind board.now.size (position_of board.now) point }

@@ -8,8 +8,8 @@ ghost use Rattle.shape_core.specs.declared.symmetries.Symmetry.TheVariants as sy
 use crate::words::Kind;
 use std::simd::prelude::*;
 
-/// The bits of the mask and those `places` places above them, each in the other's place; no other
-/// bit.
+/// In each lane, the bits of the mask exchanged with those `places` places above them, without any
+/// other bit.
 fn swapped(words: u64x2, mask: u64, places: u64) -> u64x2
     requires { places < 64 }
     ensures { (a b : ℕ) → words ≡ a ∷ b ∷ [] → result
@@ -99,7 +99,7 @@ fn differing(words: u64x2) -> u64x2
 }
 
 /// Words with black for white and white for black: the two bits of each cell exchanged, each
-/// changed where they differ.
+/// changed if they differ.
 pub fn exchanged(words: u64x2) -> u64x2
     ensures { (a b : ℕ) → words ≡ a ∷ b ∷ [] → a < 2 ^ 51 → b < 2 ^ 51
         → result ≡ exchange_of a ∷ exchange_of b ∷ [] }
@@ -108,9 +108,9 @@ pub fn exchanged(words: u64x2) -> u64x2
     words ^ lower ^ (lower + lower)
 }
 
-/// In each lane the lesser of two words below 2^51. Where the first is less, the difference wraps
-/// and has the top bit set. One instruction selects by that bit alone, where comparing numbers
-/// without a sign takes several.
+/// In each lane, the lesser of two words below 2^51. If the first is less, the difference wraps and
+/// has the top bit set. One instruction selects by that bit alone, where comparing numbers without
+/// a sign takes several.
 pub fn lesser(words: u64x2, others: u64x2) -> u64x2
     ensures { (a b c d : ℕ) → words ≡ a ∷ b ∷ [] → others ≡ c ∷ d ∷ []
         → a < 2 ^ 51 → b < 2 ^ 51 → c < 2 ^ 51 → d < 2 ^ 51

@@ -10,15 +10,15 @@ ghost use Rattle.shape_core.specs.Symmetry.{canonical_of, IsImageOf};
 ghost use Rattle.shape_core.specs.Word.{kind_of};
 ghost use Rattle.shape_core.specs.declared.words.Kind.{Kind};
 
-/// Two words with their movers have one canonical word exactly where one is among the sixteen
-/// images of the other, each with its mover.
+/// Two words with their movers have one canonical word exactly if one is among the sixteen images
+/// of the other, each with its mover.
 pub fn same_canonical()
     ensures { (a : ℕ) (mover : Colour) (b : ℕ) (other_mover : Colour) → a < 2 ^ 51 → b < 2 ^ 51
         → (canonical_of a mover ≡ canonical_of b other_mover) ↔ IsImageOf a mover b other_mover }
 {}
 
-/// A canonical word is of its word's kind, and the word of a point is of the kind that was looked
-/// at.
+/// A canonical word is of its word's kind, and the word round a point is of the kind that was asked
+/// for.
 pub fn kinds_stay()
     ensures canonical { (word : ℕ) (mover : Colour)
         → kind_of (canonical_of word mover) ≡ kind_of word }

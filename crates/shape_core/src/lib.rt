@@ -1,4 +1,4 @@
-//! Pattern words, their symmetries, and a field that keeps them.
+//! Pattern words, their symmetries, and a board that keeps the words of its points.
 #![tactic(auto)]
 
 mod cell_bits;

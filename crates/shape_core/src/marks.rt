@@ -7,7 +7,7 @@ ghost use Rattle.shape_core.specs.Field.{IsMarked, AreJoined};
 ghost use Rattle.shape_core.specs.KeptLists.{AreMarks};
 ghost use Rattle.shape_core.specs.Inner.Table.{IsInRun};
 
-/// Marks the points of a row from one column on, before another.
+/// Marks the points of a row, from column `left` on and before column `end`.
 pub fn mark_run(changed: &mut [u64], row: u8, left: u8, end: u8)
     requires row { row < length changed.old }
     requires columns { left ≤ end }
@@ -22,7 +22,7 @@ pub fn mark_run(changed: &mut [u64], row: u8, left: u8, end: u8)
     changed[usize::from(row)] |= (1 << end) - (1 << left);
 }
 
-/// Takes out all marks, and joins them to each of two sets.
+/// Adds all marks to each of two sets, and clears them.
 pub fn move_marks(changed: &mut [u64], first: &mut [u64], second: &mut [u64])
     requires first { length first.old ≡ length changed.old }
     requires second { length second.old ≡ length changed.old }

@@ -8,8 +8,7 @@ use crate::lanes;
 use crate::words::{DIAMOND, Kind};
 use std::simd::prelude::*;
 
-/// The bits of the mask and those `places` places above them, each in the other's place; no other
-/// bit.
+/// The bits of the mask exchanged with those `places` places above them, without any other bit.
 fn swapped(word: u64, mask: u64, places: u32) -> u64
     requires { places < 64 }
     ensures { result
@@ -45,7 +44,7 @@ fn diamond_diagonal(word: u64) -> u64
         | swapped(word, 0x300c0, 26)
 }
 
-/// Of which kind the word is.
+/// The kind of the word's pattern.
 fn kind(word: u64) -> Kind
     ensures { result ≡ kind_of word }
 {

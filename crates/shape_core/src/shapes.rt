@@ -7,7 +7,8 @@ use crate::words::Word;
 use go_board::Colour;
 use std::marker::Model;
 
-/// A pattern whatever its turn and its mover: a word that is the least of its eight images.
+/// A pattern, the same under all symmetries and for either mover: a word that is the least of its
+/// eight images.
 #[derive(Clone, Copy, Debug, PartialEq, Eq, PartialOrd, Ord)]
 pub struct Shape {
     word: Word,
@@ -27,7 +28,7 @@ impl Model for Shape {
 }
 
 impl Shape {
-    /// The word that the shape is.
+    /// The shape's word.
     pub fn word(self) -> Word
         ensures value { result ≡ self }
         ensures small { self < 2 ^ 51 }
@@ -36,8 +37,8 @@ impl Shape {
         self.word
     }
 
-    /// The shape that is this word, or None where the word is not the least of its eight images.
-    /// Takes no memory.
+    /// The shape that is this word, or None if the word is not the least of its eight images. Takes
+    /// no memory.
     pub fn of_word(word: Word) -> Option<Shape>
         ensures { SomeIff result (least_image word ≡ word) word }
     {

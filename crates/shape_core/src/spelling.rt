@@ -40,7 +40,7 @@ fn glyph(code: u8) -> u8
     }
 }
 
-/// The code of a glyph, or None where the byte is none.
+/// The code of a glyph, or None if the byte is no glyph.
 fn code(glyph: u8) -> Option<u8>
     ensures some { is_some result ≡ is_glyph glyph }
     ensures value { IfSome result (λ code. (code < 4) × (glyph_of code ≡ glyph)) }
@@ -54,7 +54,7 @@ fn code(glyph: u8) -> Option<u8>
     }
 }
 
-/// The sum over the cells whose glyphs these are.
+/// The sum over 25 cells with these glyphs: each cell's code times 4 to the power of its number.
 fn sum_of_glyphs(bytes: &[u8]) -> Result<u64, GlyphFault>
     ensures ok { IfOk result (λ sum. (sum < 2 ^ 50) × (glyphs_of sum ≡ bytes.now)) }
     ensures found { (sum : ℕ) → sum < 2 ^ 50 → glyphs_of sum ≡ bytes.now → result ≡ Ok sum }
@@ -79,8 +79,8 @@ fn sum_of_glyphs(bytes: &[u8]) -> Result<u64, GlyphFault>
 ///
 /// # Errors
 ///
-/// `BadLength` exactly where there are not 25 bytes, and else `BadGlyph` at the first byte that is
-/// no glyph.
+/// `BadLength` exactly if there are not 25 bytes, and else `BadGlyph` at the first byte that is no
+/// glyph.
 pub fn from_glyphs(bytes: &[u8]) -> Result<Word, GlyphFault>
     ensures ok { IfOk result (λ word. (word < 2 ^ 50) × (glyphs_of word ≡ bytes.now)) }
     ensures found { (word : ℕ) → word < 2 ^ 50 → glyphs_of word ≡ bytes.now → result ≡ Ok word }
@@ -96,8 +96,8 @@ pub fn from_glyphs(bytes: &[u8]) -> Result<Word, GlyphFault>
 ///
 /// # Errors
 ///
-/// `BadLength` exactly where there are not 25 bytes, and else `BadGlyph` at the first byte that is
-/// no glyph.
+/// `BadLength` exactly if there are not 25 bytes, and else `BadGlyph` at the first byte that is no
+/// glyph.
 pub fn from_diamond_glyphs(bytes: &[u8]) -> Result<Word, GlyphFault>
     ensures ok { IfOk result (λ word. (2 ^ 50 ≤ word) × (word < 2 ^ 51)
         × (glyphs_of word ≡ bytes.now)) }

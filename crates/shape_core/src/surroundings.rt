@@ -32,7 +32,7 @@ pub fn diamond(board: &Board, point: Point) -> Word
     Word::of_bits(DIAMOND + sum_around(board, point, &DIAMOND_CELLS))
 }
 
-/// The sum over these cells round a point.
+/// The sum over these cells round a point: each cell's code times 4 to the power of its number.
 fn sum_around(board: &Board, point: Point, cells: &[Away; 25]) -> u64
     requires on_board { IsOn board.now.size point }
     requires columns { All (λ away. away.0 ≤ 6) cells.now }

@@ -42,14 +42,14 @@ impl Model for Word {
     ghost inverse = { λ n. record { bits = n } };
 }
 
-/// What the words of diamonds have beside the sum of their cells.
+/// What the word of a diamond has added to the sum over its cells.
 pub const DIAMOND: u64 = 1 << 50;
 
 impl Word {
     ghost use Rattle.std.specs.Prelude.{◌≡◌, ◌<◌, ◌^◌, SomeIff};
     ghost use Rattle.shape_core.specs.Word.{code_at, kind_of};
 
-    /// The word of this number, or None where it is 2^51 or more.
+    /// The word of this number, or None if it is 2^51 or more.
     pub fn new(bits: u64) -> Option<Word>
         ensures { SomeIff result (bits < 2 ^ 51) bits }
     {
@@ -60,7 +60,7 @@ impl Word {
         }
     }
 
-    /// The word of a number that is known to be one.
+    /// The word of this number, which is below 2^51.
     pub(crate) fn of_bits(bits: u64) -> Word
         requires { bits < 2 ^ 51 }
         ensures { result ≡ bits }
@@ -68,7 +68,7 @@ impl Word {
         Word { bits }
     }
 
-    /// The number that the word is.
+    /// The word's number.
     pub fn bits(self) -> u64
         ensures value { result ≡ self }
         ensures small { self < 2 ^ 51 }
@@ -85,7 +85,7 @@ impl Word {
         ((self.bits >> (2 * cell)) & 3) as u8
     }
 
-    /// Whether it is the word of a square or of a diamond.
+    /// The kind of the word's pattern: a square or a diamond.
     pub fn kind(self) -> Kind
         ensures { result ≡ kind_of self }
     {

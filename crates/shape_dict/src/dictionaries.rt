@@ -1,4 +1,4 @@
-//! A dictionary of patterns.
+//! A dictionary of patterns: how often each was there and was played in a number of games.
 ghost use Rattle.std.specs.Prelude.{◌≡◌, ◌++◌, OnOk, length};
 ghost use Rattle.shape_dict.specs.Contents.{squares_of};
 ghost use Rattle.shape_dict.specs.Text.{text_of, header_of, header_text, diamonds_counted};
@@ -15,7 +15,8 @@ use shape_core::{Kind, Shape};
 use std::alloc::{AllocError, Global};
 use std::marker::Model;
 
-/// How often each pattern was there and was played in a number of games, and their moves.
+/// How often each pattern was there and was played in a number of games, with the number of these
+/// games and of their moves.
 #[derive(Debug, Drop)]
 pub struct Dictionary {
     games: u64,
@@ -51,10 +52,10 @@ impl Dictionary {
     ghost use Rattle.shape_dict.specs.Contents.{IsDictionary, entry_of};
     ghost use Rattle.shape_dict.specs.Join.{IsJoin, IsOverflow, IsJoinFault};
 
-    /// The dictionary that holds what it is given. The words rise, each pattern was there once or
-    /// more and was played at most as often, and its first game, where that is known, is below
-    /// `games`. The plays of the squares add up to the moves, and those of the diamonds where they
-    /// are counted; where they are not, there is no diamond. With no games there are no moves. It
+    /// A dictionary of these games, moves and entries. The words rise, each pattern was there once
+    /// or more and was played at most as often, and its first game, if that is known, is below
+    /// `games`. The plays of the squares add up to the moves, and so do those of the diamonds if
+    /// they are counted; if they are not, there is no diamond. With no games there are no moves. It
     /// takes no memory.
     pub fn new(games: u64, moves: u64, entries: Vec<Entry>, counts_diamonds: bool) -> Dictionary
         requires { IsDictionary (record {
@@ -92,7 +93,7 @@ impl Dictionary {
         self.moves
     }
 
-    /// The patterns, rising.
+    /// The entries of the patterns, in the order of their words.
     pub fn entries(&self) -> &[Entry]
         ensures value { result.now ≡ self.now.entries }
         ensures dictionary { IsDictionary self.now }
@@ -100,19 +101,19 @@ impl Dictionary {
         self.entries.as_slice()
     }
 
-    /// Whether diamonds are counted beside squares.
+    /// Whether diamonds are counted as well as squares.
     pub fn counts_diamonds(&self) -> bool
         ensures { result ≡ self.now.counts_diamonds }
     {
         self.counts_diamonds
     }
 
-    /// The same dictionary with its patterns in a list of one list. It takes memory for that list,
-    /// and moves no pattern.
+    /// Turns it into a `PieceDictionary` whose patterns are in one list. It takes memory for the
+    /// list of this one list, and moves no pattern.
     ///
     /// # Errors
     ///
-    /// `AllocError` where memory was refused.
+    /// `AllocError` if memory was refused.
     pub fn into_pieces(self, alloc: Global) -> Result<PieceDictionary, AllocError>
         ensures { IfOk result (λ pieces. pieces ≡ self) }
     {
@@ -121,22 +122,22 @@ impl Dictionary {
         Ok(PieceDictionary::new(self.games, self.moves, pieces, self.counts_diamonds))
     }
 
-    /// The entry of a pattern, or None where the dictionary has none. It takes no memory.
+    /// The entry of a pattern, or None if the dictionary has none. It takes no memory.
     pub fn find(&self, shape: Shape) -> Option<Entry>
         ensures { result ≡ entry_of shape self.now.entries }
     {
         find_entry(self.entries.as_slice(), shape)
     }
 
-    /// What two dictionaries are together: the games of the right one follow those of the left, and
-    /// all counts are sums. A pattern keeps what the left says of its first game; one of the right
-    /// alone has its own, after the left's games.
+    /// Joins two dictionaries into a new one: the games of the right one follow those of the left,
+    /// and all counts are sums. A pattern of the left keeps its first game there, known or not. A
+    /// pattern of the right alone keeps its own, numbered after the left's games.
     ///
     /// # Errors
     ///
-    /// `MixedKinds` exactly where one counts diamonds and the other does not; else `Overflow` where
-    /// a sum is over 2^64 - 1, and `Memory` where memory was refused, which is asked for only where
-    /// the games and the moves add up to 2^64 - 1 at most. Both dictionaries stay as they are.
+    /// `MixedKinds` exactly if one counts diamonds and the other does not. Else `Overflow` if a sum
+    /// is over 2^64 - 1, and `Memory` if memory was refused, which is asked for only if the sum of
+    /// the games and that of the moves are 2^64 - 1 at most. Both dictionaries stay as they are.
     pub fn join(
         alloc: Global,
         left: &Dictionary,
@@ -156,12 +157,12 @@ impl Dictionary {
         Ok(Dictionary::new(games, moves, entries, left.counts_diamonds()))
     }
 
-    /// Appends a text of the dictionary. Text 1 is that of the squares, text 2 has the diamonds
-    /// too, text 3 first games besides.
+    /// Appends one of the dictionary's three texts to `out`. Text 1 has the squares, text 2 has the
+    /// diamonds too, and text 3 has first games besides.
     ///
     /// # Errors
     ///
-    /// `Memory` where memory for the text was refused: the bytes are then as they were.
+    /// `Memory` if memory for the text was refused: the bytes are then as they were.
     pub fn write(&self, text: Text, out: &mut Vec<u8>) -> Result<(), DictFault>
         ensures ok { OnOk result (out.new.items ≡ out.old.items ++ text_of text self.now) }
         ensures err { IfErr result (λ found. (found ≡ fault.Memory)
@@ -176,9 +177,9 @@ impl Dictionary {
     }
 }
 
-/// How many squares a dictionary has, and how many diamonds where they are counted. One that does
-/// not count them has squares alone, so its entries need no look; else one look at each is enough,
-/// as the diamonds are the rest.
+/// How many squares a dictionary has, and how many diamonds if they are counted. A dictionary that
+/// does not count them has squares alone, so its entries need no look; else one look at each is
+/// enough, as the diamonds are the rest.
 fn counts_of(dictionary: &Dictionary) -> (u64, Option<u64>)
     ensures squares { result.0 ≡ length (squares_of dictionary.now.entries) }
     ensures diamonds { result.1
@@ -193,7 +194,7 @@ fn counts_of(dictionary: &Dictionary) -> (u64, Option<u64>)
     (squares, Some(all - squares))
 }
 
-/// Appends the header of a text, whole or in part.
+/// Appends the header of a text, or only a part of it if memory was refused.
 fn append_header(dictionary: &Dictionary, text: Text, out: &mut Vec<u8>) -> Result<(), AllocError>
     ensures ok { OnOk result (out.new.items
         ≡ out.old.items ++ header_text (header_of text dictionary.now)) }
@@ -210,7 +211,7 @@ fn append_header(dictionary: &Dictionary, text: Text, out: &mut Vec<u8>) -> Resu
     )
 }
 
-/// Appends a text, whole or in part.
+/// Appends a text, or only a part of it if memory was refused.
 fn append(dictionary: &Dictionary, text: Text, out: &mut Vec<u8>) -> Result<(), AllocError>
     ensures ok { OnOk result (out.new.items ≡ out.old.items ++ text_of text dictionary.now) }
     ensures begins { Begins out.old.items out.new.items }

@@ -1,9 +1,9 @@
-//! Entries of a dictionary, and its three texts.
+//! The entries of a dictionary, and the names of its three texts.
 use crate::first_games::FirstGame;
 use shape_core::Shape;
 
-/// One pattern: how often it was there, how often it was played, and the first game that had it,
-/// where that is known.
+/// One pattern: how often it was there, how often it was played, and the first game that had it, if
+/// that is known.
 #[derive(Clone, Copy, Debug, PartialEq, Eq)]
 pub struct Entry {
     pub shape: Shape,
@@ -16,8 +16,8 @@ impl Entry {
     ghost use Rattle.std.specs.Prelude.{◌≡◌, ◌+◌, ◌^◌, ◌≤◌, ◌⊎◌, IfSome, IfNone, IsSomeAnd};
     ghost use Rattle.shape_dict.specs.Merging.{moved_entry, summed_entry};
 
-    /// The entry after this many more games: its first game, where it is known, is numbered after
-    /// them. None where that number would pass 2^64 - 2. It takes no memory.
+    /// The entry with its first game, if that is known, numbered after this many more games. None
+    /// if that number would pass 2^64 - 2. It takes no memory.
     #[inline(always)]
     pub fn moved(self, games: u64) -> Option<Entry>
         ensures some { IfSome result (λ moved. moved ≡ moved_entry games self) }
@@ -27,8 +27,8 @@ impl Entry {
         Some(Entry { first, ..self })
     }
 
-    /// The entry with the counts of a later one of the same pattern: its first game stays. None
-    /// where a count would pass 2^64 - 1. It takes no memory.
+    /// The entry with the counts of a later entry of the same pattern added. Its first game stays.
+    /// None if a count would pass 2^64 - 1. It takes no memory.
     #[inline(always)]
     pub fn with(self, later: Entry) -> Option<Entry>
         ensures some { IfSome result (λ both. both ≡ summed_entry self later) }

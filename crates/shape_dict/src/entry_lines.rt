@@ -1,4 +1,4 @@
-//! The entry of the next line: judged by its place, and by the shape before it.
+//! Reads the entry of a text's next line, and judges it by its place and by the shape before it.
 ghost use Rattle.std.specs.Prelude.{◌≡◌, ◌++◌, ◌<◌, ◌^◌, IfOk, IfErr, MatchBool};
 ghost use Rattle.shape_core.specs.Symmetry.{least_image};
 ghost use Rattle.shape_dict.specs.Text.{line_text};
@@ -12,7 +12,7 @@ use crate::lines::read_line;
 use crate::quick::quick_entry;
 use shape_core::{Shape, Word};
 
-/// Whether a word is above the last shape, where there is one.
+/// Whether a word is above that of the last shape, if there is one.
 fn is_above(last: Option<Shape>, word: Word) -> bool
     ensures { MatchBool result (IsAbove last word) (IsAbove last word → ⊥) }
 {
@@ -22,7 +22,8 @@ fn is_above(last: Option<Shape>, word: Word) -> bool
     }
 }
 
-/// The entry of a line of any form at the front of the bytes, or what is wrong with it.
+/// Reads the line at the front of the bytes, whatever its form, and returns its entry and the bytes
+/// after it, or what is wrong with it.
 #[inline(never)]
 fn slow_entry<'a>(
     header: &Header,
@@ -55,14 +56,16 @@ fn slow_entry<'a>(
     Ok((entry, rest))
 }
 
-/// The entry of the line at the front of the bytes, and what follows it. `place` is how many
-/// entries came before it, and `last` the shape of the last of them. It takes no memory.
+/// Reads the line at the front of the bytes, and returns its entry and the bytes after it. `place`
+/// is how many entries came before it, and `last` the shape of the last of them. It takes no
+/// memory.
 ///
 /// # Errors
 ///
-/// `BadLine` where the bytes don't begin with a line that this place may have, else `NotRising`
-/// where its word is not above `last`, else `NotCanonical` where its word is not the least of its
-/// images.
+/// `BadLine` if the bytes don't begin with a well-formed line, or if such a line can't stand at
+/// this place of a dictionary with this header; else `NotRising` if its word is not above `last`;
+/// else `NotCanonical` if its word is not the least of its images under symmetries and exchange of
+/// colours.
 #[inline(always)]
 pub fn read_entry<'a>(
     header: &Header,

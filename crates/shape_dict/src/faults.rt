@@ -11,7 +11,7 @@ pub enum DictFault {
     /// The input does not begin with a header.
     #[error("X1 bad header")]
     BadHeader,
-    /// A line is missing or is none, or bytes follow the text.
+    /// A line is missing or is none that its place may have, or bytes follow the text.
     #[error("X2 bad line {0}")]
     BadLine(u64),
     /// A line's word is not above that of the line before.
@@ -32,7 +32,7 @@ pub enum DictFault {
     /// The input has more than 2^28 bytes.
     #[error("X8 input too large")]
     TooLarge,
-    /// One of the two counts diamonds and the other does not.
+    /// One of two dictionaries counts diamonds and the other does not.
     #[error("X9 mixed kinds")]
     MixedKinds,
 }

@@ -1,4 +1,4 @@
-//! The entry of a pattern, among entries whose words rise.
+//! Finds the entry of a pattern, among entries whose words rise.
 ghost use Rattle.std.specs.Prelude.{◌≡◌, map};
 ghost use Rattle.std.specs.List.Sorted.{IsStrictlyIncreasing};
 ghost use Rattle.shape_dict.specs.Contents.{entry_of};
@@ -6,7 +6,7 @@ ghost use Rattle.shape_dict.specs.Contents.{entry_of};
 use crate::entries::Entry;
 use shape_core::Shape;
 
-/// The entry of a pattern, or None where there is none.
+/// The entry of a pattern, or None if there is none.
 pub(crate) fn find_entry(entries: &[Entry], shape: Shape) -> Option<Entry>
     requires { IsStrictlyIncreasing (map (λ entry. entry.shape) entries.now) }
     ensures { result ≡ entry_of shape entries.now }

@@ -3,8 +3,8 @@ ghost use Rattle.std.specs.Prelude.{◌≡◌, ◌+◌, ◌^◌, ◌<◌, IfSome
 
 use std::marker::Model;
 
-/// The game that had a pattern first, where it is known: one more than the game, or 0. It takes
-/// half the memory of an `Option<u64>`, and a dictionary has one for each pattern.
+/// The game that had a pattern first, if it is known: one more than the game, or 0. It takes half
+/// the memory of an `Option<u64>`, and a dictionary has one for each pattern.
 ///
 /// Contracts see the game, or None.
 #[derive(Clone, Copy, Debug, PartialEq, Eq)]
@@ -27,7 +27,7 @@ impl FirstGame {
     ghost use Rattle.std.specs.Prelude.{◌≡◌, ◌+◌, ◌^◌, ◌<◌, ◌≤◌, IfSome, IfNone, IsSomeAnd};
     ghost use Rattle.std.specs.Option.{option_map};
 
-    /// This game, which must be below 2^64 - 1, or none that is known.
+    /// The first game with this number, which must be below 2^64 - 1, or an unknown one for None.
     pub fn new(game: Option<u64>) -> FirstGame
         requires { IfSome game (λ game. game + 1 < 2 ^ 64) }
         ensures { result ≡ game }
@@ -38,7 +38,7 @@ impl FirstGame {
         }
     }
 
-    /// The game, or None where it is unknown.
+    /// The game, or None if it is unknown.
     pub fn get(self) -> Option<u64>
         ensures { result ≡ self }
     {
@@ -49,8 +49,8 @@ impl FirstGame {
         }
     }
 
-    /// The game where this many more come before it, or None where its number would pass 2^64 - 2.
-    /// One that is unknown stays so.
+    /// The game renumbered after this many more games, or None if its number would pass 2^64 - 2.
+    /// An unknown game stays unknown.
     pub fn moved(self, games: u64) -> Option<FirstGame>
         ensures some { IfSome result (λ first. first ≡ option_map (λ game. game + games) self) }
         ensures none { IfNone result (IsSomeAnd self (λ game. 2 ^ 64 ≤ game + games + 1)) }

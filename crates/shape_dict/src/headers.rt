@@ -1,4 +1,4 @@
-//! Headers of dictionaries.
+//! The headers of dictionaries' texts, read off the front of bytes.
 ghost use Rattle.std.specs.Prelude.{◌≡◌, ◌++◌, ◌<◌, ◌^◌, ℕ, List, IfSome, IfNone, IsSomeAnd};
 ghost use Rattle.std.specs.Prelude.{Option, None, codes, min, ◌-◌};
 ghost use Rattle.std.specs.Fmt.{decimal};
@@ -12,7 +12,7 @@ use crate::entries::Text;
 use crate::numbers::{after, number, number_after, optional_after};
 
 /// What a header says: which text it is, the games and moves, how many squares follow, and how many
-/// diamonds where they are counted.
+/// diamonds if they are counted.
 #[derive(Clone, Copy, Debug, PartialEq, Eq)]
 pub struct Header {
     pub text: Text,
@@ -22,7 +22,7 @@ pub struct Header {
     pub diamonds: Option<u64>,
 }
 
-/// Which text it is, and what follows.
+/// Reads which of the three texts begins here, and returns it with the bytes after that.
 fn front(bytes: &[u8]) -> Option<(Text, &[u8])>
     ensures found { IfSome result (λ p. bytes.now ≡ front_text p.0 ++ p.1.now) }
     ensures only { (text : Kind) → (left : List ℕ) → bytes.now ≡ front_text text ++ left
@@ -38,7 +38,7 @@ fn front(bytes: &[u8]) -> Option<(Text, &[u8])>
     Some((Text::Three, rest))
 }
 
-/// The games and moves, and what follows.
+/// Reads the numbers of games and of moves, and returns them with the bytes after them.
 fn games_and_moves(bytes: &[u8]) -> Option<(u64, u64, &[u8])>
     ensures found { IfSome result (λ p. (bytes.now
         ≡ decimal p.0 ++ (codes " moves " ++ (decimal p.1 ++ p.2.now))) × (p.0 < 2 ^ 64)
@@ -53,7 +53,7 @@ fn games_and_moves(bytes: &[u8]) -> Option<(u64, u64, &[u8])>
     Some((games, moves, rest))
 }
 
-/// How many patterns follow, and what follows.
+/// Reads how many squares and diamonds a text has, and returns these with the bytes after them.
 fn counts(bytes: &[u8], text: Text) -> Option<(u64, Option<u64>, &[u8])>
     ensures found { IfSome result (λ p. (bytes.now ≡ counts_text text p.0 p.1 ++ p.2.now)
         × (p.0 < 2 ^ 64) × IfSome p.1 (λ n. n < 2 ^ 64) × (text ≡ kind.One → p.1 ≡ None)) }
@@ -75,8 +75,8 @@ fn counts(bytes: &[u8], text: Text) -> Option<(u64, Option<u64>, &[u8])>
     }
 }
 
-/// The header at the front of the bytes, and what follows it, or None where they do not begin with
-/// one. It takes no memory.
+/// Reads the header at the front of the bytes, and returns it with the bytes after it, or None if
+/// they do not begin with one. It takes no memory.
 pub fn read_header(bytes: &[u8]) -> Option<(Header, &[u8])>
     ensures found { IfSome result (λ p. IsHeader p.0 × (bytes.now ≡ header_text p.0 ++ p.1.now)) }
     ensures none { IfNone result (HasNoHeader bytes.now) }
@@ -97,7 +97,7 @@ pub fn read_header(bytes: &[u8]) -> Option<(Header, &[u8])>
     ))
 }
 
-/// How many lines follow a header, or 2^64 - 1 where they are more.
+/// How many lines follow a header, or 2^64 - 1 if they are more.
 pub fn count_lines(header: &Header) -> u64
     ensures { result ≡ min (lines_after header.now) (2 ^ 64 - 1) }
 {

@@ -11,7 +11,7 @@ use crate::entries::Entry;
 use crate::faults::DictFault;
 use std::alloc::{AllocError, Global};
 
-/// The sum of two numbers, or `DictFault::Overflow` where it is over 2^64 - 1.
+/// The sum of two numbers, or `DictFault::Overflow` if it is over 2^64 - 1.
 pub(crate) fn sum_of(left: u64, right: u64) -> Result<u64, DictFault>
     ensures ok { IfOk result (λ sum. (sum ≡ left + right) × (left + right < 2 ^ 64)) }
     ensures err { IfErr result (λ found. (found ≡ fault.Overflow) × (2 ^ 64 ≤ left + right)) }
@@ -19,7 +19,7 @@ pub(crate) fn sum_of(left: u64, right: u64) -> Result<u64, DictFault>
     left.checked_add(right).ok_or(DictFault::Overflow)
 }
 
-/// An entry of the right alone, whose first game follows the left's games.
+/// The joined entry of a pattern of the right alone: its first game follows the left's games.
 fn moved(entry: Entry, games: u64) -> Entry
     requires { IfSome entry.first (λ game. game + games + 1 < 2 ^ 64) }
     ensures { result ≡ moved_entry games entry }
@@ -27,7 +27,7 @@ fn moved(entry: Entry, games: u64) -> Entry
     entry.moved(games).unwrap()
 }
 
-/// An entry of both.
+/// The joined entry of a pattern of both: the counts are sums, and the first game is the left's.
 fn summed(left: Entry, right: Entry) -> Result<Entry, DictFault>
     requires left { left.played ≤ left.there }
     requires right { right.played ≤ right.there }
@@ -47,7 +47,7 @@ pub(crate) fn push(entries: &mut Vec<Entry>, entry: Entry) -> Result<(), AllocEr
     Ok(())
 }
 
-/// Appends the entries of the left.
+/// Appends entries of the left as they are.
 fn push_kept(entries: &mut Vec<Entry>, left: &[Entry]) -> Result<(), AllocError>
     requires { All (λ entry. entry.there < 2 ^ 64) entries.old.items }
     ensures ok { OnOk result (entries.new.items ≡ entries.old.items ++ left.now) }
@@ -60,7 +60,7 @@ fn push_kept(entries: &mut Vec<Entry>, left: &[Entry]) -> Result<(), AllocError>
     Ok(())
 }
 
-/// Appends the entries of the right alone.
+/// Appends entries of the right alone, with their first games after the left's `games`.
 fn push_moved(entries: &mut Vec<Entry>, right: &[Entry], games: u64) -> Result<(), AllocError>
     requires small { All (λ entry. entry.there < 2 ^ 64) entries.old.items }
     requires first { All (λ entry. IfSome entry.first (λ game. game + games + 1 < 2 ^ 64)) right.now }
@@ -75,9 +75,9 @@ fn push_moved(entries: &mut Vec<Entry>, right: &[Entry], games: u64) -> Result<(
     Ok(())
 }
 
-/// The join of two lists of entries: a merge, by the words.
+/// Merges the entries of two dictionaries by their words. `games` is how many games the left has.
 ///
-/// `DictFault::Overflow` comes where the counts of a pattern of both add up to more than 2^64 - 1.
+/// `DictFault::Overflow` comes if the counts of a pattern of both add up to more than 2^64 - 1.
 pub(crate) fn merge(
     alloc: Global,
     games: u64,

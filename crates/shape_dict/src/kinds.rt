@@ -25,7 +25,7 @@ pub(crate) fn count_of(kind: Kind, entries: &[Entry]) -> u64
     count
 }
 
-/// The plays of the patterns of the kind, or None where they are over 2^64 - 1.
+/// How often the patterns of the kind were played in all, or None if that is over 2^64 - 1.
 pub(crate) fn played_in(kind: Kind, entries: &[Entry]) -> Option<u64>
     ensures { SomeIff result (played_in (of_kind kind entries.now) < 2 ^ 64)
         (played_in (of_kind kind entries.now)) }

@@ -1,11 +1,11 @@
-//! Laws of the texts.
+//! Laws of the texts of dictionaries, each the contract of a function that does nothing.
 ghost use Rattle.std.specs.Prelude.{◌≡◌, ◌≢◌, ◌++◌, ℕ, List};
 ghost use Rattle.shape_dict.specs.Contents.{Contents};
 ghost use Rattle.shape_dict.specs.Reading.{IsTextOf, IsTextFault, IsFrontFault};
 ghost use Rattle.shape_dict.specs.declared.faults.DictFault.{DictFault};
 ghost use Rattle.shape_dict.specs.declared.faults.DictFault.TheVariants as fault;
 
-/// A text is of one dictionary, and no text begins another one.
+/// A text is of one dictionary, and no text is the beginning of another one.
 pub fn texts_are_distinct()
     ensures { (one : Contents) → (other : Contents) → (text : List ℕ) → (other_text : List ℕ)
         → (after : List ℕ) → (other_after : List ℕ)
@@ -13,8 +13,8 @@ pub fn texts_are_distinct()
         → (text ≡ other_text) × (one ≡ other) }
 {}
 
-/// Bytes that are to be a text have one first fault, a lack of memory aside, and so have those that
-/// are to begin with one.
+/// Bytes that are read as a text have at most one first fault, out of memory aside, and so have
+/// bytes of which a text is read off the front.
 pub fn texts_have_one_fault()
     ensures text { (bytes : List ℕ) → (one : DictFault) → (other : DictFault)
         → IsTextFault bytes one → IsTextFault bytes other

@@ -1,4 +1,4 @@
-//! Lines of dictionaries, read off the front of bytes.
+//! The lines of dictionaries' texts, read off the front of bytes.
 ghost use Rattle.std.specs.Prelude.{◌≡◌, ◌++◌, ◌<◌, ◌^◌, ℕ, List, IfSome, IfNone};
 ghost use Rattle.std.specs.Prelude.{IsSomeAnd, MatchBool, codes, Option};
 ghost use Rattle.std.specs.Fmt.{decimal};
@@ -13,7 +13,7 @@ use crate::hexadecimals::word_bits;
 use crate::numbers::{after, number_after, optional_after};
 use shape_core::{Kind, Word};
 
-/// What a line says.
+/// What a line says of its pattern.
 #[derive(Clone, Copy)]
 pub(crate) struct Line {
     pub(crate) word: Word,
@@ -22,7 +22,7 @@ pub(crate) struct Line {
     pub(crate) first: Option<u64>,
 }
 
-/// How often a pattern was there and was played.
+/// Reads how often a pattern was there and was played, and returns both with the bytes after them.
 fn uses(bytes: &[u8]) -> Option<(u64, u64, &[u8])>
     ensures found { IfSome result (λ p. (bytes.now
         ≡ codes " " ++ (decimal p.0 ++ (codes " " ++ (decimal p.1 ++ p.2.now)))) × (p.0 < 2 ^ 64)
@@ -37,7 +37,8 @@ fn uses(bytes: &[u8]) -> Option<(u64, u64, &[u8])>
     Some((there, played, rest))
 }
 
-/// What a line says of a first game, up to the line's end.
+/// Reads a line's first game, if the text has these, and the line's end. Returns the game and the
+/// bytes after the line.
 fn first_and_end(bytes: &[u8], text: Text) -> Option<(Option<u64>, &[u8])>
     ensures found { IfSome result (λ p. (bytes.now ≡ first_text text p.0 ++ (line_feed ++ p.1.now))
         × IsPlain text p.0 × IfSome p.0 (λ game. game < 2 ^ 64)) }
@@ -59,7 +60,7 @@ fn first_and_end(bytes: &[u8], text: Text) -> Option<(Option<u64>, &[u8])>
     }
 }
 
-/// A line's parts, whatever they say.
+/// Reads a line whatever its parts say, and returns it with the bytes after it.
 fn spelled_line(bytes: &[u8], text: Text) -> Option<(Line, &[u8])>
     ensures found { IfSome result (λ p. IsSpelled text (entry_of_line p.0)
         × (bytes.now ≡ line_text text (entry_of_line p.0) ++ p.1.now)) }
@@ -82,7 +83,7 @@ fn spelled_line(bytes: &[u8], text: Text) -> Option<(Line, &[u8])>
     ))
 }
 
-/// The kind of the patterns at a place: the squares come first.
+/// The kind of the pattern at a place among a text's lines: the squares come first.
 fn kind_at(header: &Header, place: u64) -> Kind
     ensures { result ≡ kind_at header.now place }
 {
@@ -93,7 +94,7 @@ fn kind_at(header: &Header, place: u64) -> Kind
     }
 }
 
-/// Whether a first game is one of the games counted.
+/// Whether a first game is unknown or one of the games counted.
 fn is_counted(games: u64, first: Option<u64>) -> bool
     ensures { MatchBool result (IfSome first (λ game. game < games))
         (IfSome first (λ game. game < games) → ⊥) }
@@ -104,7 +105,7 @@ fn is_counted(games: u64, first: Option<u64>) -> bool
     }
 }
 
-/// Whether its place may have what a line says.
+/// Whether this place of a text may have what a line says.
 fn may_stand(header: &Header, place: u64, line: &Line) -> bool
     ensures { MatchBool result (MayStand header.now place line.now)
         (MayStand header.now place line.now → ⊥) }
@@ -115,7 +116,8 @@ fn may_stand(header: &Header, place: u64, line: &Line) -> bool
         && is_counted(header.games, line.first)
 }
 
-/// The line at the front of the bytes, where this place may have it, and what follows it.
+/// Reads the line at the front of the bytes, and returns it with the bytes after it. None if there
+/// is no line that this place may have.
 pub(crate) fn read_line<'a>(
     header: &Header,
     place: u64,

@@ -5,7 +5,7 @@ ghost use Rattle.std.specs.Fmt.{decimal};
 ghost use Rattle.shape_dict.specs.Text.{optional_number};
 ghost use Rattle.shape_dict.specs.Inner.Parsing.{IsEnded, AreDigits, read_on};
 
-/// What follows these bytes, or None where the input does not begin with them.
+/// The bytes after this literal, or None if the input does not begin with it.
 pub(crate) fn after<'a>(bytes: &'a [u8], literal: &[u8]) -> Option<&'a [u8]>
     ensures found { IfSome result (λ rest. bytes.now ≡ literal.now ++ rest.now) }
     ensures only { (left : List ℕ) → bytes.now ≡ literal.now ++ left
@@ -14,7 +14,7 @@ pub(crate) fn after<'a>(bytes: &'a [u8], literal: &[u8]) -> Option<&'a [u8]>
     bytes.strip_prefix(literal)
 }
 
-/// How many digits come first.
+/// How many decimal digits come first.
 fn count_digits(bytes: &[u8]) -> usize
     ensures fits { result ≤ length bytes.now }
     ensures digits { AreDigits (take result bytes.now) }
@@ -27,7 +27,7 @@ fn count_digits(bytes: &[u8]) -> usize
     count
 }
 
-/// The number that digits are, or None where it is over 2^64 - 1.
+/// The number that decimal digits spell, or None if it is over 2^64 - 1.
 fn value_of(digits: &[u8]) -> Option<u64>
     requires { AreDigits digits.now }
     ensures { SomeIff result (read_on 0 digits.now < 2 ^ 64) (read_on 0 digits.now) }
@@ -43,8 +43,8 @@ fn value_of(digits: &[u8]) -> Option<u64>
     Some(value)
 }
 
-/// Reads the decimal number at the front, without leading zeros and at most 2^64 - 1. The answer is
-/// the number and the bytes after its last digit, or None where no such number is there.
+/// Reads the decimal number at the front, without leading zeros and at most 2^64 - 1. Returns the
+/// number and the bytes after its last digit, or None if no such number is there.
 pub(crate) fn number(bytes: &[u8]) -> Option<(u64, &[u8])>
     ensures found { IfSome result (λ p. (bytes.now ≡ decimal p.0 ++ p.1.now) × (p.0 < 2 ^ 64)
         × IsEnded p.1.now) }
@@ -62,7 +62,7 @@ pub(crate) fn number(bytes: &[u8]) -> Option<(u64, &[u8])>
     Some((value, &bytes[count..]))
 }
 
-/// A number after these bytes, and what follows it.
+/// Reads the decimal number after this literal, and returns it with the bytes after it.
 pub(crate) fn number_after<'a>(bytes: &'a [u8], literal: &[u8]) -> Option<(u64, &'a [u8])>
     ensures found { IfSome result (λ p. (bytes.now ≡ literal.now ++ (decimal p.0 ++ p.1.now))
         × (p.0 < 2 ^ 64) × IsEnded p.1.now) }
@@ -74,7 +74,7 @@ pub(crate) fn number_after<'a>(bytes: &'a [u8], literal: &[u8]) -> Option<(u64, 
     number(rest)
 }
 
-/// A number or `-` after these bytes, and what follows it.
+/// Reads a decimal number, or `-` for None, after this literal. Returns it with the bytes after it.
 pub(crate) fn optional_after<'a>(bytes: &'a [u8], literal: &[u8]) -> Option<(Option<u64>, &'a [u8])>
     ensures found { IfSome result (λ p. (bytes.now
         ≡ literal.now ++ (optional_number p.0 ++ p.1.now)) × IfSome p.0 (λ n. n < 2 ^ 64)) }

@@ -17,8 +17,8 @@ const LEAST: usize = 65_536;
 /// Most lines have at most this many bytes.
 const LINE: usize = 20;
 
-/// How many lists a part has the lines of, where this many threads make parts of all lists. Few
-/// entries are in one part.
+/// How many lists each part has the lines of, if this many threads make the parts of all lists. Few
+/// entries make one part.
 fn part_length(lists: usize, entries: usize, threads: usize) -> usize
     ensures { 0 < result }
 {
@@ -28,9 +28,9 @@ fn part_length(lists: usize, entries: usize, threads: usize) -> usize
     lists.div_ceil(threads.max(1)).max(1)
 }
 
-/// No bytes, with room for the lines of this many entries where they are many: bytes that grow are
-/// moved again and again, and many of them are slow to move. Where so much room is refused there is
-/// none, and the bytes grow.
+/// An empty list of bytes, with room for the lines of this many entries if they are many: bytes
+/// that grow are moved again and again, and many of them are slow to move. If so much room is
+/// refused there is none, and the bytes grow.
 fn room_for(alloc: Global, entries: usize) -> Vec<u8>
     ensures { result.items ≡ [] }
 {
@@ -43,7 +43,7 @@ fn room_for(alloc: Global, entries: usize) -> Vec<u8>
     }
 }
 
-/// How many entries lists have together, where these are below 2^64.
+/// How many entries the lists have together, if these are below 2^64.
 fn entries_of(lists: &[Vec<Entry>]) -> usize {
     let mut entries: usize = 0;
     for list in lists {
@@ -52,7 +52,7 @@ fn entries_of(lists: &[Vec<Entry>]) -> usize {
     entries
 }
 
-/// The lines that a text has of the entries of lists, in bytes of their own.
+/// The lines of a text for the entries of these lists, in bytes of their own.
 fn lines_part(alloc: Global, text: Text, lists: &[Vec<Entry>]) -> Result<Vec<u8>, AllocError>
     ensures { IfOk result (λ part. part.items ≡ lines_of text (entries_in lists.now)) }
 {
@@ -63,8 +63,8 @@ fn lines_part(alloc: Global, text: Text, lists: &[Vec<Entry>]) -> Result<Vec<u8>
     Ok(part)
 }
 
-/// The lines that a text has of the entries of lists, in parts, in order. At most this many threads
-/// make them, and each part may be refused memory. `entries` is how many entries there are.
+/// Makes the lines of a text for the entries of these lists, in parts, in order. At most this many
+/// threads make them, and each part may be refused memory. `entries` is how many entries there are.
 pub(crate) fn made_parts<R: Threads + Sync>(
     rt: &R,
     alloc: Global,

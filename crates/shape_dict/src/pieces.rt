@@ -49,9 +49,9 @@ fn append_pieces(entries: &mut Vec<Entry>, pieces: Vec<Vec<Entry>>) -> Result<()
     Ok(())
 }
 
-/// What a dictionary has, where its patterns lie in several lists, one after another: threads that
-/// put them in order make a list each, and none is moved for the text. Contracts see what they see
-/// of a dictionary.
+/// A dictionary whose patterns lie in several lists, one after another: threads that put them in
+/// order make a list each, and no pattern is moved for the text. Contracts see what they see of a
+/// `Dictionary`.
 #[derive(Debug, Drop)]
 pub struct PieceDictionary {
     games: u64,
@@ -89,8 +89,8 @@ impl PieceDictionary {
     ghost use Rattle.shape_dict.specs.Text.{text_of};
     ghost use Rattle.shape_dict.specs.declared.faults.DictFault.TheVariants as fault;
 
-    /// The dictionary that holds what it is given, as `Dictionary::new` does, with its patterns in
-    /// these lists. It takes no memory.
+    /// A dictionary of these games, moves and entries, as `Dictionary::new` makes it, with its
+    /// patterns in these lists. It takes no memory.
     pub fn new(
         games: u64,
         moves: u64,
@@ -132,7 +132,7 @@ impl PieceDictionary {
         self.moves
     }
 
-    /// The lists of the patterns. These rise from list to list, as in each list.
+    /// The lists of the patterns, whose words rise within each list and from list to list.
     pub fn pieces(&self) -> &[Vec<Entry>]
         ensures value { entries_in result.now ≡ self.now.entries }
         ensures dictionary { IsDictionary self.now }
@@ -147,11 +147,11 @@ impl PieceDictionary {
         length_of(self.pieces())
     }
 
-    /// The same dictionary with its patterns in one list. It takes memory for that list.
+    /// Turns it into a `Dictionary`, with its patterns in one list. It takes memory for that list.
     ///
     /// # Errors
     ///
-    /// `AllocError` where memory was refused.
+    /// `AllocError` if memory was refused.
     pub fn into_dictionary(self, alloc: Global) -> Result<Dictionary, AllocError>
         ensures { IfOk result (λ dictionary. dictionary ≡ self) }
     {
@@ -163,13 +163,13 @@ impl PieceDictionary {
     /// A text of the dictionary in parts, to be read one after another: the same bytes as
     /// `Dictionary::write` appends. The first part is the header; the others have the lines of the
     /// patterns in their order, and are at most as many as `threads`, or one for 0. They are made
-    /// at the same time, each by a thread where one can be started and else by this one; a text of
+    /// at the same time, each by a thread if one can be started, and else by this one; a text of
     /// 65,536 patterns or fewer is made by this one. It takes memory for the text, and for each
     /// thread.
     ///
     /// # Errors
     ///
-    /// `Memory` where memory for the text was refused. The dictionary stays as it is.
+    /// `Memory` if memory for the text was refused. The dictionary stays as it is.
     pub fn parts<R: Threads + Sync>(
         &self,
         rt: &R,
@@ -190,9 +190,9 @@ impl PieceDictionary {
     }
 }
 
-/// How many squares a dictionary has, and how many diamonds where they are counted. One that does
-/// not count them has squares alone, so its patterns need no look; else one look at each is enough,
-/// as the diamonds are the rest.
+/// How many squares a dictionary has, and how many diamonds if they are counted. A dictionary that
+/// does not count them has squares alone, so its patterns need no look; else one look at each is
+/// enough, as the diamonds are the rest.
 fn counts_of(dictionary: &PieceDictionary) -> (u64, Option<u64>)
     ensures squares { result.0 ≡ length (squares_of dictionary.now.entries) }
     ensures diamonds { result.1

@@ -1,4 +1,4 @@
-//! The next line's entry, read with few branches where its numbers are of the common lengths.
+//! Reads the next line's entry with few branches, if its numbers are of the common lengths.
 ghost use Rattle.std.specs.Prelude.{◌+◌, ◌≡◌, ◌++◌, ◌∷◌, ◌<◌, ◌≤◌, ◌^◌, length, take, true, codes};
 ghost use Rattle.std.specs.Prelude.{IfSome};
 ghost use Rattle.std.specs.Fmt.{decimal};
@@ -15,10 +15,10 @@ use crate::headers::Header;
 use crate::hexadecimals::word_bits;
 use shape_core::{Kind, Shape, Word};
 
-/// No more digits of a number are read here.
+/// The most digits of a number that are read here.
 const DIGITS: usize = 18;
 
-/// The number that the first digits are, and how many these are.
+/// The number that the first digits spell, and how many digits these are: `DIGITS` at most.
 #[inline(always)]
 fn quick_digits(bytes: &[u8]) -> (u64, usize)
     ensures fits { result.1 ≤ length bytes.now }
@@ -35,7 +35,7 @@ fn quick_digits(bytes: &[u8]) -> (u64, usize)
     (value, count)
 }
 
-/// A decimal number without leading zeros, and what follows it.
+/// Reads a decimal number without leading zeros, and returns it with the bytes after it.
 #[inline(always)]
 fn quick_number(bytes: &[u8]) -> Option<(u64, &[u8])>
     ensures { IfSome result (λ p. (bytes.now ≡ decimal p.0 ++ p.1.now) × (p.0 < 2 ^ 64)) }
@@ -50,7 +50,7 @@ fn quick_number(bytes: &[u8]) -> Option<(u64, &[u8])>
     Some((value, &bytes[count..]))
 }
 
-/// What follows this byte.
+/// The bytes after this byte, or None if it does not come first.
 #[inline(always)]
 fn after(bytes: &[u8], byte: u8) -> Option<&[u8]>
     ensures { IfSome result (λ rest. bytes.now ≡ byte ∷ rest.now) }
@@ -61,7 +61,7 @@ fn after(bytes: &[u8], byte: u8) -> Option<&[u8]>
     Some(&bytes[1..])
 }
 
-/// How often a pattern was there and was played.
+/// Reads how often a pattern was there and was played, and returns both with the bytes after them.
 #[inline(always)]
 fn quick_uses(bytes: &[u8]) -> Option<(u64, u64, &[u8])>
     ensures { IfSome result (λ p. (bytes.now
@@ -75,7 +75,7 @@ fn quick_uses(bytes: &[u8]) -> Option<(u64, u64, &[u8])>
     Some((there, played, rest))
 }
 
-/// A first game, or none where there is `-`.
+/// Reads a first game, or `-` for None, and returns it with the bytes after it.
 #[inline(always)]
 fn quick_game(bytes: &[u8]) -> Option<(Option<u64>, &[u8])>
     ensures { IfSome result (λ p. (bytes.now ≡ optional_number p.0 ++ p.1.now)
@@ -88,7 +88,8 @@ fn quick_game(bytes: &[u8]) -> Option<(Option<u64>, &[u8])>
     Some((Some(game), rest))
 }
 
-/// What a line says of a first game, up to the line's end.
+/// Reads a line's first game, if the text has these, and the line's end. Returns the game and the
+/// bytes after the line.
 #[inline(always)]
 fn quick_end<'a>(bytes: &'a [u8], header: &Header) -> Option<(Option<u64>, &'a [u8])>
     ensures { IfSome result (λ p. (bytes.now ≡ first_text header.now.text p.0 ++ (line_feed ++ p.1.now))
@@ -107,7 +108,7 @@ fn quick_end<'a>(bytes: &'a [u8], header: &Header) -> Option<(Option<u64>, &'a [
     Some((first, rest))
 }
 
-/// Whether a word's place may have it: the squares come first, and words rise.
+/// Whether a word may stand at this place: the squares come first, and words rise.
 #[inline(always)]
 fn may_stand(header: &Header, place: u64, last: Option<Shape>, word: Word) -> bool
     ensures { result ≡ true → (kind_of word ≡ kind_at header.now place) × IsAbove last word }
@@ -120,10 +121,10 @@ fn may_stand(header: &Header, place: u64, last: Option<Shape>, word: Word) -> bo
     is_above && is_square == (place < header.squares)
 }
 
-/// The entry of the line at the front of the bytes, and what follows it, as `read_entry` answers
-/// them. `place` is how many entries came before it, and `last` the shape of the last of them. None
-/// where this fast way can't tell: the line is none that this place may have, or one of its numbers
-/// has more than 18 digits. It takes no memory. This project's own.
+/// Reads the line at the front of the bytes, and returns its entry and the bytes after it, as
+/// `read_entry` does. `place` is how many entries came before it, and `last` the shape of the last
+/// of them. None if this fast way can't tell: the line is none that this place may have, or one of
+/// its numbers has more than 18 digits. It takes no memory. This project's own.
 #[inline(always)]
 pub fn quick_entry<'a>(
     header: &Header,

@@ -19,7 +19,7 @@ use sgf_core::MOST_BYTES;
 use shape_core::Shape;
 use std::alloc::Global;
 
-/// The shape of the last entry, where there is one.
+/// The shape of the last entry, if there is one.
 fn last_shape(entries: &[Entry]) -> Option<Shape>
     ensures { result ≡ last_shape entries.now }
 {
@@ -29,7 +29,7 @@ fn last_shape(entries: &[Entry]) -> Option<Shape>
     Some(entries[entries.len() - 1].shape)
 }
 
-/// The entry of the next line, and what follows it.
+/// Reads the line after those of these entries, and returns its entry and the bytes after it.
 fn next_entry<'a>(
     header: &Header,
     entries: &[Entry],
@@ -47,7 +47,7 @@ fn next_entry<'a>(
     read_entry(header, entries.len() as u64, last_shape(entries), bytes)
 }
 
-/// The entries of all lines after a header, and what follows them.
+/// Reads all lines after a header, and returns their entries and the bytes after them.
 fn read_lines<'a>(
     alloc: Global,
     header: &Header,
@@ -71,7 +71,7 @@ fn read_lines<'a>(
     Ok((entries, left))
 }
 
-/// The dictionary of the text that the bytes begin with, and how many bytes the text has.
+/// Reads the text that the bytes begin with, and returns its dictionary and how many bytes it has.
 fn front_of(alloc: Global, bytes: &[u8]) -> Result<(Dictionary, usize), DictFault>
     ensures found { IfOk result (λ p. (p.1 ≤ length bytes.now) × IsTextOf p.0 (take p.1 bytes.now)
         × (length bytes.now ≤ most_bytes)) }
@@ -96,7 +96,7 @@ fn front_of(alloc: Global, bytes: &[u8]) -> Result<(Dictionary, usize), DictFaul
     Ok((dictionary, bytes.len() - left.len()))
 }
 
-/// The dictionary whose text the bytes are.
+/// Reads the dictionary whose text the bytes are, to their end.
 fn read_whole(alloc: Global, bytes: &[u8]) -> Result<Dictionary, DictFault>
     ensures found { IfOk result (λ d. IsTextOf d bytes.now × (length bytes.now ≤ most_bytes)) }
     ensures fault { IfErr result (IsTextFault bytes.now) }
@@ -116,16 +116,17 @@ impl Dictionary {
     ghost use Rattle.shape_dict.specs.Contents.{Contents};
     ghost use Rattle.shape_dict.specs.Reading.{IsTextOf, IsTextFault, IsFrontFault};
 
-    /// The dictionary whose text these bytes are, in whichever of the three texts. It takes memory.
+    /// Reads the dictionary whose text these bytes are, which may be any of the three texts. It
+    /// takes memory.
     ///
     /// # Errors
     ///
-    /// In this order: `TooLarge` where the input has more than 2^28 bytes, `BadHeader` where it
-    /// does not begin with a header, and for each line in turn `BadLine` where it is missing or is
-    /// none, `NotRising` where its word is not above the one before, `NotCanonical` where its word
-    /// is not the least of its images; then `WrongTotals` where the plays do not add up to the
-    /// moves, and `BadLine` where bytes follow the text. `Memory` where memory was refused, which
-    /// is asked for only after a header and a first line without a fault.
+    /// In this order: `TooLarge` if the input has more than 2^28 bytes, `BadHeader` if it does not
+    /// begin with a header, and for each line in turn `BadLine` if it is missing or is none that
+    /// its place may have, `NotRising` if its word is not above the one before, `NotCanonical` if
+    /// its word is not the least of its images; then `WrongTotals` if the plays do not add up to
+    /// the moves, and `BadLine` if bytes follow the text. `Memory` if memory was refused, which is
+    /// asked for only after a header and a first line without a fault.
     pub fn read(alloc: Global, bytes: &[u8]) -> Result<Dictionary, DictFault>
         ensures found { IfOk result (λ d. IsTextOf d bytes.now × (length bytes.now ≤ most_bytes)) }
         ensures only { (contents : Contents) → IsTextOf contents bytes.now
@@ -138,12 +139,12 @@ impl Dictionary {
         read_whole(alloc, bytes)
     }
 
-    /// The dictionary of the text that these bytes begin with, and how many bytes that text has. It
-    /// takes memory.
+    /// Reads the text that these bytes begin with, and returns its dictionary and how many bytes it
+    /// has. It takes memory.
     ///
     /// # Errors
     ///
-    /// Those of `read`, but that bytes may follow the text.
+    /// Those of `read`, except that bytes may follow the text.
     pub fn read_front(alloc: Global, bytes: &[u8]) -> Result<(Dictionary, usize), DictFault>
         ensures found { IfOk result (λ p. (p.1 ≤ length bytes.now)
             × IsTextOf p.0 (take p.1 bytes.now) × (length bytes.now ≤ most_bytes)) }

@@ -14,7 +14,7 @@ use crate::writing::{push_bytes, push_line, push_number, push_optional};
 use shape_core::Kind;
 use std::alloc::AllocError;
 
-/// Appends the front of a header.
+/// Appends the front of a header, which says which of the three texts it is.
 fn push_front(out: &mut Vec<u8>, text: Text) -> Result<(), AllocError>
     ensures ok { OnOk result (out.new.items ≡ out.old.items ++ front_text text) }
     ensures begins { Begins out.old.items out.new.items }
@@ -26,7 +26,7 @@ fn push_front(out: &mut Vec<u8>, text: Text) -> Result<(), AllocError>
     }
 }
 
-/// Appends what a header says of its patterns.
+/// Appends how many patterns a header says there are.
 fn push_counts(
     out: &mut Vec<u8>,
     text: Text,
@@ -50,7 +50,7 @@ fn push_counts(
     }
 }
 
-/// Appends what a header says of its games.
+/// Appends the front of a header, with its numbers of games and of moves.
 fn push_games(out: &mut Vec<u8>, text: Text, games: u64, moves: u64) -> Result<(), AllocError>
     ensures ok { OnOk result (out.new.items ≡ out.old.items ++ games_text text games moves) }
     ensures begins { Begins out.old.items out.new.items }
@@ -62,11 +62,11 @@ fn push_games(out: &mut Vec<u8>, text: Text, games: u64, moves: u64) -> Result<(
 }
 
 /// Appends the header of a text: which it is, the games and moves, how many squares follow, and how
-/// many diamonds where they are counted.
+/// many diamonds if they are counted.
 ///
 /// # Errors
 ///
-/// `AllocError` where memory was refused: what the bytes held stays their beginning.
+/// `AllocError` if memory was refused: the bytes still begin with what they held.
 pub fn push_header(
     out: &mut Vec<u8>,
     text: Text,
@@ -116,7 +116,7 @@ fn push_squares(out: &mut Vec<u8>, entries: &[Entry]) -> Result<(), AllocError>
     Ok(())
 }
 
-/// Appends the lines that a text has of entries.
+/// Appends the lines of a text for these entries.
 pub(crate) fn push_entries(
     out: &mut Vec<u8>,
     text: Text,

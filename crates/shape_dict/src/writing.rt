@@ -10,7 +10,7 @@ use itoa::Buffer;
 use shape_core::Shape;
 use std::alloc::AllocError;
 
-/// Appends bytes, or none.
+/// Appends all these bytes, or none of them.
 pub(crate) fn push_bytes(out: &mut Vec<u8>, bytes: &[u8]) -> Result<(), AllocError>
     ensures ok { OnOk result (out.new.items ≡ out.old.items ++ bytes.now) }
     ensures begins { Begins out.old.items out.new.items }
@@ -31,7 +31,7 @@ fn push_byte(out: &mut Vec<u8>, byte: u8) -> Result<(), AllocError>
 ///
 /// # Errors
 ///
-/// `AllocError` where memory was refused: what the bytes held stays their beginning.
+/// `AllocError` if memory was refused: the bytes still begin with what they held.
 #[tactic(auto, using(std::proofs::lemmas::Fmt::decimal_digit))]
 pub fn push_number(out: &mut Vec<u8>, number: u64) -> Result<(), AllocError>
     ensures ok { OnOk result (out.new.items ≡ out.old.items ++ decimal number) }
@@ -59,7 +59,7 @@ fn hexadecimal_digit(digit: u8) -> u8
 ///
 /// # Errors
 ///
-/// `AllocError` where memory was refused: what the bytes held stays their beginning.
+/// `AllocError` if memory was refused: the bytes still begin with what they held.
 pub fn push_word(out: &mut Vec<u8>, shape: Shape) -> Result<(), AllocError>
     ensures ok { OnOk result (out.new.items ≡ out.old.items ++ word_text shape) }
     ensures begins { Begins out.old.items out.new.items }
@@ -79,7 +79,7 @@ fn word_digits(number: u64) -> [u8; 13]
     digits
 }
 
-/// Appends a number, or `-` where there is none.
+/// Appends a number, or `-` if there is none.
 pub(crate) fn push_optional(out: &mut Vec<u8>, number: Option<u64>) -> Result<(), AllocError>
     ensures ok { OnOk result (out.new.items ≡ out.old.items ++ optional_number number) }
     ensures begins { Begins out.old.items out.new.items }
@@ -90,7 +90,7 @@ pub(crate) fn push_optional(out: &mut Vec<u8>, number: Option<u64>) -> Result<()
     }
 }
 
-/// Appends what a line says of a first game.
+/// Appends the first game of a line, if the text has these.
 fn push_first(out: &mut Vec<u8>, text: Text, first: Option<u64>) -> Result<(), AllocError>
     ensures ok { OnOk result (out.new.items ≡ out.old.items ++ first_text text first) }
     ensures begins { Begins out.old.items out.new.items }
@@ -130,7 +130,7 @@ fn push_uses(out: &mut Vec<u8>, entry: &Entry) -> Result<(), AllocError>
 ///
 /// # Errors
 ///
-/// `AllocError` where memory was refused: what the bytes held stays their beginning.
+/// `AllocError` if memory was refused: the bytes still begin with what they held.
 pub fn push_line(out: &mut Vec<u8>, text: Text, entry: &Entry) -> Result<(), AllocError>
     ensures ok { OnOk result (out.new.items ≡ out.old.items ++ line_text text entry.now) }
     ensures begins { Begins out.old.items out.new.items }

@@ -48,7 +48,7 @@ fn where_argument<'a>(alloc: Global) -> Arg<'a>
 ///
 /// # Errors
 ///
-/// `AllocError` where memory was refused.
+/// `AllocError` if memory was refused.
 pub fn program<'a>(alloc: Global) -> Result<Command<'a>, AllocError>
     ensures { IfOk result (λ command. app_of command ≡ program_app) }
 {

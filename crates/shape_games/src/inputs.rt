@@ -18,22 +18,22 @@ use twins_core::{Twins, run_twins};
 #[derive(Drop)]
 struct Sum {
     report: Report,
-    /// The games that were met, where twins are asked for.
+    /// The games that were met, if twins are asked for: games that an earlier one is like.
     twins: Twins,
     /// Whether anything was written.
     is_written: bool,
-    /// The exit status: that of the first fault, 0 where there is none.
+    /// The exit status: that of the first fault, 0 if there is none.
     status: u8,
 }
 
-/// The first of two exit statuses that is not 0, or 0 where both are.
+/// The first of two exit statuses that is not 0, or 0 if both are.
 fn first_status(before: u8, status: u8) -> u8
     ensures { result ≡ first_status before status }
 {
     if before == 0 { status } else { before }
 }
 
-/// The number of the next input's first game, where it may have that number.
+/// The number of the next input's first game; None if no game may have that number.
 fn next_first(sum: &Sum) -> Option<u64>
     ensures { IfSome result (λ first. first ≤ most_first) }
 {
@@ -43,7 +43,7 @@ fn next_first(sum: &Sum) -> Option<u64>
     Some(sum.report.games)
 }
 
-/// Both reports together.
+/// Adds two reports.
 fn joined(before: Report, more: Report) -> Report {
     Report {
         games: before.games.saturating_add(more.games),
@@ -52,7 +52,7 @@ fn joined(before: Report, more: Report) -> Report {
     }
 }
 
-/// Whether a run ends with this, and reads no further input.
+/// Whether a run ends with this fault, and reads no further input.
 fn ends_run(fault: &RunFault) -> bool {
     match fault {
         RunFault::Write { .. } => true,
@@ -60,7 +60,7 @@ fn ends_run(fault: &RunFault) -> bool {
     }
 }
 
-/// What was asked for is written of an input.
+/// Writes what is asked for of one input.
 fn write_of<R: Read>(
     rt: &HostRuntime,
     asked: &Asked<'_>,
@@ -92,8 +92,7 @@ fn write_of<R: Read>(
     result
 }
 
-/// Says what went wrong with an input. Where standard error takes nothing, the status still says
-/// it.
+/// Says what went wrong with an input. If standard error takes nothing, the status still says it.
 fn tell(rt: &HostRuntime, sum: &mut Sum, name: Option<&str>, fault: &RunFault) {
     let _ = eprintln!(rt; "shape_games: {}{fault}", Named(name));
     sum.status = first_status(sum.status, status_of(fault));
@@ -128,7 +127,7 @@ fn take_input<R: Read>(
     Ok(())
 }
 
-/// Does what is asked for with what a word means.
+/// Does what is asked for with one input, or says what is wrong with a name.
 fn take(
     rt: &HostRuntime,
     asked: &Asked<'_>,
@@ -153,7 +152,7 @@ fn take(
     }
 }
 
-/// Does what is asked for with these, one after another. The answer is the fault that ended the
+/// Does what is asked for with these inputs, one after another. Returns the fault that ended the
 /// run, if one did.
 fn take_all(
     rt: &HostRuntime,
@@ -175,8 +174,8 @@ fn is_in_vain(asked: &Asked<'_>, sum: &Sum) -> bool {
     !asked.conditions.is_empty() && !sum.is_written && are_some
 }
 
-/// Says how many trees of each sort there were, and before that whether no game was chosen of
-/// them, which has the status 1 unless something was at fault.
+/// Says how many trees of each sort there were. Before that it says if games were to be chosen and
+/// none was, which has the status 1 unless something was at fault.
 fn sum_up(rt: &HostRuntime, asked: &Asked<'_>, sum: &mut Sum) {
     if is_in_vain(asked, sum) {
         let _ = eprintln!(rt; "shape_games: no game is chosen");
@@ -190,11 +189,11 @@ fn sum_up(rt: &HostRuntime, asked: &Asked<'_>, sum: &mut Sum) {
 }
 
 /// Does what is asked for with all inputs that the words name, and says on standard error what went
-/// wrong and, at the end, how many trees of each sort there were. The answer is the exit status.
+/// wrong and, at the end, how many trees of each sort there were. Returns the exit status.
 ///
 /// # Errors
 ///
-/// Where a write failed or memory was refused; no further input is read then.
+/// The fault of a write that failed, or of memory that was refused; no further input is read then.
 pub fn list_all(rt: &HostRuntime, asked: &Asked<'_>) -> Result<u8, RunFault> {
     let mut sum = Sum {
         report: Report {

@@ -13,7 +13,7 @@ use inputs::list_all;
 use std::io;
 use std::process::ExitCode;
 
-/// Does what the words say. The answer is the exit status.
+/// Does what the words of the command line say. Returns the exit status.
 fn run(rt: &HostRuntime) -> Result<u8, RunFault> {
     let words = own_words(rt)?;
     match read_words(rt.alloc(), &words)? {
@@ -29,7 +29,7 @@ fn main(rt: HostRuntime) -> ExitCode {
     match run(&rt) {
         Ok(status) => ExitCode::from(status),
         Err(fault) => {
-            // Where standard error takes nothing, the status still says what went wrong.
+            // If standard error takes nothing, the status still says what went wrong.
             let _ = eprintln!(rt; "shape_games: {fault}");
             ExitCode::from(status_of(&fault))
         }

@@ -2,7 +2,7 @@
 use game_files::{Cause, Shown, Why};
 use std::{fmt, io};
 
-/// The name of a file before what is said of it; nothing of standard input.
+/// The name of a file, shown with a colon before what is said of it; nothing for standard input.
 #[derive(Clone, Copy)]
 pub struct Named<'a>(pub Option<&'a str>);
 
@@ -15,7 +15,7 @@ impl fmt::Display for Named<'_> {
     }
 }
 
-/// Says that an input has no tree, and of a file what it may be.
+/// Says that an input has no tree, and if it is a file, what it may be.
 pub fn tell_no_tree(rt: &HostRuntime, name: Option<&str>, cause: Cause) {
     let _ = match name {
         Some(_) => eprintln!(rt; "shape_games: {}no tree: {cause}", Named(name)),

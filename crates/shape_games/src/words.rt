@@ -16,18 +16,18 @@ use std::alloc::{AllocError, Global};
 /// What is done with the collections.
 #[derive(Clone, Copy, Debug, PartialEq, Eq)]
 pub enum Work {
-    /// This is written of each tree that is chosen.
+    /// What is written of each tree that is chosen.
     List(Form),
-    /// Games that an earlier one is like are named.
+    /// A line is written for each game that an earlier one is like.
     Twins,
 }
 
-/// What is asked for.
+/// What the words ask for.
 #[derive(Debug, Drop)]
 pub struct Asked<'a> {
-    /// What is done.
+    /// What is done with the collections.
     pub work: Work,
-    /// What a game has to meet to be chosen.
+    /// The conditions that a game has to meet to be chosen.
     pub conditions: Vec<Condition<'a>>,
     /// The words that name collections and folders.
     pub files: Vec<&'a str>,
@@ -50,7 +50,7 @@ fn conditions_of<'a>(alloc: Global, texts: &[&'a str]) -> Result<Vec<Condition<'
     Ok(conditions)
 }
 
-/// What is done, by the flags that are given, and whether a condition is.
+/// What is done, by the flags and whether there is a condition; None if these don't go together.
 fn work_for(info: bool, cut: bool, twice: bool, has_condition: bool) -> Option<Work>
     ensures { result ≡ work_of info cut twice has_condition }
 {
@@ -99,9 +99,9 @@ impl<'a> FromWords<'a> for Asked<'a> {
         program(alloc)
     }
 
-    /// What the values ask for; none at all ask for the lines of standard input. `Usage` comes
-    /// where a condition is none, or what is asked for does not go together: two of `--info`,
-    /// `--cut` and `--twice`, or `--twice` and a condition.
+    /// Returns what the values ask for; no values at all ask for the lines of standard input.
+    /// `Usage` if a text spells no condition, or if what is asked for does not go together: two of
+    /// `--info`, `--cut` and `--twice`, or `--twice` and a condition.
     fn from_values(alloc: Global, matches: &ArgMatches<'a>) -> Result<Asked<'a>, RunFault> {
         let files = words_of(alloc, matches, "files")?;
         let texts = words_of(alloc, matches, "where")?;

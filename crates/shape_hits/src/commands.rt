@@ -44,7 +44,7 @@ fn most_argument<'a>(alloc: Global) -> Arg<'a>
     ))
 }
 
-/// The program with what says which patterns are looked for.
+/// The program with the arguments that say which patterns are looked for.
 fn program_of_patterns<'a>(alloc: Global) -> Result<Command<'a>, AllocError>
     ensures { IfOk result (λ command. app_of command ≡ patterns_app) }
 {
@@ -68,7 +68,7 @@ fn program_of_patterns<'a>(alloc: Global) -> Result<Command<'a>, AllocError>
 ///
 /// # Errors
 ///
-/// `AllocError` where memory was refused.
+/// `AllocError` if memory was refused.
 pub fn program<'a>(alloc: Global) -> Result<Command<'a>, AllocError>
     ensures { IfOk result (λ command. app_of command ≡ program_app) }
 {

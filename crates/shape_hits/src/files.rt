@@ -1,11 +1,11 @@
-//! The files of hits.
+//! The SGF files of hits, written into a folder.
 use engine_core::RunFault;
 use game_files::Shown;
 use hits_core::{Hit, Results, file_name, sgf_of};
 use std::fs::{self, File, OpenOptions};
 use std::io::{self, ErrorKind, Write};
 
-/// What a run that can't write a file ends with.
+/// The fault with which a run ends that can't write a file.
 const UNWRITTEN: RunFault = RunFault::Write { written: 0 };
 
 /// Why a file was not made.
@@ -24,14 +24,14 @@ fn tell(rt: &HostRuntime, name: &str, why: &str) {
     let _ = eprintln!(rt; "shape_hits: I2 {}: {why}", Shown(name));
 }
 
-/// Makes a file that is not there.
+/// Makes a file that is not there yet.
 fn new_file(rt: &HostRuntime, name: &str) -> io::Result<File> {
     let mut options = OpenOptions::new();
     options.write(true).create_new(true);
     options.open(rt, name)
 }
 
-/// Writes the file of this name, which must not be there.
+/// Writes a text to the file of this name, which must not be there.
 fn write_file(rt: &HostRuntime, name: &str, text: &[u8]) -> Result<(), RunFault> {
     let mut file = match new_file(rt, name) {
         Ok(file) => file,
@@ -47,7 +47,7 @@ fn write_file(rt: &HostRuntime, name: &str, text: &[u8]) -> Result<(), RunFault>
     Ok(())
 }
 
-/// The name of a hit's file in a folder.
+/// The name of a hit's file, with that of its folder before it.
 fn name_in(rt: &HostRuntime, folder: &str, hit: &Hit) -> Result<String, RunFault> {
     let mut name = String::from_str(rt.alloc(), folder)?;
     if !folder.ends_with('/') {
@@ -71,7 +71,7 @@ fn is_again(last: &Option<Hit>, hit: &Hit) -> bool {
 ///
 /// # Errors
 ///
-/// `Write` where it is not there and can't be made, or is no folder: it was said.
+/// `Write` if it is not there and can't be made, or is no folder: it was said.
 pub fn make_folder(rt: &HostRuntime, folder: &str) -> Result<(), RunFault> {
     if let Ok(found) = fs::metadata(rt, folder) {
         if found.is_dir() {
@@ -90,13 +90,13 @@ pub fn make_folder(rt: &HostRuntime, folder: &str) -> Result<(), RunFault> {
 }
 
 /// Writes a file for each hit of an input, whose first game has this number, and at most the number
-/// of files that is given. Hits at the same point before the same move have one file. The answer is
-/// how many files were written.
+/// of files that is given. Hits at the same point before the same move have one file. Returns how
+/// many files were written.
 ///
 /// # Errors
 ///
-/// `Memory` where memory was refused; `Write` where a file is there already, or could not be made
-/// or written: it was said.
+/// `Memory` if memory was refused; `Write` if a file is there already, or could not be made or
+/// written: it was said.
 pub fn write_files(
     rt: &HostRuntime,
     folder: &str,

@@ -11,16 +11,16 @@ use hits_core::{Results, Search, Wanted, run_hits};
 use std::io::{self, Read};
 use std::thread::Threads;
 
-/// The exit status where an input has no tree.
+/// The exit status if an input has no tree.
 const NO_TREE: u8 = 7;
 
-/// No more files are written where the words don't say how many.
+/// The most files that are written if the words don't say how many.
 const MOST_FILES: u64 = 1000;
 
 /// The sums over the inputs so far.
 #[derive(Clone, Copy)]
 struct Sum {
-    /// What their trees are.
+    /// How many of their trees are games, of other games, and refused.
     report: Report,
     /// Whether there is a hit.
     is_found: bool,
@@ -28,7 +28,7 @@ struct Sum {
     left: Option<u64>,
     /// How many files may still be written.
     files: u64,
-    /// The exit status: that of the first fault, 0 where there is none.
+    /// The exit status: that of the first fault, 0 if there is none.
     status: u8,
 }
 
@@ -41,7 +41,7 @@ struct Given<'a, T> {
     wanted: &'a Wanted,
 }
 
-/// The status after one more, which counts where none was before it.
+/// The first of two exit statuses that is not 0, or 0 if both are.
 fn first_status(before: u8, status: u8) -> u8
     ensures { result ≡ first_status before status }
 {
@@ -58,7 +58,7 @@ fn left_after(left: Option<u64>, listed: u64) -> Option<u64>
     }
 }
 
-/// A name before what is said of it: nothing of standard input.
+/// The name of an input, shown with a colon before what is said of it; nothing for standard input.
 #[derive(Clone, Copy)]
 struct Named<'a>(Option<&'a str>);
 
@@ -71,7 +71,7 @@ impl std::fmt::Display for Named<'_> {
     }
 }
 
-/// What the trees of two inputs are together.
+/// Adds the reports on two inputs.
 fn both_reports(one: Report, other: Report) -> Report {
     Report {
         games: one.games.saturating_add(other.games),
@@ -80,25 +80,25 @@ fn both_reports(one: Report, other: Report) -> Report {
     }
 }
 
-/// Says what went wrong with an input. Where standard error takes nothing, the status still says
-/// it.
+/// Says what went wrong with an input. If standard error takes nothing, the status still says it.
 fn tell(rt: &HostRuntime, sum: &mut Sum, name: Option<&str>, fault: &RunFault) {
     let _ = eprintln!(rt; "shape_hits: {}{fault}", Named(name));
     sum.status = first_status(sum.status, status_of(fault));
 }
 
-/// Says what is wrong with a name.
+/// Says what is wrong with a name, and takes note of the exit status.
 fn tell_flaw(rt: &HostRuntime, sum: &mut Sum, name: &str, why: Why) {
     let _ = eprintln!(rt; "shape_hits: {}: {why}", Shown(name));
     sum.status = first_status(sum.status, flaw_status(why));
 }
 
-/// Whether an input has no tree.
+/// Whether the report on an input has no tree.
 fn has_no_tree(report: Report) -> bool {
     report.games == 0 && report.others == 0 && report.refused == 0
 }
 
-/// Takes up what was found in an input, and writes a file for each hit where that is asked for.
+/// Adds what was found in an input to the sums, and writes a file for each hit if that is asked
+/// for.
 fn take_up<T>(given: &Given<'_, T>, sum: &mut Sum, results: &Results) -> Result<(), RunFault> {
     let listed = results.hits.len() as u64;
     if results.outcome == Outcome::Done {
@@ -113,7 +113,8 @@ fn take_up<T>(given: &Given<'_, T>, sum: &mut Sum, results: &Results) -> Result<
     Ok(())
 }
 
-/// The same. A fault that was not said is said, and the status is that of the fault.
+/// Does what `take_up` does. A fault that was not said is said, and the status is that of the
+/// fault.
 fn taken_up<T>(given: &Given<'_, T>, sum: &mut Sum, results: &Results) -> Result<(), RunFault> {
     let Err(fault) = take_up(given, sum, results) else {
         return Ok(());
@@ -125,7 +126,7 @@ fn taken_up<T>(given: &Given<'_, T>, sum: &mut Sum, results: &Results) -> Result
     Err(fault)
 }
 
-/// Lists the hits of an input, which has this name or is standard input. The fault is one with
+/// Lists the hits of an input, which has this name or is standard input. An error is a fault with
 /// which the run ends.
 fn list_one<T: Threads + Sync, R: Read>(
     given: &Given<'_, T>,
@@ -169,7 +170,7 @@ fn list_one<T: Threads + Sync, R: Read>(
     }
 }
 
-/// Lists the hits of what one word means.
+/// Lists the hits of one input, or says what is wrong with a name.
 fn list_source<T: Threads + Sync>(
     given: &Given<'_, T>,
     sum: &mut Sum,
@@ -192,8 +193,8 @@ fn list_source<T: Threads + Sync>(
     }
 }
 
-/// The exit status of a run that went to its end: that of the first fault, and where there is none
-/// 0 where a hit was found, and else 1.
+/// The exit status of a run that went to its end: that of the first fault. If there is none, 0 if a
+/// hit was found, and else 1.
 fn ended(sum: &Sum) -> u8 {
     match (sum.status, sum.is_found) {
         (0, true) => 0,
@@ -202,11 +203,11 @@ fn ended(sum: &Sum) -> u8 {
     }
 }
 
-/// Lists the hits of all inputs, one after another. The answer is the exit status.
+/// Lists the hits of all inputs, one after another. Returns the exit status.
 ///
 /// # Errors
 ///
-/// `Memory` where memory for the names was refused; what else goes wrong was said.
+/// `Memory` if memory for the names was refused; what else goes wrong was said.
 pub fn list_all<T: Threads + Sync>(
     rt: &HostRuntime,
     threads: &T,

@@ -17,7 +17,7 @@ use std::process::ExitCode;
 use std::thread::Threads;
 use words::Asked;
 
-/// Those of the list of words in the file of this name.
+/// Returns the patterns whose words are listed in the file of this name.
 fn listed(rt: &HostRuntime, name: &str) -> Result<Wanted, WordsFault> {
     match File::open(rt, name) {
         Ok(mut file) => read_wanted(rt.alloc(), &mut file),
@@ -25,7 +25,7 @@ fn listed(rt: &HostRuntime, name: &str) -> Result<Wanted, WordsFault> {
     }
 }
 
-/// The patterns that are looked for: the one that is spelled, else those of the list.
+/// Returns the patterns that are looked for: the one that is spelled, else those of the list.
 fn wanted_of(rt: &HostRuntime, asked: &Asked<'_>) -> Result<Wanted, WordsFault> {
     match asked.shape {
         Some(shape) => Wanted::one(rt.alloc(), shape).map_err(|_| WordsFault::Memory),
@@ -33,7 +33,7 @@ fn wanted_of(rt: &HostRuntime, asked: &Asked<'_>) -> Result<Wanted, WordsFault> 
     }
 }
 
-/// Says what is wrong with the list of words, with the file that could not be read.
+/// Says what is wrong with the list of words, and if it could not be read, its file and why.
 fn tell(rt: &HostRuntime, asked: &Asked<'_>, fault: &WordsFault) {
     let _ = match (fault, asked.words) {
         (WordsFault::Unread, Some(name)) => {
@@ -44,8 +44,8 @@ fn tell(rt: &HostRuntime, asked: &Asked<'_>, fault: &WordsFault) {
     };
 }
 
-/// Writes the hits, and their files where a folder is named. The threads that find them are started
-/// through `threads`. The answer is the exit status.
+/// Writes the hits, and their files if a folder is named. The threads that find them are started
+/// through `threads`. Returns the exit status.
 fn find<T: Threads + Sync>(
     rt: &HostRuntime,
     threads: &T,
@@ -66,7 +66,7 @@ fn find<T: Threads + Sync>(
     list_all(rt, threads, asked, &wanted)
 }
 
-/// Does what the words say.
+/// Does what the words of the command line say. Returns the exit status.
 fn run<T: Threads + Sync>(rt: &HostRuntime, threads: &T) -> Result<u8, RunFault> {
     let words = own_words(rt)?;
     match read_words(rt.alloc(), &words)? {
@@ -82,7 +82,7 @@ fn main(rt: HostRuntime) -> ExitCode {
     match run(&rt, &rt) {
         Ok(status) => ExitCode::from(status),
         Err(fault) => {
-            // Where standard error takes nothing, the status still says what went wrong.
+            // If standard error takes nothing, the status still says what went wrong.
             let _ = eprintln!(rt; "shape_hits: {fault}");
             ExitCode::from(status_of(&fault))
         }

@@ -20,21 +20,21 @@ use std::alloc::{AllocError, Global};
 /// The search that is asked for.
 #[derive(Debug, Drop)]
 pub struct Asked<'a> {
-    /// The pattern that is looked for, where one is spelled.
+    /// The pattern that is looked for, if one is spelled.
     pub shape: Option<Shape>,
-    /// The name of the file with the words that are looked for, where no pattern is spelled.
+    /// The name of the file with the words that are looked for, if no pattern is spelled.
     pub words: Option<&'a str>,
-    /// What of them is listed, and how.
+    /// What is listed of the patterns, and how.
     pub search: Search<'static>,
     /// How many threads search.
     pub workers: u8,
-    /// The folder in which a file for each hit is written, where one is named.
+    /// The folder in which a file for each hit is written, if one is named.
     pub folder: Option<&'a str>,
-    /// The words that name collections and folders of such.
+    /// The words that name collections and folders of collections.
     pub names: Vec<&'a str>,
 }
 
-/// What the lines show: the words of a list.
+/// What the lines show: the words too, unless one pattern is spelled.
 fn shown_for(shape: &Option<Shape>) -> Shown
     ensures { result ≡ shown_for shape.now }
 {
@@ -44,7 +44,7 @@ fn shown_for(shape: &Option<Shape>) -> Shown
     }
 }
 
-/// The pattern that glyphs and a colour spell, where no file of words is named.
+/// The pattern that glyphs and a colour spell, if no file of words is named.
 fn spelled(matches: &ArgMatches<'_>) -> Result<Option<Shape>, RunFault>
     requires { first_of (codes "words") (rows_in matches.now) ≡ None }
     ensures patterns { IfOk result (ArePatterns (rows_in matches.now)) }
@@ -56,7 +56,7 @@ fn spelled(matches: &ArgMatches<'_>) -> Result<Option<Shape>, RunFault>
     }
 }
 
-/// Whether a word of this name is given.
+/// Whether the argument of this name is given.
 fn is_given(matches: &ArgMatches<'_>, id: &str) -> bool
     ensures { MatchBool result (first_of id.now (rows_in matches.now) ≢ None)
         (first_of id.now (rows_in matches.now) ≡ None) }
@@ -67,7 +67,7 @@ fn is_given(matches: &ArgMatches<'_>, id: &str) -> bool
     }
 }
 
-/// No pattern, where a file of words is named and it is not said that one is a diamond.
+/// Returns None for a file of words that is named; `Usage` if `--diamond` is given besides.
 fn listed(matches: &ArgMatches<'_>) -> Result<Option<Shape>, RunFault>
     requires { first_of (codes "words") (rows_in matches.now) ≢ None }
     ensures patterns { IfOk result (ArePatterns (rows_in matches.now)) }
@@ -79,7 +79,7 @@ fn listed(matches: &ArgMatches<'_>) -> Result<Option<Shape>, RunFault>
     }
 }
 
-/// The pattern that is looked for, or None where a file of words is named.
+/// The pattern that is looked for, or None if a file of words is named.
 fn shape_of(matches: &ArgMatches<'_>) -> Result<Option<Shape>, RunFault>
     ensures patterns { IfOk result (ArePatterns (rows_in matches.now)) }
     ensures fault { IfErr result (IsPatternsFault (rows_in matches.now)) }
@@ -90,7 +90,7 @@ fn shape_of(matches: &ArgMatches<'_>) -> Result<Option<Shape>, RunFault>
     spelled(matches)
 }
 
-/// Appends the word of this name, where there is one.
+/// Appends the word of the argument of this name, if there is one.
 fn push_word<'a>(
     names: &mut Vec<&'a str>,
     matches: &ArgMatches<'a>,
@@ -106,7 +106,7 @@ fn push_word<'a>(
     Ok(())
 }
 
-/// The first word or two, where a file of words is named and they spell no pattern.
+/// Returns the first word or two as names, if a file of words is named and they spell no pattern.
 fn first_names<'a>(alloc: Global, matches: &ArgMatches<'a>) -> Result<Vec<&'a str>, AllocError>
     ensures { IfOk result (λ names. map (λ name. name.now) names.items
         ≡ first_names (first_of (codes "words") (rows_in matches.now)) (rows_in matches.now)) }
@@ -129,7 +129,7 @@ fn push_all<'a>(names: &mut Vec<&'a str>, others: &[&'a str]) -> Result<(), Allo
     Ok(())
 }
 
-/// The words that name collections and folders of such.
+/// Returns the words that name collections and folders of collections.
 fn names_of<'a>(alloc: Global, matches: &ArgMatches<'a>) -> Result<Vec<&'a str>, AllocError>
     ensures { IfOk result (λ names. map (λ name. name.now) names.items
         ≡ names_of (rows_in matches.now)) }
@@ -140,7 +140,7 @@ fn names_of<'a>(alloc: Global, matches: &ArgMatches<'a>) -> Result<Vec<&'a str>,
     Ok(names)
 }
 
-/// What of the patterns is listed, and how.
+/// What is listed of the patterns, and how.
 fn search_of(matches: &ArgMatches<'_>, most: Option<u64>, shape: &Option<Shape>) -> Search<'static>
     ensures sought { IsSoughtOf (rows_in matches.now) result.sought }
     ensures most { result.most ≡ most }
@@ -177,10 +177,9 @@ impl<'a> FromWords<'a> for Asked<'a> {
         program(alloc)
     }
 
-    /// What the values ask for. `Usage` comes where they name no file of words and the colour or
-    /// the glyphs are missing, or the colour is none; where they name one with `--diamond`; and
-    /// where a number is missing or too large. `Glyph` comes where the glyphs are not those of a
-    /// pattern.
+    /// Returns the search that the values ask for. `Usage` if they name no file of words and the
+    /// colour or the glyphs are missing, or the colour is none; if they name one with `--diamond`;
+    /// and if a number is missing or too large. `Glyph` if the glyphs are not those of a pattern.
     fn from_values(alloc: Global, matches: &ArgMatches<'a>) -> Result<Asked<'a>, RunFault> {
         let shape = shape_of(matches)?;
         let Some(most) = optional_number(matches, "most") else {

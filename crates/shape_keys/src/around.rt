@@ -10,7 +10,7 @@ use crate::statuses::Status;
 const OFF_BOARD: u8 = 3;
 
 /// The place of the point at this column and row, from 0, in the list of a board's points, or None
-/// where there is no such point.
+/// if there is no such point.
 fn place_on(board: &[u8], columns: usize, column: usize, row: usize) -> Option<usize>
     ensures { MatchOption result (IsPoint board.now columns column row → ⊥)
         (λ place. (place ≡ row * columns + column) × IsPoint board.now columns column row) }
@@ -27,7 +27,7 @@ fn place_on(board: &[u8], columns: usize, column: usize, row: usize) -> Option<u
     }
 }
 
-/// The code of the cell at this column and row, which are counted from two before the first.
+/// The code of the cell at column `x` and row `y`, both counted from two before the board's first.
 fn code_at(board: &[u8], columns: usize, x: usize, y: usize) -> u8
     ensures { IsCodeAt board.now columns x y result }
 {
@@ -40,7 +40,7 @@ fn code_at(board: &[u8], columns: usize, x: usize, y: usize) -> u8
     }
 }
 
-/// The codes of the square round the point at this column and row.
+/// Returns the codes of the square round the point at this column and row.
 fn around(board: &[u8], columns: usize, column: usize, row: usize) -> [u8; 25]
     requires column { column < 2 ^ 32 }
     requires row { row < 2 ^ 32 }
@@ -53,12 +53,13 @@ fn around(board: &[u8], columns: usize, column: usize, row: usize) -> [u8; 25]
     codes
 }
 
-/// The codes of the square round a point of a board, row by row from the top, each row from the
-/// left: those of its points, and 3 off the board. The board is the list of its points' codes, row
-/// by row, each of `columns` codes; the point's column and row are counted from 0. Takes no memory.
+/// Writes the codes of the square round a point of a board, row by row from the top, each row from
+/// the left: those of its points, and 3 off the board. The board is the list of its points' codes,
+/// row by row, each of `columns` codes; the point's column and row are counted from 0. Takes no
+/// memory.
 ///
-/// Returns `Done` and writes the codes. Returns `BadPoint` exactly where the board has no such
-/// point; what was there stays then.
+/// Returns `Done` and writes the codes. Returns `BadPoint` exactly if the board has no such point;
+/// what was there stays then.
 #[unsafe(no_mangle)]
 pub extern "C" fn shapes_around(
     board: &[u8],

@@ -8,13 +8,13 @@ ghost use Rattle.shape_keys.specs.declared.statuses.Status.TheVariants as status
 
 use crate::statuses::Status;
 
-/// What the words of diamonds have beside the sum of their cells.
+/// What a diamond's word has more than the sum of its cells.
 const DIAMOND: u64 = 1 << 50;
 
 /// The greatest code: a cell off the board.
 const OFF_BOARD: u8 = 3;
 
-/// The sum over the cells with these codes, or None where one of them is no code. It goes from the
+/// The sum over the cells with these codes, or None if one of them is no code. It goes from the
 /// last cell to the first: the sum from a cell on is its code and four times the sum after it.
 fn sum_of_codes(codes: &[u8; 25]) -> Option<u64>
     ensures sum { SomeIff result (AreCodes codes.now) (sum_of codes.now) }
@@ -31,10 +31,10 @@ fn sum_of_codes(codes: &[u8; 25]) -> Option<u64>
     Some(sum)
 }
 
-/// The word of the square whose cells have these codes, row by row from the top, each row from the
-/// left: 0 empty, 1 black, 2 white, 3 off the board. Takes no memory.
+/// Writes the word of the square whose cells have these codes, row by row from the top, each row
+/// from the left: 0 empty, 1 black, 2 white, 3 off the board. Takes no memory.
 ///
-/// Returns `Done` and writes the word. Returns `BadCode` exactly where a code is over 3; the word
+/// Returns `Done` and writes the word. Returns `BadCode` exactly if a code is over 3; the word
 /// stays as it was then.
 #[unsafe(no_mangle)]
 pub extern "C" fn shapes_square(codes: &[u8; 25], word: &mut u64) -> u32
@@ -52,10 +52,10 @@ pub extern "C" fn shapes_square(codes: &[u8; 25], word: &mut u64) -> u32
     }
 }
 
-/// The word of the diamond whose cells have these codes, row by row from the top, each row from the
-/// left: 0 empty, 1 black, 2 white, 3 off the board. Takes no memory.
+/// Writes the word of the diamond whose cells have these codes, row by row from the top, each row
+/// from the left: 0 empty, 1 black, 2 white, 3 off the board. Takes no memory.
 ///
-/// Returns `Done` and writes the word. Returns `BadCode` exactly where a code is over 3; the word
+/// Returns `Done` and writes the word. Returns `BadCode` exactly if a code is over 3; the word
 /// stays as it was then.
 #[unsafe(no_mangle)]
 pub extern "C" fn shapes_diamond(codes: &[u8; 25], word: &mut u64) -> u32

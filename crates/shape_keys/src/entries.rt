@@ -6,7 +6,7 @@ ghost use Rattle.shape_keys.specs.Entries.{or_unknown, said, said_header};
 use shape_dict::{Entry, Header, count_lines};
 
 /// One pattern of a dictionary: its canonical word, how often it was there, how often it was
-/// played, and the first game that had it, from 0, or 2^64 - 1 where that is not known.
+/// played, and the first game that had it, from 0, or 2^64 - 1 if that is not known.
 #[repr(C)]
 #[derive(Clone, Copy)]
 pub struct ShapesEntry {
@@ -17,7 +17,7 @@ pub struct ShapesEntry {
 }
 
 /// What the header of a dictionary's text says: how many games and moves were counted, how many
-/// squares and diamonds follow (2^64 - 1 where diamonds were not counted), and how many both are.
+/// squares and diamonds follow (2^64 - 1 if diamonds were not counted), and how many both are.
 #[repr(C)]
 #[derive(Clone, Copy)]
 pub struct ShapesHeader {
@@ -28,14 +28,14 @@ pub struct ShapesHeader {
     pub patterns: u64,
 }
 
-/// The number, or 2^64 - 1 where it is not known.
+/// The number, or 2^64 - 1 if it is not known.
 fn or_unknown(number: Option<u64>) -> u64
     ensures { result ≡ or_unknown number }
 {
     number.unwrap_or(u64::MAX)
 }
 
-/// What is said of an entry.
+/// Returns an entry as it crosses to other languages.
 pub(crate) fn said(entry: &Entry) -> ShapesEntry
     ensures { result ≡ said entry.now }
 {
@@ -47,7 +47,7 @@ pub(crate) fn said(entry: &Entry) -> ShapesEntry
     }
 }
 
-/// What is said of a header.
+/// Returns a header as it crosses to other languages.
 pub(crate) fn said_header(header: &Header) -> ShapesHeader
     ensures { result ≡ said_header header.now }
 {

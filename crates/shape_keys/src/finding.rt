@@ -1,4 +1,4 @@
-//! The entry of a shape, among entries whose shapes rise.
+//! The entry of a shape, which is a canonical word, among entries whose shapes rise.
 ghost use Rattle.std.specs.Prelude.{◌≡◌, map};
 ghost use Rattle.std.specs.Option.{option_map};
 ghost use Rattle.std.specs.List.Sorted.{IsStrictlyIncreasing};
@@ -9,11 +9,11 @@ ghost use Rattle.shape_keys.specs.Found.{IsFoundAs, IsSomeAnswer};
 use crate::entries::ShapesEntry;
 use crate::statuses::Status;
 
-/// The entry of a shape among entries whose shapes rise, as `shapes_read` writes them: by halves,
-/// so among n of them it looks at about log2 n. Takes no memory.
+/// Finds the entry of a shape among entries whose shapes rise, as `shapes_read` writes them. It
+/// looks by halves, so among n of them at about log2 n. Takes no memory.
 ///
-/// Returns `Done` and writes the entry, or `Absent` where none has the shape; what was there stays
-/// then. Where the shapes do not rise, an entry that has the shape may be missed; what is found has
+/// Returns `Done` and writes the entry, or `Absent` if none has the shape; what was there stays
+/// then. If the shapes do not rise, an entry that has the shape may be missed; what is found has
 /// the shape all the same.
 #[unsafe(no_mangle)]
 pub extern "C" fn shapes_find(entries: &[ShapesEntry], shape: u64, entry: &mut ShapesEntry) -> u32

@@ -20,10 +20,10 @@ fn status_of(found: GlyphFault) -> Status
     }
 }
 
-/// The word of the square of these 25 glyphs, cell 0 first. Takes no memory.
+/// Writes the word of the square of these 25 glyphs, cell 0 first. Takes no memory.
 ///
-/// Returns `Done` and writes the word. Returns `BadLength` exactly where there are not 25 bytes,
-/// and else `BadGlyph` exactly where one is no glyph; the word stays as it was then.
+/// Returns `Done` and writes the word. Returns `BadLength` exactly if there are not 25 bytes, and
+/// else `BadGlyph` exactly if one is no glyph; the word stays as it was then.
 #[unsafe(no_mangle)]
 pub extern "C" fn shapes_square_of_glyphs(glyphs: &[u8], word: &mut u64) -> u32
     ensures done { result ≡ number_of status.Done → (word.new < 2 ^ 50)
@@ -42,10 +42,10 @@ pub extern "C" fn shapes_square_of_glyphs(glyphs: &[u8], word: &mut u64) -> u32
     }
 }
 
-/// The word of the diamond of these 25 glyphs, cell 0 first. Takes no memory.
+/// Writes the word of the diamond of these 25 glyphs, cell 0 first. Takes no memory.
 ///
-/// Returns `Done` and writes the word. Returns `BadLength` exactly where there are not 25 bytes,
-/// and else `BadGlyph` exactly where one is no glyph; the word stays as it was then.
+/// Returns `Done` and writes the word. Returns `BadLength` exactly if there are not 25 bytes, and
+/// else `BadGlyph` exactly if one is no glyph; the word stays as it was then.
 #[unsafe(no_mangle)]
 pub extern "C" fn shapes_diamond_of_glyphs(glyphs: &[u8], word: &mut u64) -> u32
     ensures done { result ≡ number_of status.Done → (2 ^ 50 ≤ word.new) × (word.new < 2 ^ 51)
@@ -65,10 +65,10 @@ pub extern "C" fn shapes_diamond_of_glyphs(glyphs: &[u8], word: &mut u64) -> u32
     }
 }
 
-/// The 25 glyphs of a word, cell 0 first, with no byte after them. Takes no memory.
+/// Writes the 25 glyphs of a word, cell 0 first, with no byte after them. Takes no memory.
 ///
-/// Returns `Done` and writes the glyphs. Returns `BadWord` exactly where the number is 2^51 or
-/// more; what was there stays then.
+/// Returns `Done` and writes the glyphs. Returns `BadWord` exactly if the number is 2^51 or more;
+/// what was there stays then.
 #[unsafe(no_mangle)]
 pub extern "C" fn shapes_glyphs(word: u64, text: &mut [u8; 25]) -> u32
     ensures done { word < 2 ^ 51 → (result ≡ number_of status.Done)

@@ -1,4 +1,4 @@
-//! Dictionaries read from their texts, in memory of the caller's.
+//! Dictionaries read from their texts into memory of the caller's.
 ghost use Rattle.std.specs.Prelude.{◌≡◌, ◌≢◌, ◌≤◌, ◌⊎◌, ◌++◌, ◌+◌, ◌*◌, Ok, length, map, drop};
 ghost use Rattle.sgf_core.specs.Limit.{most_bytes};
 ghost use Rattle.shape_dict.specs.Contents.{Contents};
@@ -14,7 +14,7 @@ use crate::statuses::Status;
 use shape_dict::{DictFault, Dictionary, Entry, read_header};
 use std::alloc::Global;
 
-/// The line that a fault names, from 1 at the header, or 0 where it names none.
+/// The line that a fault names, from 1 at the header, or 0 if it names none.
 fn line_of(fault: DictFault) -> u64
     ensures { result ≡ line_of fault }
 {
@@ -26,7 +26,7 @@ fn line_of(fault: DictFault) -> u64
     }
 }
 
-/// Writes what is said of the entries to the front of a room that is large enough for them.
+/// Writes entries, as they cross to other languages, to the front of a room that is large enough.
 fn put_entries(entries: &[Entry], room: &mut [ShapesEntry])
     requires { length entries.now ≤ length room.old }
     ensures { room.new ≡ map said entries.now ++ drop (length entries.now) room.old }
@@ -36,11 +36,11 @@ fn put_entries(entries: &[Entry], room: &mut [ShapesEntry])
     }
 }
 
-/// What the header of a dictionary's text says; the lines after it are not looked at. Takes no
-/// memory.
+/// Writes what the header of a dictionary's text says; the lines after it are not looked at. Takes
+/// no memory.
 ///
-/// Returns `Done` and writes the header. Returns `BadText` of X1 exactly where the bytes do not
-/// begin with a header of one of the three texts; what was there stays then.
+/// Returns `Done` and writes the header. Returns `BadText` of X1 exactly if the bytes do not begin
+/// with a header of one of the three texts; what was there stays then.
 #[unsafe(no_mangle)]
 pub extern "C" fn shapes_header(text: &[u8], header: &mut ShapesHeader) -> u32
     ensures done { result ≡ number_of status.Done → IsHeaderSaid text.now header.new }
@@ -61,11 +61,11 @@ pub extern "C" fn shapes_header(text: &[u8], header: &mut ShapesHeader) -> u32
 /// to the front of a room of the caller's. It takes memory for the entries, and gives it back
 /// before it returns.
 ///
-/// Returns `Done` and writes the entries and how many they are. Returns `NoRoom` where there is not
+/// Returns `Done` and writes the entries and how many they are. Returns `NoRoom` if there is not
 /// room for them all, and writes how many they are alone; a line has 18 bytes or more, so room for
 /// an entry for each 18 bytes of the text is always enough. Else returns `BadText` of the first
 /// fault of the text, X1 to X6 or X8, and writes alone the line that the fault names, from 1 at the
-/// header, or 0 where it names none. X6, out of memory, comes only after a header and a first line
+/// header, or 0 if it names none. X6, out of memory, comes only after a header and a first line
 /// without a fault.
 #[unsafe(no_mangle)]
 pub extern "C" fn shapes_read(

@@ -1,4 +1,4 @@
-//! What a call says of how it went, as the number that it returns.
+//! How a call went, as the number that it returns.
 ghost use Rattle.std.specs.Prelude.{◌≡◌};
 ghost use Rattle.shape_keys.specs.Status.{number_of, number_of_fault};
 
@@ -25,7 +25,7 @@ pub enum Status {
     NoRoom,
     /// The board has no such point.
     BadPoint,
-    /// What is wrong with a text of a dictionary.
+    /// A text of a dictionary has this fault.
     BadText(DictFault),
 }
 
@@ -33,7 +33,7 @@ impl Status {
     ghost use Rattle.std.specs.Prelude.{◌≡◌};
     ghost use Rattle.shape_keys.specs.Status.{number_of};
 
-    /// The number of the status: X1 to X9, what is wrong with a text, are 11 to 19.
+    /// The number of the status. The faults of a text, X1 to X9, are 11 to 19.
     pub fn number(self) -> u32
         ensures { result ≡ number_of self }
     {

@@ -11,7 +11,7 @@ use std::io::{Seek, SeekFrom, Write};
 use std::os::unix::fs::MetadataExt;
 use std::{fs, io};
 
-/// Files of these names.
+/// The dictionaries that are joined: the files of these names.
 #[derive(Drop)]
 pub struct Dictionaries<'a> {
     pub rt: &'a HostRuntime,
@@ -47,13 +47,13 @@ impl Sources for Dictionaries<'_> {
     }
 }
 
-/// What a file can be made by.
+/// Something that can make a file.
 pub trait Maker {
-    /// Makes the file, or makes it empty where it is there.
+    /// Makes the file, or makes it empty if it is there.
     ///
     /// # Errors
     ///
-    /// An error of the system, where it can't be made.
+    /// An error of the system, if the file can't be made.
     fn make(&self) -> io::Result<File>;
 }
 
@@ -77,8 +77,8 @@ pub struct Target<M> {
     file: Option<File>,
 }
 
-/// The file that is made by this when the first byte is written, and isn't touched before: nothing
-/// is known here of what makes it, so nothing can be made.
+/// Returns a file that `maker` makes when the first byte is written, and that isn't touched before:
+/// nothing is known here of what makes it, so nothing can be made.
 pub fn new_target<M>(maker: M) -> Target<M>
     ensures { result ≡ record { maker = maker; file = None } }
 {
@@ -111,11 +111,11 @@ pub enum Seen {
     Nothing,
     /// A regular file: its device, and its number there.
     File { device: u64, number: u64 },
-    /// No regular file, as a pipe, which can't be read twice.
+    /// No regular file, such as a pipe, which can't be read twice.
     Other,
 }
 
-/// What the names of a join stand for: that of the file that is written, and those of the
+/// What the names of a join stand for: the name of the file that is written, and those of the
 /// dictionaries in their order.
 #[derive(Drop)]
 pub struct Sights {
@@ -123,7 +123,7 @@ pub struct Sights {
     pub dictionaries: Vec<Seen>,
 }
 
-/// What the system tells of a name.
+/// What a name stands for, as the system tells it.
 fn look(rt: &HostRuntime, name: &str) -> Seen {
     match fs::metadata(rt, name) {
         Ok(found) if found.is_file() => Seen::File {
@@ -135,7 +135,7 @@ fn look(rt: &HostRuntime, name: &str) -> Seen {
     }
 }
 
-/// What the system tells of each of these names, in their order.
+/// What each of these names stands for, in their order.
 fn look_at_all(rt: &HostRuntime, names: &[&str]) -> Result<Vec<Seen>, AllocError>
     ensures { IfOk result (λ seen. vec_len seen ≡ length names.now) }
 {
@@ -146,11 +146,11 @@ fn look_at_all(rt: &HostRuntime, names: &[&str]) -> Result<Vec<Seen>, AllocError
     Ok(seen)
 }
 
-/// What the system tells of the names of a join.
+/// Looks at what the names of a join stand for.
 ///
 /// # Errors
 ///
-/// `AllocError` where memory was refused.
+/// `AllocError` if memory was refused.
 pub fn look_at(rt: &HostRuntime, asked: &Asked<'_>) -> Result<Sights, AllocError>
     ensures { IfOk result (AreOf asked.now) }
 {
@@ -191,8 +191,9 @@ fn is_barred(asked: &Asked<'_>, target: Seen, name: &str, found: Seen) -> bool
     is_written(asked, name) || is_refused(found, target)
 }
 
-/// The first of the dictionaries' names that is there and is no regular file, as a pipe, which
-/// can't be read twice; or that is written, under this name or another.
+/// The first of the dictionaries' names that can't be joined: one that is there and is no regular
+/// file, such as a pipe, which can't be read twice; or one that is written, under this name or
+/// another.
 pub fn which_is_barred<'a>(asked: &Asked<'a>, sights: &Sights) -> Option<&'a str>
     requires { AreOf asked.now sights.now }
     ensures { MatchOption result (AreFree asked.now sights.now)

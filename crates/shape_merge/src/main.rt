@@ -42,8 +42,8 @@ fn join<T: Threads + Sync>(
     }
 }
 
-/// Looks at the files again after a join that ended well, and says which one changed meanwhile. The
-/// answer is the exit status.
+/// Looks at the files again after a join that ended well, and says which one changed meanwhile.
+/// Returns the exit status.
 fn look_again(rt: &HostRuntime, asked: &Asked<'_>, before: &[Stamp]) -> Result<u8, RunFault>
     requires { length before.now ≡ vec_len asked.now.names }
 {
@@ -54,7 +54,7 @@ fn look_again(rt: &HostRuntime, asked: &Asked<'_>, before: &[Stamp]) -> Result<u
     }
 }
 
-/// Judges the names, and joins the files. The answer is the exit status.
+/// Judges the names, and joins the files. Returns the exit status.
 fn join_files<T: Threads + Sync>(
     threads: &T,
     rt: &HostRuntime,
@@ -71,7 +71,7 @@ fn join_files<T: Threads + Sync>(
     }
 }
 
-/// Does what the words say. The answer is the exit status.
+/// Does what the words of the command line say. Returns the exit status.
 fn run<T: Threads + Sync>(rt: &HostRuntime, threads: &T) -> Result<u8, RunFault> {
     let words = own_words(rt)?;
     match read_words(rt.alloc(), &words)? {
@@ -87,7 +87,7 @@ fn main(rt: HostRuntime) -> ExitCode {
     match run(&rt, &rt) {
         Ok(status) => ExitCode::from(status),
         Err(fault) => {
-            // Where standard error takes nothing, the status still says what went wrong.
+            // If standard error takes nothing, the status still says what went wrong.
             let _ = eprintln!(rt; "shape_merge: {fault}");
             ExitCode::from(status_of(&fault))
         }

@@ -6,7 +6,7 @@ use std::alloc::AllocError;
 use std::fs;
 use std::os::unix::fs::MetadataExt;
 
-/// By what a change of a file shows.
+/// What the system tells of a file, by which a change of the file shows.
 #[derive(Clone, Copy, PartialEq, Eq)]
 pub enum Stamp {
     /// The system tells nothing of the file.
@@ -35,11 +35,11 @@ fn stamp_of(rt: &HostRuntime, name: &str) -> Stamp {
     }
 }
 
-/// The stamps of the files of these names, in their order.
+/// Returns the stamps of the files of these names, in their order.
 ///
 /// # Errors
 ///
-/// `AllocError` where memory was refused.
+/// `AllocError` if memory was refused.
 pub fn stamps_of(rt: &HostRuntime, names: &[&str]) -> Result<Vec<Stamp>, AllocError>
     ensures { IfOk result (λ stamps. vec_len stamps ≡ length names.now) }
 {
@@ -57,7 +57,7 @@ fn is_same(before: Stamp, after: Stamp) -> bool
     before == after
 }
 
-/// The number, from 0, of the first file whose two stamps differ; none where all are the same.
+/// The number, from 0, of the first file whose two stamps differ; None if all are the same.
 pub fn first_unlike(before: &[Stamp], after: &[Stamp]) -> Option<usize>
     requires { length before.now ≡ length after.now }
     ensures { MatchOption result (AreAlike before.now after.now)

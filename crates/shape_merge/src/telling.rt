@@ -33,8 +33,8 @@ fn tell_unread(rt: &HostRuntime, n: usize, name: &str, written: usize) {
     let _ = eprintln!(rt; "shape_merge: dictionary {n}, {name}: I1 {why}, {written} bytes written");
 }
 
-/// Says that the dictionary of this name can't be joined, and why, as far as the system tells it:
-/// a regular file is one that is written too. The answer is the exit status.
+/// Says that the dictionary of this name can't be joined, and why, as far as the system tells it: a
+/// regular file is one that is written too. Returns the exit status.
 pub fn tell_barred(rt: &HostRuntime, name: &str) -> u8
     ensures { result ≡ 2 }
 {
@@ -47,7 +47,7 @@ pub fn tell_barred(rt: &HostRuntime, name: &str) -> u8
     2
 }
 
-/// Says that the file of this name and number, from 0, changed while it was joined, and answers the
+/// Says that the file of this name and number, from 0, changed while it was joined. Returns the
 /// exit status.
 pub fn tell_changed(rt: &HostRuntime, k: usize, name: &str) -> u8
     ensures { result ≡ 6 }
@@ -57,8 +57,8 @@ pub fn tell_changed(rt: &HostRuntime, k: usize, name: &str) -> u8
     6
 }
 
-/// Says in one line what is wrong, with the file that it is about, and answers the exit status.
-/// Where standard error takes nothing, the status still says it.
+/// Says in one line what is wrong, with the file that it is about, and returns the exit status. If
+/// standard error takes nothing, the status still says it.
 pub fn tell(rt: &HostRuntime, asked: &Asked<'_>, fault: &MergeFault) -> u8
     ensures { result ≡ status_of fault.now }
 {

@@ -14,9 +14,9 @@ use std::alloc::{AllocError, Global};
 /// The join that is asked for.
 #[derive(Debug, Drop)]
 pub struct Asked<'a> {
-    /// Which text of it is written, and which of its patterns.
+    /// Which text of the join is written, and which of its patterns.
     pub form: Form,
-    /// The name of the file that is written, where it isn't standard output.
+    /// The name of the file that is written, if it isn't standard output.
     pub out: Option<&'a str>,
     /// The names of the dictionaries' files.
     pub names: Vec<&'a str>,
@@ -35,8 +35,8 @@ impl<'a> FromWords<'a> for Asked<'a> {
         program(alloc)
     }
 
-    /// What the values ask for. `Usage` comes where they name no dictionary, or a number is missing
-    /// or too large.
+    /// Returns the join that the values ask for. `Usage` if they name no dictionary, or a number is
+    /// missing or too large.
     fn from_values(alloc: Global, matches: &ArgMatches<'a>) -> Result<Asked<'a>, RunFault> {
         let Some(text) = text_of(matches) else {
             return Err(RunFault::Usage);

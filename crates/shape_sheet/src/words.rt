@@ -14,16 +14,16 @@ use shape_core::Kind;
 use sheet_core::{Asked, Form, Order};
 use std::alloc::{AllocError, Global};
 
-/// What is asked for.
+/// What the words ask for.
 #[derive(Debug, Drop)]
 pub struct Drawing<'a> {
-    /// The sheet.
+    /// The sheet that is to be drawn.
     pub sheet: Asked,
-    /// The name of the file with lines of hits, where one is named.
+    /// The name of the file with lines of hits, if one is named.
     pub hits: Option<&'a str>,
 }
 
-/// The order of this name, where there is one.
+/// The order of this name, if there is one.
 fn order_named(name: &str) -> Option<Order>
     ensures found { IfSome result (λ order. name.now ≡ name_of order) }
     ensures none { IfNone result ((order : Order) → name.now ≢ name_of order) }
@@ -37,7 +37,7 @@ fn order_named(name: &str) -> Option<Order>
     }
 }
 
-/// The order, where the words name one.
+/// The order that the words name, if they name one.
 fn order_of(matches: &ArgMatches<'_>) -> Option<Order>
     ensures found { IfSome result (IsOrderOf (rows_in matches.now)) }
     ensures none { IfNone result (HasNoOrder (rows_in matches.now)) }
@@ -48,7 +48,7 @@ fn order_of(matches: &ArgMatches<'_>) -> Option<Order>
     }
 }
 
-/// The sheet that was asked for, where the words name an order.
+/// The sheet that is asked for; None if no order is named, or a number is missing.
 #[tactic(auto, using(crate::proofs::Asked::no_sheet_order, crate::proofs::Asked::no_sheet_least, crate::proofs::Asked::no_sheet_most))]
 fn sheet_of(matches: &ArgMatches<'_>) -> Option<Asked>
     ensures asked { IfSome result (IsAsked (rows_in matches.now)) }
@@ -79,8 +79,8 @@ impl<'a> FromWords<'a> for Drawing<'a> {
         program(alloc)
     }
 
-    /// What the values ask for; none at all ask for a page of the 50 squares that were played most.
-    /// `Usage` comes where the name is that of no order, or a number is missing or too large.
+    /// Returns what the values ask for; no values at all ask for a page of the 50 squares that were
+    /// played most. `Usage` if the name is that of no order, or a number is missing or too large.
     fn from_values(_alloc: Global, matches: &ArgMatches<'a>) -> Result<Drawing<'a>, RunFault> {
         match sheet_of(matches) {
             Some(sheet) => Ok(Drawing {

@@ -8,8 +8,8 @@ use std::process;
 /// How many names are tried for a draft.
 const MOST_TRIES: u64 = 1000;
 
-/// A file beside its target. Where it hasn't taken the target's name, it is removed when it is
-/// dropped.
+/// A file that is written beside its target, to take the target's name once it is whole. A draft
+/// that hasn't taken the name is removed when it is dropped.
 pub struct Draft<'a> {
     rt: &'a HostRuntime,
     file: File,
@@ -18,15 +18,16 @@ pub struct Draft<'a> {
     is_done: bool,
 }
 
-/// Holds a draft, so that no other run takes it for one that was left. The answer is whether it is
-/// still there: another run may have removed it before it was held.
+/// Locks a draft, so that no other run takes it for one that was left. Returns whether it is still
+/// there: another run may have removed it before it was locked.
 fn hold(file: &File) -> io::Result<bool> {
-    // Where the system has no locks, no run can take one, and none removes a draft.
+    // If the system has no locks, no run can take one, and none removes a draft.
     let _ = file.lock();
     Ok(file.metadata()?.nlink() > 0)
 }
 
-/// A draft of this target, under a name that no file has. Those of earlier runs are removed first.
+/// Makes a draft of this target, under a name that no file has. Drafts that earlier runs left are
+/// removed first.
 fn new_draft<'a>(rt: &'a HostRuntime, target: String) -> io::Result<Draft<'a>> {
     remove_left_drafts(rt, target.as_str());
     let own = process::id(rt.process());
@@ -73,23 +74,23 @@ impl Drop for Draft<'_> {
             is_done,
         } = self;
         if !is_done {
-            // Where it can't be removed, the run says no less of its fault.
+            // If it can't be removed, the run still says its own fault.
             let _ = fs::remove_file(rt, name.as_str());
         }
     }
 }
 
-/// What is written of a name.
+/// What the bytes for a file name are written to.
 #[derive(Drop)]
 enum Target<'a> {
-    /// No regular file, as a pipe: it is written straight.
+    /// Something that is no regular file, such as a pipe: it is written directly.
     Straight(File),
-    /// A regular file, or none yet: its draft is written.
+    /// The draft of a regular file, which may not be there yet.
     Draft(Draft<'a>),
 }
 
-/// Opens what is written of a name. A draft has the mode of the file whose name it is to take, and
-/// stands beside the file to which links lead.
+/// Opens what the bytes for this file name are written to. A draft has the mode of the file whose
+/// name it is to take, and stands beside the file to which links lead.
 fn open_target<'a>(rt: &'a HostRuntime, name: &str) -> io::Result<Target<'a>> {
     match fs::metadata(rt, name) {
         Ok(found) if found.is_file() => {
@@ -106,12 +107,12 @@ fn open_target<'a>(rt: &'a HostRuntime, name: &str) -> io::Result<Target<'a>> {
     }
 }
 
-/// Whether a file of this name could be written, as far as a draft tells it, which is removed. What
-/// is no regular file is not opened.
+/// Tests whether a file of this name could be written, by making a draft, which is removed. What is
+/// no regular file is not opened.
 ///
 /// # Errors
 ///
-/// An error of the system, where it could not be.
+/// An error of the system, if the file could not be written.
 pub fn try_target(rt: &HostRuntime, name: &str) -> io::Result<()> {
     match fs::metadata(rt, name) {
         Ok(found) if found.is_dir() => Err(ErrorKind::IsADirectory.into()),
@@ -123,8 +124,7 @@ pub fn try_target(rt: &HostRuntime, name: &str) -> io::Result<()> {
     }
 }
 
-/// Writes a text to standard output, or to the file of a name, which is opened when the first byte
-/// is written.
+/// A writer to standard output, or to a named file, which is opened when the first byte is written.
 #[derive(Drop)]
 pub struct Output<'a> {
     rt: &'a HostRuntime,
@@ -136,7 +136,8 @@ pub struct Output<'a> {
 impl<'a> Output<'a> {
     ghost use Rattle.std.specs.Io.{WritesAtMost};
 
-    /// The file of this name, or standard output. Nothing is touched yet.
+    /// An output to the file of this name; None and `/dev/stdout` are standard output. Nothing is
+    /// touched yet.
     pub fn new(rt: &'a HostRuntime, name: Option<&'a str>) -> Output<'a> {
         let name = match name {
             Some("/dev/stdout") | None => None,
@@ -150,12 +151,12 @@ impl<'a> Output<'a> {
         }
     }
 
-    /// The name of the file, where there is one.
+    /// The name of the file; None for standard output.
     pub fn name(&self) -> Option<&'a str> {
         self.name
     }
 
-    /// Why the last write failed, where one did.
+    /// The kind of error of the last write that failed, if one did.
     pub fn failed(&self) -> Option<ErrorKind> {
         self.failed
     }
@@ -168,7 +169,7 @@ impl<'a> Output<'a> {
         Ok(())
     }
 
-    /// One write.
+    /// Does one write, and returns how many of the bytes were written.
     fn write_some(&mut self, bytes: &[u8]) -> io::Result<usize>
         ensures { WritesAtMost result bytes.now }
     {
@@ -183,12 +184,12 @@ impl<'a> Output<'a> {
         }
     }
 
-    /// Ends the text, of which all is written: a draft takes the name of its target. A file is made
-    /// where no byte was written.
+    /// Finishes the text once all of it is written: a draft takes the name of its target. If no
+    /// byte was written, the file is made all the same.
     ///
     /// # Errors
     ///
-    /// An error of the system. What the name stood for is as it was then, if it was a regular file.
+    /// An error of the system. If the name stood for a regular file, that file is unchanged.
     pub fn finish(&mut self) -> io::Result<()> {
         let Some(name) = self.name else {
             return self.rt.stdout().flush();

@@ -10,23 +10,23 @@ use std::fs::File;
 use std::io::{ErrorKind, Read};
 use tally_parts::Texts;
 
-/// How many first bytes of an input are looked at to say what it may be.
+/// How many of an input's first bytes are looked at to say what it may be.
 const FRONT: usize = 8;
 
-/// What has become of inputs.
+/// What has become of the inputs so far.
 #[derive(Drop)]
 struct Taken<'a> {
-    /// Of each.
+    /// What has become of each.
     fates: Vec<Fate>,
-    /// Of all.
+    /// What has become of all together.
     sum: Sum,
-    /// What the one that was read last may be, if it has no tree.
+    /// What the input that was read last may be, if it has no tree.
     cause: Cause,
-    /// What a terminal shows meanwhile.
+    /// The line by which a terminal shows how far the count is, if one does.
     progress: Option<Progress<'a>>,
 }
 
-/// Inputs, and what has become of them.
+/// The inputs of a count, and what has become of them.
 #[derive(Drop)]
 pub struct Inputs<'a> {
     rt: &'a HostRuntime,
@@ -35,8 +35,8 @@ pub struct Inputs<'a> {
     is_strict: bool,
 }
 
-/// Reads all of a reader, up to as many bytes as no input may have. The answer is what becomes of
-/// the input, where a read failed.
+/// Reads all that a reader gives, up to `MOST_BYTES` bytes, as many as no input may have. Returns
+/// what becomes of the input if a read failed, else None.
 fn read_whole<R: Read + Drop>(reader: R, room: &mut Vec<u8>) -> Result<Option<Fate>, AllocError> {
     match reader.take(MOST_BYTES as u64).read_to_end(room) {
         Ok(_) => Ok(None),
@@ -45,7 +45,8 @@ fn read_whole<R: Read + Drop>(reader: R, room: &mut Vec<u8>) -> Result<Option<Fa
     }
 }
 
-/// Reads a file that is open. One that is too large is not read.
+/// Reads an open file whole. A file that is too large is not read. Returns what becomes of the
+/// input if it can't be read, else None.
 fn read_opened(file: File, room: &mut Vec<u8>) -> Result<Option<Fate>, AllocError> {
     if let Ok(found) = file.metadata() {
         if found.len() >= MOST_BYTES as u64 {
@@ -56,7 +57,7 @@ fn read_opened(file: File, room: &mut Vec<u8>) -> Result<Option<Fate>, AllocErro
     read_whole(file, room)
 }
 
-/// Reads an input. The answer is what becomes of it, where it can't be read.
+/// Reads an input. Returns what becomes of it if it can't be read, else None.
 fn read_source(
     rt: &HostRuntime,
     source: &Source,
@@ -78,7 +79,7 @@ fn front_of(text: &[u8]) -> &[u8] {
 }
 
 impl Taken<'_> {
-    /// An input was read, which is not judged yet.
+    /// Takes note that an input with this text was read; it is not judged yet.
     fn read(&mut self, text: &[u8]) {
         self.cause = cause_of(front_of(text));
         if let Some(progress) = &mut self.progress {
@@ -86,14 +87,14 @@ impl Taken<'_> {
         }
     }
 
-    /// Takes the line that says how far the count is away from the terminal.
+    /// Clears from the terminal the line that says how far the count is.
     fn clear_progress(&mut self) {
         if let Some(progress) = &mut self.progress {
             progress.clear();
         }
     }
 
-    /// Takes up what has become of an input, and says it where it is to be said.
+    /// Notes what has become of input `n`, and says it on standard error if it is to be said.
     fn take(&mut self, rt: &HostRuntime, sources: &[Source], n: usize, fate: Fate) {
         if is_told(fate) {
             self.clear_progress();
@@ -109,11 +110,12 @@ impl Taken<'_> {
 }
 
 impl<'a> Inputs<'a> {
-    /// Inputs of which none was read.
+    /// The inputs of a count, of which none was read yet. If `is_strict`, no dictionary is wanted
+    /// once an input was left out or gave nothing.
     ///
     /// # Errors
     ///
-    /// `AllocError` where memory was refused.
+    /// `AllocError` if memory was refused.
     pub fn new(
         rt: &'a HostRuntime,
         sources: &'a [Source],
@@ -133,17 +135,17 @@ impl<'a> Inputs<'a> {
         })
     }
 
-    /// Takes the line that says how far the count is away from the terminal.
+    /// Clears from the terminal the line that says how far the count is.
     pub fn clear_progress(&mut self) {
         self.taken.clear_progress();
     }
 
-    /// What has become of each.
+    /// What has become of each input, in their order.
     pub fn fates(&self) -> &[Fate] {
         self.taken.fates.as_slice()
     }
 
-    /// What has become of all.
+    /// What has become of all inputs together.
     pub fn sum(&self) -> &Sum {
         &self.taken.sum
     }

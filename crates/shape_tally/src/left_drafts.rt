@@ -1,16 +1,16 @@
-//! Drafts that runs before have left beside a target, when they were killed.
+//! Drafts that earlier runs left beside a target, when they were killed.
 use std::fs::{self, File};
 
 /// What a draft's name ends in.
 const ENDING: &str = ".draft";
 
-/// Whether these are digits.
+/// Whether a word is a number: one digit or more, and nothing else.
 fn is_number(word: &str) -> bool {
     !word.is_empty() && word.as_bytes().iter().all(|byte| byte.is_ascii_digit())
 }
 
-/// Whether a file of this name is a draft of a target in its folder, which has the other name: that
-/// name, the number of a process, and another one.
+/// Whether `name` is that of a draft of the file `target` in the same folder: the target's name,
+/// the number of a process, another number, and `.draft`.
 fn is_draft_of(name: &str, target: &str) -> bool {
     let Some(rest) = name.strip_prefix(target) else {
         return false;
@@ -27,7 +27,7 @@ fn is_draft_of(name: &str, target: &str) -> bool {
     }
 }
 
-/// A file's folder, and its name there.
+/// Splits a file's path into its folder and its name there.
 fn parts_of(path: &str) -> (&str, &str) {
     match path.rsplit_once('/') {
         Some(("", name)) => ("/", name),
@@ -36,7 +36,7 @@ fn parts_of(path: &str) -> (&str, &str) {
     }
 }
 
-/// Removes a draft, unless a run holds it. Where that can't be done, it stays.
+/// Removes a draft, unless a run holds its lock. If that can't be done, the draft stays.
 fn remove_left(rt: &HostRuntime, path: &str) {
     let Ok(file) = File::open(rt, path) else {
         return;
@@ -46,8 +46,8 @@ fn remove_left(rt: &HostRuntime, path: &str) {
     }
 }
 
-/// Removes the drafts of this target that no run holds any more. What can't be looked at or removed
-/// stays as it is.
+/// Removes the drafts of this target that no run holds any more. A draft that can't be looked at or
+/// removed stays as it is.
 pub fn remove_left_drafts(rt: &HostRuntime, target: &str) {
     let (folder, own) = parts_of(target);
     let Ok(entries) = fs::read_dir(rt, folder) else {

@@ -1,4 +1,4 @@
-//! The inputs that the names in a list mean.
+//! The inputs that a list of names stands for.
 use crate::words::NameEnd;
 use engine_core::RunFault;
 use game_files::{Flaw, Source, Why, sources};
@@ -6,14 +6,14 @@ use std::alloc::{AllocError, Global};
 use std::fs::File;
 use std::io::{ErrorKind, Read};
 
-/// The names in a list, and how many are not UTF-8.
+/// The names in a list, and how many more were passed over, since they are not UTF-8.
 #[derive(Drop)]
 struct Names<'a> {
     names: Vec<&'a str>,
     passed_over: u64,
 }
 
-/// All that a reader gives.
+/// Reads all that a reader gives.
 fn read_whole<R: Read>(alloc: Global, reader: &mut R) -> Result<Vec<u8>, RunFault> {
     let mut bytes = Vec::new(alloc);
     match reader.read_to_end(&mut bytes) {
@@ -23,7 +23,7 @@ fn read_whole<R: Read>(alloc: Global, reader: &mut R) -> Result<Vec<u8>, RunFaul
     }
 }
 
-/// All bytes of a list.
+/// Reads all bytes of a list: of this file, or of standard input if the name is `-`.
 fn read_list(rt: &HostRuntime, file: &str) -> Result<Vec<u8>, RunFault> {
     if file == "-" {
         return read_whole(rt.alloc(), &mut rt.stdin());
@@ -34,7 +34,7 @@ fn read_list(rt: &HostRuntime, file: &str) -> Result<Vec<u8>, RunFault> {
     }
 }
 
-/// The byte after a name.
+/// The byte that ends a name.
 fn byte_after(end: NameEnd) -> u8 {
     match end {
         NameEnd::LineFeed => b'\n',
@@ -42,12 +42,12 @@ fn byte_after(end: NameEnd) -> u8 {
     }
 }
 
-/// A name in a list as a word: in a list `-` is a file as any other.
+/// Returns a name in a list as a word of the command line. In a list `-` is a file like any other.
 fn word_for(name: &str) -> &str {
     if name == "-" { "./-" } else { name }
 }
 
-/// The names in a list. What is between two ends that follow one another is none.
+/// Splits the bytes of a list into its names, which end in `end`. An empty piece is no name.
 fn names_in(alloc: Global, bytes: &[u8], end: u8) -> Result<Names<'_>, AllocError> {
     let mut names = Vec::new(alloc);
     let mut passed_over = 0u64;
@@ -61,7 +61,7 @@ fn names_in(alloc: Global, bytes: &[u8], end: u8) -> Result<Names<'_>, AllocErro
     Ok(Names { names, passed_over })
 }
 
-/// What names mean; no names mean no input.
+/// Returns the inputs that names stand for; no names stand for no input.
 fn meant(rt: &HostRuntime, names: &[&str]) -> Result<Vec<Source>, AllocError> {
     if names.is_empty() {
         return Ok(Vec::new(rt.alloc()));
@@ -69,12 +69,13 @@ fn meant(rt: &HostRuntime, names: &[&str]) -> Result<Vec<Source>, AllocError> {
     sources(rt, names)
 }
 
-/// What the names in a file mean, each as a word does, or those in standard input where the file is
-/// `-`. How many of them are not UTF-8 is said after them.
+/// Returns the inputs that the names in a file stand for, each as a word of the command line does.
+/// If the file is `-`, the names in standard input are read. If some names are not UTF-8, a last
+/// `Flaw` says how many.
 ///
 /// # Errors
 ///
-/// `Read` where the file could not be opened or read; `Memory` where memory was refused.
+/// `Read` if the file could not be opened or read; `Memory` if memory was refused.
 pub fn listed(rt: &HostRuntime, file: &str, end: NameEnd) -> Result<Vec<Source>, RunFault> {
     let bytes = read_list(rt, file)?;
     let Names { names, passed_over } = names_in(rt.alloc(), bytes.as_slice(), byte_after(end))?;

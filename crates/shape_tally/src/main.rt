@@ -31,10 +31,11 @@ use tally_parts::{PartsFault, run_tally};
 use telling::{tell_clash, tell_fault, tell_sum, tell_unlisted, tell_unmade};
 use words::{Asked, Named};
 
-/// The folder of temporary files, where the system tells none.
+/// The folder of temporary files, if the system tells none.
 const TEMPORARY: &str = "/tmp";
 
-/// The folder in which dictionaries wait: the one that is asked for, else that of the system.
+/// The folder in which dictionaries of parts wait: the one that is asked for, else that of the
+/// system.
 fn folder_of(rt: &HostRuntime, asked: &Asked<'_>) -> Result<String, AllocError> {
     if let Some(folder) = asked.spill {
         return String::from_str(rt.alloc(), folder);
@@ -59,8 +60,8 @@ fn sources_of(rt: &HostRuntime, asked: &Asked<'_>) -> Result<Vec<Source>, RunFau
     }
 }
 
-/// Whether a file that is asked for could be written, so that no count is in vain. Where it could
-/// not, that is said.
+/// Whether a file that is asked for could be written. This is tested first, so that no count is in
+/// vain. If the file could not be written, standard error says so.
 fn can_be_written(rt: &HostRuntime, name: Option<&str>) -> bool {
     let Some(name) = name else {
         return true;
@@ -74,7 +75,7 @@ fn can_be_written(rt: &HostRuntime, name: Option<&str>) -> bool {
     }
 }
 
-/// Writes the report, where one is asked for. The answer is whether it was, or none is.
+/// Writes the report, if one is asked for. Returns whether it was written, or none is asked for.
 fn write_report(
     rt: &HostRuntime,
     asked: &Asked<'_>,
@@ -98,8 +99,8 @@ fn write_report(
     }
 }
 
-/// Counts inputs, and writes their dictionary. The answer is the exit status: 0 where it is
-/// written, 1 where none is wanted.
+/// Counts inputs, and writes their dictionary. Returns the exit status: 0 if it is written, 1 if
+/// none is wanted.
 fn write_dictionary<T: Threads + Wait + Sync>(
     rt: &HostRuntime,
     threads: &T,
@@ -130,8 +131,7 @@ fn write_dictionary<T: Threads + Wait + Sync>(
     }
 }
 
-/// Counts inputs, writes their dictionary and the report, and sums up. The answer is the exit
-/// status.
+/// Counts inputs, writes their dictionary and the report, and sums up. Returns the exit status.
 fn tally<T: Threads + Wait + Sync>(
     rt: &HostRuntime,
     threads: &T,
@@ -161,7 +161,7 @@ fn tally<T: Threads + Wait + Sync>(
     Ok(status_after(inputs.sum()))
 }
 
-/// Does what the words say. The answer is the exit status.
+/// Does what the words of the command line say. Returns the exit status.
 fn run<T: Threads + Wait + Sync>(rt: &HostRuntime, threads: &T) -> Result<u8, RunFault> {
     let words = own_words(rt)?;
     match read_words(rt.alloc(), &words)? {
@@ -177,7 +177,7 @@ fn main(rt: HostRuntime) -> ExitCode {
     match run(&rt, &rt) {
         Ok(status) => ExitCode::from(status),
         Err(fault) => {
-            // Where standard error takes nothing, the status still says what went wrong.
+            // If standard error takes nothing, the status still says what went wrong.
             let _ = eprintln!(rt; "shape_tally: {fault}");
             ExitCode::from(status_of(&fault))
         }

@@ -7,8 +7,8 @@ use std::{env, fs};
 /// The least time between two lines, in milliseconds.
 const PAUSE: u64 = 500;
 
-/// The variable by which the launcher says that a terminal shows at once what comes on standard
-/// error, which is a pipe to the launcher then.
+/// The environment variable by which the launcher says that a terminal shows at once what comes on
+/// standard error, which is a pipe to the launcher then.
 const SHOWN: &str = "SHAPES_SHOWN";
 
 /// What a terminal shows of a count that takes a while: one line, written over and over.
@@ -18,15 +18,15 @@ pub struct Progress<'a> {
     start: Instant,
     /// How many bytes all inputs have, as far as the system tells it.
     all: u64,
-    /// How many of them were read.
+    /// How many of these bytes were read.
     read: u64,
     /// When the next line is due, in milliseconds since the start.
     due: u64,
-    /// Whether a line stands there.
+    /// Whether the terminal shows a line now.
     is_shown: bool,
 }
 
-/// Whether somebody sees what comes on standard error when it comes.
+/// Whether a terminal shows at once what comes on standard error.
 fn is_seen(rt: &HostRuntime) -> bool {
     rt.stderr().is_terminal() || env::var(rt, SHOWN).is_ok()
 }
@@ -44,15 +44,15 @@ fn bytes_of(rt: &HostRuntime, sources: &[Source]) -> u64 {
     all
 }
 
-/// How many seconds are left, where so many milliseconds went for this share of all bytes.
+/// Estimates how many seconds are left, if reading `read` of `all` bytes took `gone` milliseconds.
 fn seconds_left(gone: u64, read: u64, all: u64) -> u64 {
     let left = all.saturating_sub(read);
     gone.saturating_mul(left) / read.max(1) / 1000
 }
 
 impl<'a> Progress<'a> {
-    /// A count of these inputs begins now. None where standard error is no terminal, nor shown on
-    /// one at once, or the system has no clock: then nothing is shown.
+    /// Begins to time a count of these inputs. Returns None, and nothing is shown, if standard
+    /// error is no terminal, nor shown on one at once, or if the system has no clock.
     pub fn begin(rt: &'a HostRuntime, sources: &[Source]) -> Option<Progress<'a>> {
         if !is_seen(rt) {
             return None;
@@ -67,9 +67,9 @@ impl<'a> Progress<'a> {
         })
     }
 
-    /// An input of this many bytes was read, and so many games are counted or being counted. Where
-    /// a line is due it says the share of the bytes, and the seconds until all are read at this
-    /// pace.
+    /// Takes note that an input of this many bytes was read; `games` games are counted or being
+    /// counted. If a line is due, it shows the share of the bytes, and the seconds until all are
+    /// read at this pace.
     pub fn show(&mut self, bytes: usize, games: u64) {
         self.read = self.read.saturating_add(bytes as u64);
         let Ok(elapsed) = self.start.elapsed(self.rt) else {
@@ -89,7 +89,7 @@ impl<'a> Progress<'a> {
         );
     }
 
-    /// Takes the line away, so that another one can be written.
+    /// Clears the line, so that another one can be written.
     pub fn clear(&mut self) {
         if self.is_shown {
             self.is_shown = false;

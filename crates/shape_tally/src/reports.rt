@@ -19,13 +19,13 @@ const BLOCK: usize = 1 << 16;
 pub enum Fate {
     /// It was not read.
     Waiting,
-    /// It is none that can be opened, or a folder of which this is to be said.
+    /// Its name can't be opened, or is that of a folder with this flaw.
     Flawed(Why),
     /// A read of it failed.
     Unread,
     /// It has this fault, for which it is left out.
     Faulty(SgfFault),
-    /// It has no tree, and may be this.
+    /// It has no tree, and may be this, by its first bytes.
     Treeless(Cause),
     /// It has trees, and the first of its games has this number.
     Counted { report: Report, first: u64 },
@@ -34,13 +34,13 @@ pub enum Fate {
 /// What has become of all inputs so far.
 #[derive(Clone, Copy, Debug, PartialEq, Eq)]
 pub struct Sum {
-    /// How many inputs there are, those that are left out among them.
+    /// How many inputs there are, including those that are left out.
     pub files: u64,
-    /// What their trees are, of those that are not left out.
+    /// How many trees are games, of other games, and refused, in the inputs that are not left out.
     pub report: Report,
     /// How many inputs are left out.
     pub left_out: u64,
-    /// How many have no tree.
+    /// How many inputs have no tree.
     pub treeless: u64,
     /// How many folders have no file of games.
     pub bare: u64,
@@ -48,8 +48,8 @@ pub struct Sum {
     pub passed_over: u64,
 }
 
-/// The fate of an input: `found` is the report on its trees, or its fault; `cause` is what it may
-/// be if it has no tree; `games` is how many games were counted before it.
+/// Returns the fate of an input: `found` is the report on its trees, or its fault; `cause` is what
+/// it may be if it has no tree; `games` is how many games were counted before it.
 pub fn fate_of(found: Result<Report, GamesFault>, cause: Cause, games: u64) -> Fate {
     match found {
         Ok(report) if report.games == 0 && report.others == 0 && report.refused == 0 => {
@@ -64,7 +64,7 @@ pub fn fate_of(found: Result<Report, GamesFault>, cause: Cause, games: u64) -> F
     }
 }
 
-/// What the trees of two inputs are together.
+/// Adds the reports on two inputs.
 fn both_reports(one: Report, other: Report) -> Report {
     Report {
         games: one.games.saturating_add(other.games),
@@ -74,7 +74,7 @@ fn both_reports(one: Report, other: Report) -> Report {
 }
 
 impl Sum {
-    /// No input so far.
+    /// The sum of no inputs.
     pub fn new() -> Sum
         ensures { IsWhole result }
     {
@@ -92,7 +92,7 @@ impl Sum {
         }
     }
 
-    /// The same with one more that is left out.
+    /// This sum with one more input, which is left out.
     fn with_left_out(self) -> Sum
         ensures { IsWhole result → ⊥ }
     {
@@ -103,7 +103,7 @@ impl Sum {
         }
     }
 
-    /// The same with one more of which this is said.
+    /// This sum with one more name that has this flaw.
     fn with_flaw(self, why: Why) -> Sum
         ensures { IsWhole result ↔ (IsWhole self × IsGood (fate.Flawed why)) }
     {
@@ -120,7 +120,7 @@ impl Sum {
         }
     }
 
-    /// The same with one more of which this has become.
+    /// This sum with one more input that has this fate.
     pub fn with(self, fate: Fate) -> Sum
         ensures { IsWhole result ↔ (IsWhole self × IsGood fate) }
     {
@@ -149,14 +149,14 @@ impl Sum {
     }
 }
 
-/// The exit status of a count that was done, or was not wanted.
+/// The exit status of a count that was done, or was not wanted: 0 if all is whole, else 1.
 pub fn status_of(sum: &Sum) -> u8
     ensures { result ≡ status_of sum.now }
 {
     if sum.is_whole() { 0 } else { 1 }
 }
 
-/// The name of an input: none of standard input.
+/// The name of an input; None for standard input.
 pub fn name_of(source: &Source) -> Option<&str> {
     match source {
         Source::Input => None,
@@ -165,7 +165,7 @@ pub fn name_of(source: &Source) -> Option<&str> {
     }
 }
 
-/// The columns of an input's line after its name.
+/// The columns of an input's line in the report, after its name.
 #[derive(Clone, Copy)]
 struct Columns(Fate);
 
@@ -194,7 +194,7 @@ impl fmt::Display for Columns {
     }
 }
 
-/// Appends an input's line.
+/// Appends an input's line of the report.
 fn push_line(
     alloc: Global,
     block: &mut Vec<u8>,
@@ -207,7 +207,7 @@ fn push_line(
     Ok(())
 }
 
-/// Writes a line for each input.
+/// Writes the report: a line for each input.
 ///
 /// # Errors
 ///

@@ -18,9 +18,9 @@ struct Place {
     length: u64,
 }
 
-/// Dictionaries in one file of a folder, which nobody else can open: its name is taken away as soon
-/// as it is made, so it is gone when the process ends, however that comes. The file is made when
-/// the first text is begun.
+/// Dictionaries in one file of a folder. The file's name is taken away as soon as the file is made.
+/// So nobody else can open it, and it is gone when the process ends, however that comes. The file
+/// is made when the first text is begun.
 #[derive(Drop)]
 pub struct Spilled<'a> {
     rt: &'a HostRuntime,
@@ -31,15 +31,15 @@ pub struct Spilled<'a> {
     end: u64,
 }
 
-/// A text that is written after those that are kept. One is written at a time: a second one would
-/// take its place.
+/// A text that is being written after those that are kept. Only one is written at a time: a second
+/// one would take its place.
 #[derive(Drop)]
 pub struct Spilling {
     file: Arc<File, Global>,
     place: Place,
 }
 
-/// A reader of one text, with a place of its own: no other reader moves it.
+/// A reader of one text, with a position of its own: no other reader moves it.
 #[derive(Drop)]
 pub struct Piece {
     file: Arc<File, Global>,
@@ -76,7 +76,7 @@ fn unnamed_in(rt: &HostRuntime, folder: &str) -> io::Result<File> {
 impl<'a> Spilled<'a> {
     ghost use Rattle.std.specs.Prelude.{◌≡◌, vec_len};
 
-    /// No text yet, and no file.
+    /// A store in this folder, with no text yet, and no file.
     pub fn new(rt: &'a HostRuntime, folder: &'a str) -> Spilled<'a>
         ensures { vec_len result.places ≡ 0 }
     {
@@ -89,7 +89,7 @@ impl<'a> Spilled<'a> {
         }
     }
 
-    /// The file, which is made where there is none.
+    /// Returns the file, which is made if there is none.
     fn file(&mut self) -> io::Result<Arc<File, Global>>
         ensures { self.new.places ≡ self.old.places }
     {
@@ -101,7 +101,7 @@ impl<'a> Spilled<'a> {
         Ok(file)
     }
 
-    /// A reader of what stands from one place to another.
+    /// Returns a reader of the file's bytes from `next` to `end`.
     fn piece(&self, next: u64, end: u64) -> io::Result<Piece> {
         let Some(file) = &self.file else {
             return Err(ErrorKind::NotFound.into());

@@ -13,7 +13,7 @@ use std::io::ErrorKind;
 use std::{fmt, fs, io};
 use tally_parts::{PartsFault, status_of};
 
-/// The name of an input before what is said of it; nothing of standard input.
+/// The name of an input, shown with a colon before what is said of it; nothing for standard input.
 #[derive(Clone, Copy)]
 struct Named<'a>(Option<&'a str>);
 
@@ -26,8 +26,9 @@ impl fmt::Display for Named<'_> {
     }
 }
 
-/// Whether something is said of an input: unless all is as it should be. Of one that was counted
-/// the numbers of its trees are said where a game is refused, or all are of other games.
+/// Whether standard error says something of an input: not if all is as it should be. Of an input
+/// that was counted, the numbers of its trees are said if a game is refused, or if all are of other
+/// games.
 pub fn is_told(fate: Fate) -> bool {
     match fate {
         Fate::Waiting => false,
@@ -36,8 +37,8 @@ pub fn is_told(fate: Fate) -> bool {
     }
 }
 
-/// Says what has become of an input, where something is to be said. Where standard error takes
-/// nothing, the status still says it.
+/// Says what has become of an input, if something is to be said. If standard error takes nothing,
+/// the exit status still says it.
 pub fn tell_fate(rt: &HostRuntime, name: Option<&str>, fate: Fate) {
     let name = Named(name);
     if !is_told(fate) {
@@ -56,7 +57,7 @@ pub fn tell_fate(rt: &HostRuntime, name: Option<&str>, fate: Fate) {
     };
 }
 
-/// Says what has become of all inputs.
+/// Says what has become of all inputs together.
 pub fn tell_sum(rt: &HostRuntime, sum: &Sum) {
     let Report {
         games,
@@ -79,8 +80,8 @@ pub fn tell_unlisted(rt: &HostRuntime, list: &str) {
     let _ = eprintln!(rt; "shape_tally: L3 names not read: {}: {why}", Shown(list));
 }
 
-/// Says that a file can't be written, since the run needs it for something else. The answer is the
-/// exit status.
+/// Says that a file can't be written, since the run needs it for something else. Returns the exit
+/// status, 2.
 pub fn tell_clash(rt: &HostRuntime, clash: Clash<'_>) -> u8
     ensures { result ≡ 2 }
 {
@@ -133,8 +134,8 @@ fn why_unkept(rt: &HostRuntime, folder: &str) -> &'static str {
     }
 }
 
-/// Says in one line why a count ended, with what it is about: the output, or the folder in which
-/// dictionaries wait. The answer is the exit status.
+/// Says in one line why a count ended, and what that is about: the output, or the folder in which
+/// dictionaries wait. Returns the exit status.
 pub fn tell_fault(rt: &HostRuntime, fault: &PartsFault, output: &Output<'_>, folder: &str) -> u8
     ensures { result ≡ status_of fault.now }
 {

@@ -17,47 +17,47 @@ use tally_parts::Plan;
 /// How many bytes a megabyte has.
 const MEGABYTE: usize = 1 << 20;
 
-/// More megabytes of memory can't be asked for.
+/// The greatest number of megabytes of memory that can be asked for.
 const MOST_MEMORY: u64 = 1_000_000;
 
-/// How the names in a list end.
+/// What ends the names in a list.
 #[derive(Clone, Copy, Debug, PartialEq, Eq)]
 pub enum NameEnd {
-    /// Each is a line.
+    /// A line feed: each name is a line.
     LineFeed,
-    /// Each has a zero byte after it.
+    /// A zero byte after each name.
     Zero,
 }
 
-/// What names the inputs.
+/// How the inputs are named.
 #[derive(Debug, Drop)]
 pub enum Named<'a> {
     /// These words, which are files and folders.
     Words(Vec<&'a str>),
-    /// The names in this file, or in standard input where it is `-`.
+    /// The names in this file, or in standard input if it is `-`.
     List { file: &'a str, end: NameEnd },
 }
 
 /// The count that is asked for.
 #[derive(Debug, Drop)]
 pub struct Asked<'a> {
-    /// Which text is written, and how is counted.
+    /// Which text of the dictionary is written, and how the inputs are counted.
     pub plan: Plan,
     /// What names the inputs.
     pub named: Named<'a>,
     /// The name of the dictionary's file; None for standard output.
     pub out: Option<&'a str>,
-    /// The name of the file that says what each input has, where it is asked for.
+    /// The name of the file that says what each input has, if it is asked for.
     pub report: Option<&'a str>,
-    /// The folder of the dictionaries that wait, where it isn't the system's.
+    /// The folder in which dictionaries of parts wait, if it isn't the system's.
     pub spill: Option<&'a str>,
-    /// Whether nothing is written where an input was left out or has no tree.
+    /// Whether nothing is written if an input was left out or has no tree.
     pub is_strict: bool,
 }
 
-/// How many bytes of memory are taken for each byte of text that is counted at a time: what a count
-/// was seen to need at most, for its text, its patterns and the text of its dictionary. Diamonds
-/// double the patterns. No answer depends on it.
+/// How many bytes of memory are taken for each byte of text that is counted at a time. This is what
+/// a count was seen to need at most, for its text, its patterns and the text of its dictionary.
+/// Diamonds double the patterns. No answer depends on it.
 fn need_of(text: Text) -> usize
     ensures { result ≡ need_of text }
 {
@@ -75,7 +75,7 @@ fn most_for(text: Text, memory: u64) -> usize
     memory as usize * MEGABYTE / need_of(text)
 }
 
-/// Which text is written, and how is counted.
+/// Reads which text of the dictionary is written, and how the inputs are counted.
 fn plan_of(matches: &ArgMatches<'_>) -> Result<Plan, RunFault>
     ensures plan { IfOk result (IsPlanOf (rows_in matches.now)) }
     ensures fault { IfErr result (λ found. (found ≡ fault.Usage)
@@ -100,7 +100,7 @@ fn plan_of(matches: &ArgMatches<'_>) -> Result<Plan, RunFault>
     })
 }
 
-/// What names the inputs: words, or else a list.
+/// Reads how the inputs are named: by words, or else by a list.
 fn named_of<'a>(alloc: Global, matches: &ArgMatches<'a>) -> Result<Named<'a>, RunFault>
     ensures named { IfOk result (AreNamed (rows_in matches.now)) }
     ensures fault { IfErr result (λ found. (found ≡ fault.Memory) ⊎ ((found ≡ fault.Usage)
@@ -132,8 +132,8 @@ impl<'a> FromWords<'a> for Asked<'a> {
         program(alloc)
     }
 
-    /// What the values ask for; none at all ask for text 1 of standard input. `Usage` comes where a
-    /// number is missing or too large, and where a list is named beside words.
+    /// Returns the count that the values ask for; no values at all ask for text 1 of standard
+    /// input. `Usage` if a number is missing or too large, or if a list is named beside words.
     fn from_values(alloc: Global, matches: &ArgMatches<'a>) -> Result<Asked<'a>, RunFault> {
         let plan = plan_of(matches)?;
         let named = named_of(alloc, matches)?;

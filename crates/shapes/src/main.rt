@@ -11,15 +11,16 @@ use std::sync::Wait;
 use std::thread::Threads;
 use tasks::{Answer, do_task, status_after};
 
-/// Fetches the words and does what they say. The threads that count are started through `threads`.
+/// Reads the words of the command line and does what they ask for. The threads that count are
+/// started through `threads`.
 fn run<T: Threads + Wait + Sync>(rt: &HostRuntime, threads: &T) -> Result<Answer, RunFault> {
     let words = own_words(rt)?;
     let task = read_words(rt.alloc(), &words)?;
     do_task(threads, rt.alloc(), task, &mut rt.stdin(), &mut rt.stdout())
 }
 
-/// Prints to standard error what is to be said there. Where it takes nothing, the status still says
-/// what went wrong.
+/// Prints to standard error the report of a count, or the fault. If standard error takes nothing,
+/// the status still says what went wrong.
 fn tell(rt: &HostRuntime, done: &Result<Answer, RunFault>) {
     let _ = match done {
         Ok(answer) => match &answer.report {

@@ -12,17 +12,18 @@ use std::sync::Wait;
 use std::thread::Threads;
 use tally_core::Report;
 
-/// What a task that ended well answered.
+/// The answer of a task that ended well.
 #[derive(Clone, Copy, Debug, PartialEq, Eq)]
 pub struct Answer {
-    /// Whether it found what was asked for.
+    /// Whether the task found what was asked for.
     pub outcome: Outcome,
-    /// How many trees were games, others and refused; None for all tasks but `count`.
+    /// How many trees were games, were of other games and were refused; None for all tasks but
+    /// `count`.
     pub report: Option<Report>,
 }
 
 impl Answer {
-    /// An answer without a report.
+    /// Makes an answer without a report.
     fn of(outcome: Outcome) -> Answer
         ensures { result ≡ record { outcome = outcome; report = None } }
     {
@@ -33,15 +34,15 @@ impl Answer {
     }
 }
 
-/// Does a task: `board`, `count`, `find` and `join` by their engines, each with the reader and the
-/// writer, and they read what their engines read; of help the text is written, and nothing is read.
-/// The threads that count are started through `threads`. That a count ends rests on the calls that
-/// wait for another thread keeping their promise.
+/// Does a task. `board`, `count`, `find` and `join` are done by their engines, with the reader and
+/// the writer; of the input they read what their engines read. For help the text is written, and
+/// nothing is read. The threads that count are started through `threads`. That a count ends rests
+/// on the calls that wait for another thread keeping their promise.
 ///
 /// # Errors
 ///
-/// Those of the engine, and what is out then is what the engine says. `Write` where a text of help
-/// was not written whole.
+/// Those of the engine, and what is out then is what the engine says. `Write` if a text of help was
+/// not written whole.
 pub fn do_task<T: Threads + Wait + Sync, R: Read, W: Write>(
     threads: &T,
     alloc: Global,
@@ -73,8 +74,8 @@ pub fn do_task<T: Threads + Wait + Sync, R: Read, W: Write>(
     }
 }
 
-/// The exit status of a run: 0 where its task was done, 1 where what was asked for was not found,
-/// and that of the fault.
+/// Returns the exit status of a run: 0 if its task was done, 1 if what was asked for was not found,
+/// and else that of the fault.
 pub fn status_after(done: &Result<Answer, RunFault>) -> u8
     ensures { result ≡ status_after done.now }
 {

@@ -1,4 +1,4 @@
-//! The command line, defined for `clap`: one subcommand for each task.
+//! Defines the command line for `clap`: one subcommand for each task.
 ghost use Rattle.std.specs.Prelude.{◌≡◌, false, codes, IfOk};
 ghost use Rattle.clap.specs.Words.{app_of, new_app, rule_of};
 ghost use Rattle.clap.specs.declared.Command.TheViews.{out-Command as fields_of};
@@ -95,7 +95,7 @@ fn count_command<'a>(alloc: Global) -> Result<Command<'a>, AllocError>
     Ok(command)
 }
 
-/// GLYPHS, which have to be given.
+/// Defines the word GLYPHS, which has to be given.
 fn needed_glyphs<'a>(alloc: Global) -> Arg<'a>
     ensures rule { rule_of result ≡ required_word (codes "glyphs") }
     ensures local { result.global ≡ false }
@@ -103,7 +103,7 @@ fn needed_glyphs<'a>(alloc: Global) -> Arg<'a>
     glyphs_argument(alloc).required(true)
 }
 
-/// COLOUR, which has to be given.
+/// Defines the word COLOUR, which has to be given.
 fn needed_colour<'a>(alloc: Global) -> Arg<'a>
     ensures rule { rule_of result ≡ required_word (codes "colour") }
     ensures local { result.global ≡ false }
@@ -143,11 +143,11 @@ fn join_command<'a>(alloc: Global) -> Result<Command<'a>, AllocError>
     Ok(command)
 }
 
-/// The program's definition for `clap`.
+/// Defines the program `shapes` for `clap`, with its subcommands.
 ///
 /// # Errors
 ///
-/// `AllocError` where memory was refused.
+/// `AllocError` if memory was refused.
 pub fn program<'a>(alloc: Global) -> Result<Command<'a>, AllocError>
     ensures { IfOk result (λ command. app_of command ≡ program_app) }
 {

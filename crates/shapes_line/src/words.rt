@@ -1,4 +1,4 @@
-//! The words of the command line, and the task that they ask for.
+//! Reads the words of the command line, and returns the task that they ask for.
 ghost use Rattle.std.specs.Prelude.{◌≡◌, Some, codes, map, string_bytes, IfOk, IfErr};
 ghost use Rattle.clap.specs.Words.{subcommand_rows_of};
 ghost use Rattle.command_lines.specs.Lines.{IsAskingFault};
@@ -22,17 +22,17 @@ use tally_core::Settings;
 pub enum Task {
     /// Print the final position of the first game.
     Board,
-    /// Print this text of the dictionary of a collection.
+    /// Print the dictionary of a collection, in this text.
     Count(Settings, Text),
-    /// Print the line of this pattern.
+    /// Print the line of this pattern by a dictionary.
     Find(Shape),
-    /// Print this text of the join.
+    /// Print the join of dictionaries, in this text.
     Join(Text),
-    /// Print this text, which was asked for by help or version.
+    /// Print this text of help or version, which was asked for.
     Help(String),
 }
 
-/// The kinds of pattern that a text has.
+/// Returns the kinds of pattern that a text has lines for.
 fn kinds_for(text: Text) -> Kinds
     ensures { result ≡ kinds_for text }
 {
@@ -81,7 +81,7 @@ fn join_task(matches: &ArgMatches<'_>) -> Result<Task, RunFault>
     }
 }
 
-/// The task of the subcommand that was met, or `Board` where there was none.
+/// Returns the task of the subcommand in the words, or `Board` if there is none.
 fn task_of(matches: &ArgMatches<'_>) -> Result<Task, RunFault>
     ensures task { IfOk result (IsTaskOf (subcommand_rows_of matches.now)) }
     ensures fault { IfErr result (IsWordsFault (subcommand_rows_of matches.now)) }
@@ -94,14 +94,13 @@ fn task_of(matches: &ArgMatches<'_>) -> Result<Task, RunFault>
     }
 }
 
-/// The task that the words after the program's name ask for; no word at all asks for `board`. It
-/// takes memory.
+/// Returns the task that the words after the program's name ask for; no word at all asks for
+/// `board`. It takes memory.
 ///
 /// # Errors
 ///
-/// `Usage` where the words are none that the program knows, a mover that is no colour among them;
-/// else `Glyph` where the glyphs of `find` are not those of a pattern; `Memory` where memory was
-/// refused.
+/// `Usage` if the program does not know the words, also if a mover is no colour; else `Glyph` if
+/// the glyphs of `find` are not those of a pattern; `Memory` if memory was refused.
 pub fn read_words(alloc: Global, words: &[String]) -> Result<Task, RunFault>
     ensures task { IfOk result (IsAnswered (map string_bytes words.now)
         (asked_by (map string_bytes words.now))) }

@@ -1,4 +1,4 @@
-//! Why the program ends without its lines.
+//! Why the program ends without printing its lines.
 ghost use Rattle.std.specs.Prelude.{◌≡◌};
 ghost use Rattle.share_bench.specs.declared.faults.BenchFault.TheVariants as fault;
 ghost use Rattle.harvest_faults.specs.Faults.{same_fault};
@@ -13,7 +13,7 @@ use std::alloc::AllocError;
 use std::{fmt, io};
 use tally_core::TallyFault;
 
-/// What ends the program with status 2.
+/// What ends the program with exit status 2.
 #[derive(Debug, Drop)]
 pub enum BenchFault {
     /// A word is neither `--clock` nor `--diamonds`.
@@ -22,7 +22,7 @@ pub enum BenchFault {
     Input(RunFault),
     /// The collection was not counted.
     Count(HarvestFault),
-    /// A map and a share counted different moves.
+    /// The count by a map and the share have different numbers of moves.
     Different,
     /// The arguments, the clock or standard output failed.
     System(io::Error),

@@ -1,9 +1,9 @@
-//! How long the parts of a count take on one thread: reading, replaying, walking, counting into one
-//! share over a table of 2^22 slots, and counting by a map.
+//! Measures how long the parts of a count take on one thread: reading, replaying, walking, counting
+//! into one share over a table of 2^22 slots, and counting by a map.
 //!
 //! It reads a collection on standard input, counts squares, and prints how many games, actions,
-//! moves and patterns there are. With `--clock` it prints besides how many nanoseconds each part
-//! took a move, and with `--diamonds` it counts diamonds too.
+//! moves and patterns there are. With `--clock` it also prints how many nanoseconds each part took
+//! for one move, and with `--diamonds` it counts diamonds too.
 #![tactic(auto)]
 
 mod faults;
@@ -20,14 +20,14 @@ use std::process::ExitCode;
 use std::time::{Duration, Instant};
 use tally_core::count_plain;
 
-/// What the words ask for.
+/// What the words of the command line ask for.
 #[derive(Clone, Copy)]
 struct Asked {
     clock: bool,
     kinds: Kinds,
 }
 
-/// Reads the words.
+/// Reads the words of the command line.
 fn read_words(rt: &HostRuntime) -> Result<Asked, BenchFault> {
     let mut asked = Asked {
         clock: false,
@@ -43,7 +43,7 @@ fn read_words(rt: &HostRuntime) -> Result<Asked, BenchFault> {
     Ok(asked)
 }
 
-/// What the parts made.
+/// How many games, actions, moves and patterns the parts found.
 #[derive(Clone, Copy)]
 struct Made {
     games: usize,
@@ -62,7 +62,7 @@ struct Times {
     plain: Duration,
 }
 
-/// Does each part once.
+/// Runs each part once, and measures how long it takes.
 fn measure(rt: &HostRuntime, input: &[u8], kinds: Kinds) -> Result<(Made, Times), BenchFault> {
     let alloc = rt.alloc();
     let start = Instant::now(rt)?;
@@ -103,14 +103,14 @@ fn measure(rt: &HostRuntime, input: &[u8], kinds: Kinds) -> Result<(Made, Times)
     Ok((made, times))
 }
 
-/// Prints how long a part took a move.
+/// Prints how many nanoseconds a part took for one move.
 fn tell(rt: &HostRuntime, part: &str, time: Duration, moves: u64) -> Result<(), BenchFault> {
     let each = time.as_nanos() / u128::from(moves.max(1));
     println!(rt; "{part}: {each} ns a move")?;
     Ok(())
 }
 
-/// Measures, and prints the lines.
+/// Measures the parts, and prints the lines.
 fn run(rt: &HostRuntime) -> Result<(), BenchFault> {
     let asked = read_words(rt)?;
     let input = read_input(rt.alloc(), &mut rt.stdin())?;
@@ -133,7 +133,7 @@ fn main(rt: HostRuntime) -> ExitCode {
     match run(&rt) {
         Ok(()) => ExitCode::SUCCESS,
         Err(fault) => {
-            // Where standard error takes nothing, the status still says that it failed.
+            // Even if standard error takes nothing, the status says that it failed.
             let _ = eprintln!(rt; "share_bench: {fault}");
             ExitCode::from(2)
         }

@@ -18,7 +18,7 @@ use std::alloc::Global;
 use table_shares::Share;
 use tally_core::Walk;
 
-/// The games of a collection, in their order. It takes memory for their records.
+/// Reads the games of a collection, in their order. It takes memory for their records.
 ///
 /// `BenchFault::Count` comes with the fault of reading: S1 to S5, or out of memory.
 pub fn read_all<'a>(alloc: Global, input: &'a [u8]) -> Result<Vec<Job<'a>>, BenchFault>
@@ -35,10 +35,10 @@ pub fn read_all<'a>(alloc: Global, input: &'a [u8]) -> Result<Vec<Job<'a>>, Benc
     Ok(jobs)
 }
 
-/// Plays all games on boards, without a look at any pattern. The answer is how many actions they
+/// Plays all games on boards, without looking at any pattern, and returns how many actions they
 /// have. It takes memory for one board at a time.
 ///
-/// `BenchFault::Count` comes with `Memory` where memory was refused, and with `Overflow` where the
+/// `BenchFault::Count` comes with `Memory` if memory was refused, and with `Overflow` if the
 /// actions pass 2^64 - 1.
 pub fn replay_all(alloc: Global, jobs: &[Job<'_>]) -> Result<usize, BenchFault>
     ensures actions { IfOk result (λ actions. actions ≡ actions_of jobs.now) }
@@ -57,11 +57,11 @@ pub fn replay_all(alloc: Global, jobs: &[Job<'_>]) -> Result<usize, BenchFault>
     Ok(actions)
 }
 
-/// Replays all games and lists the patterns of each, without a sum over games. The answer is how
-/// many moves onto empty points they have. It takes memory for one game's patterns.
+/// Replays all games and lists the patterns of each, without a sum over games, and returns how many
+/// moves onto empty points they have. It takes memory for one game's patterns.
 ///
-/// `BenchFault::Count` comes with `Memory` where memory was refused, and with `Overflow` where a
-/// game has more actions than any input or the moves pass 2^64 - 1.
+/// `BenchFault::Count` comes with `Memory` if memory was refused, and with `Overflow` if a game has
+/// more actions than any input or the moves pass 2^64 - 1.
 pub fn walk_all(alloc: Global, kinds: Kinds, jobs: &[Job<'_>]) -> Result<u64, BenchFault>
     ensures moves { IfOk result (HaveMoves jobs.now) }
     ensures fault { IfErr result IsWantOrLarge }
@@ -101,9 +101,10 @@ pub fn share_all<O: ProbeOrder>(
     Ok(share)
 }
 
-/// A new table with this order, and its pass, which has seen nothing. It takes 16 bytes a slot.
+/// Makes a new table with this order, and its pass, which has seen nothing. It takes 16 bytes a
+/// slot.
 ///
-/// `BenchFault::Count` comes with `Memory` where memory was refused.
+/// `BenchFault::Count` comes with `Memory` if memory was refused.
 pub fn new_table<O: ProbeOrder>(
     alloc: Global,
     order: O,

@@ -1,5 +1,5 @@
-//! What the tests of shares, and of what is gathered from them, are made of: games, tables,
-//! patterns, and shares.
+//! Samples for the tests of shares and of what is gathered from them: games, tables, patterns, and
+//! shares.
 #![tactic(auto)]
 
 ghost use Rattle.std.specs.Prelude.{◌≡◌, ◌^◌, ◌<◌, ◌∷◌, [], Some, SomeIff};
@@ -24,22 +24,23 @@ use slot_table::{Pass, SlotTable};
 use std::alloc::Global;
 use table_shares::Share;
 
-/// One move on a board of one point: one pattern.
+/// A game of one move on a board of one point: it has one pattern.
 pub const ONE_POINT: &[u8] = b"(;SZ[1];B[aa])";
 
-/// Two moves on a board of two points: two patterns.
+/// A game of two moves on a board of two points: it has two patterns.
 pub const TWO_POINTS: &[u8] = b"(;SZ[2:1];B[aa];W[ba])";
 
-/// The pattern of `ONE_POINT`.
+/// The word of the pattern of `ONE_POINT`.
 pub const ALONE: u64 = 0x3fffffcffffff;
 
-/// The pattern of `TWO_POINTS` that the game meets first.
+/// The word of the pattern of `TWO_POINTS` that the game meets first.
 pub const EMPTY: u64 = 0x3fff3fcffffff;
 
-/// The one that it meets then.
+/// The word of the pattern of `TWO_POINTS` that the game meets second.
 pub const TAKEN: u64 = 0x3fffbfcffffff;
 
-/// The record of the first game, if no fault of syntax comes before it and memory was found for it.
+/// Returns the record of the first game, if no fault of syntax comes before it and memory was found
+/// for it.
 pub fn record_of(alloc: Global, bytes: &[u8]) -> Option<Record>
     ensures { IfSome result (IsFirstGame bytes.now) }
 {
@@ -48,7 +49,8 @@ pub fn record_of(alloc: Global, bytes: &[u8]) -> Option<Record>
     Some(job.into_record())
 }
 
-/// A table of 2^k numbers with its first pass, if k is at most 22 and memory was found for it.
+/// Makes a table of 2^k numbers with its first pass, if k is at most 22 and memory was found for
+/// it.
 pub fn table_of(alloc: Global, k: u32) -> Option<(SlotTable<OddStep>, Pass<OddStep>)>
     ensures pass { IfSome result (λ r. IsPassOf r.0 r.1) }
     ensures slots { IfSome result (λ r. r.0.slots ≡ 2 ^ k) }
@@ -57,14 +59,15 @@ pub fn table_of(alloc: Global, k: u32) -> Option<(SlotTable<OddStep>, Pass<OddSt
     SlotTable::new(alloc, OddStep { capacity }).ok()
 }
 
-/// The pattern whose word has these bits, if the word is the least of its images.
+/// Returns the pattern whose word has these bits, if the word is the least of its images.
 pub fn shape_of(bits: u64) -> Option<Shape>
     ensures { SomeIff result (IsPattern bits) bits }
 {
     Shape::of_word(Word::new(bits)?)
 }
 
-/// The entry of the pattern whose word has these bits, if there is one.
+/// Returns an entry with these counts for the pattern whose word has these bits, if there is such a
+/// pattern.
 pub fn entry_of(bits: u64, there: u64, played: u64, first: u32) -> Option<Entry>
     ensures { SomeIff result (IsPattern bits) (record {
       shape = bits;
@@ -81,7 +84,7 @@ pub fn entry_of(bits: u64, there: u64, played: u64, first: u32) -> Option<Entry>
     })
 }
 
-/// A share of this game alone, of worker 0, or why the game was refused.
+/// Returns a share of this game alone, of worker 0, or why the game was refused.
 pub fn share_of<O: ProbeOrder>(
     alloc: Global,
     table: &SlotTable<O>,
@@ -103,7 +106,8 @@ pub fn share_of<O: ProbeOrder>(
     Ok(share)
 }
 
-/// A share of the first game of a collection's bytes, under the number 0, if nothing refused it.
+/// Returns a share of the first game of a collection's bytes, under the number 0, if nothing
+/// refused it.
 pub fn first_share<O: ProbeOrder>(
     alloc: Global,
     table: &SlotTable<O>,
@@ -121,8 +125,8 @@ pub fn first_share<O: ProbeOrder>(
     share_of(alloc, table, pass, 0, &game_record).ok()
 }
 
-/// Adds the first game that is written here to a share, and answers what came of it; None where
-/// there is no such game or no memory for its record, so that nothing was added.
+/// Adds the first game of these bytes to a share, and returns what came of it. None if there is no
+/// such game or no memory for its record, so that nothing was added.
 pub fn add_written<O: ProbeOrder>(
     alloc: Global,
     share: &mut Share,
@@ -145,8 +149,8 @@ pub fn add_written<O: ProbeOrder>(
     Some(share.add(table, pass, game, &game_record))
 }
 
-/// A `WordShare` of these two games, counted by worker 2 under the numbers 0 and 1, or why one was
-/// refused.
+/// Returns a `WordShare` of these two games, counted by worker 2 under the numbers 0 and 1, or why
+/// one was refused.
 pub fn words_of(alloc: Global, first: &Record, second: &Record) -> Result<WordShare, HarvestFault>
     ensures share { IfOk result IsShare }
     ensures kinds { IfOk result (λ words. words.kinds ≡ kinds.Squares) }

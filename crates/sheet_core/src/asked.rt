@@ -14,14 +14,14 @@ pub enum Form {
 /// What a sheet is asked to show.
 #[derive(Clone, Copy, Debug, PartialEq, Eq)]
 pub struct Asked {
-    /// What comes first.
+    /// The order of the patterns, which says what comes first.
     pub order: Order,
     /// The kind of the patterns.
     pub kind: Kind,
-    /// Patterns that were there less often are not shown.
+    /// Patterns that were there less often than this are not shown.
     pub least: u64,
     /// How many patterns are shown at most.
     pub most: usize,
-    /// What is written.
+    /// What the sheet is written as.
     pub form: Form,
 }

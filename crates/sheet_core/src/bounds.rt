@@ -1,10 +1,10 @@
-//! The lower bound of a ratio of plays.
+//! The lower bound of a pattern's ratio of plays, which is played / there.
 ghost use Rattle.std.specs.Prelude.{◌≡◌, ◌<◌, ◌≤◌, ◌^◌, IsTrue};
 ghost use Rattle.sheet_core.specs.Bounds.{is_enough, is_reached, stepped, bound_from, bound_of};
 
 use shape_dict::Entry;
 
-/// How many parts 1 has.
+/// How many parts a ratio of 1 has.
 const PARTS: u64 = 1 << 20;
 
 /// How many steps lead to a bound: the first is half of 1, and each one half of that before.
@@ -13,8 +13,8 @@ const STEPS: u64 = 20;
 /// An excess that is great enough for any ratio.
 const GREAT: u128 = 1 << 57;
 
-/// Whether the square of an excess is great enough for a pattern that was there `times` times, and
-/// a ratio of `bound` parts.
+/// Whether an excess over `bound` parts, by its square, is great enough for a pattern that was
+/// there `times` times.
 fn is_enough(excess: u128, times: u64, bound: u64) -> bool
     requires bound { bound < 2 ^ 20 }
     ensures { result ≡ is_enough times bound excess }
@@ -27,7 +27,7 @@ fn is_enough(excess: u128, times: u64, bound: u64) -> bool
     2401 * needed <= 625 * (excess * excess)
 }
 
-/// Whether the interval begins at `bound` parts or later.
+/// Whether Wilson's interval for `plays` of `times` times begins at `bound` parts or later.
 #[tactic(auto, unfolding(crate::specs::Bounds::is_reached))]
 fn is_reached(times: u64, plays: u64, bound: u64) -> bool
     ensures value { result ≡ is_reached times plays bound }
@@ -44,7 +44,7 @@ fn is_reached(times: u64, plays: u64, bound: u64) -> bool
     is_enough(most - least, times, bound)
 }
 
-/// So many parts more, where the interval begins there or later.
+/// Returns `step` parts more than `bound` if the interval begins there or later, else `bound`.
 fn stepped(times: u64, plays: u64, step: u64, bound: u64) -> u64
     requires step { step ≤ 2 ^ 19 }
     requires bound { bound < 2 ^ 20 }
@@ -72,8 +72,8 @@ fn bound_for(times: u64, plays: u64) -> u64
     bound
 }
 
-/// The lower bound of the ratio of an entry's plays, in parts, rounded down: that of Wilson's
-/// interval for a chance of 95 %. Takes no memory.
+/// The lower bound of an entry's ratio of plays, in parts, rounded down: that of Wilson's interval
+/// for a chance of 95 %. Takes no memory.
 #[tactic(auto, unfolding(crate::specs::Bounds::bound_of))]
 pub(crate) fn bound_of(entry: &Entry) -> u64
     ensures { result ≡ bound_of entry.now }

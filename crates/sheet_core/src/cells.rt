@@ -1,4 +1,4 @@
-//! Where the cells of a pattern are drawn.
+//! Where the cells of a pattern, which are its 25 points, are drawn.
 ghost use Rattle.std.specs.Prelude.{◌≡◌};
 ghost use Rattle.sheet_core.specs.Cells.{cells_of, cell_places, is_on};
 
@@ -11,7 +11,7 @@ pub(crate) struct Place {
     pub(crate) row: u8,
 }
 
-/// A cell as it is drawn.
+/// A cell as it is drawn: its place and its glyph.
 #[derive(Clone, Copy)]
 pub(crate) struct Cell {
     pub(crate) column: u8,
@@ -87,7 +87,7 @@ fn cell_places(kind: Kind) -> [Place; 25]
     }
 }
 
-/// The cells of a word. Takes no memory.
+/// Returns the cells of a pattern's word, as they are drawn. Takes no memory.
 pub(crate) fn cells_of(word: Word) -> [Cell; 25]
     ensures { result ≡ cells_of word }
 {

@@ -18,7 +18,8 @@ fn qualifies(kind: Kind, least: u64, entry: &Entry) -> bool
     entry.shape.word().kind() == kind && least <= entry.there
 }
 
-/// The patterns of the kind that were there at least this often, in the order in which they come.
+/// Returns the patterns of the kind that were there at least this often, in the order of the
+/// entries.
 fn qualified(
     alloc: Global,
     kind: Kind,
@@ -36,7 +37,7 @@ fn qualified(
     Ok(found)
 }
 
-/// Sorts patterns. Takes no memory.
+/// Sorts patterns into an order. Takes no memory.
 fn sort(order: Order, entries: &mut Vec<Entry>)
     ensures same { IsPermutation entries.old.items entries.new.items }
     ensures sorted { IsSortedBy (goes_before order) entries.new.items }
@@ -44,12 +45,12 @@ fn sort(order: Order, entries: &mut Vec<Entry>)
     entries.sort_unstable_by(|left, right| compare(order, left, right));
 }
 
-/// The first patterns of a dictionary in an order, at most this many, of those of the kind that
-/// were there at least this often. It takes memory for all patterns that qualify.
+/// Returns the first patterns of a dictionary in an order, at most `most` of them. Those of the
+/// kind that were there at least this often qualify. It takes memory for all patterns that qualify.
 ///
 /// # Errors
 ///
-/// `AllocError` where memory was refused.
+/// `AllocError` if memory was refused.
 pub fn choose(
     alloc: Global,
     order: Order,

@@ -14,8 +14,8 @@ use shape_core::{Kind, Word, glyphs};
 use shape_dict::push_number;
 use std::alloc::AllocError;
 
-/// Appends the beginning of a drawing: the part of the plane that is shown, and the background of
-/// all its cells.
+/// Appends the beginning of a drawing in SVG: the part of the plane that is shown, and the
+/// background of all its cells.
 fn push_view(text: &mut Vec<u8>, kind: Kind) -> Result<(), AllocError>
     ensures { OnOk result (text.new.items ≡ text.old.items ++ view_text kind) }
 {
@@ -39,7 +39,7 @@ fn push_title(text: &mut Vec<u8>, word: Word) -> Result<(), AllocError>
     Ok(())
 }
 
-/// Appends a pen's move to a cell.
+/// Appends the pen's move to a cell, without a line.
 fn push_move(text: &mut Vec<u8>, cell: Cell) -> Result<(), AllocError>
     ensures { OnOk result (text.new.items ≡ text.old.items ++ move_text cell) }
 {
@@ -49,7 +49,7 @@ fn push_move(text: &mut Vec<u8>, cell: Cell) -> Result<(), AllocError>
     push_number(text, u64::from(cell.row))
 }
 
-/// Appends the tile of a cell, where that is on the board.
+/// Appends the tile of a cell, if that is on the board.
 fn push_tile(text: &mut Vec<u8>, cell: Cell) -> Result<(), AllocError>
     ensures { OnOk result (text.new.items ≡ text.old.items ++ tile_text cell) }
 {
@@ -71,7 +71,7 @@ fn push_tiles(text: &mut Vec<u8>, cells: &[Cell]) -> Result<(), AllocError>
     text.extend_from_slice(b"'/>")
 }
 
-/// A pen's way of half a cell to a side.
+/// The pen's way of half a cell to a side.
 fn way(side: Side) -> &'static [u8]
     ensures { result.now ≡ way_text side }
 {
@@ -94,7 +94,7 @@ fn push_half(text: &mut Vec<u8>, cells: &[Cell], cell: Cell, side: Side) -> Resu
     text.extend_from_slice(way(side))
 }
 
-/// Appends the line of a cell up and down.
+/// Appends the line through a cell up and down.
 fn push_upright(text: &mut Vec<u8>, cells: &[Cell], cell: Cell) -> Result<(), AllocError>
     ensures { OnOk result (text.new.items ≡ text.old.items ++ upright_text cells.now cell) }
 {
@@ -102,7 +102,7 @@ fn push_upright(text: &mut Vec<u8>, cells: &[Cell], cell: Cell) -> Result<(), Al
     push_half(text, cells, cell, Side::Above)
 }
 
-/// Appends the line of a cell to the right and to the left.
+/// Appends the line through a cell to the right and to the left.
 fn push_level(text: &mut Vec<u8>, cells: &[Cell], cell: Cell) -> Result<(), AllocError>
     ensures { OnOk result (text.new.items ≡ text.old.items ++ level_text cells.now cell) }
 {
@@ -110,7 +110,7 @@ fn push_level(text: &mut Vec<u8>, cells: &[Cell], cell: Cell) -> Result<(), Allo
     push_half(text, cells, cell, Side::Left)
 }
 
-/// Appends both lines of a cell, where that is on the board.
+/// Appends both lines through a cell, if that is on the board.
 fn push_cross(text: &mut Vec<u8>, cells: &[Cell], cell: Cell) -> Result<(), AllocError>
     ensures { OnOk result (text.new.items ≡ text.old.items ++ cross_text cells.now cell) }
 {
@@ -121,7 +121,7 @@ fn push_cross(text: &mut Vec<u8>, cells: &[Cell], cell: Cell) -> Result<(), Allo
     push_level(text, cells, cell)
 }
 
-/// Appends the lines of cells.
+/// Appends the lines through cells.
 fn push_lines(text: &mut Vec<u8>, cells: &[Cell]) -> Result<(), AllocError>
     ensures { OnOk result (text.new.items ≡ text.old.items ++ lines_text cells.now) }
 {
@@ -132,7 +132,7 @@ fn push_lines(text: &mut Vec<u8>, cells: &[Cell]) -> Result<(), AllocError>
     text.extend_from_slice(b"'/>")
 }
 
-/// Appends the line of a cell up and down, where it is an edge of the board.
+/// Appends the line through a cell up and down, if it is an edge of the board.
 fn push_upright_edge(text: &mut Vec<u8>, cells: &[Cell], cell: Cell) -> Result<(), AllocError>
     ensures { OnOk result (text.new.items ≡ text.old.items ++ upright_edge cells.now cell) }
 {
@@ -142,7 +142,7 @@ fn push_upright_edge(text: &mut Vec<u8>, cells: &[Cell], cell: Cell) -> Result<(
     Ok(())
 }
 
-/// Appends the line of a cell to the right and to the left, where it is an edge of the board.
+/// Appends the line through a cell to the right and to the left, if it is an edge of the board.
 fn push_level_edge(text: &mut Vec<u8>, cells: &[Cell], cell: Cell) -> Result<(), AllocError>
     ensures { OnOk result (text.new.items ≡ text.old.items ++ level_edge cells.now cell) }
 {
@@ -152,7 +152,7 @@ fn push_level_edge(text: &mut Vec<u8>, cells: &[Cell], cell: Cell) -> Result<(),
     Ok(())
 }
 
-/// Appends the lines of a cell that are edges of the board, where the cell is on it.
+/// Appends the lines through a cell that are edges of the board, if the cell is on it.
 fn push_edge(text: &mut Vec<u8>, cells: &[Cell], cell: Cell) -> Result<(), AllocError>
     ensures { OnOk result (text.new.items ≡ text.old.items ++ edge_text cells.now cell) }
 {
@@ -174,7 +174,7 @@ fn push_edges(text: &mut Vec<u8>, cells: &[Cell]) -> Result<(), AllocError>
     text.extend_from_slice(b"'/>")
 }
 
-/// Appends where the middle of a circle is.
+/// Appends the place of a circle's middle.
 fn push_middle(text: &mut Vec<u8>, cell: Cell) -> Result<(), AllocError>
     ensures { OnOk result (text.new.items ≡ text.old.items ++ middle_text cell) }
 {
@@ -185,7 +185,7 @@ fn push_middle(text: &mut Vec<u8>, cell: Cell) -> Result<(), AllocError>
     text.extend_from_slice(b"'")
 }
 
-/// Appends a circle at a cell. `begun` is the circle's beginning.
+/// Appends a circle at a cell; `begun` is the beginning of its text.
 fn push_circle(text: &mut Vec<u8>, begun: &[u8], cell: Cell) -> Result<(), AllocError>
     ensures { OnOk result (text.new.items ≡ text.old.items ++ circle_text begun.now cell) }
 {
@@ -194,7 +194,7 @@ fn push_circle(text: &mut Vec<u8>, begun: &[u8], cell: Cell) -> Result<(), Alloc
     text.extend_from_slice(b"/>")
 }
 
-/// Appends the stone of a cell, where it has one.
+/// Appends the stone of a cell, if it has one.
 fn push_stone(text: &mut Vec<u8>, cell: Cell) -> Result<(), AllocError>
     ensures { OnOk result (text.new.items ≡ text.old.items ++ stone_text cell) }
 {
@@ -224,7 +224,7 @@ fn push_next(text: &mut Vec<u8>) -> Result<(), AllocError>
     )
 }
 
-/// Appends the drawing of cells of a kind.
+/// Appends what is drawn of these cells, up to the end of the drawing.
 fn push_cells(text: &mut Vec<u8>, cells: &[Cell]) -> Result<(), AllocError>
     ensures { OnOk result (text.new.items ≡ text.old.items ++ picture_text cells.now) }
 {
@@ -235,7 +235,7 @@ fn push_cells(text: &mut Vec<u8>, cells: &[Cell]) -> Result<(), AllocError>
     push_next(text)
 }
 
-/// Appends the drawing of a word.
+/// Appends the drawing of a pattern's word.
 #[tactic(auto, unfolding(crate::specs::Drawing::drawing_text))]
 pub(crate) fn push_drawing(text: &mut Vec<u8>, word: Word) -> Result<(), AllocError>
     ensures { OnOk result (text.new.items ≡ text.old.items ++ drawing_text word) }

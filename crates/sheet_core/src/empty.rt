@@ -17,8 +17,7 @@ fn is_of(kind: Kind, entry: &Entry) -> bool
     entry.shape.word().kind() == kind
 }
 
-/// How often that pattern was there which was there most often, with one pattern more where it is
-/// of the kind.
+/// The greatest number of times that any pattern of the kind was there, with one entry more.
 #[tactic(auto, using(crate::proofs::Greatest::most_stays, crate::proofs::Greatest::most_grows))]
 fn most_with(kind: Kind, most: Option<u64>, entry: &Entry) -> Option<u64>
     ensures { (rest : List One) → most_after most (of_kind kind (entry.now ∷ rest))
@@ -30,7 +29,7 @@ fn most_with(kind: Kind, most: Option<u64>, entry: &Entry) -> Option<u64>
     Some(most.unwrap_or(0).max(entry.there))
 }
 
-/// How often that pattern of the kind was there which was there most often.
+/// The greatest number of times that any pattern of the kind was there; None if there is none.
 fn most_there(kind: Kind, entries: &[Entry]) -> Option<u64>
     ensures { result ≡ most_after None (of_kind kind entries.now) }
 {
@@ -62,7 +61,7 @@ fn push_absent(text: &mut Vec<u8>, kind: Kind) -> Result<(), AllocError>
     Ok(())
 }
 
-/// Appends that none of the patterns was there so often.
+/// Appends that none of the patterns of the kind was there as often as is asked for.
 #[tactic(auto, unfolding(crate::specs::Empty::rare_text))]
 fn push_rare(text: &mut Vec<u8>, kind: Kind, least: u64) -> Result<(), AllocError>
     ensures { OnOk result (text.new.items ≡ text.old.items ++ rare_text kind least) }
@@ -75,7 +74,7 @@ fn push_rare(text: &mut Vec<u8>, kind: Kind, least: u64) -> Result<(), AllocErro
     Ok(())
 }
 
-/// Appends how often one was there at most.
+/// Appends the greatest number of times that one of the patterns was there.
 #[tactic(auto, unfolding(crate::specs::Empty::most_text))]
 fn push_most(text: &mut Vec<u8>, most: u64) -> Result<(), AllocError>
     ensures { OnOk result (text.new.items ≡ text.old.items ++ most_text most) }
@@ -86,7 +85,7 @@ fn push_most(text: &mut Vec<u8>, most: u64) -> Result<(), AllocError>
     Ok(())
 }
 
-/// Appends that there is no pattern of the kind, or none that was there so often.
+/// Appends that there is no pattern of the kind, or none that was there as often as is asked for.
 fn push_none(
     text: &mut Vec<u8>,
     kind: Kind,
@@ -104,7 +103,7 @@ fn push_none(
     }
 }
 
-/// Appends why no pattern of these is chosen.
+/// Appends why no pattern of these entries is chosen.
 #[tactic(auto, unfolding(crate::specs::Empty::empty_text))]
 pub(crate) fn push_empty(
     text: &mut Vec<u8>,

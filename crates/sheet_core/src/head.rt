@@ -1,6 +1,6 @@
 //! The head of the page, with its style sheet.
 
-/// All that comes before the heading's paragraphs.
+/// The beginning of the page, up to the paragraphs below its heading.
 pub(crate) const HEAD: &str = "<!DOCTYPE html>
 <html lang='en'>
 <head>

@@ -8,7 +8,7 @@ use crate::bounds::bound_of;
 use shape_dict::Entry;
 use std::cmp::Ordering;
 
-/// What the first patterns have most of.
+/// The order of a sheet's patterns: what the first of them have most of.
 #[derive(Clone, Copy, Debug, PartialEq, Eq)]
 pub enum Order {
     /// Plays.
@@ -17,11 +17,11 @@ pub enum Order {
     Urgency,
     /// Times that the pattern was there.
     There,
-    /// Plays for each time that the pattern was there, as it is at least for a chance of 95 %.
+    /// The lower bound of plays for each time that the pattern was there, for a chance of 95 %.
     Bound,
 }
 
-/// What is compared in an order, as a numerator and a denominator, which is not 0.
+/// The number that an order compares, as a numerator and a denominator, which is not 0.
 fn fraction(order: Order, entry: &Entry) -> (u64, u64)
     ensures worth { result.0 ≡ worth_of order entry.now }
     ensures scale { result.1 ≡ scale_of order entry.now }
@@ -34,8 +34,8 @@ fn fraction(order: Order, entry: &Entry) -> (u64, u64)
     }
 }
 
-/// `Less` where the left pattern stands before the right one. Exact fractions decide, and where
-/// these are equal the lesser word. Takes no memory.
+/// `Less` if the left pattern stands before the right one. Exact fractions decide, and if these are
+/// equal the lesser word. Takes no memory.
 pub(crate) fn compare(order: Order, left: &Entry, right: &Entry) -> Ordering
     ensures { is_lt result ≡ goes_before order left.now right.now }
 {

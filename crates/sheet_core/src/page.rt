@@ -30,7 +30,7 @@ fn push_share(text: &mut Vec<u8>, entry: &Entry) -> Result<(), AllocError>
     Ok(())
 }
 
-/// Appends the same, and how often it was played.
+/// Appends what `push_share` does, and how often the pattern was played.
 #[tactic(auto, unfolding(crate::specs::Page::uses_text))]
 fn push_uses(text: &mut Vec<u8>, entry: &Entry) -> Result<(), AllocError>
     ensures { OnOk result (text.new.items ≡ text.old.items ++ uses_text entry.now) }
@@ -53,7 +53,7 @@ fn push_name(text: &mut Vec<u8>, rank: u64, entry: &Entry) -> Result<(), AllocEr
     text.extend_from_slice(b"</code>")
 }
 
-/// Appends the first game that had a pattern, where it is known.
+/// Appends the first game that had a pattern, if it is known.
 #[tactic(auto, unfolding(crate::specs::Page::game_text))]
 fn push_game(text: &mut Vec<u8>, first: FirstGame) -> Result<(), AllocError>
     ensures { OnOk result (text.new.items ≡ text.old.items ++ game_text first) }
@@ -67,7 +67,7 @@ fn push_game(text: &mut Vec<u8>, first: FirstGame) -> Result<(), AllocError>
     }
 }
 
-/// Appends what is below a drawing.
+/// Appends the caption below a drawing.
 #[tactic(auto, unfolding(crate::specs::Page::caption_text))]
 fn push_caption(text: &mut Vec<u8>, rank: u64, entry: &Entry) -> Result<(), AllocError>
     ensures { OnOk result (text.new.items ≡ text.old.items ++ caption_text rank entry.now) }
@@ -80,7 +80,8 @@ fn push_caption(text: &mut Vec<u8>, rank: u64, entry: &Entry) -> Result<(), Allo
     Ok(())
 }
 
-/// Appends a pattern with its rank, and its places in these lines.
+/// Appends the figure of a pattern: its drawing, its caption, and its places in these lines of
+/// hits.
 #[tactic(auto, unfolding(crate::specs::Page::figure_text))]
 fn push_figure(
     alloc: Global,
@@ -100,7 +101,7 @@ fn push_figure(
     Ok(())
 }
 
-/// Appends patterns, the first with rank 1.
+/// Appends the figures of patterns, the first with rank 1.
 fn push_figures(
     alloc: Global,
     text: &mut Vec<u8>,
@@ -128,7 +129,7 @@ fn kind_name(kind: Kind) -> &'static [u8]
     }
 }
 
-/// What comes first in an order.
+/// The words for what comes first in an order.
 fn order_name(order: Order) -> &'static [u8]
     ensures { result.now ≡ order_name order }
 {
@@ -241,13 +242,13 @@ fn push_end(text: &mut Vec<u8>) -> Result<(), AllocError>
     text.extend_from_slice(b"</main>\n</body>\n</html>\n")
 }
 
-/// The page of chosen patterns of a dictionary. Below each stand its first places, three at most,
-/// in the lines of hits: those that begin with its word and a space. It is one file: it holds its
-/// style sheet, has no script, and loads nothing. It takes memory for the text.
+/// Returns the page of chosen patterns of a dictionary. Below each stand its first places, three at
+/// most, in the lines of hits: those that begin with its word and a space. The page is one file: it
+/// holds its style sheet, has no script, and loads nothing. It takes memory for the text.
 ///
 /// # Errors
 ///
-/// `AllocError` where memory was refused.
+/// `AllocError` if memory was refused.
 #[tactic(auto, unfolding(crate::specs::Page::page_text))]
 pub fn page_text(
     alloc: Global,

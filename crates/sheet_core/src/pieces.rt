@@ -6,7 +6,7 @@ use itoa::Buffer;
 use shape_dict::{Entry, push_number};
 use std::alloc::AllocError;
 
-/// The plays for ten thousand times that the pattern was there, rounded down.
+/// Plays for each ten thousand times that the pattern was there, rounded down.
 fn hundredths(entry: &Entry) -> u128
     ensures { result ≡ hundredths_of entry.now }
 {
@@ -40,7 +40,7 @@ pub(crate) fn push_percent(text: &mut Vec<u8>, entry: &Entry) -> Result<(), Allo
     Ok(())
 }
 
-/// Appends the first game that had the pattern, where it is known.
+/// Appends the first game that had the pattern, if it is known.
 pub(crate) fn push_first(text: &mut Vec<u8>, first: Option<u64>) -> Result<(), AllocError>
     ensures { OnOk result (text.new.items ≡ text.old.items ++ first_text first) }
 {

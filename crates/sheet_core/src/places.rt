@@ -1,4 +1,4 @@
-//! Where patterns come from: the lines of hits that begin with their words.
+//! The places of patterns in games, as lines of hits tell them.
 ghost use Rattle.std.specs.Prelude.{◌≡◌, ◌++◌, ◌∷◌, [], ℕ, List, OnOk, IfOk, map};
 ghost use Rattle.std.specs.List.{flat_map};
 ghost use Rattle.sheet_core.specs.Places.{lines_after, is_of, place_in, escaped, place_text, places_of};
@@ -8,13 +8,13 @@ use shape_core::Shape;
 use shape_dict::push_word;
 use std::alloc::{AllocError, Global};
 
-/// How many places of a pattern are shown.
+/// How many places of a pattern are shown at most.
 const MOST: usize = 3;
 
 /// How many bytes of a line are a word and a space.
 const FRONT: usize = 14;
 
-/// The lines of bytes; the last one may be without a line feed.
+/// Splits bytes into lines; the last one may be without a line feed.
 pub(crate) fn lines_of<'a>(alloc: Global, bytes: &'a [u8]) -> Result<Vec<&'a [u8]>, AllocError>
     ensures { IfOk result (λ lines. map (λ line. line.now) lines.items
         ≡ lines_after [] bytes.now) }
@@ -31,7 +31,7 @@ pub(crate) fn lines_of<'a>(alloc: Global, bytes: &'a [u8]) -> Result<Vec<&'a [u8
     Ok(lines)
 }
 
-/// Whether a line is of a pattern: its word stands first, and a space follows.
+/// Whether a line of hits is of a pattern: its word stands first, and a space follows.
 fn is_of(alloc: Global, word: Shape, line: &[u8]) -> Result<bool, AllocError>
     ensures { IfOk result (λ is. is ≡ is_of word line.now) }
 {
@@ -41,14 +41,14 @@ fn is_of(alloc: Global, word: Shape, line: &[u8]) -> Result<bool, AllocError>
     Ok(line.starts_with(&front))
 }
 
-/// What follows the word and the space in a line.
+/// The place in a line of hits: what follows the word and the space.
 fn place_in(line: &[u8]) -> &[u8]
     ensures { result.now ≡ place_in line.now }
 {
     &line[FRONT.min(line.len())..]
 }
 
-/// Appends a byte as HTML has it in a text.
+/// Appends a byte of text as HTML spells it.
 fn push_escaped(text: &mut Vec<u8>, byte: u8) -> Result<(), AllocError>
     ensures { OnOk result (text.new.items ≡ text.old.items ++ escaped byte) }
 {
@@ -60,7 +60,7 @@ fn push_escaped(text: &mut Vec<u8>, byte: u8) -> Result<(), AllocError>
     }
 }
 
-/// Appends bytes as HTML has them in a text.
+/// Appends bytes of text as HTML spells them.
 fn push_all_escaped(text: &mut Vec<u8>, bytes: &[u8]) -> Result<(), AllocError>
     ensures { OnOk result (text.new.items ≡ text.old.items ++ flat_map escaped bytes.now) }
 {
@@ -70,7 +70,7 @@ fn push_all_escaped(text: &mut Vec<u8>, bytes: &[u8]) -> Result<(), AllocError>
     Ok(())
 }
 
-/// Appends an item of a list.
+/// Appends a place as an item of a list.
 fn push_place(text: &mut Vec<u8>, place: &[u8]) -> Result<(), AllocError>
     ensures { OnOk result (text.new.items ≡ text.old.items ++ place_text place.now) }
 {
@@ -79,7 +79,7 @@ fn push_place(text: &mut Vec<u8>, place: &[u8]) -> Result<(), AllocError>
     text.extend_from_slice(b"</li>")
 }
 
-/// Appends the place in a line of a pattern, unless there are three.
+/// Appends the place in a line, if the line is of the pattern, unless there are three.
 fn push_found<'a>(
     alloc: Global,
     places: &mut Vec<&'a [u8]>,
@@ -100,7 +100,7 @@ fn push_found<'a>(
     Ok(())
 }
 
-/// The first places of a pattern, three at most, in the lines of hits.
+/// Returns the first places of a pattern, three at most, in the lines of hits.
 fn places_of<'a>(
     alloc: Global,
     lines: &[&'a [u8]],
@@ -116,7 +116,7 @@ fn places_of<'a>(
     Ok(places)
 }
 
-/// Appends items of a list.
+/// Appends places as items of a list.
 fn push_items(text: &mut Vec<u8>, places: &[&[u8]]) -> Result<(), AllocError>
     ensures { OnOk result (text.new.items
         ≡ text.old.items ++ items_text (map (λ place. place.now) places.now)) }
@@ -127,7 +127,7 @@ fn push_items(text: &mut Vec<u8>, places: &[&[u8]]) -> Result<(), AllocError>
     Ok(())
 }
 
-/// Appends a list of places, where there is one.
+/// Appends the list of these places, if there are any.
 #[tactic(auto, unfolding(crate::specs::Places::places_text))]
 fn push_list(text: &mut Vec<u8>, places: &[&[u8]]) -> Result<(), AllocError>
     ensures { OnOk result (text.new.items

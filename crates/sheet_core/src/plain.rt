@@ -1,4 +1,4 @@
-//! The text for a terminal.
+//! The text of a sheet for a terminal.
 ghost use Rattle.std.specs.Prelude.{◌≡◌, ◌+◌, ◌≤◌, ◌++◌, length, OnOk, IfOk};
 ghost use Rattle.sheet_core.specs.Plain.{marked_glyphs, row_text, board_text, uses_text};
 ghost use Rattle.sheet_core.specs.Pieces.{ranked};
@@ -12,10 +12,10 @@ use shape_core::{Word, glyphs};
 use shape_dict::{Entry, push_number, push_word};
 use std::alloc::{AllocError, Global};
 
-/// The spaces of the row that is indented most.
+/// As many spaces as the row has that is indented most.
 const SPACES: [u8; 3] = [b' '; 3];
 
-/// The cell of the point itself.
+/// The number of the cell in the middle, which is the point itself.
 const MIDDLE: usize = 12;
 
 /// The glyphs of a word's cells, and `*` for the point itself.
@@ -39,7 +39,7 @@ fn push_row(text: &mut Vec<u8>, glyphs: &[u8], row: Row) -> Result<(), AllocErro
     Ok(())
 }
 
-/// Appends the rows of a word.
+/// Appends a pattern's rows of glyphs.
 fn push_board(text: &mut Vec<u8>, word: Word) -> Result<(), AllocError>
     ensures { OnOk result (text.new.items ≡ text.old.items ++ board_text word) }
 {
@@ -50,7 +50,8 @@ fn push_board(text: &mut Vec<u8>, word: Word) -> Result<(), AllocError>
     Ok(())
 }
 
-/// Appends how often a pattern was there and was played, and how urgent it is.
+/// Appends how often a pattern was there and was played, and its plays for a hundred times that it
+/// was there.
 fn push_uses(text: &mut Vec<u8>, entry: &Entry) -> Result<(), AllocError>
     ensures { OnOk result (text.new.items ≡ text.old.items ++ uses_text entry.now) }
 {
@@ -62,7 +63,7 @@ fn push_uses(text: &mut Vec<u8>, entry: &Entry) -> Result<(), AllocError>
     push_percent(text, entry)
 }
 
-/// Appends the line of a pattern.
+/// Appends the line of a pattern: its rank, word and counts, and its first game if that is known.
 fn push_caption(text: &mut Vec<u8>, rank: u64, entry: &Entry) -> Result<(), AllocError>
     ensures { OnOk result (text.new.items ≡ text.old.items ++ caption_text rank entry.now) }
 {
@@ -85,7 +86,7 @@ fn push_figure(text: &mut Vec<u8>, rank: u64, entry: &Entry) -> Result<(), Alloc
     Ok(())
 }
 
-/// Appends patterns, the first with rank 1.
+/// Appends the figures of patterns, the first with rank 1.
 fn push_figures(text: &mut Vec<u8>, chosen: &[Entry]) -> Result<(), AllocError>
     ensures { OnOk result (text.new.items
         ≡ text.old.items ++ ranked figure_text 1 chosen.now) }
@@ -98,12 +99,12 @@ fn push_figures(text: &mut Vec<u8>, chosen: &[Entry]) -> Result<(), AllocError>
     Ok(())
 }
 
-/// The text of patterns that were chosen of others, for a terminal, the first with rank 1; or why
-/// none was chosen. It takes memory for the text.
+/// Returns the text for a terminal of the patterns that were chosen of these entries, the first
+/// with rank 1; or why none was chosen. It takes memory for the text.
 ///
 /// # Errors
 ///
-/// `AllocError` where memory was refused.
+/// `AllocError` if memory was refused.
 pub fn plain_text(
     alloc: Global,
     asked: Asked,

@@ -4,7 +4,7 @@ ghost use Rattle.sheet_core.specs.Plain.{rows_of};
 
 use shape_core::Kind;
 
-/// A row of a board: how far it is indented, its first cell, and how many cells it has.
+/// A row of a pattern: how far it is indented, its first cell, and how many cells it has.
 #[derive(Clone, Copy)]
 pub(crate) struct Row {
     pub(crate) indent: usize,
@@ -12,7 +12,7 @@ pub(crate) struct Row {
     pub(crate) count: usize,
 }
 
-/// Five rows of five.
+/// The rows of a square: five rows of five cells.
 const SQUARE_ROWS: [Row; 5] = [
     Row {
         indent: 0,
@@ -41,7 +41,7 @@ const SQUARE_ROWS: [Row; 5] = [
     },
 ];
 
-/// Rows of one, three, five, seven, five, three and one.
+/// The rows of a diamond: one, three, five, seven, five, three and one cell.
 const DIAMOND_ROWS: [Row; 7] = [
     Row {
         indent: 3,

@@ -1,4 +1,4 @@
-//! From a reader to a writer: a dictionary's sheet.
+//! From a reader of a dictionary to a writer of its sheet.
 ghost use Rattle.std.specs.Prelude.{OnOk, IfOk, IfErr};
 ghost use Rattle.engine_core.specs.Finds.{IsFindFault};
 ghost use Rattle.engine_core.specs.Runs.{HasRead, Wrote, IsRunFault};
@@ -11,7 +11,7 @@ use shape_dict::Dictionary;
 use std::alloc::Global;
 use std::io::{Read, Write};
 
-/// The sheet of the dictionary whose text the input is.
+/// Returns the sheet of the dictionary whose text the input is.
 fn sheet_of(alloc: Global, asked: Asked, hits: &[u8], input: &[u8]) -> Result<Vec<u8>, RunFault>
     ensures text { IfOk result (λ text. IsSheetText asked hits.now input.now text.items) }
     ensures fault { IfErr result (IsFindFault input.now) }
@@ -21,17 +21,17 @@ fn sheet_of(alloc: Global, asked: Asked, hits: &[u8], input: &[u8]) -> Result<Ve
 }
 
 /// Reads one dictionary, in any of the three texts, and writes its sheet: the patterns that are
-/// asked for, as a page or as text for a terminal. On a page the first places of each stand below
-/// it, which lines of these hits have, as `shape_hits --words` prints them. Of the reader it takes
-/// the bytes up to its end, or 2^28 + 1 of them, and no more, unless the reader fails or memory is
-/// refused. It takes memory for the input, the dictionary, the patterns that qualify, and the
-/// sheet.
+/// asked for, drawn on a page of HTML or as text for a terminal. `hits` has the lines that
+/// `shape_hits --words` prints, each with a pattern's word and a place in a game. On a page the
+/// first places of a pattern stand below it. Of the reader it takes the bytes up to its end, or
+/// 2^28 + 1 of them, and no more, unless the reader fails or memory is refused. It takes memory for
+/// the input, the dictionary, the patterns that qualify, and the sheet.
 ///
 /// # Errors
 ///
-/// `Dict` with 1 and the first fault of the text (X1 to X6, X8), `Read` where the reader failed,
-/// `Memory` where memory for the input or the sheet was refused: nothing is written then. `Write`
-/// where the writer failed: exactly that number of bytes of the sheet is out.
+/// `Dict` with 1 and the first fault of the text (X1 to X6, X8); `Read` if the reader failed;
+/// `Memory` if memory for the input or the sheet was refused. Nothing is written then. `Write` if
+/// the writer failed: exactly that number of bytes of the sheet is out.
 pub fn run_sheet<R: Read, W: Write>(
     alloc: Global,
     asked: Asked,

@@ -1,4 +1,4 @@
-//! The sheet of a dictionary.
+//! The sheet of a dictionary: its first patterns in an order, drawn.
 ghost use Rattle.std.specs.Prelude.{◌≡◌, IfOk};
 ghost use Rattle.sheet_core.specs.Sheets.{IsSheetOf, written_text};
 
@@ -9,7 +9,7 @@ use crate::plain::plain_text;
 use shape_dict::{Dictionary, Entry};
 use std::alloc::{AllocError, Global};
 
-/// The text of chosen patterns in the form that is asked for.
+/// Returns the text of chosen patterns, in the form that is asked for.
 fn written_text(
     alloc: Global,
     asked: Asked,
@@ -26,13 +26,13 @@ fn written_text(
     }
 }
 
-/// The sheet of a dictionary: the patterns that are asked for, as a page or as text. On a page the
-/// first places of each stand below it, which lines of these hits have. It takes memory for the
-/// patterns that qualify, and for the text.
+/// Returns the sheet of a dictionary: the patterns that are asked for, as a page or as text. On a
+/// page the first places of a pattern in these lines of hits stand below it. It takes memory for
+/// the patterns that qualify, and for the text.
 ///
 /// # Errors
 ///
-/// `AllocError` where memory was refused.
+/// `AllocError` if memory was refused.
 pub fn sheet_text(
     alloc: Global,
     asked: Asked,

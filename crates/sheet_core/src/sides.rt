@@ -20,7 +20,7 @@ fn is_next(number: u8, next: u8) -> bool
     u16::from(next) == u16::from(number) + 1
 }
 
-/// Whether another cell is the next one on a side of a cell.
+/// Whether `other` is the next cell on this side of a cell.
 fn is_beside(side: Side, cell: Cell, other: Cell) -> bool
     ensures { result ≡ is_beside side cell other }
 {
@@ -32,15 +32,15 @@ fn is_beside(side: Side, cell: Cell, other: Cell) -> bool
     }
 }
 
-/// Whether another cell is the next one on a side, and off the board.
+/// Whether `other` is the next cell on this side of a cell, and off the board.
 fn is_end(side: Side, cell: Cell, other: Cell) -> bool
     ensures { result ≡ is_end side cell other }
 {
     is_beside(side, cell, other) && !is_on(other)
 }
 
-/// Whether the board ends at a cell on a side, as its pattern has it: the next of its cells there
-/// is off the board. Of what is outside of the pattern nothing is known.
+/// Whether the board ends at a cell on this side, as the pattern has it: the pattern's next cell
+/// there is off the board. Of what is outside of the pattern nothing is known.
 pub(crate) fn ends_at(side: Side, cells: &[Cell], cell: Cell) -> bool
     ensures { result ≡ ends_at side cells.now cell }
 {

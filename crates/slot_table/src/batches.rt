@@ -1,4 +1,4 @@
-//! Enters many keys at once: the cache lines of their slots are loaded at the same time.
+//! Enters many keys at once, so that the cache lines of their slots are loaded at the same time.
 ghost use Rattle.std.specs.Prelude.{◌≡◌, ℕ, ◌^◌, ◌<◌, ◌≤◌, true, length};
 ghost use Rattle.probe_core.specs.declared.calls.Answer.TheVariants as answer;
 ghost use Rattle.slot_table.specs.Batches.{entered, answer_at, AreMade, AreTold};
@@ -11,24 +11,25 @@ use crate::passes::Pass;
 use crate::tables::SlotTable;
 use probe_core::{Answer, Key, ProbeOrder};
 
-/// How many keys are looked at together: few enough that their lines stay in the nearest caches
-/// until their calls end.
+/// How many keys are looked at together: few enough that their cache lines stay in the nearest
+/// caches until their calls end.
 const BLOCK: usize = 128;
 
-/// At how many places of a key is looked at most before any free place is taken. In a table that is
-/// nearly full some keys have more before their own: their calls go on one by one.
+/// How many places of a key are looked at, at most, before any free place is taken. In a table that
+/// is nearly full some keys come to their own place only later: their calls then go on one by one.
 const ROUNDS: usize = 64;
 
-/// The last look of a key's call: the index of the place that was loaded, and the word there.
+/// The last look of a key's call: the index, in the key's order, of the place that was loaded, and
+/// the word found there.
 #[derive(Clone, Copy)]
 pub(crate) struct Look {
-    /// The index.
+    /// The index of the place in the key's order.
     pub(crate) index: usize,
-    /// The word.
+    /// The word that was found there.
     pub(crate) word: u64,
 }
 
-/// Whether a look met another key, and the key has a place after it.
+/// Whether a look met another key, and a further place of the key is left to look at.
 fn is_passed(key: Key, look: Look, slots: usize) -> bool
     requires { look.index < slots }
     ensures { result ≡ true → IsPassed slots key look }
@@ -36,7 +37,7 @@ fn is_passed(key: Key, look: Look, slots: usize) -> bool
     look.word != 0 && look.word != key.bits() + 1 && look.index + 1 != slots
 }
 
-/// Whether no number was free.
+/// Whether the answer says that no number was free.
 fn is_full(found: Answer) -> bool
     ensures { result ≡ true → found ≡ answer.Full }
 {
@@ -46,7 +47,7 @@ fn is_full(found: Answer) -> bool
     }
 }
 
-/// Puts `Absent` at a place and all after it.
+/// Puts `Absent` at this place of the answers and at all places after it.
 fn leave_from(answers: &mut [Answer], start: usize)
     ensures length { length answers.new ≡ length answers.old }
     ensures before { (i : ℕ) → i < start → answer_at answers.new i ≡ answer_at answers.old i }
@@ -57,7 +58,7 @@ fn leave_from(answers: &mut [Answer], start: usize)
     }
 }
 
-/// All places of a block.
+/// Returns all places of a block, in order.
 fn all_places() -> [usize; BLOCK]
     ensures length { length result ≡ BLOCK }
     ensures chosen { (count : ℕ) → count ≤ BLOCK → AreChosen count result count }
@@ -69,8 +70,8 @@ fn all_places() -> [usize; BLOCK]
     places
 }
 
-/// Keeps of the first places those whose looks met other keys; the answer is how many they are. It
-/// has no branch that depends on a slot.
+/// Keeps, of the first `count` places, those whose looks met another key, and returns how many they
+/// are. It has no branch that depends on a slot.
 fn keep_passed(
     keys: &[Key],
     looks: &[Look],
@@ -97,8 +98,8 @@ fn keep_passed(
 }
 
 impl<O: ProbeOrder> SlotTable<O> {
-    /// Looks at the first place of each key. No step waits for what an earlier one found, so the
-    /// loads overlap.
+    /// Loads the first place of each key. No step waits for what an earlier one found, so the loads
+    /// overlap.
     fn look_first(&self, pass: &mut Pass<O>, keys: &[Key], looks: &mut [Look])
         requires pass { IsPassOf self.now pass.old }
         requires slots { 0 < self.now.slots }
@@ -117,8 +118,8 @@ impl<O: ProbeOrder> SlotTable<O> {
         }
     }
 
-    /// Looks at the next place of each of the keys at the places that are left. Here too the loads
-    /// overlap.
+    /// Loads the next place of each key whose place is among the first `count` of `left`. Here too
+    /// the loads overlap.
     fn look_again(
         &self,
         pass: &mut Pass<O>,
@@ -152,8 +153,8 @@ impl<O: ProbeOrder> SlotTable<O> {
         }
     }
 
-    /// Looks at the first places of all keys of a block, then at the second places of those that
-    /// met another key, and so on. No free place is taken in between.
+    /// Loads the first places of all keys of a block, then the second places of those that met
+    /// another key, and so on. No free place is taken in between.
     fn look_at_all(&self, pass: &mut Pass<O>, keys: &[Key], looks: &mut [Look])
         requires pass { IsPassOf self.now pass.old }
         requires block { length keys.now ≤ BLOCK }
@@ -180,9 +181,9 @@ impl<O: ProbeOrder> SlotTable<O> {
         }
     }
 
-    /// Brings the calls of looks to their ends, in the order of the keys. The answer is whether no
-    /// number was free for some key; after the first such, only those calls end that have ended by
-    /// their looks.
+    /// Brings the calls to their ends, in the order of the keys, each from its last look. Returns
+    /// whether no number was free for some key. After the first such key, only those calls end that
+    /// have ended by their looks.
     fn end_all(
         &self,
         pass: &mut Pass<O>,
@@ -216,7 +217,7 @@ impl<O: ProbeOrder> SlotTable<O> {
     }
 
     /// Enters the keys of a block, up to the first for which no number is free, and a few after it.
-    /// The answer is whether there is such a one.
+    /// Returns whether there is such a key.
     fn enter_block(&self, pass: &mut Pass<O>, keys: &[Key], answers: &mut [Answer]) -> bool
         requires pass { IsPassOf self.now pass.old }
         requires block { length keys.now ≤ BLOCK }
@@ -236,18 +237,18 @@ impl<O: ProbeOrder> SlotTable<O> {
     }
 
     /// Enters these keys, each by a call of its own, as `enter` does, and puts the answer at the
-    /// place of its key: the key's number, or `Full` where none was free. It takes no memory and
-    /// waits for no other thread.
+    /// place of its key: the key's number, or `Full` if none was free. It takes no memory and waits
+    /// for no other thread.
     ///
-    /// After the first `Full` most keys are not entered any more, since each that is new would be
-    /// looked for in all slots: `Absent` stands at their places, which no call of `enter` answers.
-    /// Those of the same block of 128 keys whose first looks have found them have their numbers.
+    /// After the first `Full` most keys are not entered any more, since each new one would be
+    /// looked for in all slots. At their places stands `Absent`, which no call of `enter` answers.
+    /// Keys of the same block of 128 that were found by their first looks have their numbers.
     ///
-    /// Looking is entering: the first places of all keys are loaded, then the second places of
-    /// those that met another key, and so on, and so the slots' lines of memory come together. A
-    /// key that is found has its number by that load. The others take a free place or go on after
-    /// all looks of their block, in the order of the keys. So the calls end in another order than
-    /// the keys have. A key may stand at several places.
+    /// The first places of all keys are loaded, then the second places of those that met another
+    /// key, and so on, and so the cache lines of the slots are fetched together. A key that is
+    /// found has its number by that load. The others take a free place or go on after all looks of
+    /// their block, in the order of the keys. So the calls end in another order than the keys have.
+    /// A key may stand at several places.
     ///
     /// The pass must be of this table, and there must be as many answers as keys. What the answers
     /// hold before is not read.

@@ -1,13 +1,13 @@
-//! What happened at a table: the calls that were made, with their answers.
+//! What happened at a table: each call with its answer.
 use probe_core::{Answer, Call};
 
 /// A call with its answer. Contracts speak of lists of them; no value of it is made.
 pub enum Happened {
-    /// A key was entered or looked up, and this was answered.
+    /// A key was entered or looked up, with the answer.
     Asked(Call, Answer),
-    /// At this number (a `usize`) this game (a `u64`) was marked.
+    /// A game (a `u64`) was marked at a number (a `usize`).
     Marked(usize, u64),
-    /// Of this number (a `usize`) the least game that was marked (a `u64`) was asked, or None where
-    /// none was.
+    /// The least game marked at a number (a `usize`) was asked for: the answer is that game (a
+    /// `u64`), or None if no game was marked there.
     First(usize, Option<u64>),
 }

@@ -1,4 +1,4 @@
-//! What can go wrong with a table.
+//! What can go wrong when a table is made.
 ghost use Rattle.std.specs.Prelude.{◌≡◌};
 ghost use Rattle.slot_table.specs.declared.faults.SlotFault.TheVariants.{Memory};
 

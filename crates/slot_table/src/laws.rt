@@ -11,13 +11,13 @@ ghost use Rattle.slot_table.specs.History.{IsLegal, content_of, keys_of, least_a
 ghost use Rattle.slot_table.specs.Passes.{Numbers, Known, IsPassOf, calls_of, Met};
 ghost use Rattle.slot_table.specs.Stakes.{IsAsMuch, IsWhole, halved, half_of};
 
-/// The content of a table of n numbers has n places. It takes no memory.
+/// The content of a table with n numbers is a list of n places. It takes no memory.
 pub fn contents_have_n_places()
     ensures { (n : ℕ) (history : List Happened) → length (content_of n history) ≡ n }
 {}
 
-/// A key's number is exactly where the content shows the key, and a free number where it shows
-/// none. It takes no memory.
+/// A number is a key's exactly if the content shows the key at that number, and it is free exactly
+/// if the content shows no key there. It takes no memory.
 pub fn numbers_are_where_the_content_shows_them()
     ensures number { (n : ℕ) (history : List Happened) (key p : ℕ) → p < n →
         IsNumber (content_of n history) key p ↔
@@ -27,7 +27,7 @@ pub fn numbers_are_where_the_content_shows_them()
         (slice_index_or (content_of n history) p None ≡ None) }
 {}
 
-/// A key has one number after a legal history. It takes no memory.
+/// After a legal history no key has two numbers. It takes no memory.
 pub fn a_key_has_one_number()
     ensures { (n : ℕ) (history : List Happened) (key p q : ℕ) → IsLegal n history →
         IsNumber (content_of n history) key p →
@@ -42,7 +42,7 @@ pub fn a_number_was_entered()
         Contains history (Asked (Enter key) (Number number)) }
 {}
 
-/// A number is that of one key. It takes no memory.
+/// No number belongs to two keys. It takes no memory.
 pub fn a_number_has_one_key()
     ensures { (n : ℕ) (history : List Happened) (key other p : ℕ) →
         IsNumber (content_of n history) key p →
@@ -51,7 +51,7 @@ pub fn a_number_has_one_key()
 {}
 
 /// The keys that have a number are exactly the keys of the content. After a legal history they are
-/// all different, and where no number is free there are n of them. It takes no memory.
+/// all different, and if no number is free there are n of them. It takes no memory.
 pub fn a_full_table_has_n_different_keys()
     ensures numbered { (n : ℕ) (history : List Happened) (key : ℕ) →
         Contains (keys_of (content_of n history)) key ↔
@@ -62,14 +62,14 @@ pub fn a_full_table_has_n_different_keys()
         length (keys_of (content_of n history)) ≡ n }
 {}
 
-/// Splitting a pass loses nothing of its stake, its part of the right to call the table: the stakes
-/// of the two passes together are as much as the stake was. It takes no memory.
+/// Splitting a pass loses nothing of its stake (its part of the right to call the table): the
+/// stakes of the two passes together are as much as the stake was. It takes no memory.
 pub fn a_split_loses_no_stake()
     ensures { (stake : List ℕ) → IsAsMuch (halved stake ++ half_of stake) stake }
 {}
 
-/// Of stakes that are as much as one another: what is as much as one is as much as the other, and
-/// so are sums of them, in any order. It takes no memory.
+/// Being as much as one another carries over between stakes, and sums of stakes that are as much as
+/// one another are too, in any order. It takes no memory.
 pub fn stakes_add_up()
     ensures through { (stake middle other : List ℕ) → IsAsMuch stake middle →
         IsAsMuch middle other → IsAsMuch stake other }
@@ -78,14 +78,14 @@ pub fn stakes_add_up()
     ensures turned { (stake other : List ℕ) → IsAsMuch (stake ++ other) (other ++ stake) }
 {}
 
-/// The stake of a table's first pass is the whole, and so is whatever is as much as the whole. It
-/// takes no memory.
+/// The stake of a table's first pass is the whole right to call it, and so is every stake that is
+/// as much as the whole. It takes no memory.
 pub fn as_much_as_the_whole_is_the_whole()
     ensures first { IsWhole (0 ∷ []) }
     ensures others { (stake whole : List ℕ) → IsAsMuch stake whole → IsWhole whole → IsWhole stake }
 {}
 
-/// Where two passes of a table met, the calls of the one pass are those of both, and no others. It
+/// If two passes of a table met, the calls of the joined pass are those of both, and no others. It
 /// takes no memory.
 pub fn a_met_pass_has_the_calls_of_both<O>()
     ensures { (numbers : Numbers O) (one other both : Known O) (happened : Happened) →
@@ -94,8 +94,8 @@ pub fn a_met_pass_has_the_calls_of_both<O>()
         (Contains (calls_of one) happened ⊎ Contains (calls_of other) happened) }
 {}
 
-/// The least game marked at a number is at most this game exactly where one at most this was marked
-/// there. It takes no memory.
+/// The least game marked at a number is at most a given game exactly if some game up to that one
+/// was marked there. It takes no memory.
 pub fn a_least_game_was_marked()
     ensures { (number game : ℕ) (history : List Happened) →
         IsAtMost (least_at number history) game ↔

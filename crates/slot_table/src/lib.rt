@@ -1,5 +1,5 @@
-//! A table of numbers for keys that threads share: it only grows, takes no lock and never
-//! retries a step.
+//! A table that gives numbers to keys and is shared by threads: it only grows, takes no lock and
+//! never retries a step.
 #![tactic(auto)]
 
 mod batches;

@@ -1,14 +1,15 @@
-//! Passes: what callers of a table hold.
+//! Passes: a caller's right to call a table, and what it has seen of the table.
 use crate::views::Place;
 use std::marker::Model;
 
 /// The right of one caller to call a table. It takes no memory.
 ///
-/// Contracts see of which table and order it is, a history of the table as far as it has `seen` it,
-/// the places in it of its own calls, `mine`, and its `stake`, how much of the right to call it
-/// has. Passes come from the table's `new`, `split` and `meet` alone. The stakes of all passes of a
-/// table, with those that were dropped, are the whole right: so all calls are those of whoever has
-/// the whole, and a pass that was split has it again only with what it gave away.
+/// Contracts see which table and order it is of, a history of the table as far as the pass has
+/// `seen` it, `mine`, the places in that history of the pass's own calls, and its `stake`, how much
+/// of the whole right to call the table it has. Passes come from the table's `new`, `split` and
+/// `meet` alone. The stakes of all passes of a table, with those that were dropped, are the whole
+/// right. So a pass with the whole right has made all calls, and a pass that was split has the
+/// whole again only once it has back what it gave away.
 #[derive(Drop)]
 pub struct Pass<O> {
     pub(crate) seat: Place<O>,

@@ -1,4 +1,4 @@
-//! The steps that calls take on the words.
+//! The steps that calls take on the words of a shared table.
 ghost use Rattle.std.specs.Prelude.{◌≡◌, ◌-◌, ◌^◌, ◌<◌, [], None, slice_index_or};
 ghost use Rattle.probe_core.specs.Machine.{key_of, left_of};
 ghost use Rattle.probe_core.specs.Turn.{HasFewer};
@@ -14,7 +14,7 @@ use crate::views::{Ask, Cut, First, Glue, Looked, Marked, Place, Shown, Told};
 use probe_core::{Answer, Call, Key, Probe, ProbeOrder, Turn, Want};
 use std::marker::Brand;
 
-/// Takes the step that the probe wants, and answers what follows.
+/// Takes the step that the probe wants, and returns what follows.
 fn turn<A: Ask, O: ProbeOrder>(shared: &Shown<O>, seat: &mut Place<O>, probe: Probe<O>) -> Turn<O>
     requires seat { IsSeatAt O.exponent shared.now seat.old }
     requires probe { (probe.order ≡ shared.now.key) × (probe.machine ≡ A.machine) }
@@ -35,7 +35,7 @@ fn turn<A: Ask, O: ProbeOrder>(shared: &Shown<O>, seat: &mut Place<O>, probe: Pr
     probe.told(found)
 }
 
-/// Takes the steps of a probe to its call's end.
+/// Takes the steps of a probe until its call ends, and returns the answer.
 pub(crate) fn run<O: ProbeOrder>(shared: &Shown<O>, seat: &mut Place<O>, probe: Probe<O>) -> Answer
     requires seat { IsSeatAt O.exponent shared.now seat.old }
     requires order { probe.order ≡ shared.now.key }
@@ -56,7 +56,7 @@ pub(crate) fn run<O: ProbeOrder>(shared: &Shown<O>, seat: &mut Place<O>, probe: 
     }
 }
 
-/// Takes the steps of a call to its end.
+/// Makes a call: takes all its steps and returns the answer.
 pub(crate) fn asked<O: ProbeOrder>(
     shared: &Shown<O>,
     seat: &mut Place<O>,
@@ -74,7 +74,7 @@ pub(crate) fn asked<O: ProbeOrder>(
     run(shared, seat, Probe::begin(order, call))
 }
 
-/// Loads the slot at the place that a key has at an index, as a step of the key's `Enter`.
+/// Loads the slot that a key probes at this index, as a step of the key's `Enter`.
 pub(crate) fn look<A: Ask, O: ProbeOrder>(
     shared: &Shown<O>,
     seat: &mut Place<O>,
@@ -94,7 +94,7 @@ pub(crate) fn look<A: Ask, O: ProbeOrder>(
     shared.load::<Told<A>>(seat, 2 * order.place(key, index))
 }
 
-/// Loads a slot word for no call.
+/// Loads the word of a slot, as part of no call, and returns its key, or None if it is free.
 pub(crate) fn word_at<O: ProbeOrder>(
     shared: &Shown<O>,
     seat: &mut Place<O>,
@@ -116,7 +116,8 @@ pub(crate) fn word_at<O: ProbeOrder>(
     }
 }
 
-/// A new seat that has seen what this one has, with a half of its stake's first piece.
+/// Splits a thread's seat (its right to step on the words): the new seat has seen as much, and
+/// takes half of the first piece of the stake.
 pub(crate) fn split<O: ProbeOrder>(shared: &Shown<O>, seat: &mut Place<O>) -> Place<O>
     requires { IsSeatAt O.exponent shared.now seat.old }
     ensures same { (seat.new.table_id ≡ seat.old.table_id)
@@ -128,7 +129,7 @@ pub(crate) fn split<O: ProbeOrder>(shared: &Shown<O>, seat: &mut Place<O>) -> Pl
     shared.split_seat::<Cut>(seat)
 }
 
-/// Joins the other seat to this one.
+/// Merges another seat, with what it has seen, its calls and its stake, into this one.
 pub(crate) fn meet<O: ProbeOrder>(shared: &Shown<O>, seat: &mut Place<O>, other: Place<O>)
     requires seat { IsSeatAt O.exponent shared.now seat.old }
     requires other { IsSeatAt O.exponent shared.now other }
@@ -139,7 +140,7 @@ pub(crate) fn meet<O: ProbeOrder>(shared: &Shown<O>, seat: &mut Place<O>, other:
     shared.load::<Looked>(seat, 0);
 }
 
-/// Lowers a number's mark word to a game.
+/// Marks a game at a number: lowers the number's mark word to it, if it is less.
 pub(crate) fn mark<O: ProbeOrder>(shared: &Shown<O>, seat: &mut Place<O>, number: usize, game: u64)
     requires seat { IsSeatAt O.exponent shared.now seat.old }
     requires number { number < 2 ^ O.exponent shared.now.key }
@@ -152,7 +153,7 @@ pub(crate) fn mark<O: ProbeOrder>(shared: &Shown<O>, seat: &mut Place<O>, number
     shared.fetch_min::<Marked>(seat, 2 * number + 1, game);
 }
 
-/// Loads a number's mark word.
+/// Returns the least game marked at a number, from its mark word, or None if none was marked.
 pub(crate) fn first<O: ProbeOrder>(
     shared: &Shown<O>,
     seat: &mut Place<O>,

@@ -1,4 +1,4 @@
-//! Tables of numbers for keys, as threads call them.
+//! Tables that give numbers to keys, as threads call them.
 ghost use Rattle.std.specs.Prelude.{◌≡◌, ◌-◌, ◌*◌, ◌^◌, ◌<◌, [], ◌∷◌, IfOk, None, true, length};
 ghost use Rattle.std.specs.Prelude.{slice_index_or};
 ghost use Rattle.std.specs.List.{repeat};
@@ -23,10 +23,10 @@ use probe_core::{Answer, Call, Capacity, Key, Probe, ProbeOrder, Turn};
 use std::alloc::{AllocError, Global};
 use std::marker::{Brand, Model};
 
-/// A table of numbers for keys, shared by threads. This is the project's own.
+/// A table that gives numbers to keys, shared by threads. This is the project's own.
 ///
-/// Each key gets a number when it is entered first, and keeps it for ever. The word of a number's
-/// key and that of its least game lie side by side, so mostly in one line of memory. Contracts see
+/// Each key gets a number when it is first entered, and keeps it for ever. The word of a number's
+/// key and that of its least game lie side by side, so mostly in one cache line. Contracts see
 /// which table it is, its order, and how many slots it has.
 #[derive(Drop)]
 pub struct SlotTable<O: ProbeOrder> {
@@ -51,8 +51,8 @@ impl<O: ProbeOrder> Model for SlotTable<O> {
         × (2 ^ O.exponent t.order ≤ 2 ^ 22) };
 }
 
-/// The words of a table of which no number is taken and none is marked. The words of a number lie
-/// side by side: that of its slot, and then that of its mark.
+/// Returns the words of a table in which no number is taken and none is marked. The two words of a
+/// number lie side by side: that of its slot, and then that of its mark.
 fn free_words(alloc: Global, slots: usize) -> Result<Vec<u64>, AllocError>
     ensures length { IfOk result (λ v. length v.items ≡ 2 * slots) }
     ensures items { IfOk result (λ v. v.items ≡ repeat slots (0 ∷ 0xFFFF_FFFF_FFFF_FFFF ∷ [])) }
@@ -61,14 +61,14 @@ fn free_words(alloc: Global, slots: usize) -> Result<Vec<u64>, AllocError>
 }
 
 impl<O: ProbeOrder> SlotTable<O> {
-    /// A table in this order of which no number is taken, and its first pass, which has the whole
-    /// stake.
+    /// Makes a table in this order in which no number is taken, and its first pass, which has the
+    /// whole stake.
     ///
     /// It takes 16 bytes a number, and for a moment twice as much.
     ///
     /// # Errors
     ///
-    /// `Memory` where memory was refused; then nothing is kept.
+    /// `Memory` if memory was refused; then nothing is kept.
     pub fn new(alloc: Global, order: O) -> Result<(SlotTable<O>, Pass<O>), SlotFault>
         ensures order { IfOk result (λ r. r.0.order ≡ order) }
         ensures slots { IfOk result (λ r. r.0.slots ≡ 2 ^ O.exponent order) }
@@ -84,7 +84,7 @@ impl<O: ProbeOrder> SlotTable<O> {
         Ok((SlotTable { words, order }, Pass { seat }))
     }
 
-    /// How many numbers there are. It takes no pass and no memory.
+    /// The number of slots, and so of numbers. It takes no pass and no memory.
     pub fn capacity(&self) -> Capacity
         ensures order { result ≡ O.exponent self.now.order }
         ensures slots { 2 ^ result ≡ self.now.slots }
@@ -92,10 +92,12 @@ impl<O: ProbeOrder> SlotTable<O> {
         self.order.capacity()
     }
 
-    /// A pass that has seen what this one has, and has made no call. It takes no memory.
+    /// Splits a new pass off this one: it has seen what this one has, and has made no call. It
+    /// takes no memory.
     ///
-    /// It has a half of the first piece of this one's stake, and this one keeps the rest. The half
-    /// comes back by `meet` and `absorb` alone, and with it the calls that it made.
+    /// The new pass has a half of the first piece of this one's stake, and this one keeps the rest.
+    /// The half comes back by `meet` and `absorb` alone, and with it the calls that were made with
+    /// it.
     ///
     /// The pass must be of this table.
     pub fn split(&self, pass: &mut Pass<O>) -> Pass<O>
@@ -113,7 +115,7 @@ impl<O: ProbeOrder> SlotTable<O> {
         }
     }
 
-    /// Takes the steps of a call.
+    /// Makes a call: takes all its steps and returns the answer.
     fn ask(&self, pass: &mut Pass<O>, call: Call) -> Answer
         requires pass { IsPassOf self.now pass.old }
         requires small { key_of call < 2 ^ 51 }
@@ -126,8 +128,8 @@ impl<O: ProbeOrder> SlotTable<O> {
         steps::asked(&self.words.shared, &mut pass.seat, &self.order, call)
     }
 
-    /// Answers the key's number, and a free one that is the key's from then on where it has none;
-    /// `Full` where none is free. It takes no memory and waits for no other thread.
+    /// Returns the key's number. If the key has none, a free number becomes the key's from then on;
+    /// `Full` if none is free. It takes no memory and waits for no other thread.
     ///
     /// The pass must be of this table.
     pub fn enter(&self, pass: &mut Pass<O>, key: Key) -> Answer
@@ -142,8 +144,8 @@ impl<O: ProbeOrder> SlotTable<O> {
         self.ask(pass, Call::Enter(key))
     }
 
-    /// Answers the key's number; where it has none, `Absent` if some number is free, and else
-    /// `Full`. It takes no memory and waits for no other thread.
+    /// Returns the key's number. If the key has none, the answer is `Absent` if some number is
+    /// free, else `Full`. It takes no memory and waits for no other thread.
     ///
     /// The pass must be of this table.
     pub fn look_up(&self, pass: &mut Pass<O>, key: Key) -> Answer
@@ -159,7 +161,7 @@ impl<O: ProbeOrder> SlotTable<O> {
         self.ask(pass, Call::LookUp(key))
     }
 
-    /// Takes the load of the key's `enter` at an index.
+    /// Loads the slot that a key probes at this index, as a step of the key's `enter`.
     pub(crate) fn look(&self, pass: &mut Pass<O>, key: Key, index: usize) -> Look
         requires pass { IsPassOf self.now pass.old }
         requires index { index < self.now.slots }
@@ -183,9 +185,9 @@ impl<O: ProbeOrder> SlotTable<O> {
         Look { index, word }
     }
 
-    /// The answer of the key's `enter`, of which this was the last look: it ended there, or goes on
-    /// from there to its end. Where no number was free for an earlier key, it does not go on: the
-    /// answer is `Absent` then, and nothing was entered.
+    /// Brings the key's `enter` to its end from this last look, and returns its answer. If the look
+    /// has not ended the call and no number was free for an earlier key (`full`), the call does not
+    /// go on: the answer is then `Absent`, and nothing is entered.
     pub(crate) fn go_on(&self, pass: &mut Pass<O>, key: Key, look: Look, full: bool) -> Answer
         requires pass { IsPassOf self.now pass.old }
         requires looked { IsLooked self.now.slots (O.place_of self.now.order)
@@ -207,8 +209,8 @@ impl<O: ProbeOrder> SlotTable<O> {
         }
     }
 
-    /// The key that has this number, or None where the number is free, by one load. It takes no
-    /// memory and waits for no other thread.
+    /// Returns the key that has this number, or None if the number is free, by one load. It takes
+    /// no memory and waits for no other thread.
     ///
     /// The pass must be of this table, and the number below the number of slots.
     pub fn word_at(&self, pass: &mut Pass<O>, number: usize) -> Option<Key>
@@ -225,8 +227,8 @@ impl<O: ProbeOrder> SlotTable<O> {
         steps::word_at(&self.words.shared, &mut pass.seat, number)
     }
 
-    /// One pass from two: it has seen what both have, its own calls are those of both, and so is
-    /// its stake. It takes no memory and waits for no other thread.
+    /// Makes one pass of two: it has seen what both have, its own calls are those of both, and its
+    /// stake is both stakes. It takes no memory and waits for no other thread.
     ///
     /// The passes must be of this table.
     pub fn meet(&self, one: Pass<O>, other: Pass<O>) -> Pass<O>
@@ -241,8 +243,9 @@ impl<O: ProbeOrder> SlotTable<O> {
         both
     }
 
-    /// Takes another pass up into this one, which then has seen what both have; its own calls are
-    /// those of both, and so is its stake. It takes no memory and waits for no other thread.
+    /// Merges another pass into this one, which then has seen what both have. Its own calls are
+    /// those of both, and its stake is both stakes. It takes no memory and waits for no other
+    /// thread.
     ///
     /// The passes must be of this table.
     pub fn absorb(&self, pass: &mut Pass<O>, other: Pass<O>)
@@ -256,8 +259,8 @@ impl<O: ProbeOrder> SlotTable<O> {
         steps::meet(&self.words.shared, &mut pass.seat, other);
     }
 
-    /// Marks the game at the number, by one step: the number's least game is the lesser of that and
-    /// this one. It takes no memory and waits for no other thread.
+    /// Marks a game at a number, by one step: the number's least game becomes the lesser of the one
+    /// that it had and this one. It takes no memory and waits for no other thread.
     ///
     /// The pass must be of this table, the number below the number of slots, and the game not
     /// 2^64 - 1. The number need not be taken.
@@ -274,8 +277,8 @@ impl<O: ProbeOrder> SlotTable<O> {
         steps::mark(&self.words.shared, &mut pass.seat, number, game);
     }
 
-    /// The least game that was marked at the number, or None where none was, by one load. It takes
-    /// no memory and waits for no other thread.
+    /// Returns the least game that was marked at the number, or None if none was, by one load. It
+    /// takes no memory and waits for no other thread.
     ///
     /// The pass must be of this table, and the number below the number of slots. The number need
     /// not be taken.

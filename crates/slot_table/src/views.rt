@@ -1,5 +1,5 @@
-//! What a seat at the table knows, the rule that ties all of it to the words, and what each step
-//! tells.
+//! What each seat at the table (a thread's right to step on its words) knows, the rule that ties it
+//! to the words, and what each step tells.
 use crate::entries::Happened;
 use atomic_table::{Join, Play, Seat, Shared, Split, Table, TableRule};
 use probe_core::ProbeOrder;
@@ -7,21 +7,21 @@ use std::alloc::Global;
 use std::collections::LinkedList;
 use std::marker::{Brand, PhantomData};
 
-/// What a seat knows. No value of it is made.
+/// What a seat knows, for proofs alone. No value of it is made.
 pub struct View<O> {
-    /// The table's order; None once the view was joined to another.
+    /// The table's order; None once this view was joined to another.
     pub order: Option<O>,
     /// A history of the table, as far as the seat has seen it.
     pub seen: LinkedList<Happened>,
-    /// The places in it of the seat's own calls.
+    /// The places, in that history, of the seat's own calls.
     pub mine: LinkedList<usize>,
-    /// A history that a seat had seen that was joined to this one, until the next step.
+    /// The history that another seat had seen which was joined to this one, until the next step.
     pub met: LinkedList<Happened>,
-    /// Its stake: pieces of the whole right to call the table, e for 1/2^e of it.
+    /// The seat's stake: pieces of the whole right to call the table, e for 1/2^e of it.
     pub stake: LinkedList<usize>,
 }
 
-/// The rule of a table.
+/// The rule of a table: its words and what all seats know agree with one history of calls.
 pub(crate) struct OneHistory;
 
 impl<O: ProbeOrder> TableRule<(), View<O>, O> for OneHistory {
@@ -34,16 +34,16 @@ impl<O: ProbeOrder> TableRule<(), View<O>, O> for OneHistory {
     ghost first = { λ order. newcomer order [] };
 }
 
-/// The table with its memory.
+/// The table's words with their memory.
 pub(crate) type Words<O> = Table<(), View<O>, O, OneHistory, Global>;
 
-/// The words as threads see them.
+/// The words as threads share them.
 pub(crate) type Shown<O> = Shared<(), View<O>, O, OneHistory>;
 
-/// A seat at a table.
+/// A thread's seat at a table: its right to step on the words, with what it knows.
 pub(crate) type Place<O> = Seat<(), View<O>>;
 
-/// The step of a call that is taken, for the proof alone.
+/// The step of a call that is taken; it is for the proof alone.
 pub(crate) trait Ask {
     ghost use Rattle.probe_core.specs.Machine.{Machine};
 
@@ -57,7 +57,7 @@ impl Ask for Brand {
     ghost machine = { begun (LookUp 0) };
 }
 
-/// A step of a call: it tells what the word was, and ends the call or not.
+/// A step of a call: it tells what the word was, and either ends the call or not.
 pub(crate) struct Told<A> {
     asked: PhantomData<A>,
 }
@@ -68,7 +68,7 @@ impl<O: ProbeOrder, A: Ask> Play<(), View<O>> for Told<A> {
     ghost then = { told O.exponent A.machine };
 }
 
-/// A load of a slot word that belongs to no call of a history.
+/// A load of a slot's word that belongs to no call of a history.
 pub(crate) struct Looked;
 
 impl<O: ProbeOrder> Play<(), View<O>> for Looked {
@@ -77,7 +77,7 @@ impl<O: ProbeOrder> Play<(), View<O>> for Looked {
     ghost then = { looked O.exponent };
 }
 
-/// A step that lowers a mark word to a game.
+/// A step that lowers the mark word of a number to a game.
 pub(crate) struct Marked;
 
 impl<O: ProbeOrder> Play<(), View<O>> for Marked {
@@ -86,7 +86,7 @@ impl<O: ProbeOrder> Play<(), View<O>> for Marked {
     ghost then = { marked O.exponent };
 }
 
-/// A load of a mark word.
+/// A load of the mark word of a number.
 pub(crate) struct First;
 
 impl<O: ProbeOrder> Play<(), View<O>> for First {
@@ -95,8 +95,8 @@ impl<O: ProbeOrder> Play<(), View<O>> for First {
     ghost then = { first_told O.exponent };
 }
 
-/// A view is kept but for a half of its stake's first piece, and a new seat sees as much and has
-/// that half.
+/// How a view is split: the old seat keeps it but for a half of its stake's first piece, and a new
+/// seat has seen as much and has that half.
 pub(crate) struct Cut;
 
 impl<O> Split<View<O>> for Cut {
@@ -107,7 +107,7 @@ impl<O> Split<View<O>> for Cut {
     ghost right = { cut_off };
 }
 
-/// The second view is joined to the first and has nothing left.
+/// How two views are joined: the first gets what both have, and the second has nothing left.
 pub(crate) struct Glue;
 
 impl<O> Join<View<O>> for Glue {

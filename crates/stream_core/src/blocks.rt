@@ -12,7 +12,7 @@ use std::marker::Model;
 /// How many bytes a block has.
 const BLOCK: usize = 1 << 16;
 
-/// No line has more bytes, and no header.
+/// No line and no header has more bytes than this.
 const LONGEST: usize = 1 << 7;
 
 /// A reader, and a block with some of its bytes: those from `start` to `end` are unread.
@@ -39,7 +39,7 @@ impl<R: Read> Model for Block<R> {
     ghost invariant = { λ b. IsBlock b.bytes.items b.start b.end b.ended (R.remaining b.reader) };
 }
 
-/// Reads once, and answers how many bytes it read. Unless the buffer is empty, 0 is the end.
+/// Reads once, and returns how many bytes it read. 0 means the end, unless the buffer is empty.
 fn read_some<R: Read>(reader: &mut R, room: &mut [u8]) -> Result<usize, StreamFault>
     ensures within { IfOk result (λ count. count ≤ length room.new) }
     ensures taken { IfOk result (λ count. Consumes (R.remaining reader.old)
@@ -52,7 +52,7 @@ fn read_some<R: Read>(reader: &mut R, room: &mut [u8]) -> Result<usize, StreamFa
     reader.read(room).map_err(|_| StreamFault::Read)
 }
 
-/// One read, after the bytes up to `end`.
+/// Reads once into the bytes from `end` on, and returns how many bytes it read.
 fn read_behind<R: Read>(
     reader: &mut R,
     bytes: &mut Vec<u8>,
@@ -84,7 +84,7 @@ impl<R: Read> Block<R> {
         &self.bytes[self.start..self.end]
     }
 
-    /// Passes over that number of unread bytes.
+    /// Passes over this number of unread bytes.
     pub(crate) fn skip(&mut self, count: usize)
         requires { count ≤ length self.old.unread }
         ensures unread { self.new.unread ≡ drop count self.old.unread }
@@ -106,7 +106,7 @@ impl<R: Read> Block<R> {
         self.refill()
     }
 
-    /// The same where more has to be read: the unread bytes are moved to the front before.
+    /// Does what `fill` does if more has to be read: first moves the unread bytes to the front.
     fn refill(&mut self) -> Result<(), StreamFault>
         ensures same { Keeps (bytes_of self.old) (bytes_of self.new) }
         ensures enough { OnOk result (HasEnough self.new) }

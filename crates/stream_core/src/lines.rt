@@ -9,8 +9,8 @@ use std::alloc::Global;
 use std::io::Read;
 use std::marker::Model;
 
-/// A text of a dictionary that a reader gives: its header is read, and its entries come one after
-/// another. A block of its bytes is in memory, 65,536.
+/// A dictionary's text, read from a reader: its header is read at first, and its entries come one
+/// after another. A block of its bytes is in memory, 65,536.
 #[derive(Drop)]
 pub struct Lines<R: Read> {
     block: Block<R>,
@@ -49,12 +49,12 @@ impl<R: Read + Drop> Lines<R> {
     ghost use Rattle.stream_core.specs.declared.faults.StreamFault.TheVariants as fault;
     ghost use Rattle.stream_core.specs.declared.standing.Standing.TheVariants as standing;
 
-    /// A text whose header is read. It takes memory for a block, and reads one.
+    /// Opens a text and reads its header. It takes memory for a block, and reads one.
     ///
     /// # Errors
     ///
-    /// `Memory` where memory was refused, `Read` where a read failed, and else `Dict` with
-    /// `BadHeader` where the bytes don't begin with a header.
+    /// `Memory` if memory was refused, `Read` if a read failed, and else `Dict` with `BadHeader` if
+    /// the bytes don't begin with a header.
     pub fn open(alloc: Global, reader: R) -> Result<Lines<R>, StreamFault>
         ensures given { IfOk result (λ lines. IfSome (R.remaining reader)
             (λ whole. HasGiven lines whole [])) }
@@ -86,13 +86,13 @@ impl<R: Read + Drop> Lines<R> {
         self.header
     }
 
-    /// The next entry, or None after the last where the bytes are a text. It takes no memory.
+    /// The next entry, or None after the last one, if the bytes are a text. It takes no memory.
     ///
     /// # Errors
     ///
-    /// `Dict` with the first fault of the bytes as one text, as `Dictionary::read` has them but
-    /// that they may be any number, and `Read` where a read failed. After an error, and after None,
-    /// each later call answers the same.
+    /// `Dict` with the first fault of the bytes as one text, as `Dictionary::read` answers it,
+    /// except that the bytes may be any number, and `Read` if a read failed. After an error, and
+    /// after None, each later call answers the same.
     pub fn next_entry(&mut self) -> Result<Option<Entry>, StreamFault>
         ensures given { (whole : List ℕ) → (entries : List Item) → HasGiven self.old whole entries
             → HasGiven self.new whole (given_after entries result) }

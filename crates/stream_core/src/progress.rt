@@ -8,7 +8,7 @@ use shape_core::{Kind, Shape};
 use shape_dict::{Entry, Header};
 
 /// How many entries there were, the last one's shape, and the plays of the squares and of the
-/// diamonds; None where the plays are over 2^64 - 1.
+/// diamonds; None if the plays are over 2^64 - 1.
 #[derive(Clone, Copy, Debug)]
 pub struct Progress {
     pub given: u64,
@@ -17,7 +17,7 @@ pub struct Progress {
     pub diamonds: Option<u64>,
 }
 
-/// Before any entry.
+/// The progress before any entry.
 pub(crate) fn start() -> Progress
     ensures of { IsProgress result [] }
     ensures counted { CountedTo result.given result.last }
@@ -30,7 +30,7 @@ pub(crate) fn start() -> Progress
     }
 }
 
-/// A sum with one more number.
+/// The sum with one more number, or None if it is over 2^64 - 1.
 fn added(sum: Option<u64>, played: u64) -> Option<u64>
     ensures { result ≡ added sum played }
 {
@@ -45,7 +45,7 @@ impl Progress {
     ghost use Rattle.stream_core.specs.Progress.{IsProgress};
     ghost use Rattle.stream_core.specs.Inner.Counting.{CountedTo};
 
-    /// After one entry more.
+    /// The progress after one more entry.
     pub(crate) fn with(self, entry: &Entry) -> Progress
         requires counted { CountedTo self.given self.last }
         requires above { IsAbove self.last entry.now.shape }
@@ -73,7 +73,8 @@ impl Progress {
         }
     }
 
-    /// Whether the plays add up to the moves.
+    /// Whether the plays add up to the header's moves: those of the squares, and those of the
+    /// diamonds if they are counted. With no games there are no moves.
     pub(crate) fn has_totals(&self, header: &Header) -> bool
         ensures { (entries : List Item) → IsProgress self.now entries
             → MatchBool result (HasTotals header.now.games header.now.moves entries

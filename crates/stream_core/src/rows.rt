@@ -1,4 +1,4 @@
-//! The lines of a piece of a text, whose words lie between two numbers.
+//! Reads the lines of a piece of a text, whose words lie between two numbers.
 ghost use Rattle.std.specs.Prelude.{◌≡◌, ◌++◌, ◌≤◌, IfOk, IfSome};
 ghost use Rattle.std.specs.List.{flat_map};
 ghost use Rattle.shape_dict.specs.Text.{line_text};
@@ -13,7 +13,7 @@ const SHORTEST: usize = 18;
 /// The words from this number on are those of diamonds.
 const DIAMONDS: u64 = 1 << 50;
 
-/// A header whose lines are all of the kind that the words from `low` on have.
+/// The header, changed so that all its lines are of one kind, that of the word `low`.
 fn of_one_kind(header: &Header, low: u64) -> Header
     ensures text { result.text ≡ header.now.text }
     ensures games { result.games ≡ header.now.games }
@@ -22,8 +22,8 @@ fn of_one_kind(header: &Header, low: u64) -> Header
     Header { squares, ..*header }
 }
 
-/// The entry of the line at the front of the bytes, whose word is at least `least`, and what
-/// follows it; None where that is not said here.
+/// Reads the line at the front of the bytes, and returns its entry and the bytes after it. None if
+/// its word is below `least`, or if `quick_entry` can't tell.
 #[inline(always)]
 fn next_row<'a>(kinds: &Header, least: u64, bytes: &'a [u8]) -> Option<(Entry, &'a [u8])>
     ensures row { IfSome result (λ p. IsRow kinds.now p.0) }
@@ -39,13 +39,14 @@ fn next_row<'a>(kinds: &Header, least: u64, bytes: &'a [u8]) -> Option<(Entry, &
     Some((entry, rest))
 }
 
-/// The entries of a piece of a text that is lines alone, whose words rise from `low` on, stay below
-/// `high` and are all of one kind. None says nothing of the bytes: there is a line that is none, or
-/// one with a number of more than 18 digits. It takes memory for the entries.
+/// Reads a piece of a text that is lines alone, and returns its entries, whose words rise from
+/// `low` on, stay below `high` and are all of one kind. None says nothing of the bytes: there is a
+/// line that is none that this piece may have, or one with a number of more than 18 digits. It
+/// takes memory for the entries.
 ///
 /// # Errors
 ///
-/// `AllocError` where memory was refused.
+/// `AllocError` if memory was refused.
 pub fn read_rows(
     alloc: Global,
     header: &Header,

@@ -5,7 +5,7 @@ ghost use Rattle.stream_core.specs.Streams.{standing_of};
 use crate::faults::StreamFault;
 use shape_dict::Entry;
 
-/// Whether more may come, all has come, or a fault ended it.
+/// Whether more entries may come, all have come, or a fault ended the reading.
 #[derive(Clone, Copy, Debug, PartialEq, Eq)]
 pub enum Standing {
     More,

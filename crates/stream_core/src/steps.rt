@@ -20,7 +20,7 @@ use crate::progress::Progress;
 use shape_dict::{DictFault, Entry, Header, count_lines, read_entry, read_header};
 use std::io::Read;
 
-/// The header at the front of a block, which is passed over.
+/// Reads the header at the front of a block, and passes over it.
 pub(crate) fn take_header<R: Read>(block: &mut Block<R>) -> Result<Header, StreamFault>
     ensures is_header { IfOk result IsHeader }
     ensures taken { IfOk result (λ header. Consumes (bytes_of block.old) (bytes_of block.new)
@@ -38,7 +38,7 @@ pub(crate) fn take_header<R: Read>(block: &mut Block<R>) -> Result<Header, Strea
     Ok(header)
 }
 
-/// The entry of the line at the front of a block, which is passed over.
+/// Reads the line at the front of a block, passes over it, and returns its entry.
 fn take_line<R: Read>(
     block: &mut Block<R>,
     header: &Header,
@@ -67,7 +67,8 @@ fn take_line<R: Read>(
     Ok(entry)
 }
 
-/// Whether the bytes are a text, where no line is missing.
+/// Checks that the bytes are a text, after all its lines: the totals must be right, and no bytes
+/// may follow.
 fn end<R: Read>(block: &Block<R>, header: &Header, progress: &Progress) -> Result<(), DictFault>
     requires counted { CountedTo progress.now.given progress.now.last }
     requires enough { HasEnough block.now }

@@ -1,4 +1,4 @@
-//! What several workers count over one table: the dictionary of an input.
+//! Counts an input by several workers over one table, and makes its dictionary.
 ghost use Rattle.std.specs.Prelude.{◌≡◌, ◌≢◌, ◌⊎◌, ◌*◌, ◌<◌, ◌≤◌, ◌++◌, ◌∷◌, [], ℕ, List};
 ghost use Rattle.std.specs.Prelude.{length, max, min, All, Contains, MatchResult, IfOk, IfErr, IfSome};
 ghost use Rattle.std.specs.Prelude.{Some};
@@ -41,8 +41,8 @@ use std::thread::Threads;
 use table_shares::{Share, confirm_full, gather};
 use tally_core::{Counted, Report, Settings};
 
-/// Why a game was not added to a share: where no number was free for a pattern of it, all shares
-/// tell whether that is so.
+/// Returns why a game was not added to a share. If no number was free for one of its patterns, the
+/// rows of all shares tell whether that is so.
 fn explain<O: ProbeOrder>(
     table: &SlotTable<O>,
     pass: &mut Pass<O>,
@@ -65,7 +65,7 @@ fn explain<O: ProbeOrder>(
     }
 }
 
-/// The dictionary of all shares, of an input that was read.
+/// Makes the dictionary of all shares, once the input was read.
 fn count_of<R: Threads + Sync, O: ProbeOrder>(
     rt: &R,
     alloc: Global,
@@ -95,9 +95,9 @@ fn count_of<R: Threads + Sync, O: ProbeOrder>(
     Ok(Counted { dictionary, report })
 }
 
-/// The dictionary of all shares, or the fault that is reported, in this order: out of memory, that
-/// of the input, the first one of the games that were refused, and that of the shares together. The
-/// pass gets the calls of all threads.
+/// Makes the dictionary of all shares, or returns the fault to report, in this order: out of
+/// memory, that of the input, the first one of the games that were refused, and that of the shares
+/// together. The pass gets the calls of all threads.
 fn conclude<R: Threads + Sync, O: ProbeOrder>(
     rt: &R,
     alloc: Global,
@@ -144,8 +144,8 @@ fn conclude<R: Threads + Sync, O: ProbeOrder>(
     }
 }
 
-/// How many places the queue of this number of workers has: 16 for each, but at least 16 and at
-/// most 128.
+/// Returns how many places the queue for this number of workers has: 16 for each, but at least 16
+/// and at most 128.
 fn places_for(workers: u8) -> usize
     ensures places { result ≡ min 128 (16 * max 1 workers) }
     ensures least { 16 ≤ result }
@@ -154,8 +154,8 @@ fn places_for(workers: u8) -> usize
     (16 * usize::from(workers).max(1)).min(128)
 }
 
-/// What comes back for a half of a stake makes the whole of it again, and whatever is as much as
-/// the whole is the whole.
+/// A half of a stake and what is left of it make up the whole stake again, and whatever is as much
+/// as the whole right to call the table is the whole.
 fn stakes_come_together()
     ensures halves { (stake back : List ℕ) → IsAsMuch back (half_of stake)
         → IsAsMuch (halved stake ++ back) stake }
@@ -167,28 +167,30 @@ fn stakes_come_together()
     laws::as_much_as_the_whole_is_the_whole();
 }
 
-/// Counts a whole collection by several workers over a table: the dictionary of its games, which
-/// are numbered from 0 in their order, and what its trees are. It is what `count_plain` answers,
-/// whatever the table, the gate, the number of workers and their turns. This project's own.
+/// Counts a whole collection by several workers over a table. It answers the dictionary of its
+/// games, which are numbered from 0 in their order, and the report on its trees. That is what
+/// `count_plain` answers, whatever the table, the gate, the number of workers and their turns. This
+/// is the project's own.
 ///
 /// This thread reads, and counts what the queue has no room for; as many workers as the settings
 /// say count what they draw from it. The slots of the settings are not looked at: those of the
-/// table count. The pass must be of the table, which may have numbers already. Afterwards it has
-/// made the calls of all threads: they entered patterns of the input alone, and marked games of it
-/// at numbers of their own patterns alone. It has as much stake as before, unless `Memory` was
+/// table count. The pass must be of the table, which may have numbers already. Afterwards the pass
+/// has made the calls of all threads: they entered patterns of the input alone, and marked games of
+/// it at numbers of their own patterns alone. It has as much stake as before, unless `Memory` was
 /// told. It takes memory for a queue of at most 128 games, for each thread for the largest tree and
 /// its record, the board and the patterns of its games, and for the dictionary.
 ///
 /// # Errors
 ///
-/// `Sgf` with S4 where the input has more than 2^28 bytes, and then nothing was done to the table;
-/// else `Memory` where memory was refused or a worker was not started; else `Sgf` with the first
-/// fault of syntax; else `Full` with a game and one of its patterns for which no number was free,
-/// where the input has as many other patterns as the table has numbers. In a table that nobody else
-/// uses no other fault comes. Else `Stranger` comes where the table is full, and names the least
-/// number whose key is no pattern that was counted: somebody else made it, and no share has a row
-/// of it. `Marks` comes where all games were counted, and names a number with a mark that somebody
-/// else made, and the shares' least game there, which is another. After each the table keeps the
+/// `Sgf` with S4 if the input has more than 2^28 bytes, and then nothing was done to the table;
+/// else `Memory` if memory was refused or a worker was not started; else `Sgf` with the first fault
+/// of syntax; else `Full` with a game and one of its patterns for which no number was free, if the
+/// input has as many other patterns as the table has numbers. In a table that nobody else uses no
+/// other fault comes. Else `Stranger` comes if the table is full, and names the least number whose
+/// key is no pattern that was counted: somebody else made it, and no share has a row of it. `Marks`
+/// comes if all games were counted, and names a number with a mark that somebody else made, and the
+/// shares' least game there, which is another. After each the table keeps the numbers and marks
+/// that it got.
 /// numbers and marks that it got.
 pub fn harvest_on<R: Threads + Wait + Sync, O: ProbeOrder, G: Gate>(
     rt: &R,

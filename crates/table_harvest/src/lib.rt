@@ -1,9 +1,9 @@
-//! A collection counted by several workers, game by game, over a table that is somebody else's.
+//! Several workers count a collection, game by game, over a table that somebody else made.
 //!
-//! Faults are reported in this order: out of memory of the thread that reads or of any worker;
-//! faults of the input; of the games that were refused `Full` of the least game, then `Stranger`;
-//! and then those of all shares together. `Overflow` never comes: no count of an input is too
-//! large.
+//! Faults are reported in this order: out of memory, of the thread that reads or of any worker;
+//! faults of the input; among the games that were refused `Full` of the least game, then
+//! `Stranger`; and last those of all shares together. `Overflow` never comes: no count of an input
+//! is too large.
 #![tactic(auto)]
 
 mod harvesting;

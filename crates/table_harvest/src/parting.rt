@@ -20,7 +20,7 @@ impl Parted {
     ghost use Rattle.std.specs.Prelude.{◌≡◌, ◌++◌, ◌∷◌, [], OnOk};
     ghost use Rattle.table_harvest.specs.Inner.Parted.{refusals_of};
 
-    /// Takes in what one worker hands back.
+    /// Adds what one worker hands back.
     fn take(&mut self, worked: Worked) -> Result<(), AllocError>
         ensures shares { OnOk result
             (self.new.shares.items ≡ self.old.shares.items ++ worked.share ∷ []) }
@@ -36,7 +36,7 @@ impl Parted {
     }
 }
 
-/// Takes in what all workers hand back, in their order.
+/// Splits what all workers hand back, in their order.
 pub(crate) fn part(alloc: Global, worked: Vec<Worked>) -> Result<Parted, AllocError>
     ensures shares { IfOk result (λ parted. parted.shares.items ≡ shares_of worked.items) }
     ensures refusals { IfOk result (λ parted. parted.refusals.items ≡ refusals_of worked.items) }
@@ -58,8 +58,8 @@ pub(crate) fn want_memory(refusals: &[HarvestFault]) -> bool
     refusals.contains(&HarvestFault::Memory)
 }
 
-/// The place of a fault in the order in which faults of games are reported: out of memory, lack of
-/// a number, strangers, and then a count that is too large.
+/// Returns the place of a fault in the order in which faults of games are reported: out of memory,
+/// lack of a number, strangers, and then a count that is too large.
 fn place(fault: &HarvestFault) -> u32
     ensures { result ≡ rank fault.now }
 {
@@ -72,7 +72,7 @@ fn place(fault: &HarvestFault) -> u32
     }
 }
 
-/// The game that found no number, and 0 for other faults.
+/// Returns the game that a `Full` fault names, or 0 for other faults.
 fn game_of(fault: &HarvestFault) -> u64
     ensures { result ≡ game_named fault.now }
 {
@@ -82,8 +82,8 @@ fn game_of(fault: &HarvestFault) -> u64
     }
 }
 
-/// Whether a fault is reported rather than another one: it has the lesser place, or the same one
-/// and the lesser game.
+/// Whether a fault is reported rather than another one: it has the lesser place in that order, or
+/// the same place and the lesser game.
 fn goes_first(one: &HarvestFault, other: &HarvestFault) -> bool
     ensures { IsTrue result ↔ GoesFirst one.now other.now }
 {
@@ -91,7 +91,8 @@ fn goes_first(one: &HarvestFault, other: &HarvestFault) -> bool
     first < second || (first == second && game_of(one) < game_of(other))
 }
 
-/// The fault to report of two: the one that was found, unless the other precedes it.
+/// Returns which of two faults is to be reported: the one found so far, unless the other goes
+/// first.
 fn told(found: Option<HarvestFault>, one: HarvestFault) -> HarvestFault
     ensures { MatchOption found (result ≡ one) (λ so_far.
         ((result ≡ one) × GoesFirst one so_far)
@@ -109,7 +110,7 @@ fn told(found: Option<HarvestFault>, one: HarvestFault) -> HarvestFault
     }
 }
 
-/// The fault to report, the first in the order of places, or None where no game was refused.
+/// Returns the fault to report, the first in that order, or None if no game was refused.
 pub(crate) fn worst(refusals: &[HarvestFault]) -> Option<HarvestFault>
     ensures { MatchOption result (refusals.now ≡ []) (IsWorst refusals.now) }
 {

@@ -1,4 +1,4 @@
-//! The thread that reads: it makes a job of each game and puts it into the queue, and counts those
+//! The thread that reads: it makes a job for each game and puts it into the queue, and counts those
 //! that the queue hands back.
 ghost use Rattle.std.specs.Prelude.{◌≡◌, ◌+◌, ◌≤◌, ◌⊎◌, ◌↔◌, [], true, None};
 ghost use Rattle.std.specs.Prelude.{IsTrue, IfErr, OnOk};
@@ -28,7 +28,7 @@ use std::sync::Wait;
 use std::thread;
 use tally_core::Report;
 
-/// Puts a job into the queue, and counts it here where the queue is full.
+/// Puts a job into the queue, or counts its game in this thread if the queue is full.
 fn offer<'a, R: Wait, O: ProbeOrder, G: Gate>(
     rt: &R,
     own: &mut Worker<'_, 'a, '_, O, G>,
@@ -69,8 +69,8 @@ fn wants_memory(worked: &Worked) -> bool
     matches!(worked.refused, Some(HarvestFault::Memory))
 }
 
-/// Reads all games of an input of which none was read. A lack of memory ends it, also where it came
-/// in counting here.
+/// Reads all games of an input, from the first, and deals them out. A lack of memory ends it, also
+/// if it came while a game was counted here.
 fn read_all<'a, R: Wait, O: ProbeOrder, G: Gate>(
     rt: &R,
     alloc: Global,
@@ -110,7 +110,7 @@ fn read_all<'a, R: Wait, O: ProbeOrder, G: Gate>(
     }
 }
 
-/// Puts an end, and tries again while the queue is full.
+/// Puts an end into the queue, and tries again while the queue is full.
 fn put_end<R: Wait>(rt: &R, endpoint: &mut Endpoint<'_, '_>)
     requires { endpoint.old.writes ≡ true }
     ensures { endpoint.new ≡ putting endpoint.old item.End }
@@ -123,7 +123,7 @@ fn put_end<R: Wait>(rt: &R, endpoint: &mut Endpoint<'_, '_>)
     }
 }
 
-/// Puts an end for each worker, and no other item.
+/// Puts an end into the queue for each worker, and no other item.
 pub(crate) fn close<R: Wait>(rt: &R, endpoint: &mut Endpoint<'_, '_>, workers: usize)
     requires { endpoint.old.writes ≡ true }
     ensures { endpoint.new ≡ record endpoint.old { ends_put = endpoint.old.ends_put + workers } }

@@ -1,5 +1,5 @@
-//! Takes up the workers' results: their games, what their endpoints drew, and the calls of their
-//! passes.
+//! Takes over the workers' results: what they counted, what their endpoints of the queue drew, and
+//! the calls of their passes.
 ghost use Rattle.std.specs.Prelude.{[], OnOk};
 ghost use Rattle.table_harvest.specs.Inner.Threads.{HasTaken};
 
@@ -21,7 +21,7 @@ pub(crate) struct Results<O> {
     pub pass: Pass<O>,
 }
 
-/// Takes up what each worker hands back, in their order.
+/// Takes over what each worker hands back, in their order.
 pub(crate) fn take_up<'q, 'a, O: ProbeOrder, G: Gate>(
     own: &mut Worker<'q, 'a, '_, O, G>,
     worked: &mut Vec<Worked>,

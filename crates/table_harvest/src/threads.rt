@@ -27,8 +27,8 @@ use std::sync::Wait;
 use std::thread;
 use std::thread::{Promise, PromisedHandle, Threads};
 
-/// What the thread that reads works with: the games of the input, what it counts with itself, and
-/// the pass as it was before a part of it went to workers, for the proof alone.
+/// What the thread that reads works with: the games of the input, what it counts with itself, and,
+/// for the proof alone, the pass as it was before parts of it went to workers.
 #[derive(Drop)]
 pub(crate) struct Caller<'q, 'a, 't, O: ProbeOrder, G: Gate> {
     pub games: Games<'a>,
@@ -36,7 +36,7 @@ pub(crate) struct Caller<'q, 'a, 't, O: ProbeOrder, G: Gate> {
     pub begun: Snapshot<Pass<O>>,
 }
 
-/// What a worker was before it began: it promises to hand back what `work` does.
+/// What a worker was before it began: a promise that it hands back what `work` does.
 #[derive(Drop)]
 pub(crate) struct BackTo<'q, 'a, 't, O: ProbeOrder> {
     table: &'t SlotTable<O>,
@@ -52,7 +52,7 @@ impl<'q, 'a, 't, O: ProbeOrder> Promise<Returned<'q, 'a, O>> for BackTo<'q, 'a, 
     ghost kept_by = { λ p r. IsReturned p.table.now p.kinds p.number p.endpoint.value p.pass.value r };
 }
 
-/// What a worker promises.
+/// Returns what a worker promises to hand back.
 fn back_to<'q, 'a, 't, O: ProbeOrder, G: Gate>(
     worker: &Worker<'q, 'a, 't, O, G>,
 ) -> BackTo<'q, 'a, 't, O>
@@ -71,7 +71,8 @@ fn back_to<'q, 'a, 't, O: ProbeOrder, G: Gate>(
     }
 }
 
-/// A split loses nothing: what was given away and what is left still make up the whole.
+/// Splitting a pass loses nothing of its stake (its part of the right to call the table): what was
+/// given away and what is left still make up the whole.
 fn splits_lose_no_stake()
     ensures { (stake given whole : List ℕ) → IsAsMuch (stake ++ given) whole
         → IsAsMuch (halved stake ++ (given ++ half_of stake)) whole }
@@ -86,7 +87,7 @@ impl<'q, 'a, 't, O: ProbeOrder, G: Gate> Caller<'q, 'a, 't, O, G> {
     ghost use Rattle.slot_table.specs.Stakes.{halved, half_of};
     ghost use Rattle.table_harvest.specs.Inner.Threads.{IsFresh};
 
-    /// Nothing was read, and no worker was started.
+    /// Makes the caller before anything is read or any worker is started.
     pub(crate) fn begin(games: Games<'a>, own: Worker<'q, 'a, 't, O, G>) -> Caller<'q, 'a, 't, O, G>
         ensures games { result.games ≡ games.entry }
         ensures own { result.own ≡ own.entry }
@@ -96,7 +97,8 @@ impl<'q, 'a, 't, O: ProbeOrder, G: Gate> Caller<'q, 'a, 't, O, G> {
         Caller { games, own, begun }
     }
 
-    /// A worker beside this thread, with a part of its endpoint and of its pass.
+    /// Makes a worker with this number, with a part of this thread's endpoint of the queue and of
+    /// its pass.
     fn another(&mut self, number: usize) -> Worker<'q, 'a, 't, O, G>
         requires pass { IsPassOf self.old.own.table.now self.old.own.pass }
         requires parts { 1 < self.old.own.endpoint.parts }
@@ -126,8 +128,8 @@ impl<'q, 'a, 't, O: ProbeOrder, G: Gate> Caller<'q, 'a, 't, O, G> {
     }
 }
 
-/// Reads all games beside the workers that were started. Where these are fewer than were asked for,
-/// that is out of memory, and nothing is read: the workers get an end each.
+/// Reads all games, beside the workers that were started. If fewer were started than were asked
+/// for, the fault is out of memory and nothing is read: each worker gets an end.
 fn finish<'q, 'a, 't, R: Wait, O: ProbeOrder, G: Gate>(
     rt: &R,
     alloc: Global,
@@ -155,7 +157,7 @@ fn finish<'q, 'a, 't, R: Wait, O: ProbeOrder, G: Gate>(
     }
 }
 
-/// Waits for all workers, and takes what they hand back, in their order.
+/// Waits for all workers, and returns what they hand back, in their order.
 fn theirs<'q, 'a, 't, R: Threads, O: ProbeOrder, G: Gate>(
     rt: &R,
     own: &Worker<'q, 'a, 't, O, G>,
@@ -177,8 +179,7 @@ fn theirs<'q, 'a, 't, R: Threads, O: ProbeOrder, G: Gate>(
     }
 }
 
-/// Waits for all workers, takes up their results, and puts the results of the thread that reads
-/// beside them.
+/// Waits for all workers, takes over their results, and adds those of the thread that reads.
 fn joined<'q, 'a, 't, R: Threads, O: ProbeOrder, G: Gate>(
     rt: &R,
     alloc: Global,
@@ -227,8 +228,8 @@ impl<'q, 'a, 't, O: ProbeOrder, G: Gate> Caller<'q, 'a, 't, O, G> {
     ghost use Rattle.table_harvest.specs.Working.{IsReturned};
     ghost use Rattle.table_harvest.specs.Inner.Threads.{IsCaller, AreResults, AreAsked};
 
-    /// Starts workers, reads all games, and waits for the workers. All that were asked for have
-    /// counted, in the order of their numbers, or the fault is out of memory.
+    /// Starts workers, reads all games, and waits for the workers. In the end either all that were
+    /// asked for have counted, in the order of their numbers, or the fault is out of memory.
     pub(crate) fn run<R: Threads + Wait + Sync>(
         self,
         rt: &R,

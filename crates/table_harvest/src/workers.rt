@@ -1,4 +1,4 @@
-//! A worker: it draws jobs and counts their games until it draws an end.
+//! A worker: it draws jobs from the queue and counts their games until it draws an end.
 ghost use Rattle.slot_table.specs.Passes.{IsPassOf};
 ghost use Rattle.table_harvest.specs.Working.{IsReturned};
 
@@ -12,20 +12,21 @@ use std::alloc::Global;
 use std::sync::Wait;
 use std::thread;
 
-/// What one thread works with: its endpoint at the queue, the table with a pass, and the gate.
+/// What one thread works with: its endpoint of the queue, the table with a pass (the right to call
+/// it), and the gate.
 #[derive(Drop)]
 pub struct Worker<'q, 'a, 't, O: ProbeOrder, G: Gate> {
-    /// Where it draws its jobs; at the thread that reads, where that puts them.
+    /// Where the worker draws its jobs; the thread that reads puts them there.
     pub endpoint: Endpoint<'q, 'a>,
     /// The table that numbers the patterns.
     pub table: &'t SlotTable<O>,
-    /// Its pass of that table.
+    /// The worker's pass of that table.
     pub pass: Pass<O>,
     /// What is called before each game.
     pub gate: &'t G,
-    /// Workers are numbered from 1; 0 is the thread that reads.
+    /// The worker's number, from 1; 0 is the thread that reads.
     pub number: usize,
-    /// How many workers there are, beside the thread that reads.
+    /// How many workers there are, not counting the thread that reads.
     pub workers: usize,
     /// The kinds of pattern that are counted.
     pub kinds: Kinds,
@@ -39,10 +40,10 @@ pub struct Returned<'q, 'a, O> {
     pub pass: Pass<O>,
 }
 
-/// A worker's loop: it draws jobs from the queue and counts their games, and ends at its first end.
-/// It puts nothing, and its pass enters and marks nothing but for the games that it drew; endpoint
-/// and pass come back. While the queue is empty it lets other threads run. Once a game was refused
-/// it still draws, and drops what it draws. It waits for the reader.
+/// Runs a worker: it draws jobs from the queue and counts their games, until it draws an end, and
+/// then hands back its endpoint and pass. It puts nothing into the queue, and its pass enters and
+/// marks nothing except for the games that it drew. While the queue is empty it lets other threads
+/// run. Once a game was refused it still draws, and drops what it draws. It waits for the reader.
 ///
 /// The pass must be of the table. It takes memory for the share, and for a game's board and walk.
 pub fn work<'q, 'a, R: Wait, O: ProbeOrder, G: Gate>(

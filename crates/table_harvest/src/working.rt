@@ -19,7 +19,7 @@ use slot_table::{Pass, SlotTable};
 use std::alloc::Global;
 use table_shares::Share;
 
-/// What one worker has counted, and why it was refused, if it was.
+/// What one worker has counted, and the fault of the first game that it could not count, if any.
 #[derive(Drop)]
 pub struct Worked {
     pub share: Share,
@@ -27,7 +27,7 @@ pub struct Worked {
 }
 
 impl Worked {
-    /// Nothing was counted yet. It takes no memory.
+    /// Makes an empty share for this worker. It takes no memory.
     pub fn begin(alloc: Global, worker: usize, kinds: Kinds) -> Worked
         ensures worker { result.share.worker ≡ worker }
         ensures kinds { result.share.kinds ≡ kinds }
@@ -44,8 +44,8 @@ impl Worked {
 
     /// Counts the game of a job. The pass enters patterns of this game alone, and marks this game
     /// alone, at numbers of its own patterns. Once a game was refused nothing changes: jobs are
-    /// dropped, and the first refusal stays. Jobs are to come with rising numbers, so that the
-    /// share has each game once.
+    /// dropped, and the first refusal stays. Jobs must come with rising numbers, so that the share
+    /// has each game once.
     pub fn count<O: ProbeOrder, G: Gate>(
         &mut self,
         table: &SlotTable<O>,

@@ -1,4 +1,4 @@
-//! The dictionary of all that shares have counted.
+//! Makes the dictionary of all that shares have counted.
 ghost use Rattle.std.specs.Prelude.{◌≡◌, ◌≤◌, ◌^◌, All, IfOk, IfErr, OnOk};
 ghost use Rattle.harvest_faults.specs.declared.faults.HarvestFault.TheVariants as fault;
 ghost use Rattle.gather_core.specs.Shares.{IsShare};
@@ -14,7 +14,7 @@ use shape_dict::{Dictionary, Entry, put_in_order};
 use std::thread::Threads;
 use tally_core::has_diamonds;
 
-/// The moves of all shares together.
+/// Returns the moves of all shares together, or `Overflow` if they pass 2^64 - 1.
 fn moves_of(shares: &[Share]) -> Result<u64, HarvestFault>
     ensures ok { IfOk result (λ moves. moves ≡ all_moves shares.now) }
     ensures shares { OnOk result (All IsShare shares.now) }
@@ -32,12 +32,12 @@ fn moves_of(shares: &[Share]) -> Result<u64, HarvestFault>
     Ok(moves)
 }
 
-/// The dictionary of the games of all shares, of the listed entries of their rows. The shares are
-/// of these kinds, and have the games below `games`, each once. It takes no memory.
+/// Makes the dictionary of the games of all shares from the entries listed of their rows. The
+/// shares must be of these kinds, and have the games below `games`, each once. It takes no memory.
 ///
 /// # Errors
 ///
-/// `Overflow` where the moves pass 2^64 - 1.
+/// `Overflow` if the moves pass 2^64 - 1.
 pub(crate) fn add_up<R: Threads + Sync>(
     rt: &R,
     kinds: Kinds,

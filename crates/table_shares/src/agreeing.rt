@@ -1,4 +1,4 @@
-//! Whether the games that are marked in the table are those that shares counted.
+//! Whether the least games that are marked in the table are the least games that shares counted.
 ghost use Rattle.std.specs.Prelude.{◌≡◌, ◌+◌, ◌<◌, List};
 ghost use Rattle.slot_table.specs.Passes.{Known, IsPassOf};
 ghost use Rattle.gather_core.specs.declared.rows.Row.{Row};
@@ -11,7 +11,7 @@ use harvest_faults::HarvestFault;
 use probe_core::ProbeOrder;
 use slot_table::{Pass, SlotTable};
 
-/// A number whose least marked game is not the least that shares counted at it.
+/// A number whose least marked game is not the least game that shares counted at it.
 #[derive(Clone, Copy)]
 pub(crate) struct Differs {
     pub number: usize,
@@ -19,7 +19,7 @@ pub(crate) struct Differs {
     pub of_table: Option<u64>,
 }
 
-/// The fault of such a number.
+/// Returns the fault for such a number.
 pub(crate) fn marks_fault(differs: Differs) -> HarvestFault
     ensures { result ≡ fault.Marks differs.number differs.of_shares differs.of_table }
 {
@@ -30,8 +30,8 @@ pub(crate) fn marks_fault(differs: Differs) -> HarvestFault
     }
 }
 
-/// Asks the least game of a number, and compares it with that of the shares' rows: where they
-/// differ, that is noted. Where the games of a lesser number differ, nothing is asked.
+/// Asks the table for the least game marked at a number, and compares it with that of the shares'
+/// rows. If they differ, that is noted. If a lesser number differs already, nothing is asked.
 #[tactic(auto, using(gather_core::proofs::Calls::calls_self))]
 pub(crate) fn compare<O: ProbeOrder>(
     table: &SlotTable<O>,

@@ -1,4 +1,4 @@
-//! Why the table had no number for a pattern.
+//! Finds out why the table had no number for a pattern.
 ghost use Rattle.std.specs.Prelude.{◌≡◌, ◌⊎◌, [], Some};
 ghost use Rattle.std.specs.Bool.{OnTrue, OnFalse};
 ghost use Rattle.slot_table.specs.Passes.{IsPassOf, IsLater};
@@ -17,14 +17,14 @@ use probe_core::ProbeOrder;
 use shape_core::Word;
 use slot_table::{Pass, SlotTable};
 
-/// The least number of a row with these bits, among those of all shares.
+/// Returns the least number that a row of the pattern with these bits has, among all shares' rows.
 fn least_with(shares: &[Share], bits: u64) -> Option<usize>
     ensures { IsLeastOf bits (all_rows shares.now) result }
 {
     least_of(shares, Sought::Pattern(bits)).map(|row| row.number)
 }
 
-/// Whether a share's row of a number has these bits.
+/// Whether the share has a row of this number whose pattern has these bits.
 fn has_there(share: &Share, number: usize, bits: u64) -> bool
     ensures { OnTrue result (HasShape share.now.rows bits) }
 {
@@ -34,7 +34,7 @@ fn has_there(share: &Share, number: usize, bits: u64) -> bool
     }
 }
 
-/// Whether some share's row of a number has these bits.
+/// Whether some share has a row of this number whose pattern has these bits.
 fn any_there(shares: &[Share], number: usize, bits: u64) -> bool
     ensures { OnTrue result (HasShape (all_rows shares.now) bits) }
 {
@@ -46,9 +46,9 @@ fn any_there(shares: &[Share], number: usize, bits: u64) -> bool
     false
 }
 
-/// Whether a number's key is the pattern of some row. The rows of the number are looked at first,
-/// since one of them is of the key where the shares are of this table; a look at all rows takes
-/// much longer.
+/// Whether a number's key in the table is the pattern of some row. The rows of the number are
+/// looked at first, since one of them has the key if the shares are of this table; a look at all
+/// rows takes much longer.
 fn is_known(shares: &[Share], number: usize, found: Option<u64>) -> bool
     ensures known { OnTrue result (IsOfRow (all_rows shares.now) found) }
     ensures unknown { OnFalse result (IsOfRow (all_rows shares.now) found → ⊥) }
@@ -59,8 +59,8 @@ fn is_known(shares: &[Share], number: usize, found: Option<u64>) -> bool
     any_there(shares, number, bits) || least_with(shares, bits).is_some()
 }
 
-/// Whether a number's key is the pattern of some row, and the least number of the refused pattern
-/// is another one.
+/// Whether a number's key is the pattern of some row, and the number is not the least one that a
+/// row has for the refused pattern.
 fn agrees(shares: &[Share], number: usize, found: Option<u64>, least: Option<usize>) -> bool
     ensures yes { OnTrue result (IsOfRow (all_rows shares.now) found × (least ≡ Some number → ⊥)) }
     ensures no { OnFalse result
@@ -69,7 +69,7 @@ fn agrees(shares: &[Share], number: usize, found: Option<u64>, least: Option<usi
     least != Some(number) && is_known(shares, number, found)
 }
 
-/// The fault of a number, with the pattern of its first row.
+/// Returns the fault of a number, with the pattern of its first row.
 fn stranger_at(shares: &[Share], number: usize, of_table: Option<Word>) -> HarvestFault
     ensures { result ≡ fault.Stranger number (first_shape (all_rows shares.now) number) of_table }
 {
@@ -80,16 +80,16 @@ fn stranger_at(shares: &[Share], number: usize, of_table: Option<Word>) -> Harve
     }
 }
 
-/// Why the table had no number for a pattern of a game, as `Share::add` answered. The pattern is
-/// given by its word. It takes no memory.
+/// Returns why the table had no number for a pattern of a game, after `Share::add` has answered so.
+/// The pattern is given by its word. It takes no memory.
 ///
-/// The answer is `HarvestFault::Full` with the game and the word where each number of the table has
-/// a key, each of these keys is the pattern of some row of the shares, and the word is the pattern
-/// of no row: then the patterns are more than the numbers. Else it is `HarvestFault::Stranger` at
-/// the least number that is free, or whose key is the pattern of no row, or of which some row has
-/// the word as its pattern; a row of a larger table may have a number that this one has not. It has
-/// the pattern of the first row of that number, in the order of the shares, and the number's key in
-/// the table.
+/// The answer is `HarvestFault::Full` with the game and the word if each number of the table has a
+/// key, each of these keys is the pattern of some row of the shares, and the word is the pattern of
+/// no row: then there are more patterns than numbers. Else it is `HarvestFault::Stranger` at the
+/// least number that is free, or whose key is the pattern of no row, or of which some row has the
+/// word as its pattern; a row of a larger table may have a number that this table does not have. It
+/// has the pattern of the first row of that number, in the order of the shares, and the number's
+/// key in the table.
 ///
 /// Each number up to that one is looked at once, in rising order, and nothing is marked. The pass
 /// must be of the table.

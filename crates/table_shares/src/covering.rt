@@ -1,4 +1,4 @@
-//! Whether each game is in one share, and in one only.
+//! Whether each game is in one share, and in no more than one.
 ghost use Rattle.std.specs.Prelude.{◌≡◌, ◌<◌, ℕ, List, ◌++◌, ◌∷◌, [], All, length, OnOk, IfOk};
 ghost use Rattle.std.specs.Prelude.{IfErr};
 ghost use Rattle.gather_core.specs.Covering.{all_games, Covers};
@@ -46,7 +46,7 @@ fn note_all(seen: &mut Seen, games: &[u64])
     }
 }
 
-/// Notes the games of all shares as seen, of which each is below `games`.
+/// Notes the games of all shares as seen. Each must be below `games`.
 fn seen_of(alloc: Global, games: u64, shares: &[Share]) -> Result<Seen, HarvestFault>
     requires { All (λ share. All (λ game. game < games) share.games) shares.now }
     ensures long { IfOk result (λ seen. length seen.games.items ≡ games) }
@@ -61,7 +61,7 @@ fn seen_of(alloc: Global, games: u64, shares: &[Share]) -> Result<Seen, HarvestF
     Ok(seen)
 }
 
-/// Whether each number below `games` is one of the games that were seen, once, and no other is.
+/// Checks that each number below `games` was seen once as a game, and that no other was seen.
 fn judge(seen: &Seen, games: u64) -> Result<(), HarvestFault>
     requires { length seen.now.games.items ≡ games }
     ensures ok { OnOk result ((list : List ℕ) → AreNoted list seen.now → Covers games list) }
@@ -79,7 +79,7 @@ fn judge(seen: &Seen, games: u64) -> Result<(), HarvestFault>
     Ok(())
 }
 
-/// Whether each number below `games` is the game of one share, and of one only.
+/// Checks that each number below `games` is the game of one share, and of one only.
 pub(crate) fn check_games(alloc: Global, games: u64, shares: &[Share]) -> Result<(), HarvestFault>
     requires { All (λ share. All (λ game. game < games) share.games) shares.now }
     ensures ok { OnOk result (Covers games (all_games shares.now)) }

@@ -1,4 +1,4 @@
-//! A game's patterns are entered into the table, and at last the game is marked at their numbers.
+//! Enters a game's patterns into the table, and marks the game at their numbers in the end.
 ghost use Rattle.std.specs.Prelude.{◌≡◌, ◌-◌, ◌^◌, ◌<◌, length, IfSome, IfNone, IfErr, OnOk, OnErr};
 ghost use Rattle.slot_table.specs.Batches.{entered, AreMade, AreTold, AreEnteredUntil};
 ghost use Rattle.slot_table.specs.Passes.{IsPassOf};
@@ -16,7 +16,7 @@ use shape_dict::FirstGame;
 use slot_table::{Pass, SlotTable};
 use tally_core::Meeting;
 
-/// Lists the keys of a game's patterns, in place of those of the game before.
+/// Lists the keys of a game's patterns, in place of those of the game before it.
 pub(crate) fn list_keys(keys: &mut Vec<Key>, meetings: &[Meeting]) -> Result<(), HarvestFault>
     ensures keys { OnOk result (keys.new.items ≡ shapes_of meetings.now) }
     ensures fault { IfErr result (λ found. found ≡ fault.Memory) }
@@ -28,12 +28,12 @@ pub(crate) fn list_keys(keys: &mut Vec<Key>, meetings: &[Meeting]) -> Result<(),
     Ok(())
 }
 
-/// Enters these keys, of which most are left after the first for which no number was free. The
-/// answers of the last ones give way to those of these.
+/// Enters these keys into the table, and puts the answer for each in place of the earlier answers.
+/// After the first key for which no number is free, most keys are left out.
 ///
 /// # Errors
 ///
-/// `Memory` where memory was refused; then nothing was entered.
+/// `Memory` if memory was refused; then nothing was entered.
 pub(crate) fn enter_keys<O: ProbeOrder>(
     table: &SlotTable<O>,
     pass: &mut Pass<O>,
@@ -56,7 +56,7 @@ pub(crate) fn enter_keys<O: ProbeOrder>(
     Ok(())
 }
 
-/// The place of the first answer that is no number, if there is one.
+/// Returns the place of the first answer that is no number, if there is one.
 pub(crate) fn refused(answers: &[Answer]) -> Option<usize>
     ensures some { IfSome result (IsFirstRefusal answers.now) }
     ensures none { IfNone result (AreNumbers answers.now (length answers.now)) }
@@ -69,7 +69,7 @@ pub(crate) fn refused(answers: &[Answer]) -> Option<usize>
     None
 }
 
-/// Marks a game at each of these numbers where no game is marked that is no later.
+/// Marks a game at each of these numbers at which no game is marked that is no later.
 pub(crate) fn mark_all<O: ProbeOrder>(
     table: &SlotTable<O>,
     pass: &mut Pass<O>,

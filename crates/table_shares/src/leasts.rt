@@ -1,4 +1,4 @@
-//! The row of the least number among those that are looked for.
+//! Finds, among the rows that are looked for, the one of the least number.
 ghost use Rattle.std.specs.Prelude.{◌++◌, ◌∷◌, [], List};
 ghost use Rattle.std.specs.Bool.{OnTrue, OnFalse};
 ghost use Rattle.gather_core.specs.declared.rows.Row.{Row};
@@ -11,9 +11,9 @@ use gather_core::Row;
 /// Which rows are looked for.
 #[derive(Clone, Copy)]
 pub(crate) enum Sought {
-    /// Those of the pattern with these bits.
+    /// The rows of the pattern with these bits.
     Pattern(u64),
-    /// Those of this number and of greater ones.
+    /// The rows of this number and of greater ones.
     From(usize),
 }
 
@@ -28,8 +28,8 @@ fn is_sought(sought: Sought, number: usize, bits: u64) -> bool
     }
 }
 
-/// The lesser of two rows by their numbers, the first where these are one. Rows that are not looked
-/// for do not count.
+/// Returns the row of the lesser number, the first one if both have the same number. A row that is
+/// not looked for does not count.
 fn lesser(least: Option<Row>, row: Row, sought: Sought) -> Option<Row>
     ensures { (rows : List Row) → IsLeastSought sought rows least
         → IsLeastSought sought (rows ++ row ∷ []) result }
@@ -49,7 +49,7 @@ fn lesser(least: Option<Row>, row: Row, sought: Sought) -> Option<Row>
     }
 }
 
-/// The same over the rows of a share.
+/// Returns the row of the least number, of the one found so far and the rows of one more share.
 fn least_in(least: Option<Row>, more: &[Row], sought: Sought) -> Option<Row>
     ensures { (rows : List Row) → IsLeastSought sought rows least
         → IsLeastSought sought (rows ++ more.now) result }
@@ -61,7 +61,7 @@ fn least_in(least: Option<Row>, more: &[Row], sought: Sought) -> Option<Row>
     found
 }
 
-/// The first row of the least number of those that are looked for, among those of all shares.
+/// Returns the first row of the least number that is looked for, among the rows of all shares.
 pub(crate) fn least_of(shares: &[Share], sought: Sought) -> Option<Row>
     ensures { IsLeastSought sought (all_rows shares.now) result }
 {

@@ -1,4 +1,4 @@
-//! What a share has counted: its games, their moves, and the rows of their patterns.
+//! Ledgers: what a share has counted, its games, their moves, and the rows of their patterns.
 ghost use Rattle.std.specs.Prelude.{◌≡◌, ◌+◌, ◌^◌, ◌<◌, ◌≤◌, IfSome, IfNone};
 ghost use Rattle.sgf_core.specs.Limit.{most_bytes};
 ghost use Rattle.table_shares.specs.Raising.{weight_of, weight_among};
@@ -17,7 +17,8 @@ pub(crate) struct Ledger {
     pub rows: Rows,
 }
 
-/// All counts of a game's meetings together, or None where that passes 2^64 - 1.
+/// Returns the sum of all counts of a game's meetings (its patterns with their counts), or None if
+/// it passes 2^64 - 1.
 fn weight(meetings: &[Meeting]) -> Option<u64>
     ensures some { IfSome result (λ total. total ≡ weight_among meetings.now) }
     ensures none { IfNone result (2 ^ 64 ≤ weight_among meetings.now) }
@@ -47,12 +48,13 @@ impl Ledger {
     ghost use Rattle.table_shares.specs.Inner.Ledgers.{totals_of, CountsIn, IsCountFault};
     ghost use Rattle.table_shares.specs.Inner.Raising.{AreRowed};
 
-    /// Counts a game below 2^28 whose meetings got these numbers, which have their rows.
+    /// Counts a game, whose number is below 2^28, from its meetings and their numbers in the table.
+    /// Each of these numbers must have a row.
     ///
     /// # Errors
     ///
-    /// `Overflow` where the moves or all counts together would pass 2^64 - 1; `Memory` where memory
-    /// was refused. After either the ledger is as it was.
+    /// `Overflow` if the moves or all counts together would pass 2^64 - 1; `Memory` if memory was
+    /// refused. After either the ledger is as it was.
     pub fn count(
         &mut self,
         game: u64,

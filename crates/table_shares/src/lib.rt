@@ -1,4 +1,4 @@
-//! Shares: what workers have counted over the shared table of numbers, how they become a
+//! Shares: what workers have counted over a shared table of numbers, how the shares become a
 //! dictionary, and why a table was full.
 #![tactic(auto)]
 

@@ -1,4 +1,4 @@
-//! What the rows of one number are together, those of all shares.
+//! Sums up all shares' rows of one number: their least game, and a pattern that differs, if any.
 ghost use Rattle.std.specs.Prelude.{◌≡◌, ◌++◌, ℕ, List, Some};
 ghost use Rattle.gather_core.specs.declared.rows.Row.{Row};
 ghost use Rattle.gather_core.specs.Rows.{earlier};
@@ -11,15 +11,15 @@ use crate::shares::Share;
 use gather_core::Row;
 use shape_core::{Shape, Word};
 
-/// What the rows of a number are together: the least of their games, and the pattern of the first
-/// of them that is of another pattern than was asked for.
+/// What the rows of a number are together: `first` is the least of their games, and `stranger` the
+/// pattern of the first row that is not of the pattern asked for.
 #[derive(Clone, Copy)]
 pub(crate) struct NumberSums {
     pub first: Option<u64>,
     pub stranger: Option<Word>,
 }
 
-/// A pattern, if it is another one than this.
+/// Returns the pattern's word, if it is not the one with these bits.
 fn unlike(shape: Shape, found: Option<u64>) -> Option<Word>
     ensures { result ≡ unlike_of shape found }
 {
@@ -31,7 +31,7 @@ fn unlike(shape: Shape, found: Option<u64>) -> Option<Word>
     }
 }
 
-/// The lesser of two games, where None is no game.
+/// Returns the lesser of two games; None stands for no game.
 pub(crate) fn earlier(one: Option<u64>, other: Option<u64>) -> Option<u64>
     ensures { result ≡ earlier one other }
 {
@@ -42,7 +42,7 @@ pub(crate) fn earlier(one: Option<u64>, other: Option<u64>) -> Option<u64>
     }
 }
 
-/// The rows of a number and one more.
+/// Adds one more row of the number to the sums.
 fn add(sums: NumberSums, row: Row, found: Option<u64>) -> NumberSums
     ensures { (rows more : List Row) → (number : ℕ) → AreOfNumbers more
         → row_of more number ≡ Some row → AreSums rows number found sums
@@ -54,7 +54,8 @@ fn add(sums: NumberSums, row: Row, found: Option<u64>) -> NumberSums
     }
 }
 
-/// The rows that shares have of a number, where this pattern is asked for. It takes no memory.
+/// Sums up the rows that shares have of a number: their least game, and the first pattern among
+/// them that is not this one. It takes no memory.
 pub(crate) fn sums_at(shares: &[Share], number: usize, found: Option<u64>) -> NumberSums
     ensures { AreSums (all_rows shares.now) number found result }
 {

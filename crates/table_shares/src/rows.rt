@@ -1,4 +1,4 @@
-//! Rows of a share, each found by its number.
+//! The rows of a share, each found by its number in the table.
 ghost use Rattle.std.specs.Prelude.{◌≡◌, ◌+◌, ◌^◌, ◌<◌, ◌≤◌, IfSome, IfNone};
 ghost use Rattle.sgf_core.specs.Limit.{most_bytes};
 ghost use Rattle.table_shares.specs.Rows.{blank};
@@ -14,7 +14,7 @@ use std::collections::BTreeMap;
 use std::marker::Model;
 use tally_core::Meeting;
 
-/// A row that counts nothing.
+/// Returns a row whose counts are 0 and which has no game yet.
 fn blank_row(number: usize, shape: Shape) -> Row
     ensures { result ≡ blank number shape }
 {
@@ -27,7 +27,7 @@ fn blank_row(number: usize, shape: Shape) -> Row
     }
 }
 
-/// Adds a game's meeting to a row.
+/// Adds what a game has met of the row's pattern to the row.
 fn raise_row(row: &mut Row, meeting: Meeting, game: u64)
     requires there { row.old.there + meeting.there < 2 ^ 64 }
     requires played { row.old.played + meeting.played < 2 ^ 64 }
@@ -40,7 +40,7 @@ fn raise_row(row: &mut Row, meeting: Meeting, game: u64)
     row.first = FirstGame::new(Some(first));
 }
 
-/// A weight with the counts of one pattern more, or None where that passes 2^64 - 1.
+/// Adds the two counts of one more pattern to a sum of counts; None if that passes 2^64 - 1.
 pub(crate) fn with_counts(weight: u64, there: u64, played: u64) -> Option<u64>
     ensures some { IfSome result (λ total. total ≡ weight + (there + played)) }
     ensures none { IfNone result (2 ^ 64 ≤ weight + (there + played)) }
@@ -48,9 +48,9 @@ pub(crate) fn with_counts(weight: u64, there: u64, played: u64) -> Option<u64>
     weight.checked_add(there)?.checked_add(played)
 }
 
-/// Rows in the order in which they were made, with a map that has the place of each by its number.
-/// The weight is the sum of all counts of the rows, so that none of them is too large while it is
-/// not. Contracts see the rows.
+/// Rows in the order in which they were made, with a map from each row's number to its place. The
+/// weight is the sum of all counts of the rows: while it is not too large, none of them is.
+/// Contracts see the rows.
 #[derive(Drop)]
 pub(crate) struct Rows {
     places: BTreeMap<usize, usize>,
@@ -84,7 +84,7 @@ impl Rows {
     ghost use Rattle.table_shares.specs.Inner.Making.{IsBelow, IsBlankOf, IsRowFault, IsAppendFault};
     ghost use Rattle.table_shares.specs.Inner.Raising.{HasRowFor, IsRaised};
 
-    /// No rows yet. It takes no memory.
+    /// Makes an empty list of rows. It takes no memory.
     pub fn begin(alloc: Global) -> Rows
         ensures { result ≡ [] }
     {
@@ -95,7 +95,7 @@ impl Rows {
         }
     }
 
-    /// The rows, in their order.
+    /// Returns the rows, in the order in which they were made.
     pub fn as_slice(&self) -> &[Row]
         ensures rows { result.now ≡ self.now }
         ensures numbers { AreOfNumbers self.now }
@@ -103,14 +103,14 @@ impl Rows {
         self.rows.as_slice()
     }
 
-    /// All counts of the rows together.
+    /// The sum of all counts of the rows.
     pub fn weight(&self) -> u64
         ensures { result ≡ weight_of self.now }
     {
         self.weight
     }
 
-    /// The place of a number's row, if it has one.
+    /// Returns the place of a number's row, if it has one.
     pub fn place(&self, number: usize) -> Option<usize>
         ensures some { IfSome result (λ place. (place < length self.now)
             × ((row_at self.now place).number ≡ number)) }
@@ -119,7 +119,7 @@ impl Rows {
         self.places.get(&number).copied()
     }
 
-    /// The row of the least number at or above this one that has a row.
+    /// Returns the row of the least number that has a row, of this number and greater ones.
     pub fn first_from(&self, from: usize) -> Option<Row>
         ensures least { IsLeastFrom from self.now result }
         ensures small { IfSome result (λ row. row.number < 2 ^ 22) }
@@ -128,13 +128,13 @@ impl Rows {
         Some(self.rows[*place])
     }
 
-    /// Makes the row of a pattern's number, where it has none: it counts nothing then. Where no
-    /// number was answered nothing is done.
+    /// Makes a row that counts nothing for the number that a pattern got, unless the number has
+    /// one. If the answer is no number, nothing is done.
     ///
     /// # Errors
     ///
-    /// `Stranger` where the row is of another pattern; `Memory` where memory was refused. After
-    /// either the rows are as they were.
+    /// `Stranger` if the row is of another pattern; `Memory` if memory was refused. After either
+    /// the rows are as they were.
     pub fn make(&mut self, found: Answer, shape: Shape) -> Result<(), HarvestFault>
         requires { IsBelow (2 ^ 22) found }
         ensures rowed { OnOk result (IsRowed self.new shape found) }
@@ -154,12 +154,12 @@ impl Rows {
         Err(HarvestFault::stranger(number, held.word(), Some(shape.word())))
     }
 
-    /// Puts a row after the others, of a number that has none.
+    /// Puts a row after the others. Its number must have no row yet.
     ///
     /// # Errors
     ///
-    /// `Overflow` where all counts together would pass 2^64 - 1; `Memory` where memory was refused.
-    /// After either the rows are as they were.
+    /// `Overflow` if all counts together would pass 2^64 - 1; `Memory` if memory was refused. After
+    /// either the rows are as they were.
     fn append(&mut self, row: Row) -> Result<(), HarvestFault>
         requires small { row.number < 2 ^ 22 }
         requires none { HasNoRow self.old row.number }
@@ -179,7 +179,7 @@ impl Rows {
         Ok(())
     }
 
-    /// Adds a game's meeting to the row of the number that was answered for it.
+    /// Adds what a game has met of a pattern to the row of the number that the pattern got.
     pub fn raise(&mut self, found: Answer, meeting: Meeting, game: u64)
         requires row { HasRowFor self.old found meeting.shape }
         requires fits { weight_of self.old + (meeting.there + meeting.played) < 2 ^ 64 }

@@ -1,4 +1,4 @@
-//! The rows of a share, one after another.
+//! An iterator over the rows of a share, by rising numbers.
 ghost use Rattle.std.specs.Prelude.{◌≡◌};
 ghost use Rattle.table_shares.specs.ShareRows.{IsNextRow, rows_left};
 
@@ -7,8 +7,8 @@ use gather_core::Row;
 use std::iter::FusedIterator;
 use std::marker::Model;
 
-/// The rows of a share, each once, numbers rising. It takes no memory, and searches the share's map
-/// of numbers once for each row.
+/// The rows of a share, each once, by rising numbers. It takes no memory, and searches the share's
+/// map of numbers once for each row.
 ///
 /// Contracts see the rows, and the number from which on they are still to come.
 #[derive(Drop)]
@@ -26,7 +26,7 @@ impl<'a> Model for ShareRows<'a> {
 }
 
 impl<'a> ShareRows<'a> {
-    /// All of these rows.
+    /// Returns an iterator over all of these rows.
     pub(crate) fn new(rows: &'a Rows) -> ShareRows<'a>
         ensures { result ≡ record { rows = rows.now; from = 0 } }
     {
@@ -41,8 +41,8 @@ impl<'a> Iterator for ShareRows<'a> {
 
     ghost remaining = { rows_left };
 
-    /// The row of the least number from which on rows are still to come. Where no row is left it is
-    /// None, now and from then on.
+    /// Returns the next row, that of the least number still to come. If no row is left, it is None,
+    /// now and from then on.
     fn next(&mut self) -> Option<Row> {
         let row = self.rows.first_from(self.from)?;
         self.from = row.number + 1;

@@ -16,12 +16,12 @@ use slot_table::{Pass, SlotTable};
 use std::alloc::Global;
 use std::marker::Model;
 
-/// What one worker has counted: games, each with all its patterns, under the numbers that these
-/// have in a table.
+/// What one worker has counted: games, each with all its patterns, under the numbers that the
+/// patterns have in a table.
 ///
 /// Contracts see the worker, the kinds of pattern, the games in the order in which they were added,
-/// their moves, and the rows in the order in which they were made. A share is of some games, by its
-/// type: its sums are theirs.
+/// their moves, and the rows in the order in which they were made. The type says that the sums of a
+/// share are those of its games.
 #[derive(Drop)]
 pub struct Share {
     worker: usize,
@@ -61,7 +61,7 @@ impl Share {
     ghost use Rattle.table_shares.specs.Adding.{IsEntryOf, IsRowed, IsRowedAfter, IsMarkOf};
     ghost use Rattle.gather_core.specs.Entering.{CallsOnly, EntersOnly};
 
-    /// A share without games, of the worker with this number. It takes no memory.
+    /// Makes a share without games, for the worker with this number. It takes no memory.
     pub fn begin(alloc: Global, worker: usize, kinds: Kinds) -> Share
         ensures { result ≡ record {
           worker = worker;
@@ -82,14 +82,14 @@ impl Share {
         }
     }
 
-    /// The worker that counts into the share.
+    /// The number of the worker that counts into the share.
     pub fn worker(&self) -> usize
         ensures { result ≡ self.now.worker }
     {
         self.worker
     }
 
-    /// The numbers of the games, in the order in which they were added.
+    /// Returns the numbers of the games, in the order in which they were added.
     pub fn games(&self) -> &[u64]
         ensures games { result.now ≡ self.now.games }
         ensures share { IsShare self.now }
@@ -97,14 +97,14 @@ impl Share {
         self.ledger.games.as_slice()
     }
 
-    /// How many moves onto empty points the games have.
+    /// The number of moves onto empty points in the games.
     pub fn moves(&self) -> u64
         ensures { result ≡ self.now.moves }
     {
         self.ledger.moves
     }
 
-    /// The row of a number of the table, if the share has one. It takes no memory.
+    /// Returns the row of a number of the table, if the share has one. It takes no memory.
     pub fn row_at(&self, number: usize) -> Option<Row>
         ensures row { result ≡ row_of self.now.rows number }
         ensures numbers { AreOfNumbers self.now.rows }
@@ -114,7 +114,7 @@ impl Share {
         Some(made[place])
     }
 
-    /// The rows, in their order. It takes no memory.
+    /// Returns the rows, in the order in which they were made. It takes no memory.
     pub fn made_rows(&self) -> &[Row]
         ensures rows { result.now ≡ self.now.rows }
         ensures numbers { AreOfNumbers self.now.rows }
@@ -122,7 +122,7 @@ impl Share {
         self.ledger.rows.as_slice()
     }
 
-    /// The rows, numbers rising. It takes no memory.
+    /// Returns an iterator over the rows, by rising numbers. It takes no memory.
     pub fn rows(&self) -> ShareRows<'_>
         ensures rows { result ≡ record { rows = self.now.rows; from = 0 } }
         ensures numbers { AreOfNumbers self.now.rows }
@@ -132,9 +132,9 @@ impl Share {
         ShareRows::new(&self.ledger.rows)
     }
 
-    /// Adds a game: each of its patterns is entered into the table, and what the game counts of it
-    /// goes into the row of its number; at last the game is marked at each number where no game was
-    /// that is not later.
+    /// Adds a game to the share: each of its patterns is entered into the table, and what the game
+    /// counts of it goes into the row of its number. At last the game is marked at each of these
+    /// numbers, unless a game that is no later is marked there.
     ///
     /// No other pattern is entered, and each that got a number has a row of that number. No other
     /// game is marked, and this one only at numbers of rows of its patterns. The pass must be of
@@ -142,14 +142,14 @@ impl Share {
     ///
     /// # Errors
     ///
-    /// `Full` where no number is free for a pattern of the game: the first such in the order of its
-    /// walk, and each pattern before it has a number and its row; `Stranger` where the share's row
-    /// of a pattern's number is of another pattern, as one from another table; `Overflow` where the
-    /// share's moves or all its counts together would pass 2^64 - 1, or the game has more actions
-    /// than any input; `Memory` where memory was refused. After each the share's games, moves and
-    /// sums are as they were and the game is nowhere marked. Rows without counts may have come, and
-    /// numbers in the table, of patterns of the game; after `Full` and `Overflow` each pattern that
-    /// was entered and got a number has a row of that number.
+    /// `Full` if no number is free for a pattern of the game: it names the first such pattern in
+    /// the order of the walk, and each pattern before it has a number and its row; `Stranger` if
+    /// the share's row of a pattern's number is of another pattern, as one from another table;
+    /// `Overflow` if the share's moves or all its counts together would pass 2^64 - 1, or if the
+    /// game has more actions than any input; `Memory` if memory was refused. After each the share's
+    /// games, moves and sums are as they were and the game is nowhere marked. Patterns of the game
+    /// may have got rows without counts, and numbers in the table; after `Full` and `Overflow` each
+    /// pattern that was entered and got a number has a row of that number.
     pub fn add<O: ProbeOrder>(
         &mut self,
         table: &SlotTable<O>,

@@ -1,5 +1,5 @@
-//! Rows of another pattern than the table has at their number, and rows of numbers that it does not
-//! have.
+//! Finds rows whose numbers are beyond the table, and turns the table's keys into words of
+//! patterns.
 ghost use Rattle.std.specs.Prelude.{◌≡◌, ◌^◌, ◌<◌, IfSome, OnOk, IfErr};
 ghost use Rattle.gather_core.specs.Gathering.{all_rows};
 ghost use Rattle.table_shares.specs.Inner.Checking.{IsBeyondFault};
@@ -11,7 +11,7 @@ use harvest_faults::HarvestFault;
 use probe_core::Key;
 use shape_core::Word;
 
-/// The bits of a key.
+/// Returns the bits of a key: the number that it is.
 pub(crate) fn bits_of(key: Option<Key>) -> Option<u64>
     ensures bits { result ≡ key }
     ensures small { IfSome result (λ bits. bits < 2 ^ 51) }
@@ -19,7 +19,7 @@ pub(crate) fn bits_of(key: Option<Key>) -> Option<u64>
     key.map(|key| key.bits())
 }
 
-/// The word of these bits.
+/// Returns the pattern's word with these bits.
 pub(crate) fn word_of(bits: Option<u64>) -> Option<Word>
     requires { IfSome bits (λ bits. bits < 2 ^ 51) }
     ensures { result ≡ bits }
@@ -27,7 +27,8 @@ pub(crate) fn word_of(bits: Option<u64>) -> Option<Word>
     bits.and_then(|bits| Word::new(bits))
 }
 
-/// Rows of a number that is none of the table's are of no pattern there.
+/// Checks that all rows have numbers of the table, below `slots`. Else it is `Stranger` at the
+/// least number that is not below.
 pub(crate) fn check_beyond(shares: &[Share], slots: usize) -> Result<(), HarvestFault>
     ensures ok { OnOk result (AreBelow slots (all_rows shares.now)) }
     ensures fault { IfErr result (IsBeyondFault slots (all_rows shares.now)) }

@@ -1,4 +1,4 @@
-//! The total of a number's rows in all shares, and the list of the totals of all numbers.
+//! Adds up each number's rows in all shares, and lists the totals of all numbers.
 ghost use Rattle.std.specs.Prelude.{◌≡◌, ◌^◌, ◌<◌, ◌≤◌, ◌++◌, ℕ, List, None, Some, IfSome, IfNone};
 ghost use Rattle.std.specs.Prelude.{IfOk, IfErr};
 ghost use Rattle.range_core.specs.Entries.{IsShape};
@@ -18,7 +18,7 @@ use harvest_faults::HarvestFault;
 use shape_dict::{Entry, FirstGame};
 use std::alloc::Global;
 
-/// A row as an entry. Its word is the least of its images, by the type of shapes.
+/// Makes an entry of a row. Its word is the least of its images, by the type of shapes.
 fn entry(row: Row) -> Entry
     ensures value { result ≡ with_row None row }
     ensures shape { IsShape result }
@@ -32,8 +32,8 @@ fn entry(row: Row) -> Entry
     }
 }
 
-/// An entry with what another one of its pattern counts besides; None where that is of another
-/// pattern or a sum passes 2^64 - 1.
+/// Adds the counts of another entry of the same pattern to an entry. Returns None if it is of
+/// another pattern or a sum passes 2^64 - 1.
 pub(crate) fn with(total: Entry, more: Entry) -> Option<Entry>
     ensures some { IfSome result (λ both. (both ≡ with_row (Some total) (unnumbered more))
         × (total.shape ≡ more.shape)) }
@@ -50,11 +50,12 @@ pub(crate) fn with(total: Entry, more: Entry) -> Option<Entry>
     })
 }
 
-/// A number's total, if it has one, with the row that one more share has of the number.
+/// Adds one share's row of a number to the total of the rows before it, if there is one. Returns
+/// the new total.
 ///
 /// # Errors
 ///
-/// `Overflow` where the row is of another pattern, or a sum passes 2^64 - 1.
+/// `Overflow` if the row is of another pattern, or a sum passes 2^64 - 1.
 fn add(total: Option<Entry>, row: Row) -> Result<Entry, HarvestFault>
     ensures ok { IfOk result (λ both. (rows more : List Row) → (number : ℕ) → AreOfNumbers more
         → row_of more number ≡ Some row → IsTotalAt rows number total
@@ -73,11 +74,12 @@ fn add(total: Option<Entry>, row: Row) -> Result<Entry, HarvestFault>
     }
 }
 
-/// What the rows of a number are together; None where it has no row. It takes no memory.
+/// Adds up what all shares have counted of the pattern with this number. Returns None if no share
+/// has counted it. It takes no memory.
 ///
 /// # Errors
 ///
-/// `Overflow` where they are of several patterns, or a sum passes 2^64 - 1.
+/// `Overflow` if shares have different patterns at this number, or a sum passes 2^64 - 1.
 fn total_at(shares: &[Share], number: usize) -> Result<Option<Entry>, HarvestFault>
     ensures total { IfOk result (IsTotalAt (all_rows shares.now) number) }
     ensures shape { IfOk result (λ total. IfSome total IsShape) }
@@ -92,12 +94,12 @@ fn total_at(shares: &[Share], number: usize) -> Result<Option<Entry>, HarvestFau
     Ok(total)
 }
 
-/// What the rows of all numbers below `slots` are together, an entry for each number whose pattern
-/// was there. Rows of one number must be of one pattern, and of no other number's.
+/// Adds up the rows of each number below `slots`, and returns an entry for each number whose
+/// pattern was there. The rows of one number must be of one pattern, and of no other number's.
 ///
 /// # Errors
 ///
-/// `Overflow` where a sum passes 2^64 - 1; `Memory` where memory was refused.
+/// `Overflow` if a sum passes 2^64 - 1; `Memory` if memory was refused.
 pub(crate) fn entries_of(
     alloc: Global,
     slots: usize,

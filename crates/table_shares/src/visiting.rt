@@ -1,5 +1,5 @@
-//! Numbers of a table, each visited once, in rising order: whether the rows that shares have of it
-//! are of its pattern, and their least game is the one that is marked.
+//! Visits each number of a table once, in rising order, and compares the table's pattern and least
+//! game with those of the shares' rows.
 ghost use Rattle.std.specs.Prelude.{◌+◌, ◌<◌, IfErr, IfOk, OnOk};
 ghost use Rattle.slot_table.specs.Passes.{Known, IsPassOf};
 ghost use Rattle.table_shares.specs.Asking.{AsksOnly};
@@ -16,7 +16,7 @@ use harvest_faults::HarvestFault;
 use probe_core::ProbeOrder;
 use slot_table::{Pass, SlotTable};
 
-/// Looks at a number, and compares the patterns and the least games of its rows with the table's.
+/// Compares the patterns and the least games of a number's rows with the table's.
 fn visit<O: ProbeOrder>(
     table: &SlotTable<O>,
     pass: &mut Pass<O>,
@@ -45,8 +45,8 @@ fn visit<O: ProbeOrder>(
     Ok(())
 }
 
-/// Looks at each number of the table, and asks each once, in rising order, for its least game,
-/// until one differs from that of the shares' rows. That one is the answer.
+/// Looks at each number of the table once, in rising order, and asks for its least game until one
+/// differs from that of the shares' rows. Returns that number with both games, if there is one.
 #[tactic(auto, using(gather_core::proofs::Calls::calls_self))]
 pub(crate) fn visit_all<O: ProbeOrder>(
     table: &SlotTable<O>,

@@ -12,7 +12,8 @@ use slot_table::{Pass, SlotTable};
 use std::alloc::Global;
 use tally_core::{Meeting, Walk};
 
-/// Makes rows for a game's meetings that got numbers, where these have none. They count nothing.
+/// Makes a row without counts for each of a game's meetings that got a number, unless the number
+/// has a row.
 fn make_all(rows: &mut Rows, meetings: &[Meeting], answers: &[Answer]) -> Result<(), HarvestFault>
     requires length { length answers.now ≡ length meetings.now }
     requires numbers { AreBelow (2 ^ 22) answers.now }
@@ -28,7 +29,8 @@ fn make_all(rows: &mut Rows, meetings: &[Meeting], answers: &[Answer]) -> Result
     Ok(())
 }
 
-/// The walk of a game, the keys of its meetings and what was answered to them.
+/// What is worked out for one game: its walk, the keys of its meetings (its patterns) and the
+/// table's answers for them.
 #[derive(Drop)]
 pub(crate) struct Workings {
     pub walk: Walk,
@@ -43,7 +45,7 @@ impl Workings {
     ghost use Rattle.gather_core.specs.Entering.{EntersOnly};
     ghost use Rattle.table_shares.specs.Inner.Adding.{HasFresh, IsPrepared};
 
-    /// Nothing was counted yet. It takes no memory.
+    /// Makes workings before any game. It takes no memory.
     pub fn begin(alloc: Global, kinds: Kinds) -> Workings
         ensures { result.walk.kinds ≡ kinds }
     {
@@ -54,13 +56,13 @@ impl Workings {
         }
     }
 
-    /// Walks a game, enters its patterns, and makes rows for their numbers; the answer is how many
-    /// moves onto empty points it has.
+    /// Walks a game, enters its patterns into the table, and makes rows for their numbers. Returns
+    /// how many moves onto empty points the game has.
     ///
     /// # Errors
     ///
-    /// `Full` where no number is free for a pattern, `Stranger` where a number's row is of another
-    /// one; `Overflow` where the game has more actions than any input; `Memory` where memory was
+    /// `Full` if no number is free for a pattern, `Stranger` if a number's row is of another
+    /// pattern; `Overflow` if the game has more actions than any input; `Memory` if memory was
     /// refused. After each the old rows are as they were.
     pub fn prepare<O: ProbeOrder>(
         &mut self,

@@ -10,8 +10,8 @@ use shape_core::{Field, Kinds};
 use std::alloc::Global;
 use std::marker::Model;
 
-/// An empty field of the size that was asked for last: to copy it is quicker than to find the words
-/// of each point again.
+/// A source of empty fields, which keeps one of the size that was asked for last: to copy it is
+/// quicker than to find the words of each point again.
 #[derive(Drop)]
 pub(crate) struct Blank {
     alloc: Global,
@@ -32,7 +32,7 @@ impl Model for Blank {
 }
 
 impl Blank {
-    /// Of fields for these kinds of pattern. It takes no memory.
+    /// A source of fields that keep the words of these kinds of pattern. It takes no memory.
     pub fn new(alloc: Global, kinds: Kinds) -> Blank
         ensures { result ≡ kinds }
     {
@@ -50,8 +50,8 @@ impl Blank {
         self.kinds
     }
 
-    /// An empty field of this size. It takes memory for each point of the board, twice where the
-    /// size is another than before.
+    /// An empty field of this size. It takes memory for each point of the board, twice if the size
+    /// is another than before.
     pub fn field(&mut self, size: Size) -> Result<Field, TallyFault>
         ensures kinds { self.new ≡ self.old }
         ensures blank { IfOk result (IsBlank self.old) }

@@ -19,23 +19,23 @@ use shape_core::Kinds;
 use shape_dict::{Entry, PieceDictionary};
 use std::alloc::{AllocError, Global};
 
-/// A collection that was counted.
+/// What counting a collection gives.
 #[derive(Drop)]
 pub struct Counted {
     /// The dictionary of its games.
     pub dictionary: PieceDictionary,
-    /// What its trees are.
+    /// How many of its trees are games of Go, are of other games, and are refused.
     pub report: Report,
 }
 
-/// As many patterns as this many bytes mostly have at most. A move takes six bytes, and brings some
-/// eight patterns that the collection has not had yet.
+/// The most patterns that an input of this many bytes is likely to have. A move takes six bytes,
+/// and brings some eight patterns that the collection has not had yet.
 fn likely_patterns(bytes: usize) -> usize {
     (bytes / 2).saturating_mul(3).min(1 << 22)
 }
 
-/// What a collection is counted as whose trees were all counted, with these moves and this report,
-/// and whose patterns have these entries. It takes memory for a list of one list.
+/// What counting a collection gives, after all its trees were counted: it has these moves and this
+/// report, and its patterns have these entries. It takes memory for a list of one list.
 fn counted_of(
     alloc: Global,
     kinds: Kinds,
@@ -54,16 +54,17 @@ fn counted_of(
     Ok(Counted { dictionary, report })
 }
 
-/// Counts a whole collection on one thread: the dictionary of its games, which are numbered from 0
-/// in their order, and how many of its trees are games, are of other games, and are refused.
+/// Counts a whole collection on one thread. Returns the dictionary of its games, which are numbered
+/// from 0 in their order, and how many of its trees are games of Go, are of other games, and are
+/// refused.
 /// `kinds` says which kinds of pattern are counted. It takes memory for the largest tree and its
 /// record, for the board, and for each pattern.
 ///
 /// # Errors
 ///
-/// `TallyFault::Sgf` with S4 where there are more than 2^28 bytes, else with the first fault of
-/// syntax in the input; `TallyFault::Memory` where memory was refused. `TallyFault::Overflow`
-/// does not come: no count of an input that is not too large passes 2^64 - 1.
+/// `TallyFault::Sgf` with S4 if there are more than 2^28 bytes, else with the first fault of syntax
+/// in the input; `TallyFault::Memory` if memory was refused. `TallyFault::Overflow` does not come:
+/// no count of an input that is not too large passes 2^64 - 1.
 pub fn count_plain(alloc: Global, kinds: Kinds, bytes: &[u8]) -> Result<Counted, TallyFault>
     ensures counted { IfOk result (IsCounted kinds bytes.now) }
     ensures fault { IfErr result (IsCountFault bytes.now) }

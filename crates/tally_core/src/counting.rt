@@ -15,7 +15,7 @@ use crate::walkers::{WalkedGame, Walker};
 use shape_dict::FirstGame;
 use std::alloc::Global;
 
-/// What was counted of the games that were read.
+/// The counts of the games read so far, and how many moves onto empty points these have.
 #[derive(Drop)]
 pub struct Counter {
     pub counts: Counts,
@@ -27,7 +27,7 @@ impl Counter {
     ghost use Rattle.shape_core.specs.declared.words.Kinds.{Kinds};
     ghost use Rattle.tally_core.specs.Inner.Counting.{CountsUpTo, IsWithin};
 
-    /// Nothing was counted yet. It has places for this many patterns, where memory suffices.
+    /// A counter of no games yet, with places for this many patterns if memory suffices.
     pub fn new(alloc: Global, patterns: usize) -> Counter
         ensures counted { (kinds : Kinds) (bytes : List ℕ) → CountsUpTo kinds bytes 0 result }
         ensures within { IsWithin 0 result }

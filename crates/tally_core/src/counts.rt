@@ -1,4 +1,4 @@
-//! Counts of patterns: a row for each pattern, at a place of its pattern's way.
+//! Counts of patterns: a row for each pattern, found by open addressing.
 ghost use Rattle.std.specs.Prelude.{◌≡◌, ◌+◌, ◌^◌, ◌<◌, ◌≤◌, length, IfSome, IfNone};
 ghost use Rattle.tally_core.specs.Inner.Rows.{counted_row};
 
@@ -13,14 +13,14 @@ use std::marker::Model;
 /// How many places there are at first.
 const FIRST_PLACES: usize = 4096;
 
-/// How many meetings are looked at together: few enough that their rows stay in the nearest caches
-/// until they are counted.
+/// How many meetings (patterns of one game, each with its counts) are looked at together: few
+/// enough that their rows stay in the nearest caches until they are counted.
 const BLOCK: usize = 128;
 
-/// Where the rows of the first meetings' patterns are likely to be, a block of them or all where
-/// they are fewer, and how many these are: at the first place, or where that is another pattern's,
-/// at the one after it. No look waits for the one before it. A row may begin in one line of memory
-/// and end in the next, so both its ends are looked at.
+/// The likely places of the rows of the first meetings' patterns, a block of them or all if they
+/// are fewer, and how many these are. A row is likely at its pattern's first place, or at the one
+/// after it if the first is another pattern's. No look waits for the one before it. A row may begin
+/// in one line of memory and end in the next, so both its ends are looked at.
 fn likely_places(rows: &[Entry], meetings: &[Meeting]) -> ([usize; BLOCK], usize)
     requires { 0 < length rows.now }
     ensures block { result.1 ≤ BLOCK }
@@ -57,8 +57,8 @@ fn count_new(rows: &[Entry], meetings: &[Meeting]) -> usize
     count
 }
 
-/// The row that was found for an entry's pattern, or is free, once it has the entry's counts
-/// besides; a free one gets the entry's first game. None where a count passes 2^64 - 1.
+/// The row with the entry's counts added to it. It is the row of the entry's pattern, or a free
+/// one, which gets the entry's first game. None if a count passes 2^64 - 1.
 fn counted(row: &Entry, entry: &Entry) -> Option<Entry>
     ensures some { IfSome result (λ more. more ≡ counted_row row.now entry.now) }
     ensures none { IfNone result
@@ -77,7 +77,7 @@ fn counted(row: &Entry, entry: &Entry) -> Option<Entry>
 #[derive(Drop)]
 pub struct Counts {
     alloc: Global,
-    /// Those that count something, and free ones at all other places.
+    /// The rows that count something, and free rows at all other places.
     rows: Vec<Entry>,
     /// How many places are taken.
     taken: usize,
@@ -110,7 +110,7 @@ impl Counts {
     ghost use Rattle.range_core.specs.Rows.{AreRows};
     ghost use Rattle.range_core.specs.Entries.{IsShape};
 
-    /// Nothing was counted yet. It takes no memory.
+    /// Counts of nothing yet. It takes no memory.
     pub fn new(alloc: Global) -> Counts
         ensures { result ≡ [] }
     {
@@ -122,7 +122,7 @@ impl Counts {
         }
     }
 
-    /// Nothing was counted yet, and there are this many places. It takes memory for them.
+    /// Counts of nothing yet, with this many places. It takes memory for them.
     fn with_places(alloc: Global, places: usize) -> Result<Counts, AllocError>
         ensures { IfOk result (λ counts. counts ≡ []) }
     {
@@ -136,7 +136,7 @@ impl Counts {
         })
     }
 
-    /// The same as `new`, with places for about this many rows, where there is memory for them.
+    /// The same as `new`, with places for about this many rows, if there is memory for them.
     pub fn with_room(alloc: Global, rows: usize) -> Counts
         ensures { result ≡ [] }
     {
@@ -168,8 +168,8 @@ impl Counts {
         rows
     }
 
-    /// Where a block of meetings begins at this one, notes how many new rows they seem to need. The
-    /// looks load into the cache the rows in which they will be counted. It takes no memory.
+    /// If a block of meetings begins at index `at`, notes how many new rows they seem to need. This
+    /// loads into the cache the rows in which they will be counted. It takes no memory.
     #[inline(always)]
     pub fn expect(&mut self, meetings: &[Meeting], at: usize)
         requires { at ≤ length meetings.now }
@@ -180,9 +180,9 @@ impl Counts {
         }
     }
 
-    /// Counts a pattern as being there and being played as often again as the entry says, where it
-    /// has a row or a place is free. Where it has no count yet, the entry's game is its first.
-    /// `TallyFault::Memory` comes where no place is free. It takes no memory.
+    /// Adds an entry to the counts of its pattern, if that has a row or a place is free. If the
+    /// pattern has no count yet, the entry's game is its first. `TallyFault::Memory` comes if no
+    /// place is free. It takes no memory.
     #[inline(always)]
     fn enter(&mut self, entry: &Entry) -> Result<(), TallyFault>
         ensures ok { OnOk result
@@ -207,7 +207,7 @@ impl Counts {
         Ok(())
     }
 
-    /// Counts what rows count, where nothing was counted. `AllocError` comes where the places are
+    /// Adds the counts of rows to these, which must be empty. `AllocError` comes if the places are
     /// too few. It takes no memory.
     fn enter_all(&mut self, rows: &[Entry]) -> Result<(), AllocError>
         requires none { self.old ≡ [] }
@@ -224,7 +224,7 @@ impl Counts {
     }
 
     /// Doubles the places, or makes the first ones, and puts each row at one of its new places. It
-    /// takes memory; where that is refused nothing changes.
+    /// takes memory. If that is refused, nothing changes.
     fn grow(&mut self) -> Result<(), AllocError>
         ensures { AreCounts (count_in self.old) (count_in self.new) }
     {
@@ -235,9 +235,9 @@ impl Counts {
         Ok(())
     }
 
-    /// Counts a pattern as being there and being played as often again as the entry says. Where it
-    /// has no count yet, the entry's game is its first. It takes memory where a quarter of the
-    /// places would not stay free for what is expected.
+    /// Adds an entry to the counts of its pattern. If the pattern has no count yet, the entry's
+    /// game is its first. It takes memory if a quarter of the places would not stay free for what
+    /// is expected.
     pub fn add(&mut self, entry: Entry) -> Result<(), TallyFault>
         ensures ok { OnOk result
             (AreCounts (counted_with entry (count_in self.old)) (count_in self.new)) }

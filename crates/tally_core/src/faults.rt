@@ -17,7 +17,7 @@ pub enum TallyFault {
     /// Memory was refused.
     #[error("F6 no memory")]
     Memory,
-    /// The collection is not one that can be read.
+    /// The collection has this fault: it is too large, or a tree has a fault of syntax.
     #[error("{0}")]
     Sgf(SgfFault),
     /// A count is over 2^64 - 1, or a game has at least 2^64 / 5410 actions.

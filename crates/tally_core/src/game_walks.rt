@@ -17,10 +17,11 @@ use go_record::{Action, apply};
 use shape_core::Field;
 use std::alloc::Global;
 
-/// A game that is being walked: the board as it is, what was met so far, and what stays for each
-/// colour.
+/// A game that is being walked: the board as it is, the patterns met so far, and for each colour
+/// the patterns that stay at points, whose last occasions are not counted yet.
 ///
-/// Contracts speak of what would be counted if all that stays were settled now.
+/// Contracts speak of what would be counted if all that stays were settled, which is to count these
+/// occasions, now.
 #[derive(Drop)]
 pub struct GameWalk {
     pub field: Field,
@@ -34,7 +35,7 @@ impl GameWalk {
     ///
     /// # Errors
     ///
-    /// `Memory` where memory was refused.
+    /// `Memory` if memory was refused.
     pub fn begin(alloc: Global, field: Field, meetings: Meetings) -> Result<GameWalk, TallyFault>
         ensures field { IfOk result (λ walk. walk.field ≡ field) }
         ensures meetings { IfOk result (λ walk. walk.meetings ≡ meetings) }
@@ -52,12 +53,12 @@ impl GameWalk {
         })
     }
 
-    /// Counts what an action is the occasion of, and says how many occasions it is: a move onto an
-    /// empty point is one.
+    /// Counts the occasion that an action is, if it is one, and returns how many occasions it is: 1
+    /// for a move onto an empty point, else 0.
     ///
     /// # Errors
     ///
-    /// `Memory` where memory was refused; the walk has no meaning then.
+    /// `Memory` if memory was refused; the walk has no meaning then.
     pub fn count(&mut self, action: Action) -> Result<u64, TallyFault>
         requires on_board { IsActionOn self.old.field.board.size action }
         requires sides { AreSides self.old }
@@ -84,7 +85,8 @@ impl GameWalk {
         Ok(1)
     }
 
-    /// Does an action. The points whose words change join the sets of both colours.
+    /// Does an action on the board, and adds the points whose words change to the sets of both
+    /// colours.
     pub fn act(&mut self, action: Action)
         requires on_board { IsActionOn self.old.field.board.size action }
         requires sides { AreSides self.old }
@@ -100,7 +102,7 @@ impl GameWalk {
             .move_changed(&mut self.black.changed, &mut self.white.changed);
     }
 
-    /// Settles all that stays; the answer is what the game met.
+    /// Counts the occasions of all patterns that still stay, and returns the meetings of the game.
     pub fn finish(self) -> Meetings
         requires sides { AreSides self }
         requires few { Fit (there_both self) }

@@ -11,8 +11,8 @@ ghost use Rattle.tally_core.specs.Games.{IsDictionaryOf};
 use go_record::replays_have_one_result;
 use shape_core::kinds_stay;
 
-/// The dictionary of two lists of games put together is the join of their dictionaries, and the
-/// join is that.
+/// The dictionary of two lists of games together is the join of their dictionaries, and the join is
+/// the dictionary of both lists.
 pub fn dictionaries_join()
     ensures join { (kinds : Kinds) → (left : List Replayed) → (right : List Replayed)
         → (of_left : Contents) → (of_right : Contents) → (both : Contents)
@@ -27,9 +27,9 @@ pub fn dictionaries_join()
     kinds_stay();
 }
 
-/// There is at most one pattern with which the patterns of a collection are first more than some
-/// number, and one first game that has it, whichever of the collection's first trees say so. There
-/// is none where all its games have no more patterns, and then none of its games have more.
+/// There is at most one pattern with which the patterns of a collection first become more than some
+/// number, and one first game that has it, whichever of the collection's first trees say so. If all
+/// its games have no more patterns than that, there is none, and none of its games have more.
 pub fn one_first_beyond()
     ensures one { (kinds : Kinds) → (bytes : List ℕ) → (most game word other second : ℕ)
         → IsFirstBeyond kinds bytes most game word → IsFirstBeyond kinds bytes most other second

@@ -12,25 +12,26 @@ use shape_core::Shape;
 use std::alloc::{AllocError, Global};
 use std::marker::Model;
 
-/// A pattern as a walk of a game met it: how often it was there and was played since. A pattern may
-/// have several.
+/// A pattern that a walk of a game met, with how often it was there and was played since. A pattern
+/// may have several meetings.
 #[derive(Clone, Copy, Debug, PartialEq, Eq)]
 pub struct Meeting {
     /// The pattern.
     pub shape: Shape,
-    /// At how many points of occasions it was there.
+    /// How often it was there: once for each point that has it at an occasion.
     pub there: u64,
     /// How many moves played it.
     pub played: u64,
 }
 
-/// Meetings in their order, and an index of their shapes.
+/// The meetings of a game, in the order in which they came, and an index of their shapes.
 #[derive(Drop)]
 pub struct Meetings {
     list: Vec<Meeting>,
-    /// For a place made of a shape, and those after it, one more than the index of a meeting; 0
-    /// where it is free. Of a place nothing is believed that the meeting itself does not say, so
-    /// the index needs no invariant: were it wrong, a shape would have two meetings.
+    /// A table by open addressing, in which a shape is looked up from a place made of it on. A
+    /// place has one more than the index of a meeting, or 0 if it is free. Nothing that it says is
+    /// believed without the meeting itself, so the index needs no invariant: were it wrong, a shape
+    /// would have two meetings.
     index: Vec<u32>,
 }
 
@@ -46,23 +47,23 @@ impl Model for Meetings {
 /// How many places an index has at first.
 const FIRST_PLACES: usize = 4096;
 
-/// Where a shape is looked up.
+/// What looking a shape up finds.
 #[derive(Clone, Copy)]
 enum Place {
-    /// Its meeting has this index.
+    /// The shape's meeting has this index.
     Met(usize),
-    /// It has none, and this place of the index is free.
+    /// The shape has no meeting, and this place of the index is free.
     Free(usize),
 }
 
-/// A number that differs much between shapes that differ little.
+/// A hash of a shape: it differs much between shapes that differ little.
 fn mixed(shape: Shape) -> usize {
     let product = shape.word().bits().wrapping_mul(0x9E37_79B9_7F4A_7C15);
     (product >> 32) as usize
 }
 
 impl Meetings {
-    /// No meetings. It takes no memory.
+    /// An empty list of meetings. It takes no memory.
     pub fn new(alloc: Global) -> Meetings
         ensures { result ≡ [] }
     {
@@ -72,8 +73,8 @@ impl Meetings {
         }
     }
 
-    /// Forgets all meetings. The index is half as long where few of its places were taken, so that
-    /// one long game does not burden all that follow. It takes memory for the first index.
+    /// Removes all meetings. The index is made half as long if few of its places were taken, so
+    /// that one long game does not burden all that follow. It takes memory for the first index.
     pub fn clear(&mut self) -> Result<(), TallyFault>
         ensures empty { self.new ≡ [] }
         ensures fault { IfErr result (λ found. found ≡ fault.Memory) }
@@ -90,15 +91,15 @@ impl Meetings {
         Ok(())
     }
 
-    /// The meetings, in their order.
+    /// All meetings of the game so far, in the order in which they came.
     pub fn as_slice(&self) -> &[Meeting]
         ensures { result.now ≡ self.now }
     {
         self.list.as_slice()
     }
 
-    /// What is at a place of the index: the meeting there, if it is of this shape; None where it is
-    /// of another.
+    /// What a place of the index has for this shape: its meeting, or that the place is free. None
+    /// if the meeting there is of another shape.
     #[inline(always)]
     fn look(&self, place: usize, shape: Shape) -> Option<Place>
         ensures { IfSome result (IsPlaceOf (shapes_of self.now) shape) }
@@ -111,7 +112,7 @@ impl Meetings {
         }
     }
 
-    /// The first place after this one that is free or has a meeting of this shape; where there is
+    /// The first place after this one that is free or has a meeting of this shape. If there is
     /// none, this one. It is out of line, since it is rarely reached.
     #[inline(never)]
     fn place_after(&self, own: usize, shape: Shape) -> usize {
@@ -127,7 +128,7 @@ impl Meetings {
     }
 
     /// Looks a shape up: from its own place on, up to its meeting or to the first free place. None
-    /// where no place is free.
+    /// if there is neither.
     #[inline(always)]
     fn find(&self, shape: Shape) -> Option<Place>
         ensures { IfSome result (IsPlaceOf (shapes_of self.now) shape) }
@@ -153,7 +154,7 @@ impl Meetings {
         Ok(())
     }
 
-    /// Enters a meeting that has no place yet.
+    /// Enters a meeting into the index, in which it has no place yet.
     fn enter(&mut self, at: usize)
         ensures { self.new ≡ self.old }
     {
@@ -165,7 +166,7 @@ impl Meetings {
         }
     }
 
-    /// Says at a place of the index which meeting is there.
+    /// Notes at a place of the index that this meeting is there.
     fn take(&mut self, place: usize, at: usize)
         ensures { self.new ≡ self.old }
     {
@@ -174,8 +175,8 @@ impl Meetings {
         }
     }
 
-    /// The index of a meeting of this shape: one that is there, or a new one. It is inlined, since
-    /// it runs for every point that changed.
+    /// Returns the index of a meeting of this shape: one that is there, or a new one. It is
+    /// inlined, since it runs for every point that changed.
     #[inline(always)]
     pub fn meet(&mut self, shape: Shape) -> Result<usize, AllocError>
         ensures met { IfOk result (IsMet (shapes_of self.new) shape) }
@@ -202,7 +203,7 @@ impl Meetings {
         Ok(at)
     }
 
-    /// Counts a meeting's shape as being there this often again.
+    /// Counts a meeting's shape as there `times` times more.
     pub fn add_there(&mut self, at: usize, times: u64)
         requires inside { at < length (shapes_of self.old) }
         requires few { there_among self.old (slice_index (shapes_of self.old) at) + times < 2 ^ 64 }

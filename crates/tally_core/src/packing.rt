@@ -1,4 +1,4 @@
-//! What stays at a point, in three words: both of its patterns began to stay at one occasion.
+//! The patterns that stay at a point, in three words: both began to stay at one occasion.
 ghost use Rattle.std.specs.Prelude.{◌≡◌, None};
 ghost use Rattle.tally_core.specs.Inner.Packing.{stay_of, BeginsAt};
 
@@ -8,13 +8,13 @@ use std::marker::Model;
 /// Stands for no meeting: no list has so many.
 const NOTHING: usize = usize::MAX;
 
-/// What stays at a point, as a walk keeps it for each: so that of both colours stands in a
-/// processor's first cache.
+/// The patterns that stay at a point, as a walk keeps them for each point: small enough that those
+/// of both colours fit a processor's first cache.
 #[derive(Drop, Clone)]
 pub struct PackedStays {
     /// The index of the square's meeting.
     square: usize,
-    /// The index of the diamond's.
+    /// The index of the diamond's meeting.
     diamond: usize,
     /// How many occasions of the mover there had been when they began to stay.
     since: u64,
@@ -29,7 +29,7 @@ impl Model for PackedStays {
     ghost view = { λ p. stays_of p.square p.diamond p.since };
 }
 
-/// The stay of the meeting of this index, from this occasion on.
+/// The stay of the meeting of this index, from this occasion on, or None for `NOTHING`.
 fn stay_at(at: usize, since: u64) -> Option<Stay>
     ensures { result ≡ stay_of at since }
 {
@@ -39,7 +39,7 @@ fn stay_at(at: usize, since: u64) -> Option<Stay>
     Some(Stay { meeting: at, since })
 }
 
-/// The index that stands for a stay from this occasion on, or for none.
+/// The index of the meeting of a stay from this occasion on, or `NOTHING` if there is no stay.
 fn index_of(stay: Option<Stay>, since: u64) -> usize
     requires { BeginsAt since stay }
     ensures { stay_of result since ≡ stay }
@@ -52,7 +52,7 @@ fn index_of(stay: Option<Stay>, since: u64) -> usize
 }
 
 impl PackedStays {
-    /// Nothing stays.
+    /// The stays of a point at which nothing stays.
     pub fn none() -> PackedStays
         ensures { result ≡ record { square = None; diamond = None } }
     {
@@ -63,7 +63,7 @@ impl PackedStays {
         }
     }
 
-    /// What begins to stay at this occasion.
+    /// The stays of a square and a diamond, each of which begins at this occasion.
     pub fn new(square: Option<Stay>, diamond: Option<Stay>, since: u64) -> PackedStays
         requires square { BeginsAt since square }
         requires diamond { BeginsAt since diamond }
@@ -76,7 +76,7 @@ impl PackedStays {
         }
     }
 
-    /// What stays.
+    /// The stays of the point's square and diamond.
     pub fn get(&self) -> Stays
         ensures { result ≡ self.now }
     {

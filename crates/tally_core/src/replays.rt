@@ -1,4 +1,4 @@
-//! A game, walked and counted.
+//! Walks a game and adds what it met to counts.
 ghost use Rattle.std.specs.Prelude.{◌≡◌, ◌*◌, ◌≤◌, length, IfOk, IfErr, OnOk};
 ghost use Rattle.tally_core.specs.Inner.Counter.{count_in, CountsGame, CountsMeetings, IsMeetingsFault};
 ghost use Rattle.tally_core.specs.Inner.Counter.{GrowsBy, IsCountingFault};
@@ -32,7 +32,7 @@ pub(crate) fn count_meetings(
     Ok(())
 }
 
-/// Walks a game and counts what it met; the answer is how many occasions it has.
+/// Walks a game, counts the patterns that it met, and returns how many occasions it has.
 pub(crate) fn count_game(
     counts: &mut Counts,
     walk: &mut Walk,

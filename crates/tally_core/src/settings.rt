@@ -39,7 +39,7 @@ impl Settings {
     ///
     /// # Errors
     ///
-    /// `TallyFault::BadSettings` where the workers are outside 1 to 64, or k is over 22.
+    /// `TallyFault::BadSettings` if the workers are outside 1 to 64, or k is over 22.
     pub fn new(workers: u8, k: u8) -> Result<Settings, TallyFault>
         ensures ok { IsOk result ↔ AreLimits (record {
           workers = workers;
@@ -60,7 +60,7 @@ impl Settings {
         })
     }
 
-    /// The same settings that count these kinds.
+    /// The same settings, but these kinds are counted.
     pub fn with(self, kinds: Kinds) -> Settings
         ensures { result ≡ record self { kinds = kinds } }
     {
@@ -74,7 +74,7 @@ impl Settings {
         self.workers
     }
 
-    /// The table has 2 to this power slots, from 0 to 22.
+    /// The exponent k, from 0 to 22: the table has 2^k slots.
     pub fn k(self) -> u8
         ensures { result ≡ self.k }
     {

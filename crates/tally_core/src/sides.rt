@@ -30,8 +30,8 @@ pub struct Side {
 }
 
 impl Side {
-    /// A side before the first action: nothing stays, and every point is in the set. It takes
-    /// memory for each point.
+    /// A side before the first action: nothing stays, and every point is among those that changed.
+    /// It takes memory for each point.
     pub fn begin(alloc: Global, size: Size) -> Result<Side, TallyFault>
         ensures side { IfOk result (IsNewSide size) }
         ensures fault { IfErr result (λ found. found ≡ fault.Memory) }
@@ -49,7 +49,7 @@ impl Side {
         })
     }
 
-    /// Settles what stays at all points.
+    /// Counts the occasions of all patterns that stay, at all points.
     pub fn settle(&self, meetings: &mut Meetings)
         requires stays { All (AreStays (length (shapes_of meetings.old)) self.now.occasions)
             self.now.points.items }

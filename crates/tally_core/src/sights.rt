@@ -21,8 +21,8 @@ use crate::stays::{begin, play, settle_point};
 use go_board::{Colour, Point};
 use shape_core::{Field, Kinds};
 
-/// Looks at an empty point again: what stayed there is settled, and its patterns begin to stay, the
-/// square first.
+/// Looks at an empty point again: counts the occasions of the patterns that stayed there, and has
+/// its present patterns begin to stay, the square first.
 fn see_point(
     meetings: &mut Meetings,
     stays: &mut PackedStays,
@@ -58,8 +58,8 @@ fn see_point(
 }
 
 impl Side {
-    /// Settles what stays at the points of these bits of a row. They have stones, so nothing stays
-    /// there from now on.
+    /// Counts the occasions of the patterns that stay at the points of these columns of a row. They
+    /// have stones, so nothing stays there from now on.
     fn leave_points(&mut self, meetings: &mut Meetings, field: &Field, row: u8, columns: u64)
         requires row { row < field.now.board.size.rows }
         requires columns { columns < 2 ^ field.now.board.size.columns }
@@ -91,8 +91,8 @@ impl Side {
 
     /// Looks again at the points of a row that have changed, and takes them out of the set: first
     /// at those where something stays and a stone is now, then at those that are empty, from the
-    /// left. Where there was a stone and is one still, nothing stays and nothing comes, so such
-    /// points are not looked at.
+    /// left. If there was a stone and is one still, nothing stays and nothing comes, so such points
+    /// are not looked at.
     fn see_row(
         &mut self,
         meetings: &mut Meetings,

@@ -1,4 +1,4 @@
-//! What stays at the points of a board while a game is walked: most patterns do, and only what
+//! The patterns that stay at the points of a board while a game is walked: most do, and only what
 //! changes is looked up.
 ghost use Rattle.std.specs.Prelude.{◌≡◌, ◌+◌, ◌<◌, ◌^◌, ◌∷◌, ℕ, [], length, IfOk, IfErr, OnOk};
 ghost use Rattle.tally_core.specs.Inner.Counter.{times_in};
@@ -21,7 +21,7 @@ pub struct Stay {
     pub since: u64,
 }
 
-/// What stays at a point: nothing where it is not empty, and no diamond where squares alone are
+/// The patterns that stay at a point: none if it is not empty, and no diamond if squares alone are
 /// counted.
 #[derive(Clone, Copy)]
 pub struct Stays {
@@ -29,7 +29,7 @@ pub struct Stays {
     pub diamond: Option<Stay>,
 }
 
-/// Counts the occasions of a stay.
+/// Counts a stay's pattern as there at each occasion since it began to stay.
 pub(crate) fn settle(meetings: &mut Meetings, stay: Option<Stay>, occasions: u64)
     requires stay { IsStay (length (shapes_of meetings.old)) occasions stay }
     requires few { (shape : ℕ) →
@@ -46,7 +46,7 @@ pub(crate) fn settle(meetings: &mut Meetings, stay: Option<Stay>, occasions: u64
     }
 }
 
-/// Settles what stays at a point.
+/// Counts the patterns that stay at a point as there, as `settle` does.
 pub(crate) fn settle_point(meetings: &mut Meetings, stays: Stays, occasions: u64)
     requires stays { AreStays (length (shapes_of meetings.old)) occasions stays }
     requires few { Fit (there_at meetings.old occasions stays) }
@@ -74,7 +74,8 @@ pub(crate) fn play(meetings: &mut Meetings, stay: Option<Stay>)
     }
 }
 
-/// A stay of a pattern that begins now. It is inlined, since it runs for every point that changed.
+/// Has a pattern begin to stay now, and returns the stay of its meeting. It is inlined, since it
+/// runs for every point that changed.
 #[inline(always)]
 pub(crate) fn begin(
     meetings: &mut Meetings,

@@ -1,4 +1,4 @@
-//! The tally of one game.
+//! The tally of one game: how often each of its patterns was there and was played.
 ghost use Rattle.std.specs.Prelude.{IfOk, IfErr};
 ghost use Rattle.tally_core.specs.Tally.{IsTally, IsTallyFault};
 
@@ -45,7 +45,8 @@ impl Tally {
         self.moves
     }
 
-    /// The patterns, rising; none of them says a first game. The value is the tally of some game.
+    /// The entries of the patterns, in the order of their words and without first games. The value
+    /// is the tally of some game.
     pub fn entries(&self) -> &[Entry]
         ensures entries { result.now ≡ self.now.entries }
         ensures tally { IsSomeTally self.now }
@@ -60,9 +61,9 @@ impl Tally {
 ///
 /// # Errors
 ///
-/// `TallyFault::Memory` where memory for the board or the counts was refused.
-/// `TallyFault::Overflow` where the game has at least 2^64 / 5410 actions, which no input has:
-/// with fewer, no count passes 2^64 - 1.
+/// `TallyFault::Memory` if memory for the board or the counts was refused. `TallyFault::Overflow`
+/// if the game has at least 2^64 / 5410 actions, which no input has: with fewer, no count passes
+/// 2^64 - 1.
 pub fn tally_plain(alloc: Global, kinds: Kinds, game_record: &Record) -> Result<Tally, TallyFault>
     ensures tally { IfOk result (IsTally kinds game_record.now) }
     ensures fault { IfErr result (IsTallyFault game_record.now) }

@@ -18,8 +18,8 @@ use sgf_core::few_values;
 use shape_core::Kinds;
 use std::alloc::Global;
 
-/// A game of an input that was walked: its job, how many moves onto empty points it has, and what
-/// it met.
+/// A game of an input that was walked: its job, how many moves onto empty points it has, and the
+/// patterns it met.
 #[derive(Drop)]
 pub struct WalkedGame<'a> {
     pub job: Job<'a>,
@@ -27,7 +27,8 @@ pub struct WalkedGame<'a> {
     pub meetings: Vec<Meeting>,
 }
 
-/// Reads the games of an input one after another, and walks them.
+/// Reads the games of an input one after another, and walks each: replays it, and lists the
+/// patterns that it meets.
 #[derive(Drop)]
 pub struct Walker<'a> {
     pub alloc: Global,
@@ -36,7 +37,7 @@ pub struct Walker<'a> {
 }
 
 impl<'a> Walker<'a> {
-    /// Nothing of this input was read yet. It takes no memory.
+    /// A walker at the beginning of this input. It takes no memory.
     pub fn begin(alloc: Global, kinds: Kinds, bytes: &'a [u8]) -> Result<Walker<'a>, TallyFault>
         ensures kinds { IfOk result (λ walker. walker.walk.kinds ≡ kinds) }
         ensures games { IfOk result (λ walker. walker.games ≡ record {
@@ -59,14 +60,14 @@ impl<'a> Walker<'a> {
         })
     }
 
-    /// What the trees are that were read so far.
+    /// How many of the trees read so far are games of Go, are of other games, and are refused.
     pub fn report(&self) -> Report
         ensures { result ≡ self.now.games.report }
     {
         self.games.report()
     }
 
-    /// Walks the next game, or answers None where none is left. It takes memory for its tree, its
+    /// Walks the next game, or returns None if none is left. It takes memory for its tree, its
     /// record and what it met.
     pub fn next(&mut self) -> Result<Option<WalkedGame<'a>>, TallyFault>
         requires small { length self.old.games.bytes ≤ most_bytes }

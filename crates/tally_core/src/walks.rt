@@ -17,7 +17,7 @@ use std::mem;
 /// most 5410 times.
 const MOST_ACTIONS: usize = 3_409_749_366_674_594;
 
-/// One walk of a game after another: what it needs, and the patterns that the last game had.
+/// What walks one game after another: the memory it uses, and the patterns that the last game had.
 #[derive(Drop)]
 pub struct Walk {
     alloc: Global,
@@ -36,7 +36,8 @@ impl Model for Walk {
 impl Walk {
     ghost use Rattle.shape_core.specs.declared.words.Kinds.{Kinds};
 
-    /// Nothing was walked yet. It takes no memory. `kinds` says which kinds of pattern are met.
+    /// A walk that has walked no game yet. It takes no memory. `kinds` says which kinds of pattern
+    /// are met.
     pub fn begin(alloc: Global, kinds: Kinds) -> Walk
         ensures { result ≡ record { kinds = kinds; meetings = [] } }
     {
@@ -47,15 +48,15 @@ impl Walk {
         }
     }
 
-    /// Replays a game and lists its patterns in the order in which they are first met; the answer
-    /// is how many occasions it has. What was met in the game before is forgotten, and its memory
-    /// used again. It takes memory for the board and for the patterns.
+    /// Replays a game and lists its patterns in the order in which they are first met. Returns how
+    /// many occasions it has. What was met in the game before is forgotten, and its memory used
+    /// again. It takes memory for the board and for the patterns.
     ///
     /// # Errors
     ///
-    /// `TallyFault::Memory` where memory was refused, and `TallyFault::Overflow` only where the
-    /// game has more actions than any input. After a fault nothing is known of the meetings, and
-    /// the walk can be used as before.
+    /// `TallyFault::Memory` if memory was refused, and `TallyFault::Overflow` only if the game has
+    /// more actions than any input. After a fault nothing is known of the meetings, and the walk
+    /// can be used as before.
     pub fn walk(&mut self, game_record: &Record) -> Result<u64, TallyFault>
         ensures walked { IfOk result (IsWalk self.old.kinds game_record.now self.new.meetings) }
         ensures among { OnOk result (IsAmong self.new.meetings) }
@@ -82,7 +83,7 @@ impl Walk {
         Ok(moves)
     }
 
-    /// What the last walk met. After none there is nothing.
+    /// The patterns that the last game met, each with its counts. None if no game was walked.
     pub fn meetings(&self) -> &[Meeting]
         ensures { result.now ≡ self.now.meetings }
     {

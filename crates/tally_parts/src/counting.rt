@@ -16,25 +16,25 @@ use std::alloc::Global;
 use std::sync::Wait;
 use std::thread::Threads;
 
-/// How many threads make a text of a dictionary at most.
+/// The most threads that make a text of a dictionary.
 const MOST_THREADS: usize = 16;
 
-/// How many threads make a text of a dictionary at least: counting is over then.
+/// The fewest threads that make a text of a dictionary: counting is over then.
 const LEAST_THREADS: usize = 4;
 
-/// How many threads make a text of a dictionary.
+/// How many threads make a text of a dictionary under this plan.
 pub(crate) fn threads_for(plan: Plan) -> usize {
     usize::from(plan.workers).clamp(LEAST_THREADS, MOST_THREADS)
 }
 
-/// The counts of an entry are below 2^64.
+/// Shows the prover that the counts of an entry are below 2^64.
 fn counts_fit(entry: Entry)
     ensures { entry.there < 2 ^ 64 }
 {
     let _ = entry.there;
 }
 
-/// The counts of the entries of a list are below 2^64.
+/// Shows the prover that the counts of all entries of a list are below 2^64.
 fn list_fits(entries: &[Entry])
     ensures { All (λ entry. entry.there < 2 ^ 64) entries.now }
 {
@@ -43,7 +43,7 @@ fn list_fits(entries: &[Entry])
     }
 }
 
-/// The numbers of a dictionary are below 2^64.
+/// Shows the prover that all numbers of a dictionary are below 2^64.
 fn numbers_fit(dictionary: &PieceDictionary)
     ensures { IsSmall dictionary.now }
 {
@@ -56,11 +56,11 @@ fn numbers_fit(dictionary: &PieceDictionary)
     }
 }
 
-/// The dictionary of the games of a part: of all its texts, in their order.
+/// Counts a part, and returns the dictionary of the games of all its texts, in their order.
 ///
 /// # Errors
 ///
-/// `Count` with F6 where memory was refused. No other fault comes, since each text can be read.
+/// `Count` with F6 if memory was refused. No other fault comes, since each text can be read.
 pub(crate) fn count_part<R: Threads + Wait + Sync>(
     rt: &R,
     alloc: Global,
@@ -89,11 +89,11 @@ pub(crate) fn count_part<R: Threads + Wait + Sync>(
     }
 }
 
-/// Keeps a text of a dictionary that leaves nothing of it out.
+/// Keeps the whole dictionary of a part as a text, which leaves nothing of it out.
 ///
 /// # Errors
 ///
-/// `Memory` where memory for the text was refused; `Spill` where it could not be written or kept.
+/// `Memory` if memory for the text was refused; `Spill` if it could not be written or kept.
 pub(crate) fn spill<R: Threads + Sync, S: Spills>(
     rt: &R,
     alloc: Global,

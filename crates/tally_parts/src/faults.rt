@@ -14,7 +14,7 @@ pub enum PartsFault {
     /// Memory was refused.
     #[error("M1 no memory")]
     Memory,
-    /// No dictionary is wanted, by what its texts are.
+    /// `Texts::is_wanted` said that no dictionary is wanted, once all texts were judged.
     #[error("no dictionary is wanted")]
     Unwanted,
     /// A part was not counted, though each of its texts can be read.
@@ -31,8 +31,8 @@ pub enum PartsFault {
     Write { written: usize },
 }
 
-/// The exit status of a fault: 1 for `Unwanted`, 5 where memory was refused, 6 where a read or a
-/// write failed.
+/// The exit status of a fault: 1 for `Unwanted`, 5 if memory was refused, 6 if a read or a write
+/// failed.
 pub fn status_of(fault: &PartsFault) -> u8
     ensures { result ≡ status_of fault.now }
 {

@@ -1,4 +1,4 @@
-//! Parts: good texts, one after another, as many as are counted together.
+//! Parts: texts that can be read, one after another, as many as are counted together.
 ghost use Rattle.std.specs.Prelude.{◌≡◌, ◌+◌, ◌^◌, ◌<◌, ◌≤◌, [], ℕ, List, length, Some, false, IfOk, IfErr, OnOk};
 ghost use Rattle.merge_core.specs.Merge.{AreInputs};
 ghost use Rattle.batch_core.specs.Batch.{joined};
@@ -13,19 +13,19 @@ use game_core::{GamesFault, Report};
 use sgf_core::{MOST_BYTES, SgfFault};
 use std::alloc::{AllocError, Global};
 
-/// How far texts were read.
+/// How far the texts were read, and the text that waits for the next part, if one does.
 #[derive(Drop)]
 pub(crate) struct Feed {
-    /// The number of the next text that is read.
+    /// The number of the text that is read next.
     pub next: usize,
-    /// The bytes of the one that was read last.
+    /// The bytes of the text that was read last.
     pub room: Vec<u8>,
-    /// Whether that is good, and waits for the next part.
+    /// Whether that text can be read to its end, and waits for the next part.
     pub waits: bool,
 }
 
 impl Feed {
-    /// Nothing was read yet. It takes no memory.
+    /// The start: no text was read yet. It takes no memory.
     pub(crate) fn new(alloc: Global) -> Feed
         ensures next { result.next ≡ 0 }
         ensures waits { result.waits ≡ false }
@@ -38,12 +38,12 @@ impl Feed {
     }
 }
 
-/// What the trees of a text are.
+/// Returns the report on the trees of a text.
 ///
 /// # Errors
 ///
-/// `Sgf` with S4 where it has 2^28 bytes or more, since one more stands after it in a part; else
-/// with its first fault of syntax; `Memory` where memory was refused.
+/// `Sgf` with S4 if the text has 2^28 bytes or more, since in a part one more byte stands after it.
+/// Else `Sgf` with its first fault of syntax. `Memory` if memory was refused.
 fn judge(alloc: Global, text: &[u8]) -> Result<Report, GamesFault>
     ensures { IsJudgement text.now result }
 {
@@ -53,17 +53,17 @@ fn judge(alloc: Global, text: &[u8]) -> Result<Report, GamesFault>
     report_of(alloc, text)
 }
 
-/// Whether a text of this many bytes can be put to a part of this many, in which there should be no
+/// Whether a text of `text` bytes can be put to a part of `part` bytes, in which there should be no
 /// more than `most`.
 fn fits(part: usize, text: usize, most: usize) -> bool {
     part == 0 || part.saturating_add(text) < most.min(MOST_BYTES)
 }
 
-/// Puts the text that waits, if one does, to a part that is empty.
+/// Appends the text that waits, if one does, to a part that is empty.
 ///
 /// # Errors
 ///
-/// `AllocError` where memory was refused.
+/// `AllocError` if memory was refused.
 fn push_waiting(feed: &mut Feed, part: &mut Vec<u8>) -> Result<(), AllocError>
     requires { part.old.items ≡ [] }
     ensures pushed { OnOk result (part.new.items ≡ joined (waiting_of feed.old)) }
@@ -77,12 +77,12 @@ fn push_waiting(feed: &mut Feed, part: &mut Vec<u8>) -> Result<(), AllocError>
     Ok(())
 }
 
-/// Reads the text of this number, from 0, into the feed's buffer. If it was read, `judged` gets
-/// what its trees are, or its fault. The answer is whether it was read and has no fault.
+/// Reads text `n`, from 0, into the feed's buffer. If it was read, `Texts::judged` gets the report
+/// on its trees, or its fault. Returns whether it was read and has no fault.
 ///
 /// # Errors
 ///
-/// `Memory` where memory was refused.
+/// `Memory` if memory was refused.
 fn read_next<T: Texts>(
     alloc: Global,
     texts: &mut T,
@@ -112,12 +112,13 @@ fn read_next<T: Texts>(
     Ok(found.is_ok())
 }
 
-/// Puts good texts together to a part: the one that waits, and those after it, up to one that would
-/// have the part exceed `most` bytes. That one waits then.
+/// Fills an empty part with texts: the one that waits, if one does, and those read after it. Texts
+/// that can't be read or have a fault are left out. It stops at the first text that would have the
+/// part exceed `most` bytes: that text waits for the next part.
 ///
 /// # Errors
 ///
-/// `Memory` where memory was refused.
+/// `Memory` if memory was refused.
 pub(crate) fn fill<T: Texts>(
     alloc: Global,
     texts: &mut T,

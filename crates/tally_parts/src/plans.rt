@@ -5,7 +5,7 @@ ghost use Rattle.tally_parts.specs.Parts.{kinds_for};
 use shape_core::Kinds;
 use shape_dict::Text;
 
-/// How collections are counted.
+/// How collections are counted, and which text of their dictionary is written.
 #[derive(Clone, Copy, Debug, PartialEq, Eq)]
 pub struct Plan {
     /// Which text of the dictionary is written.
@@ -16,7 +16,8 @@ pub struct Plan {
     pub most: usize,
 }
 
-/// The kinds of pattern that a text has: text 1 has squares alone, and the others diamonds too.
+/// The kinds of pattern that a text of a dictionary has: text 1 has squares alone, and the others
+/// diamonds too.
 pub(crate) fn kinds_for(text: Text) -> Kinds
     ensures { result ≡ kinds_for text }
 {

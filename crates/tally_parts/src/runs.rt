@@ -27,7 +27,7 @@ use tally_core::dictionaries_join;
 ///
 /// # Errors
 ///
-/// `Memory` where memory for the text was refused; `Write` where the writer failed.
+/// `Memory` if memory for the text was refused; `Write` if the writer failed.
 fn write_alone<R: Threads + Sync, W: Write>(
     rt: &R,
     alloc: Global,
@@ -50,7 +50,7 @@ fn write_alone<R: Threads + Sync, W: Write>(
     }
 }
 
-/// Counts one part after another while a text waits, and keeps the dictionary of each.
+/// Counts one part after another as long as a text waits, and keeps the dictionary of each part.
 ///
 /// # Errors
 ///
@@ -86,7 +86,7 @@ fn spill_more<R: Threads + Wait + Sync, T: Texts, S: Spills>(
 ///
 /// # Errors
 ///
-/// `Merge` where they can't be joined, or the join can't be written.
+/// `Merge` if they can't be joined, or the join can't be written.
 fn write_joined<R: Threads + Sync, S: Spills + Sync, W: Write>(
     rt: &R,
     alloc: Global,
@@ -119,23 +119,24 @@ fn write_joined<R: Threads + Sync, S: Spills + Sync, W: Write>(
 }
 
 /// Reads texts of games one after another, counts the games of those that can be read, and writes a
-/// text of the dictionary of all these games, which are numbered from 0 in the order of the texts.
-/// Text 1 has squares alone, and the others have diamonds too. A text that has 2^28 bytes or more,
-/// or a fault of syntax, is left out whole, and `Texts::judged` gets its fault.
+/// text of the dictionary of all these games. The games are numbered from 0 in the order of the
+/// texts. Text 1 has squares alone, and the others have diamonds too. A text that has 2^28 bytes or
+/// more, or a fault of syntax, is left out whole, and `Texts::judged` gets its fault.
 ///
-/// The texts are counted in parts: each has as many texts as the plan's number of bytes allows, or
-/// one that is larger. `harvest_all` counts a part, on as many threads as it says. Where there is
-/// more than one part, the dictionary of each is kept as a text, and `run_merge` joins them. The
-/// answer is the same for each number of workers and of bytes. It takes memory for one part and one
-/// text more, and for what `harvest_all` and `run_merge` take. This project's own.
+/// The texts are counted in parts. A part has as many texts as the plan's number of bytes allows,
+/// or one text that is larger. `harvest_all` counts a part, on as many threads as it says. If there
+/// is more than one part, the dictionary of each is kept as a text, and `run_merge` joins them.
+/// What is written is the same for each number of workers and of bytes. It takes memory for one
+/// part and one text more, and for what `harvest_all` and `run_merge` take. This project's own.
 ///
 /// # Errors
 ///
-/// `Memory`, or `Count` with F6, where memory was refused; `Unwanted` where no dictionary is
-/// wanted once all texts were judged; `Spill` where a part's dictionary could not be kept; `Merge`
-/// where one that was kept can't be read, or is not what was kept; nothing is written before. Then
-/// `Write` where the writer failed, or `Merge` with the number of bytes that are out: what is out
-/// is a front of the text.
+/// `Memory`, or `Count` with F6, if memory was refused. `Unwanted` if no dictionary is wanted once
+/// all texts were judged. `Spill` if a part's dictionary could not be kept. `Merge` if a dictionary
+/// that was kept can't be read, or is not what was kept, or if memory for the join was refused
+/// before its text began. Nothing is written then. Else `Write` if the writer failed, or `Merge` if
+/// it failed or memory was refused while the join was written, with the number of bytes that are
+/// out: what is out is the beginning of the text.
 pub fn run_tally<R: Threads + Wait + Sync, T: Texts, S: Spills + Sync, W: Write>(
     rt: &R,
     alloc: Global,

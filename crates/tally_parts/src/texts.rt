@@ -9,19 +9,19 @@ pub trait Texts {
     /// How many texts there are.
     ghost number: { Self → ℕ };
 
-    /// The bytes of each, from 0, where they are known.
+    /// The bytes of each text, by its number from 0, if they are known.
     ghost bytes: { Self → ℕ → Option (List ℕ) };
 
     /// How many texts there are.
     fn count(&self) -> usize
         ensures { result ≡ number self.now };
 
-    /// Reads the text of this number, from 0, into an empty buffer. The answer is whether it could
-    /// be read. One that can't be is left out.
+    /// Reads text `n`, from 0, into an empty buffer. Returns whether it could be read. A text that
+    /// can't be read is left out.
     ///
     /// # Errors
     ///
-    /// `AllocError` where memory was refused.
+    /// `AllocError` if memory was refused.
     fn read(&mut self, n: usize, room: &mut Vec<u8>) -> Result<bool, AllocError>
         requires within { n < number self.old }
         requires empty { room.old.items ≡ [] }
@@ -30,8 +30,8 @@ pub trait Texts {
         ensures read { (text : List ℕ) → bytes self.old n ≡ Some text
             → IfOk result (λ found. (found ≡ true) × (room.new.items ≡ text)) };
 
-    /// Takes note of what the trees of a text are, from 0, or of its fault, for which it is left
-    /// out. It is called once for each text that could be read, in their order.
+    /// Takes note of the report on the trees of text `n`, from 0, or of the fault for which the
+    /// text is left out. It is called once for each text that could be read, in their order.
     fn judged(&mut self, n: usize, found: Result<Report, GamesFault>)
         ensures number { number self.new ≡ number self.old }
         ensures bytes { bytes self.new ≡ bytes self.old };

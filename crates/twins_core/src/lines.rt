@@ -1,4 +1,4 @@
-//! The line of a game and the first that has its record.
+//! The line of a game, with the first game that has its record.
 ghost use Rattle.std.specs.Prelude.{◌≡◌, ◌++◌, OnOk, option_map, string_bytes};
 ghost use Rattle.std.specs.Fmt.{decimal};
 ghost use Rattle.go_record.specs.Actions.{Actions};
@@ -20,7 +20,7 @@ fn push_bounds(text: &mut Vec<u8>, place: Place) -> Result<(), AllocError>
     push_number(text, place.to as u64)
 }
 
-/// Appends the name of a file.
+/// Appends the name of a file, if there is one.
 fn push_file(text: &mut Vec<u8>, name: Option<&str>) -> Result<(), AllocError>
     ensures { OnOk result (text.new.items
         ≡ text.old.items ++ name_text (option_map (λ n. n.now) name.entry)) }
@@ -32,7 +32,7 @@ fn push_file(text: &mut Vec<u8>, name: Option<&str>) -> Result<(), AllocError>
     Ok(())
 }
 
-/// Appends the name of the file of a seat.
+/// Appends the name of the file of a seat (where a game is), if there is one.
 fn push_seat_file(text: &mut Vec<u8>, seat: &Seat) -> Result<(), AllocError>
     ensures { OnOk result (text.new.items
         ≡ text.old.items ++ name_text (option_map string_bytes seat.now.name)) }
@@ -43,8 +43,8 @@ fn push_seat_file(text: &mut Vec<u8>, seat: &Seat) -> Result<(), AllocError>
     }
 }
 
-/// Appends the line of a game that is there, in a file of this name, where the first that has its
-/// record has this seat.
+/// Appends the line of a game at `place`, in the file `name`; `first` is the seat of the first game
+/// that has its record.
 pub(crate) fn push_line(
     text: &mut Vec<u8>,
     place: Place,

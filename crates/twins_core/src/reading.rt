@@ -1,4 +1,4 @@
-//! The trees of an input, one after another, whose games are met.
+//! The trees of an input, read one after another, and each game compared with those met before.
 ghost use Rattle.std.specs.Prelude.{◌≡◌, ◌≤◌, ◌<◌, ◌+◌, ◌^◌, ◌≢◌, [], List, length, option_map, IfOk, IfErr};
 ghost use Rattle.sgf_core.specs.Limit.{most_bytes};
 ghost use Rattle.sgf_core.specs.Tree.{GameTree, main_line_of};
@@ -20,7 +20,7 @@ use listing_core::Want;
 use sgf_core::{SgfFault, Tree, Trees};
 use std::alloc::Global;
 
-/// What sort of tree one is.
+/// What sort of tree one is: a game, a tree of another game, or one that is refused.
 #[derive(Clone, Copy)]
 pub(crate) enum Sort {
     Game,
@@ -28,7 +28,7 @@ pub(crate) enum Sort {
     Refused,
 }
 
-/// What one step met.
+/// What one step of the reading met.
 #[derive(Clone, Copy)]
 pub(crate) enum Step {
     /// A tree of this sort, which ends at this place.
@@ -39,8 +39,8 @@ pub(crate) enum Step {
     Fault(SgfFault),
 }
 
-/// Where the last tree ends, 0 where there is none, what the trees are, and why no further one was
-/// read.
+/// How the reading of trees ended: where the last tree ends (0 if there is none), how many trees of
+/// each sort there are, and the fault for which no further one was read, if there is one.
 #[derive(Clone, Copy)]
 pub(crate) struct Ending {
     pub(crate) end: usize,
@@ -48,7 +48,8 @@ pub(crate) struct Ending {
     pub(crate) fault: Option<SgfFault>,
 }
 
-/// Meets the game that a tree is, if it is one, where `number` is the number of the next game.
+/// Meets a tree's game (`Twins::meet`), if it is one, and returns its sort; `number` is the next
+/// game's number.
 fn meet_tree(
     alloc: Global,
     twins: &mut Twins,
@@ -83,7 +84,7 @@ fn meet_tree(
     }
 }
 
-/// Meets the next tree, where `number` is the number of the next game.
+/// Reads the next tree, and meets its game, if it is one; `number` is the number of the next game.
 fn meet_next(
     alloc: Global,
     twins: &mut Twins,
@@ -113,7 +114,7 @@ fn meet_next(
     }
 }
 
-/// The report on a tree more, of this sort.
+/// Returns the report with one more tree in it, of this sort.
 fn counted(report: Report, sort: Sort) -> Report
     requires { report.games + report.others + report.refused < 2 ^ 63 }
     ensures { result ≡ counted report sort }
@@ -127,7 +128,8 @@ fn counted(report: Report, sort: Sort) -> Report
     report
 }
 
-/// Meets all trees of an input, whose first game has the number `first`.
+/// Meets the games of all trees of an input, and returns how they ended; the first has number
+/// `first`.
 pub(crate) fn meet_all(
     alloc: Global,
     twins: &mut Twins,

@@ -1,4 +1,4 @@
-//! From a reader to a writer: the games whose records earlier ones have.
+//! From a reader to a writer: the games whose record an earlier game has.
 ghost use Rattle.std.specs.Prelude.{◌≤◌, List, option_map, IfOk, IfErr};
 ghost use Rattle.engine_core.specs.Runs.{HasRead, Wrote, IsRunFault};
 ghost use Rattle.listing_core.specs.Listing.{most_first};
@@ -13,7 +13,7 @@ use sgf_core::Trees;
 use std::alloc::Global;
 use std::io::{Read, Write};
 
-/// What is written of an input, and how its reading ended.
+/// Returns what is written of an input, and how its reading ended.
 fn twins_text(
     alloc: Global,
     twins: &mut Twins,
@@ -39,24 +39,24 @@ fn twins_text(
 
 /// Reads a collection and writes a line for each of its games whose record an earlier game has,
 /// with the number of the first that has it, and the places and files of both. The record is the
-/// size of the board with the setup and the moves. Earlier are those of this collection before it,
-/// and those that were met in earlier runs with the same `twins`; each is known afterwards. The
-/// collection's first game has the number `first`, and its file this name.
+/// size of the board with the setup and the moves. Earlier games are those before it in this
+/// collection, and those that were met in earlier runs with the same `twins`. Each game of the
+/// collection is known to `twins` afterwards. The collection's first game has the number `first`,
+/// and `name` is that of its file.
 ///
 /// The answer says how the reading ended and how many trees of each sort there are: the games
 /// before a fault of syntax are met. It takes memory for the input, the lines, and a tree with its
 /// record; and keeps of each record at most five bytes an action, with the place and the name of
-/// the first game that has it. The time grows with the bytes of the input, but for games whose
-/// records fall together in a table of hashes.
+/// the first game that has it. The time grows with the bytes of the input, and each record is
+/// looked up among those that are known.
 ///
 /// # Errors
 ///
-/// `Sgf` with S4 where the input has more than 2^28 bytes, and with S5 where memory for a tree was
-/// refused; `Record` with G4 where memory for a record was. Such memory is asked for only where a
-/// whole tree is next, and G4 only where an action of it comes before the first fault. `Memory`
-/// where other memory was refused; `Read` where the reader failed. Nothing is written then. `Write`
-/// where the writer failed: exactly that number of bytes is out. After a fault nothing is known of
-/// `twins`.
+/// `Sgf` with S4 if the input has more than 2^28 bytes, and with S5 if memory for a tree was
+/// refused. `Record` with G4 if memory for a record was refused. Such memory is asked for only when
+/// a whole tree is next, and G4 only if an action of it comes before the first fault. `Memory` if
+/// other memory was refused; `Read` if the reader failed. Nothing is written then. `Write` if the
+/// writer failed: exactly that number of bytes is out. After a fault nothing is known of `twins`.
 pub fn run_twins<R: Read, W: Write>(
     alloc: Global,
     twins: &mut Twins,

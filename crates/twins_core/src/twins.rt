@@ -1,4 +1,4 @@
-//! The first game of each record.
+//! The first game of each record: the later ones are its twins.
 ghost use Rattle.std.specs.Prelude.{◌≡◌, ◌∷◌, ◌++◌, [], List, None, OnOk, option_map};
 ghost use Rattle.go_record.specs.Actions.{Actions};
 ghost use Rattle.twins_core.specs.Twins.{Met, Knows};
@@ -13,7 +13,7 @@ use std::alloc::{AllocError, Global};
 use std::collections::BTreeMap;
 use std::marker::Model;
 
-/// The first game of each record among those that were met.
+/// For each record, the first game that has it among those that were met.
 ///
 /// Contracts see what it keeps: of each record its code, with the number, the place and the file of
 /// the first game that has it. `Knows` says which games were met.
@@ -33,7 +33,7 @@ impl Model for Twins {
 }
 
 impl Twins {
-    /// No game was met. It takes no memory.
+    /// Begins with no game met. It takes no memory.
     pub fn new(alloc: Global) -> Twins
         ensures { Knows result [] }
     {
@@ -42,8 +42,8 @@ impl Twins {
         }
     }
 
-    /// Meets a game that is there, in a file of this name: where an earlier one has its record, its
-    /// line is appended, and else it is the first that has it.
+    /// Meets a game at `place`, in the file `name`. If an earlier game has its record, its line is
+    /// appended to `text`; else it is kept as the first that has it.
     pub(crate) fn meet(
         &mut self,
         alloc: Global,
