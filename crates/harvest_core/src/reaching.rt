@@ -11,7 +11,7 @@ use shape_dict::{Entry, PieceDictionary};
 use std::alloc::Global;
 
 /// For how many games one look through the dictionary counts the patterns that each is the first to
-/// have: so many counts stay in a processor's first cache.
+/// have: that number of counts fits a processor's first cache.
 const FEW_GAMES: u64 = 4096;
 
 /// Games from `low` up to `high`, and how many patterns the games below `low` have.

@@ -5,7 +5,7 @@ ghost use Rattle.tally_core.specs.Inner.Packing.{stay_of, BeginsAt};
 use crate::stays::{Stay, Stays};
 use std::marker::Model;
 
-/// Stands for no meeting: no list has so many.
+/// Stands for no meeting: no list is that long.
 const NOTHING: usize = usize::MAX;
 
 /// The patterns that stay at a point, as a walk keeps them for each point: small enough that those
