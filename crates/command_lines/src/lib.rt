@@ -7,7 +7,7 @@ mod arguments;
 mod programs;
 
 // what `clap` answers to a line, and what a program makes of the answer
-mod from_words;
+mod from_arguments;
 mod lines;
 
 // the values that a line gives
@@ -22,7 +22,7 @@ pub use arguments::{
     colour_argument, diamond_argument, files_argument, flag_argument, glyphs_argument,
     names_argument, option_argument, text_argument, workers_argument,
 };
-pub use from_words::{FromWords, read_words};
+pub use from_arguments::{FromArguments, read_arguments};
 pub use lines::{Line, read_line};
 pub use patterns::spelled_pattern;
 pub use programs::{command_named, program_named, with_argument, with_command};

@@ -8,10 +8,10 @@ ghost use Rattle.sgf_core.specs.declared.faults.SgfFault.TheVariants as sgf;
 ghost use Rattle.go_record.specs.declared.faults.RecordFault.TheVariants as record_fault;
 ghost use Rattle.game_core.specs.Faults.{IsNextFault, IsGamesFault};
 ghost use Rattle.game_core.specs.declared.faults.GamesFault.TheVariants as fault;
-ghost use Rattle.game_core.specs.declared.games.Step.TheVariants as step;
+ghost use Rattle.game_core.specs.declared.games.TreeOutcome.TheVariants as outcome;
 ghost use Rattle.game_core.specs.Games.{HasRead};
 ghost use Rattle.game_core.specs.Reading.{IsNextGame, HasNoGame, IsStopped};
-ghost use Rattle.game_core.specs.Inner.Reading.{IsStep, IsNextRecord, Counts};
+ghost use Rattle.game_core.specs.Inner.Reading.{IsTreeOutcome, IsNextRecord, Counts};
 ghost use Rattle.sgf_core.specs.Limit.{most_bytes};
 
 use crate::faults::GamesFault;
@@ -35,7 +35,7 @@ enum Stage {
 
 /// What reading one tree gave.
 #[derive(Drop)]
-enum Step<'a> {
+enum TreeOutcome<'a> {
     /// The job of its game.
     Job(Job<'a>),
     /// The tree is passed over: it is of another game, or its record has a fault.
@@ -193,21 +193,21 @@ impl<'a> Games<'a> {
         })
     }
 
-    /// Reads one tree.
-    fn step(&mut self, alloc: Global) -> Result<Step<'a>, GamesFault>
+    /// Reads the next tree, and returns what it gave.
+    fn read_one_tree(&mut self, alloc: Global) -> Result<TreeOutcome<'a>, GamesFault>
         ensures bytes { self.new.bytes ≡ self.old.bytes }
-        ensures step { IfOk result (IsStep self.old self.new) }
+        ensures outcome { IfOk result (IsTreeOutcome self.old self.new) }
         ensures stopped { IfErr result (IsStopped self.old self.new) }
         ensures fault { IfErr result (IsGamesFault self.old.bytes) }
         ensures after_fault { IfErr result (λ found. self.new.fault ≡ Some found) }
         ensures same { IfSome self.old.fault (λ found. (result ≡ Err found)
             × (self.new ≡ self.old)) }
         ensures ended { self.old.ended ≡ true
-            → (result ≡ Ok step.End) × (self.new ≡ self.old) }
+            → (result ≡ Ok outcome.End) × (self.new ≡ self.old) }
     {
         match self.stage {
             Stage::Trees => (),
-            Stage::End => return Ok(Step::End),
+            Stage::End => return Ok(TreeOutcome::End),
             Stage::Fault(fault) => return Err(fault),
         }
         match next_record(alloc, &mut self.trees) {
@@ -215,15 +215,15 @@ impl<'a> Games<'a> {
                 self.from = read.end;
                 let game = self.report.games;
                 match count(&mut self.report, read.recorded) {
-                    Some(record) => Ok(Step::Job(Job::new(
+                    Some(record) => Ok(TreeOutcome::Job(Job::new(
                         self.bytes, game, read.at, read.end, record,
                     ))),
-                    None => Ok(Step::Passed),
+                    None => Ok(TreeOutcome::Passed),
                 }
             }
             Ok(None) => {
                 self.stage = Stage::End;
-                Ok(Step::End)
+                Ok(TreeOutcome::End)
             }
             Err(fault) => {
                 self.stage = Stage::Fault(fault);
@@ -257,10 +257,10 @@ impl<'a> Games<'a> {
         ensures ended { self.old.ended ≡ true → (result ≡ Ok None) × (self.new ≡ self.old) }
     {
         loop {
-            match self.step(alloc)? {
-                Step::Job(job) => return Ok(Some(job)),
-                Step::Passed => (),
-                Step::End => return Ok(None),
+            match self.read_one_tree(alloc)? {
+                TreeOutcome::Job(job) => return Ok(Some(job)),
+                TreeOutcome::Passed => (),
+                TreeOutcome::End => return Ok(None),
             }
         }
     }

@@ -7,13 +7,13 @@ ghost use Rattle.tally_core.specs.Counted.{IsCounted};
 ghost use Rattle.harvest_faults.specs.declared.faults.HarvestFault.TheVariants as fault;
 ghost use Rattle.job_core.specs.Rule.{all_parts};
 ghost use Rattle.slot_table.specs.Passes.{IsPassOf};
-ghost use Rattle.harvest_core.specs.Inner.Threads.{reader_of, IsEnded};
+ghost use Rattle.harvest_core.specs.Inner.Threads.{reader_of, AreThreadCounts};
 ghost use Rattle.harvest_core.specs.Harvest.{IsCountRefused};
 ghost use Rattle.harvest_core.specs.Inner.Reading.{IsThreadFault};
 
 use crate::gates::Gate;
 use crate::numberings::{Numbering, numbering_of};
-use crate::threads::{Ended, count_all};
+use crate::threads::{ThreadCounts, count_all};
 use crate::workers::Shared;
 use gather_core::{GatheredWords, gather_words};
 use harvest_faults::HarvestFault;
@@ -62,16 +62,16 @@ fn dictionary_of<R: Threads + Sync>(
     alloc: Global,
     kinds: Kinds,
     numbering: Numbering,
-    ended: Ended,
+    counts: ThreadCounts,
 ) -> Result<Option<Harvested>, HarvestFault>
     requires pass { IsPassOf numbering.table numbering.pass }
-    requires ended { (bytes : List ℕ) × IsEnded bytes kinds ended }
-    ensures counted { (bytes : List ℕ) → IsEnded bytes kinds ended → IfOk result
+    requires counts { (bytes : List ℕ) × AreThreadCounts bytes kinds counts }
+    ensures counted { (bytes : List ℕ) → AreThreadCounts bytes kinds counts → IfOk result
         (λ found. IfSome found (λ harvested. IsCounted kinds bytes harvested.counted)) }
     ensures fault { IfErr result (λ found. found ≡ fault.Memory) }
 {
     let Numbering { table, mut pass } = numbering;
-    let Ended { shares, report } = ended;
+    let ThreadCounts { shares, report } = counts;
     let found = gather_words(rt, alloc, kinds, report.games, &table, &mut pass, shares)?;
     let Some(gathered) = found else {
         return Ok(None);
@@ -94,19 +94,20 @@ fn dictionary_of<R: Threads + Sync>(
 fn both_of(
     shared: &Shared<'_, '_>,
     made: Result<Numbering, HarvestFault>,
-    ended: Result<Ended, HarvestFault>,
-) -> Result<(Numbering, Ended), HarvestFault>
+    counts: Result<ThreadCounts, HarvestFault>,
+) -> Result<(Numbering, ThreadCounts), HarvestFault>
     requires pass { IfOk made (λ numbering. IsPassOf numbering.table numbering.pass) }
     requires refused { IfErr made (λ found. found ≡ fault.Memory) }
-    requires ended { IfOk ended (IsEnded shared.now.bytes.now shared.now.kinds) }
-    requires fault { IfErr ended (IsThreadFault shared.now.bytes.now) }
+    requires counts { IfOk counts (AreThreadCounts shared.now.bytes.now shared.now.kinds) }
+    requires fault { IfErr counts (IsThreadFault shared.now.bytes.now) }
     ensures pass { IfOk result (λ both. IsPassOf both.0.table both.0.pass) }
-    ensures ended { IfOk result (λ both. IsEnded shared.now.bytes.now shared.now.kinds both.1) }
+    ensures counts { IfOk result
+        (λ both. AreThreadCounts shared.now.bytes.now shared.now.kinds both.1) }
     ensures fault { IfErr result (IsThreadFault shared.now.bytes.now) }
 {
     let _ = shared;
-    let ended = ended?;
-    Ok((made?, ended))
+    let counts = counts?;
+    Ok((made?, counts))
 }
 
 /// Counts all games of an input, and makes a table of this capacity meanwhile, in one more thread
@@ -122,28 +123,30 @@ fn count_beside_table<'q, 'a, R: Threads + Wait + Sync, G: Gate>(
     capacity: Capacity,
     games: Games<'a>,
     endpoint: Endpoint<'q, 'a>,
-) -> Result<(Numbering, Ended), HarvestFault>
+) -> Result<(Numbering, ThreadCounts), HarvestFault>
     requires endpoint { endpoint ≡ reader_of shared.now all_parts }
     requires games { (games.bytes ≡ shared.now.bytes.now) × (games.report.games ≡ 0) }
     ensures pass { IfOk result (λ both. IsPassOf both.0.table both.0.pass) }
-    ensures ended { IfOk result (λ both. IsEnded shared.now.bytes.now shared.now.kinds both.1) }
+    ensures counts { IfOk result
+        (λ both. AreThreadCounts shared.now.bytes.now shared.now.kinds both.1) }
     ensures fault { IfErr result (IsThreadFault shared.now.bytes.now) }
 {
     let alloc = shared.alloc;
-    let (made, ended) = thread::join(
+    let (made, counts) = thread::join(
         rt,
         move || -> Result<Numbering, HarvestFault>
             ensures pass { IfOk result (λ numbering. IsPassOf numbering.table numbering.pass) }
             ensures refused { IfErr result (λ found. found ≡ fault.Memory) }
         { numbering_of(alloc, capacity) },
-        move || -> Result<Ended, HarvestFault>
+        move || -> Result<ThreadCounts, HarvestFault>
             requires endpoint { endpoint ≡ reader_of shared.now all_parts }
             requires games { (games.bytes ≡ shared.now.bytes.now) × (games.report.games ≡ 0) }
-            ensures ended { IfOk result (IsEnded shared.entry.now.bytes.now shared.entry.now.kinds) }
+            ensures counts { IfOk result
+                (AreThreadCounts shared.entry.now.bytes.now shared.entry.now.kinds) }
             ensures fault { IfErr result (IsThreadFault shared.entry.now.bytes.now) }
         { count_all(rt, shared, gate, games, endpoint) },
     );
-    both_of(shared, made, ended)
+    both_of(shared, made, counts)
 }
 
 /// Counts a collection by words in several threads: as many as there are workers, and this one, but
@@ -188,8 +191,8 @@ pub(crate) fn count_by_words<R: Threads + Wait + Sync, G: Gate>(
         queue: &queue,
     };
     let endpoint = Endpoint::open(&queue, seat, bytes);
-    let (numbering, ended) = count_beside_table(rt, &shared, gate, capacity, games, endpoint)?;
-    dictionary_of(rt, alloc, kinds, numbering, ended)
+    let (numbering, counts) = count_beside_table(rt, &shared, gate, capacity, games, endpoint)?;
+    dictionary_of(rt, alloc, kinds, numbering, counts)
 }
 
 /// Counts as `count_by_words` does, but if a sum passes 2^64 - 1, or might, this thread counts all

@@ -5,7 +5,7 @@ ghost use Rattle.job_core.specs.Rule.{all_parts};
 ghost use Rattle.harvest_core.specs.Inner.Working.{IsDropFault};
 ghost use Rattle.harvest_core.specs.Inner.Dealt.{IsReadingOf};
 ghost use Rattle.harvest_core.specs.Inner.Threads.{reader_of, IsFresh, IsBackOf, HasTaken};
-ghost use Rattle.harvest_core.specs.Inner.Threads.{IsJoinable, IsEnded};
+ghost use Rattle.harvest_core.specs.Inner.Threads.{IsJoinable, AreThreadCounts};
 ghost use Rattle.harvest_core.specs.Inner.Reading.{IsThreadFault};
 
 use crate::gates::Gate;
@@ -22,7 +22,7 @@ use tally_core::Report;
 
 /// What all threads have counted, once all games of the input were read.
 #[derive(Drop)]
-pub(crate) struct Ended {
+pub(crate) struct ThreadCounts {
     /// What each thread has counted.
     pub shares: Vec<WordShare>,
     /// How many trees of the input are games of Go, are of other games, and are refused.
@@ -39,7 +39,7 @@ struct Seat<'q, 'a> {
 
 /// Makes the seats of the workers beside the thread that reads, each with a part of this endpoint
 /// of the queue.
-fn seats_beside<'q, 'a>(
+fn worker_seats<'q, 'a>(
     shared: &Shared<'q, 'a>,
     endpoint: &mut Endpoint<'q, 'a>,
 ) -> Result<Vec<Seat<'q, 'a>>, AllocError>
@@ -119,10 +119,10 @@ fn joined<'q, 'a>(
     shared: &Shared<'q, 'a>,
     reading: Reading<'q, 'a>,
     all: Vec<Worker<'q, 'a>>,
-) -> Result<Ended, HarvestFault>
+) -> Result<ThreadCounts, HarvestFault>
     requires reading { IsJoinable shared.now (length all.items) reading }
     requires back { All (IsBackOf shared.now) all.items }
-    ensures ended { IfOk result (IsEnded shared.now.bytes.now shared.now.kinds) }
+    ensures counts { IfOk result (AreThreadCounts shared.now.bytes.now shared.now.kinds) }
     ensures fault { IfErr result (IsThreadFault shared.now.bytes.now) }
 {
     let Reading {
@@ -140,7 +140,7 @@ fn joined<'q, 'a>(
     let mut shares = take_up(shared, &mut endpoint, all)?;
     shares.push(counted?)?;
     endpoint.settle();
-    Ok(Ended { shares, report })
+    Ok(ThreadCounts { shares, report })
 }
 
 /// Counts all games of an input by words in as many threads as are asked for. The reader and the
@@ -156,14 +156,14 @@ pub(crate) fn count_all<'q, 'a, R: Threads + Wait + Sync, G: Gate>(
     gate: &G,
     games: Games<'a>,
     endpoint: Endpoint<'q, 'a>,
-) -> Result<Ended, HarvestFault>
+) -> Result<ThreadCounts, HarvestFault>
     requires endpoint { endpoint ≡ reader_of shared.now all_parts }
     requires games { (games.bytes ≡ shared.now.bytes.now) × (games.report.games ≡ 0) }
-    ensures ended { IfOk result (IsEnded shared.now.bytes.now shared.now.kinds) }
+    ensures counts { IfOk result (AreThreadCounts shared.now.bytes.now shared.now.kinds) }
     ensures fault { IfErr result (IsThreadFault shared.now.bytes.now) }
 {
     let mut endpoint = endpoint;
-    let seats = seats_beside(shared, &mut endpoint)?;
+    let seats = worker_seats(shared, &mut endpoint)?;
     let (all, reading) = thread::join(
         rt,
         move || -> Result<Vec<Worker<'_, '_>>, AllocError>

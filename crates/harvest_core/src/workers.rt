@@ -3,7 +3,7 @@ use crate::gates::Gate;
 use gather_core::WordShare;
 use harvest_faults::HarvestFault;
 use job_core::{Endpoint, Item, Job, Jobs};
-use range_core::PLACE_RANGES;
+use range_core::PLACE_LISTS;
 use shape_core::Kinds;
 use std::alloc::Global;
 use std::sync::Wait;
@@ -57,7 +57,7 @@ impl<'q, 'a> Worker<'q, 'a> {
         ensures counted { HasCounted shared.now [] result.counted }
     {
         let even = shared.bytes.len() / usize::from(shared.workers.max(1));
-        let room = likely_meetings(even.saturating_add(even / 4)) / PLACE_RANGES;
+        let room = likely_meetings(even.saturating_add(even / 4)) / PLACE_LISTS;
         let counted = match WordShare::begin(shared.alloc, number, shared.kinds, room) {
             Ok(words) => Ok(words),
             Err(_refused) => Err(HarvestFault::Memory),

@@ -8,7 +8,7 @@ ghost use Rattle.listing_core.specs.Inner.Wants.{IsWanted};
 use crate::asked::Asked;
 use crate::choosing::push_fault_piece;
 use crate::lines::What;
-use crate::trees::{Step, push_next};
+use crate::trees::{Step, push_next_tree};
 use crate::wants::Want;
 use engine_core::RunFault;
 use game_core::Report;
@@ -82,7 +82,7 @@ fn push_lines(
     let mut end = 0;
     'tree: loop {
         let next = asked.first + report.games;
-        let fault = match push_next(alloc, asked, input, trees, next, text)? {
+        let fault = match push_next_tree(alloc, asked, input, trees, next, text)? {
             Step::Tree(line) => {
                 report = counted(report, line.what);
                 end = line.to;

@@ -112,7 +112,7 @@ fn push_tree(
 
 /// Appends what is written of the next tree of this input, and returns what was met; `next` is the
 /// number of the next game.
-pub(crate) fn push_next(
+pub(crate) fn push_next_tree(
     alloc: Global,
     asked: &Asked<'_>,
     input: &[u8],

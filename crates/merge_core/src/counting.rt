@@ -18,8 +18,8 @@ use crate::tallies::{Tally, no_tally, with_kept};
 use crate::trees::{Tree, next_of};
 use std::alloc::Global;
 
-/// Counts the entries of a join that are kept, and returns their tally.
-pub(crate) fn count_entries<E: Entries>(
+/// Returns the tally of the entries of a join that are kept.
+pub(crate) fn tally_of_kept<E: Entries>(
     mut tree: Tree<E>,
     least: Option<u64>,
 ) -> Result<Tally, NextFault>
@@ -67,7 +67,7 @@ pub(crate) fn count_join<S: Sources>(
         Ok(grown) => grown,
         Err(fault) => return Err(fault),
     };
-    match count_entries(tree, least) {
+    match tally_of_kept(tree, least) {
         Ok(counts) => Ok((totals, counts)),
         Err(fault) => Err(fault),
     }

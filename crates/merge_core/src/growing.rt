@@ -39,13 +39,13 @@ fn pair<E: Entries>(alloc: Global, left: Grown<E>, right: Grown<E>) -> Result<Gr
 {
     let Grown {
         tree: mut first,
-        totals: before,
+        totals: left_totals,
     } = left;
     let Grown {
         tree: mut second,
-        totals: after,
+        totals: right_totals,
     } = right;
-    let Ok(totals) = total_of(before, after) else {
+    let Ok(totals) = total_of(left_totals, right_totals) else {
         return Err(NextFault::Changed);
     };
     let of_first = match next_of(&mut first) {
@@ -57,7 +57,7 @@ fn pair<E: Entries>(alloc: Global, left: Grown<E>, right: Grown<E>) -> Result<Gr
         Err(fault) => return Err(fault),
     };
     let heads = Heads {
-        games: before.games,
+        games: left_totals.games,
         left: of_first,
         right: of_second,
     };

@@ -22,7 +22,8 @@ use std::thread::{Threads, available_parallelism};
 const MOST_THREADS: usize = 16;
 
 /// Returns how many ranges are counted or made at a time: twice as many as there are processors, so
-/// that no processor waits for the longest range, and at most 16.
+/// that no processor waits for the longest range, and at most 16. It is 1 if the number of
+/// processors isn't known.
 pub(crate) fn ranges_at_once<T: Threads>(rt: &T) -> usize
     ensures some { 1 ≤ result }
     ensures few { result ≤ 16 }

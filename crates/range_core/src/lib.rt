@@ -19,6 +19,6 @@ pub use entry_lists::EntryList;
 pub use lists::Lists;
 pub use ordering::in_order;
 pub use pieces::pieces_in_order;
-pub use place_lists::{PLACE_RANGES, PlaceLists};
+pub use place_lists::{PLACE_LISTS, PlaceLists};
 pub use ranges::{Range, ranges_of};
 pub use sums::Sums;

@@ -10,8 +10,9 @@ use shape_dict::Entry;
 use std::alloc::{AllocError, Global};
 use std::marker::Model;
 
-/// How many ranges of places there are.
-pub const PLACE_RANGES: usize = 512;
+/// How many lists a worker's records are kept in, by place. A pattern's place is the slot of the
+/// shared table at which a search for it begins. Each list has the patterns of one range of places.
+pub const PLACE_LISTS: usize = 512;
 
 /// How many entries a list has room for at least.
 const LEAST_ROOM: usize = 16;
@@ -105,14 +106,16 @@ impl PlaceLists {
     {
         Ok(PlaceLists {
             alloc,
-            lists: Lists::empty(alloc, PLACE_RANGES, room)?.into_vec(),
+            lists: Lists::empty(alloc, PLACE_LISTS, room)?.into_vec(),
             sums: Sums::new(alloc),
         })
     }
 
-    /// Appends an entry, which must count something, to the list of its pattern's range. If that
-    /// list is full, its entries are added up first. It takes memory if more than half of its room
-    /// is then still in use.
+    /// Appends an entry, which must count something, to the list of its pattern's range. It takes
+    /// memory if that list is full: its entries are first added up into a new list, which has twice
+    /// the room if they then fill more than half. If memory for that is refused, or a sum passes
+    /// 2^64 - 1, the old list grows instead. An entry that doesn't fit in 16 bytes may take memory
+    /// too.
     ///
     /// # Errors
     ///
@@ -125,7 +128,7 @@ impl PlaceLists {
         ensures err { OnErr result ((shape : ℕ) → total_of shape (all_of self.new)
             ≡ total_of shape (all_of self.old)) }
     {
-        let range = home(MULTIPLIER, entry.shape, PLACE_RANGES);
+        let range = home(MULTIPLIER, entry.shape, PLACE_LISTS);
         append_to(self.alloc, &mut self.sums, &mut self.lists[range], entry)?;
         Ok(())
     }

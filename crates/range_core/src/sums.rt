@@ -5,7 +5,7 @@ ghost use Rattle.range_core.specs.Totals.{earlier};
 ghost use Rattle.range_core.specs.Inner.Sums.{summed_row};
 
 use crate::entry_lists::EntryList;
-use crate::place_lists::PLACE_RANGES;
+use crate::place_lists::PLACE_LISTS;
 use crate::places::{MULTIPLIER, find, free_rows, is_free};
 use crate::record_lists::RecordList;
 use shape_dict::{Entry, FirstGame};
@@ -14,7 +14,7 @@ use std::marker::Model;
 
 /// The factor by which words are multiplied here: the patterns of one range of places differ in the
 /// bits that are left.
-const FACTOR: u64 = MULTIPLIER.wrapping_mul(PLACE_RANGES as u64);
+const FACTOR: u64 = MULTIPLIER.wrapping_mul(PLACE_LISTS as u64);
 
 /// The lesser of two first games, or the known one if only one is known.
 #[inline(always)]

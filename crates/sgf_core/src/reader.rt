@@ -50,7 +50,7 @@ impl<'a> Model for Trees<'a> {
 }
 
 /// The first place from `from` on at which a tree begins, or None if none begins.
-fn first_begin(bytes: &[u8], from: usize) -> Option<usize>
+fn next_tree_start(bytes: &[u8], from: usize) -> Option<usize>
     requires { from ≤ length bytes.now }
     ensures { MatchOption result (HasNoTree bytes.now from) (λ at. IsFirstBegin bytes.now from at) }
 {
@@ -127,7 +127,7 @@ impl<'a> Trees<'a> {
         if let Some(fault) = self.fault {
             return Err(fault);
         }
-        let Some(at) = first_begin(self.bytes, self.from) else {
+        let Some(at) = next_tree_start(self.bytes, self.from) else {
             self.from = self.bytes.len();
             return Ok(None);
         };

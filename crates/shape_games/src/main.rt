@@ -7,7 +7,7 @@ mod outputs;
 mod telling;
 mod words;
 
-use command_lines::{Line, read_words};
+use command_lines::{Line, read_arguments};
 use engine_core::{RunFault, own_words, status_of, write_output};
 use inputs::list_all;
 use std::io;
@@ -16,7 +16,7 @@ use std::process::ExitCode;
 /// Does what the words of the command line say. Returns the exit status.
 fn run(rt: &HostRuntime) -> Result<u8, RunFault> {
     let words = own_words(rt)?;
-    match read_words(rt.alloc(), &words)? {
+    match read_arguments(rt.alloc(), &words)? {
         Line::Asked(asked) => list_all(rt, &asked),
         Line::Told(text) => {
             write_output(&mut rt.stdout(), text.as_bytes())?;

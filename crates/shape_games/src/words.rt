@@ -8,7 +8,7 @@ ghost use Rattle.shape_games.specs.Words.{is_some_text, work_of};
 
 use crate::commands::program;
 use clap::{ArgMatches, Command};
-use command_lines::{FromWords, choice, words_of};
+use command_lines::{FromArguments, choice, words_of};
 use engine_core::RunFault;
 use listing_core::{Condition, Form, condition_of};
 use std::alloc::{AllocError, Global};
@@ -86,7 +86,7 @@ fn has_flag(matches: &ArgMatches<'_>, flag: &str) -> bool
     choice(matches, flag, true, false)
 }
 
-impl<'a> FromWords<'a> for Asked<'a> {
+impl<'a> FromArguments<'a> for Asked<'a> {
     ghost app = { program_app };
 
     ghost IsAsked = { IsAsked };

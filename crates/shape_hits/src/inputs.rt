@@ -195,7 +195,7 @@ fn list_source<T: Threads + Sync>(
 
 /// The exit status of a run that went to its end: that of the first fault. If there is none, 0 if a
 /// hit was found, and else 1.
-fn ended(sum: &Sum) -> u8 {
+fn exit_status(sum: &Sum) -> u8 {
     match (sum.status, sum.is_found) {
         (0, true) => 0,
         (0, false) => 1,
@@ -243,5 +243,5 @@ pub fn list_all<T: Threads + Sync>(
         refused,
     } = sum.report;
     let _ = eprintln!(rt; "shape_hits: games {games} other {others} refused {refused}");
-    Ok(ended(&sum))
+    Ok(exit_status(&sum))
 }

@@ -6,7 +6,7 @@ mod files;
 mod inputs;
 mod words;
 
-use command_lines::{Line, read_words, why_unread};
+use command_lines::{Line, read_arguments, why_unread};
 use engine_core::{RunFault, own_words, status_of, write_output};
 use files::make_folder;
 use hits_core::{Wanted, WordsFault, read_wanted, status_of as words_status};
@@ -69,7 +69,7 @@ fn find<T: Threads + Sync>(
 /// Does what the words of the command line say. Returns the exit status.
 fn run<T: Threads + Sync>(rt: &HostRuntime, threads: &T) -> Result<u8, RunFault> {
     let words = own_words(rt)?;
-    match read_words(rt.alloc(), &words)? {
+    match read_arguments(rt.alloc(), &words)? {
         Line::Asked(asked) => find(rt, threads, &asked),
         Line::Told(text) => {
             write_output(&mut rt.stdout(), text.as_bytes())?;

@@ -10,7 +10,8 @@ ghost use Rattle.shape_hits.specs.Words.{IsSpellingOf, first_names, names_of, sh
 use crate::commands::program;
 use clap::{ArgMatches, Command};
 use command_lines::{
-    FromWords, choice, kind_of, optional_number, small_number, spelled_pattern, word_of, words_of,
+    FromArguments, choice, kind_of, optional_number, small_number, spelled_pattern, word_of,
+    words_of,
 };
 use engine_core::RunFault;
 use hits_core::{Search, Shown, Sought, Spelling};
@@ -164,7 +165,7 @@ fn search_of(matches: &ArgMatches<'_>, most: Option<u64>, shape: &Option<Shape>)
     }
 }
 
-impl<'a> FromWords<'a> for Asked<'a> {
+impl<'a> FromArguments<'a> for Asked<'a> {
     ghost app = { program_app };
 
     ghost IsAsked = { IsAsked };

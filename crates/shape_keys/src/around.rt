@@ -18,8 +18,8 @@ fn place_on(board: &[u8], columns: usize, column: usize, row: usize) -> Option<u
     if column >= columns {
         return None;
     }
-    let before = row.checked_mul(columns)?;
-    let place = before.checked_add(column)?;
+    let row_start = row.checked_mul(columns)?;
+    let place = row_start.checked_add(column)?;
     if place < board.len() {
         Some(place)
     } else {

@@ -36,8 +36,8 @@ impl Sources for Dictionaries<'_> {
     }
 
     fn size(&self, n: usize) -> io::Result<usize> {
-        let found = fs::metadata(self.rt, self.names[n])?;
-        Ok(usize::try_from(found.len()).unwrap_or(usize::MAX))
+        let metadata = fs::metadata(self.rt, self.names[n])?;
+        Ok(usize::try_from(metadata.len()).unwrap_or(usize::MAX))
     }
 
     fn open_at(&self, n: usize, place: usize) -> io::Result<File> {
@@ -104,9 +104,9 @@ impl<M: Maker> Write for Target<M> {
     }
 }
 
-/// What a name stands for, as the system tells it.
+/// Which file a name stands for, as the system tells it.
 #[derive(Clone, Copy, PartialEq, Eq)]
-pub enum Seen {
+pub enum FileIdentity {
     /// Nothing that can be looked at: to open it will say why.
     Nothing,
     /// A regular file: its device, and its number there.
@@ -119,31 +119,31 @@ pub enum Seen {
 /// dictionaries in their order.
 #[derive(Drop)]
 pub struct Sights {
-    pub target: Seen,
-    pub dictionaries: Vec<Seen>,
+    pub target: FileIdentity,
+    pub dictionaries: Vec<FileIdentity>,
 }
 
-/// What a name stands for, as the system tells it.
-fn look(rt: &HostRuntime, name: &str) -> Seen {
+/// Which file a name stands for, as the system tells it.
+fn look(rt: &HostRuntime, name: &str) -> FileIdentity {
     match fs::metadata(rt, name) {
-        Ok(found) if found.is_file() => Seen::File {
-            device: found.dev(),
-            number: found.ino(),
+        Ok(metadata) if metadata.is_file() => FileIdentity::File {
+            device: metadata.dev(),
+            number: metadata.ino(),
         },
-        Ok(_) => Seen::Other,
-        Err(_) => Seen::Nothing,
+        Ok(_) => FileIdentity::Other,
+        Err(_) => FileIdentity::Nothing,
     }
 }
 
-/// What each of these names stands for, in their order.
-fn look_at_all(rt: &HostRuntime, names: &[&str]) -> Result<Vec<Seen>, AllocError>
-    ensures { IfOk result (λ seen. vec_len seen ≡ length names.now) }
+/// Which file each of these names stands for, in their order.
+fn look_at_all(rt: &HostRuntime, names: &[&str]) -> Result<Vec<FileIdentity>, AllocError>
+    ensures { IfOk result (λ identities. vec_len identities ≡ length names.now) }
 {
-    let mut seen = Vec::new(rt.alloc());
+    let mut identities = Vec::new(rt.alloc());
     for name in names {
-        seen.push(look(rt, *name))?;
+        identities.push(look(rt, *name))?;
     }
-    Ok(seen)
+    Ok(identities)
 }
 
 /// Looks at what the names of a join stand for.
@@ -164,13 +164,13 @@ pub fn look_at(rt: &HostRuntime, asked: &Asked<'_>) -> Result<Sights, AllocError
 }
 
 /// Whether what a dictionary's name stands for can't be read twice, or is what is written.
-fn is_refused(found: Seen, target: Seen) -> bool
-    ensures { IsTrue result ↔ IsRefused found target }
+fn is_refused(dictionary: FileIdentity, target: FileIdentity) -> bool
+    ensures { IsTrue result ↔ IsRefused dictionary target }
 {
-    match found {
-        Seen::Nothing => false,
-        Seen::File { .. } => found == target,
-        Seen::Other => true,
+    match dictionary {
+        FileIdentity::Nothing => false,
+        FileIdentity::File { .. } => dictionary == target,
+        FileIdentity::Other => true,
     }
 }
 
@@ -185,10 +185,10 @@ fn is_written(asked: &Asked<'_>, name: &str) -> bool
 }
 
 /// Whether a dictionary of this name can't be joined.
-fn is_barred(asked: &Asked<'_>, target: Seen, name: &str, found: Seen) -> bool
-    ensures { IsTrue result ↔ IsBarred asked.now target name.now found }
+fn is_barred(asked: &Asked<'_>, target: FileIdentity, name: &str, dictionary: FileIdentity) -> bool
+    ensures { IsTrue result ↔ IsBarred asked.now target name.now dictionary }
 {
-    is_written(asked, name) || is_refused(found, target)
+    is_written(asked, name) || is_refused(dictionary, target)
 }
 
 /// The first of the dictionaries' names that can't be joined: one that is there and is no regular
@@ -199,9 +199,9 @@ pub fn which_is_barred<'a>(asked: &Asked<'a>, sights: &Sights) -> Option<&'a str
     ensures { MatchOption result (AreFree asked.now sights.now)
         (IsFirstBarred asked.now sights.now) }
 {
-    for (k, found) in sights.dictionaries.iter().enumerate() {
+    for (k, dictionary) in sights.dictionaries.iter().enumerate() {
         let name = asked.names[k];
-        if is_barred(asked, sights.target, name, *found) {
+        if is_barred(asked, sights.target, name, *dictionary) {
             return Some(name);
         }
     }

@@ -10,7 +10,7 @@ mod words;
 
 ghost use Rattle.std.specs.Prelude.{◌≡◌, length, vec_len};
 
-use command_lines::{Line, read_words};
+use command_lines::{Line, read_arguments};
 use engine_core::{RunFault, own_words, status_of, write_output};
 use files::{Dictionaries, Named, look_at, new_target, which_is_barred};
 use merge_core::{MergeFault, run_merge};
@@ -74,7 +74,7 @@ fn join_files<T: Threads + Sync>(
 /// Does what the words of the command line say. Returns the exit status.
 fn run<T: Threads + Sync>(rt: &HostRuntime, threads: &T) -> Result<u8, RunFault> {
     let words = own_words(rt)?;
-    match read_words(rt.alloc(), &words)? {
+    match read_arguments(rt.alloc(), &words)? {
         Line::Asked(asked) => join_files(threads, rt, &asked),
         Line::Told(text) => {
             write_output(&mut rt.stdout(), text.as_bytes())?;

@@ -24,12 +24,12 @@ pub enum Stamp {
 /// The stamp of the file of this name.
 fn stamp_of(rt: &HostRuntime, name: &str) -> Stamp {
     match fs::metadata(rt, name) {
-        Ok(found) => Stamp::Known {
-            device: found.dev(),
-            number: found.ino(),
-            size: found.size(),
-            seconds: found.mtime(),
-            nanoseconds: found.mtime_nsec(),
+        Ok(metadata) => Stamp::Known {
+            device: metadata.dev(),
+            number: metadata.ino(),
+            size: metadata.size(),
+            seconds: metadata.mtime(),
+            nanoseconds: metadata.mtime_nsec(),
         },
         Err(_) => Stamp::Unknown,
     }

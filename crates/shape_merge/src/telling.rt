@@ -20,7 +20,7 @@ fn name_of<'a>(names: &[&'a str], n: usize) -> &'a str
 /// Says that a write of the file of this name failed, and why, as far as the system tells it.
 fn tell_unwritten(rt: &HostRuntime, name: &str, written: usize) {
     let why = match fs::metadata(rt, name) {
-        Ok(found) if found.is_dir() => "it is a folder",
+        Ok(metadata) if metadata.is_dir() => "it is a folder",
         Ok(_) => "a write failed",
         Err(_) => "it can't be made",
     };
@@ -39,8 +39,8 @@ pub fn tell_barred(rt: &HostRuntime, name: &str) -> u8
     ensures { result ≡ 2 }
 {
     let why = match fs::metadata(rt, name) {
-        Ok(found) if found.is_dir() => "is a folder",
-        Ok(found) if found.is_file() => "is also written",
+        Ok(metadata) if metadata.is_dir() => "is a folder",
+        Ok(metadata) if metadata.is_file() => "is also written",
         _ => "can't be read twice",
     };
     let _ = eprintln!(rt; "shape_merge: U1 usage: {name} {why}");

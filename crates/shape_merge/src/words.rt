@@ -6,7 +6,7 @@ ghost use Rattle.shape_merge.specs.Words.{HasNoJoin, IsAsked};
 
 use crate::commands::program;
 use clap::{ArgMatches, Command};
-use command_lines::{FromWords, optional_number, text_of, word_of};
+use command_lines::{FromArguments, optional_number, text_of, word_of};
 use engine_core::RunFault;
 use merge_core::Form;
 use std::alloc::{AllocError, Global};
@@ -22,7 +22,7 @@ pub struct Asked<'a> {
     pub names: Vec<&'a str>,
 }
 
-impl<'a> FromWords<'a> for Asked<'a> {
+impl<'a> FromArguments<'a> for Asked<'a> {
     ghost app = { program_app };
 
     ghost IsAsked = { IsAsked };

@@ -4,7 +4,7 @@
 mod commands;
 mod words;
 
-use command_lines::{Line, read_words, why_unread};
+use command_lines::{Line, read_arguments, why_unread};
 use engine_core::{RunFault, own_words, read_input, status_of, write_output};
 use sheet_core::{Asked, Form, run_sheet};
 use std::fs::File;
@@ -83,7 +83,7 @@ fn draw(rt: &HostRuntime, asked: Asked, name: Option<&str>) -> Result<u8, RunFau
 /// Does what the words of the command line say. Returns the exit status.
 fn run(rt: &HostRuntime) -> Result<u8, RunFault> {
     let words = own_words(rt)?;
-    match read_words(rt.alloc(), &words)? {
+    match read_arguments(rt.alloc(), &words)? {
         Line::Asked(Drawing { sheet, hits }) => draw(rt, sheet, hits),
         Line::Told(text) => {
             write_output(&mut rt.stdout(), text.as_bytes())?;

@@ -8,7 +8,7 @@ ghost use Rattle.sheet_core.specs.declared.orders.Order.{Order};
 
 use crate::commands::program;
 use clap::{ArgMatches, Command};
-use command_lines::{FromWords, choice, number, word_of};
+use command_lines::{FromArguments, choice, number, word_of};
 use engine_core::RunFault;
 use shape_core::Kind;
 use sheet_core::{Asked, Form, Order};
@@ -66,7 +66,7 @@ fn sheet_of(matches: &ArgMatches<'_>) -> Option<Asked>
     })
 }
 
-impl<'a> FromWords<'a> for Drawing<'a> {
+impl<'a> FromArguments<'a> for Drawing<'a> {
     ghost app = { program_app };
 
     ghost IsAsked = { IsDrawing };

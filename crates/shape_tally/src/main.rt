@@ -14,7 +14,7 @@ mod telling;
 mod words;
 
 use clashes::clash_of;
-use command_lines::{Line, read_words};
+use command_lines::{Line, read_arguments};
 use drafts::{Output, try_target};
 use engine_core::{RunFault, own_words, status_of, write_output};
 use game_files::{Source, sources};
@@ -164,7 +164,7 @@ fn tally<T: Threads + Wait + Sync>(
 /// Does what the words of the command line say. Returns the exit status.
 fn run<T: Threads + Wait + Sync>(rt: &HostRuntime, threads: &T) -> Result<u8, RunFault> {
     let words = own_words(rt)?;
-    match read_words(rt.alloc(), &words)? {
+    match read_arguments(rt.alloc(), &words)? {
         Line::Asked(asked) => tally(rt, threads, &asked),
         Line::Told(text) => {
             write_output(&mut rt.stdout(), text.as_bytes())?;

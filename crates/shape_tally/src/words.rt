@@ -8,7 +8,7 @@ ghost use Rattle.shape_tally.specs.Words.{most_for, most_memory, need_of};
 
 use crate::commands::program;
 use clap::{ArgMatches, Command};
-use command_lines::{FromWords, choice, number, small_number, text_of, word_of, words_of};
+use command_lines::{FromArguments, choice, number, small_number, text_of, word_of, words_of};
 use engine_core::RunFault;
 use shape_dict::Text;
 use std::alloc::{AllocError, Global};
@@ -119,7 +119,7 @@ fn named_of<'a>(alloc: Global, matches: &ArgMatches<'a>) -> Result<Named<'a>, Ru
     })
 }
 
-impl<'a> FromWords<'a> for Asked<'a> {
+impl<'a> FromArguments<'a> for Asked<'a> {
     ghost app = { program_app };
 
     ghost IsAsked = { IsAsked };

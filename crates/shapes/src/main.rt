@@ -4,7 +4,7 @@
 mod tasks;
 
 use engine_core::{RunFault, own_words};
-use shapes_line::read_words;
+use shapes_line::read_arguments;
 use std::io;
 use std::process::ExitCode;
 use std::sync::Wait;
@@ -15,7 +15,7 @@ use tasks::{Answer, do_task, status_after};
 /// started through `threads`.
 fn run<T: Threads + Wait + Sync>(rt: &HostRuntime, threads: &T) -> Result<Answer, RunFault> {
     let words = own_words(rt)?;
-    let task = read_words(rt.alloc(), &words)?;
+    let task = read_arguments(rt.alloc(), &words)?;
     do_task(threads, rt.alloc(), task, &mut rt.stdin(), &mut rt.stdout())
 }
 

@@ -4,4 +4,4 @@
 mod commands;
 mod words;
 
-pub use words::{Task, read_words};
+pub use words::{Task, read_arguments};

@@ -101,7 +101,7 @@ fn task_of(matches: &ArgMatches<'_>) -> Result<Task, RunFault>
 ///
 /// `Usage` if the program does not know the words, also if a mover is no colour; else `Glyph` if
 /// the glyphs of `find` are not those of a pattern; `Memory` if memory was refused.
-pub fn read_words(alloc: Global, words: &[String]) -> Result<Task, RunFault>
+pub fn read_arguments(alloc: Global, words: &[String]) -> Result<Task, RunFault>
     ensures task { IfOk result (IsAnswered (map string_bytes words.now)
         (asked_by (map string_bytes words.now))) }
     ensures fault { IfErr result (IsAskingFault program_app (map string_bytes words.now)

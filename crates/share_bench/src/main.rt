@@ -28,7 +28,7 @@ struct Asked {
 }
 
 /// Reads the words of the command line.
-fn read_words(rt: &HostRuntime) -> Result<Asked, BenchFault> {
+fn read_arguments(rt: &HostRuntime) -> Result<Asked, BenchFault> {
     let mut asked = Asked {
         clock: false,
         kinds: Kinds::Squares,
@@ -112,7 +112,7 @@ fn tell(rt: &HostRuntime, part: &str, time: Duration, moves: u64) -> Result<(), 
 
 /// Measures the parts, and prints the lines.
 fn run(rt: &HostRuntime) -> Result<(), BenchFault> {
-    let asked = read_words(rt)?;
+    let asked = read_arguments(rt)?;
     let input = read_input(rt.alloc(), &mut rt.stdin())?;
     let (made, times) = measure(rt, &input, asked.kinds)?;
     println!(rt;

@@ -216,7 +216,7 @@ fn push_stones(text: &mut Vec<u8>, cells: &[Cell]) -> Result<(), AllocError>
 }
 
 /// Appends the next move, a stone with a 1, and the end of the drawing.
-fn push_next(text: &mut Vec<u8>) -> Result<(), AllocError>
+fn push_next_move(text: &mut Vec<u8>) -> Result<(), AllocError>
     ensures { OnOk result (text.new.items ≡ text.old.items ++ next_text) }
 {
     text.extend_from_slice(
@@ -232,7 +232,7 @@ fn push_cells(text: &mut Vec<u8>, cells: &[Cell]) -> Result<(), AllocError>
     push_lines(text, cells)?;
     push_edges(text, cells)?;
     push_stones(text, cells)?;
-    push_next(text)
+    push_next_move(text)
 }
 
 /// Appends the drawing of a pattern's word.

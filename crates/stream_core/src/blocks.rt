@@ -22,6 +22,7 @@ pub(crate) struct Block<R: Read> {
     bytes: Vec<u8>,
     start: usize,
     end: usize,
+    /// Whether the reader has no more bytes.
     ended: bool,
 }
 

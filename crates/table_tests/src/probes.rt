@@ -129,7 +129,7 @@ fn odd_runs_go_through_these_places(rt: HostRuntime) {
 }
 
 /// What a call wants after its steps found these words, or what it answered.
-fn after<O: ProbeOrder>(order: &O, call: Call, words: &[u64]) -> Result<Want, Answer> {
+fn wants_after<O: ProbeOrder>(order: &O, call: Call, words: &[u64]) -> Result<Want, Answer> {
     let mut probe = Probe::begin(order, call);
     for word in words {
         match probe.told(*word) {
@@ -148,7 +148,7 @@ fn assert_wants<O: ProbeOrder>(
     words: &[u64],
     wanted: Want,
 ) {
-    let found = after(order, call, words);
+    let found = wants_after(order, call, words);
     assert!(rt; found == Ok(wanted));
 }
 
@@ -160,7 +160,7 @@ fn assert_answers<O: ProbeOrder>(
     words: &[u64],
     wanted: Answer,
 ) {
-    let found = after(order, call, words);
+    let found = wants_after(order, call, words);
     assert!(rt; found == Err(wanted));
 }
 

@@ -207,8 +207,9 @@ impl Counts {
         Ok(())
     }
 
-    /// Adds the counts of rows to these, which must be empty. `AllocError` comes if the places are
-    /// too few. It takes no memory.
+    /// Adds the counts of rows to these, which must be empty. It takes no memory. `AllocError` means
+    /// that a row was not added, by whichever fault: no place is free for its pattern, or a count
+    /// would pass 2^64 - 1. The rows before it stay added.
     fn enter_all(&mut self, rows: &[Entry]) -> Result<(), AllocError>
         requires none { self.old ≡ [] }
         requires rows { (factor : ℕ) × AreRows factor rows.now }

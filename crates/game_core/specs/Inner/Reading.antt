@@ -13,8 +13,8 @@ use Rattle.game_core.specs.declared.reports.Report.{Report}
 use Rattle.game_core.specs.declared.games.Stage.{Stage}
 use Rattle.game_core.specs.declared.games.Stage.TheVariants as stage
 use Rattle.game_core.specs.declared.games.Recorded.{Recorded}
-use Rattle.game_core.specs.declared.games.Step.{Step}
-use Rattle.game_core.specs.declared.games.Step.TheVariants as step
+use Rattle.game_core.specs.declared.games.TreeOutcome.{TreeOutcome}
+use Rattle.game_core.specs.declared.games.TreeOutcome.TheVariants as outcome
 use Rattle.game_core.specs.Reading.{Reading, IsNextGame, HasNoGame}
 
 -- where the next tree is looked for, with the place of the reader of trees; or why none is
@@ -36,11 +36,11 @@ has_ended stage.End = true
 has_ended (stage.Fault found) = false
 
 -- one tree was read, or none was left
-abbrev pub IsStep : Reading → Reading → Step → Type 0
-IsStep before after (step.Job job) = IsNextGame before after job
-IsStep before after step.Passed = (after.report.games ≡ before.report.games)
+abbrev pub IsTreeOutcome : Reading → Reading → TreeOutcome → Type 0
+IsTreeOutcome before after (outcome.Job job) = IsNextGame before after job
+IsTreeOutcome before after outcome.Passed = (after.report.games ≡ before.report.games)
     × (before.from < after.from) × (after.from ≤ length after.bytes)
-IsStep before after step.End = HasNoGame before after × (after.ended ≡ true)
+IsTreeOutcome before after outcome.End = HasNoGame before after × (after.ended ≡ true)
 
 -- the tree that is next, with its record
 pub record IsNextRecord (bytes : List ℕ) (from : ℕ) (read : Recorded) : Type 0 where

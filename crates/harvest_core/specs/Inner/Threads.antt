@@ -10,7 +10,7 @@ use Rattle.gather_core.specs.Shares.{Held}
 use Rattle.gather_core.specs.Covering.{all_games, Covers}
 use Rattle.harvest_core.specs.Working.{IsOfInput}
 use Rattle.harvest_core.specs.declared.reading.Reading.{Reading}
-use Rattle.harvest_core.specs.declared.threads.Ended.{Ended}
+use Rattle.harvest_core.specs.declared.threads.ThreadCounts.{ThreadCounts}
 use Rattle.harvest_core.specs.declared.threads.Seat.{Seat}
 use Rattle.harvest_core.specs.declared.workers.Shared.{Shared}
 use Rattle.harvest_core.specs.declared.workers.Worker.{Worker}
@@ -51,7 +51,7 @@ pub record IsJoinable (shared : Shared) (many : ℕ) (reading : Reading) : Type 
   pub reading_is : IsReadingOf shared (reader_of shared parts) reading
 
 -- all games of the input were counted, each in one share
-pub record IsEnded (bytes : List ℕ) (kinds : Kinds) (ended : Ended) : Type 0 where
-  pub shares : All (IsOfInput bytes kinds) ended.shares.items
-  pub report : HasReadAll bytes ended.report
-  pub covers : Covers ended.report.games (all_games ended.shares.items)
+pub record AreThreadCounts (bytes : List ℕ) (kinds : Kinds) (counts : ThreadCounts) : Type 0 where
+  pub shares : All (IsOfInput bytes kinds) counts.shares.items
+  pub report : HasReadAll bytes counts.report
+  pub covers : Covers counts.report.games (all_games counts.shares.items)

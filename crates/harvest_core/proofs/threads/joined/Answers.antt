@@ -9,8 +9,8 @@ use Rattle.harvest_core.specs.Inner.Threads.{HasTaken}
 use Rattle.harvest_core.proofs.Joined.{some_end, covers_all}
 use Rattle.harvest_core.proofs.threads.joined.Goals as goal
 
-pub returns-clause-ended : goal.returns-clause-ended
-returns-clause-ended c =
+pub returns-clause-counts : goal.returns-clause-counts
+returns-clause-counts c =
     let shared = c.args.shared.now in
     let reading = c.args.reading in
     let many = length c.args.all.items in

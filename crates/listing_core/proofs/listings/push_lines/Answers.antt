@@ -11,10 +11,10 @@ tree-preserved c =
     let is = c.tree.invariant in
     let asked = c.args.asked.now in
     let before = c.tree.trees in
-    let after = c.push_next.new.trees in
+    let after = c.push_next_tree.new.trees in
     let line = c.in-Tree.line in
     let next = asked.first + c.tree.report.games in
-    let step = subst (IsStep asked before after next c.tree.text.items c.push_next.new.text.items) c.in-Tree.is c.in_ok-line.ensures.step in
+    let step = subst (IsStep asked before after next c.tree.text.items c.push_next_tree.new.text.items) c.in-Tree.is c.in_ok-line.ensures.step in
     let bytes = ap (λ (r : Reading). r.bytes) step.moved in
     let from = ap (λ (r : Reading). r.from) step.moved in
     let same = is.bytes ∙ c.requires.bytes in
@@ -24,8 +24,8 @@ tree-preserved c =
       in_input = let inside = step.in_input in omega (arith, inside, ap length same);
       few = let forward = step.forward in
           omega (arith, forward, is.few, is.end, one_more c.tree.report line.what, ap all_in c.counted-report.ensures);
-      lists = subst (λ (r : Report). ListsUpTo asked c.args.input.now line.to r c.push_next.new.text.items) (sym c.counted-report.ensures)
-          (lists_on asked c.args.input.now c.tree.end c.tree.report before after next c.tree.text.items c.push_next.new.text.items line same is.end refl is.lists step);
+      lists = subst (λ (r : Report). ListsUpTo asked c.args.input.now line.to r c.push_next_tree.new.text.items) (sym c.counted-report.ensures)
+          (lists_on asked c.args.input.now c.tree.end c.tree.report before after next c.tree.text.items c.push_next_tree.new.text.items line same is.end refl is.lists step);
     }
 
 pub returns-in_err-line-clause-wanted : goal.returns-in_err-line-clause-wanted

@@ -3,7 +3,7 @@ use Rattle.shape_dict.specs.declared.entries.Entry.{Entry}
 use Rattle.merge_core.specs.Inner.Counting.{HasCounted}
 use Rattle.merge_core.specs.Inner.Ranges.{IsCountOf}
 use Rattle.merge_core.specs.Inner.Trees.{Yields}
-use Rattle.merge_core.proofs.counting.count_entries.Given as goal
+use Rattle.merge_core.proofs.counting.tally_of_kept.Given as goal
 
 abbrev pub invariant-loop-place : goal.invariant-loop-place
 invariant-loop-place g l = record {

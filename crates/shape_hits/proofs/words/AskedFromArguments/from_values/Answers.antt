@@ -1,7 +1,7 @@
 use Rattle.std.proofs.Common.{codes, refl, sym, subst, inl, inr}
 use Rattle.std.proofs.lemmas.Result.{err_from_is_err_and}
 use Rattle.command_lines.specs.Values.{IsOptionalNumberOf, rows_in}
-use Rattle.shape_hits.proofs.words.AskedFromWords.from_values.Goals as goal
+use Rattle.shape_hits.proofs.words.AskedFromArguments.from_values.Goals as goal
 
 pub returns-in_err-shape-clause-fault : goal.returns-in_err-shape-clause-fault
 returns-in_err-shape-clause-fault c =

@@ -1,7 +1,7 @@
 use Rattle.std.proofs.Common.{◌≡◌, ◌+◌, ◌≤◌, length, All}
 use Rattle.job_core.specs.Rule.{all_parts}
 use Rattle.harvest_core.specs.Inner.Threads.{reader_of, IsFresh}
-use Rattle.harvest_core.proofs.threads.seats_beside.Given as goal
+use Rattle.harvest_core.proofs.threads.worker_seats.Given as goal
 
 -- each seat so far has a part of the endpoint
 abbrev pub invariant-loop-number : goal.invariant-loop-number

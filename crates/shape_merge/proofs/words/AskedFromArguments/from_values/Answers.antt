@@ -4,7 +4,7 @@ use Rattle.clap.specs.Words.{found_of}
 use Rattle.clap.proofs.WalkLemmas.{raw_values-rows}
 use Rattle.command_lines.specs.Values.{rows_in}
 use Rattle.shape_merge.proofs.Asked.{no_join_least, no_join_names}
-use Rattle.shape_merge.proofs.words.AskedFromWords.from_values.Goals as goal
+use Rattle.shape_merge.proofs.words.AskedFromArguments.from_values.Goals as goal
 
 pub returns-in_default-optional_number-clause-fault : goal.returns-in_default-optional_number-clause-fault
 returns-in_default-optional_number-clause-fault c = inr (refl, no_join_least (rows_in c.args.matches.now) c.in_default-optional_number.ensures.none)

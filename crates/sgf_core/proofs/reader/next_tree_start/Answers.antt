@@ -3,8 +3,8 @@ use Rattle.std.specs.Prelude.{slice_range, slice_index}
 use Rattle.std.proofs.lemmas.Slice.{between_to_end}
 use Rattle.sgf_core.specs.Bytes.{semicolon}
 use Rattle.sgf_core.proofs.Begins.{first_sign, none_left, begins_here, none_up_to}
-use Rattle.sgf_core.proofs.reader.first_begin.Goals as goal
-use Rattle.sgf_core.proofs.reader.first_begin.Goals.{else-place-bytes-via-then-place-bytes+else-bytes-place-eq59, else-place-bytes-via-else-place-bytes}
+use Rattle.sgf_core.proofs.reader.next_tree_start.Goals as goal
+use Rattle.sgf_core.proofs.reader.next_tree_start.Goals.{else-place-bytes-via-then-place-bytes+else-bytes-place-eq59, else-place-bytes-via-else-place-bytes}
 
 pub returns-then-bytes-place-eq59 : goal.returns-then-bytes-place-eq59
 returns-then-bytes-place-eq59 c =

@@ -2,7 +2,7 @@ use Rattle.std.proofs.Common.{◌≡◌, ◌∙◌, ap, sym, refl, inr, map, cod
 use Rattle.std.specs.Borrow.{Bor}
 use Rattle.command_lines.specs.Values.{rows_in, words_in}
 use Rattle.shape_games.specs.Words.{is_some_text, work_of}
-use Rattle.shape_games.proofs.words.AskedFromWords.from_values.Goals as goal
+use Rattle.shape_games.proofs.words.AskedFromArguments.from_values.Goals as goal
 
 pub returns-in_default-clause-fault : goal.returns-in_default-clause-fault
 returns-in_default-clause-fault c =

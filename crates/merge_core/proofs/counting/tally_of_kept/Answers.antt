@@ -4,7 +4,7 @@ use Rattle.shape_dict.specs.declared.entries.Entry.{Entry}
 use Rattle.merge_core.specs.Inner.Trees.{Yields}
 use Rattle.merge_core.proofs.Counted.{counted_more, none_counted}
 use Rattle.merge_core.proofs.Unmerged.{fault_after}
-use Rattle.merge_core.proofs.counting.count_entries.Goals as goal
+use Rattle.merge_core.proofs.counting.tally_of_kept.Goals as goal
 
 pub loop-place-init : goal.loop-place-init
 loop-place-init g c = record {

@@ -1,6 +1,6 @@
 use Rattle.std.proofs.Common.{◌-◌, ◌≤◌, length}
 use Rattle.sgf_core.proofs.Begins.{NoneBefore}
-use Rattle.sgf_core.proofs.reader.first_begin.Given as goal
+use Rattle.sgf_core.proofs.reader.next_tree_start.Given as goal
 
 abbrev pub invariant-loop-offset : goal.invariant-loop-offset
 invariant-loop-offset l = record {

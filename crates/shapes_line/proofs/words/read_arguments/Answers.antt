@@ -4,7 +4,7 @@ use Rattle.std.proofs.lemmas.Result.{err_from_is_err_and}
 use Rattle.clap.specs.Words.{App, app_of}
 use Rattle.command_lines.specs.Lines.{IsLineFault}
 use Rattle.shapes_line.proofs.Asked.{taken_by, task_answered, task_refused}
-use Rattle.shapes_line.proofs.words.read_words.Goals as goal
+use Rattle.shapes_line.proofs.words.read_arguments.Goals as goal
 
 pub returns-in_err-matches-clause-fault : goal.returns-in_err-matches-clause-fault
 returns-in_err-matches-clause-fault c =

@@ -12,7 +12,7 @@ use engine_core::RunFault;
 use std::alloc::{AllocError, Global};
 
 /// What the words of a program without subcommands may ask for, and how to read it from them.
-pub trait FromWords<'a>: Sized + Drop {
+pub trait FromArguments<'a>: Sized + Drop {
     /// The program, as it is defined for `clap`.
     ghost app: { App };
 
@@ -50,7 +50,7 @@ pub trait FromWords<'a>: Sized + Drop {
 ///
 /// `Usage` if `clap` refuses the words; if it takes them, why their values ask for nothing;
 /// `Memory` if memory was refused.
-pub fn read_words<'a, T: FromWords<'a>>(
+pub fn read_arguments<'a, T: FromArguments<'a>>(
     alloc: Global,
     words: &'a [String],
 ) -> Result<Line<T>, RunFault>

@@ -3,7 +3,7 @@ use Rattle.game_core.specs.Faults.{IsNextFault, IsGamesFault}
 use Rattle.game_core.specs.Reading.{Reading}
 use Rattle.game_core.specs.Inner.Reading.{IsStage, IsNextRecord}
 use Rattle.game_core.proofs.OneTree.{moved, stops, reads_on}
-use Rattle.game_core.proofs.games.Games.step.Goals as goal
+use Rattle.game_core.proofs.games.Games.read_one_tree.Goals as goal
 
 pub invariant_of-self : goal.invariant_of-self
 invariant_of-self c =

@@ -3,7 +3,7 @@ use Rattle.std.specs.Prelude.{string_bytes}
 use Rattle.std.proofs.lemmas.Result.{err_from_is_err_and}
 use Rattle.clap.specs.Words.{App}
 use Rattle.command_lines.specs.Lines.{IsLineFault}
-use Rattle.command_lines.proofs.from_words.read_words.Goals as goal
+use Rattle.command_lines.proofs.from_arguments.read_arguments.Goals as goal
 
 pub returns-in_err-matches-clause-fault : goal.returns-in_err-matches-clause-fault
 returns-in_err-matches-clause-fault g c =

@@ -5,7 +5,7 @@ use Rattle.job_core.specs.declared.knowledge.Knowledge.{Knowledge}
 use Rattle.job_core.specs.Rule.{worker}
 use Rattle.harvest_core.specs.declared.threads.Seat.{Seat}
 use Rattle.harvest_core.specs.Inner.Threads.{reader_of, IsFresh}
-use Rattle.harvest_core.proofs.threads.seats_beside.Goals as goal
+use Rattle.harvest_core.proofs.threads.worker_seats.Goals as goal
 
 pub loop-number-preserved : goal.loop-number-preserved
 loop-number-preserved c =
