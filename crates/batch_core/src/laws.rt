@@ -5,9 +5,9 @@ ghost use Rattle.go_record.specs.Actions.{Actions};
 ghost use Rattle.game_core.specs.Collection.{record_of_tree, games_among};
 ghost use Rattle.batch_core.specs.Batch.{joined, AreAllTrees, AreGamesOf};
 
-/// The games of texts that are joined into one input are those of the texts, one after another. By
-/// the grammar the input can be read to its end if each of the texts can. The reader's limit of
-/// 2^28 bytes is not part of this.
+/// States, for proofs, that the games of texts that are joined into one input are those of the
+/// texts, one after another. By the grammar the input can be read to its end if each of the texts
+/// can. The reader's limit of 2^28 bytes is left out. It does nothing at run time.
 pub fn games_of_joined()
     ensures apart { (texts : List (List ℕ)) (games : List Actions) (trees : List GameTree)
         → AreGamesOf texts games → AreAllTrees (joined texts) trees
@@ -17,8 +17,9 @@ pub fn games_of_joined()
         × (games_among (map record_of_tree trees) ≡ games) }
 {}
 
-/// A list of texts has one list of games. The games of two lists of texts, one after the other, are
-/// those of the first list and then those of the second.
+/// States, for proofs, that a list of texts has one list of games, and that the games of two lists
+/// of texts, one after the other, are those of the first list and then those of the second. It does
+/// nothing at run time.
 pub fn games_come_together()
     ensures one { (texts : List (List ℕ)) (games others : List Actions)
         → AreGamesOf texts games → AreGamesOf texts others → games ≡ others }

@@ -23,12 +23,13 @@ pub fn report_of(alloc: Global, text: &[u8]) -> Result<Report, GamesFault>
     Ok(games.report())
 }
 
-/// Appends a text to those already joined, and a closing parenthesis after it. Outside of trees the
-/// parenthesis is passed over, and no tree continues after it. It takes memory.
+/// Appends `text` to `texts`, the SGF texts already joined, and a closing parenthesis after it.
+/// Outside of trees the parenthesis is passed over, and no tree continues after it. It takes
+/// memory.
 ///
 /// # Errors
 ///
-/// `AllocError` if memory was refused. The texts before it are then as they were.
+/// `AllocError` if memory was refused. `texts` is then as it was.
 pub fn push_text(texts: &mut Vec<u8>, text: &[u8]) -> Result<(), AllocError>
     ensures pushed { (before : List (List ℕ)) → texts.old.items ≡ joined before
         → OnOk result (texts.new.items ≡ joined (before ++ text.now ∷ [])) }

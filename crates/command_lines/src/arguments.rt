@@ -55,7 +55,7 @@ pub fn workers_argument<'a>(alloc: Global, help: &'a str) -> Arg<'a>
         .default_value("4")
 }
 
-/// Defines the word GLYPHS, which may be left out. It takes no memory.
+/// Defines the positional argument GLYPHS, which is optional. It takes no memory.
 pub fn glyphs_argument<'a>(alloc: Global) -> Arg<'a>
     ensures rule { rule_of result ≡ word_rule (codes "glyphs") }
     ensures local { result.global ≡ false }
@@ -65,7 +65,7 @@ pub fn glyphs_argument<'a>(alloc: Global) -> Arg<'a>
         .help("The 25 points of the pattern, row by row from the top")
 }
 
-/// Defines the word COLOUR, which may be left out. It takes no memory.
+/// Defines the positional argument COLOUR, which is optional. It takes no memory.
 pub fn colour_argument<'a>(alloc: Global) -> Arg<'a>
     ensures rule { rule_of result ≡ word_rule (codes "colour") }
     ensures local { result.global ≡ false }
@@ -87,8 +87,8 @@ pub fn diamond_argument<'a>(alloc: Global) -> Arg<'a>
     )
 }
 
-/// Defines words of this name, any number of them, which help calls `value_name`. It takes no
-/// memory.
+/// Defines a positional argument of this name, with any number of values, which help calls
+/// `value_name`. It takes no memory.
 pub fn names_argument<'a>(
     alloc: Global,
     name: &'a str,
@@ -104,7 +104,8 @@ pub fn names_argument<'a>(
         .help(help)
 }
 
-/// Defines the words FILE.., the names of collections and folders. It takes no memory.
+/// Defines the positional argument FILE, with any number of values: the names of collections and
+/// folders. It takes no memory.
 pub fn files_argument<'a>(alloc: Global) -> Arg<'a>
     ensures rule { rule_of result ≡ names_rule (codes "files") }
     ensures local { result.global ≡ false }

@@ -13,13 +13,13 @@ use std::alloc::{AllocError, Global};
 
 /// What the words of a program without subcommands may ask for, and how to read it from them.
 pub trait FromArguments<'a>: Sized + Drop {
-    /// The program, as it is defined for `clap`.
+    /// The program, as it is defined for `clap`. Used in contracts only.
     ghost app: { App };
 
-    /// Whether the values ask for this.
+    /// Whether the values ask for this. Used in contracts only.
     ghost IsAsked: { List Row → Self → Type 0 };
 
-    /// Whether the values ask for nothing, with this as the reason.
+    /// Whether the values ask for nothing, for this reason. Used in contracts only.
     ghost IsWrong: { List Row → RunFault → Type 0 };
 
     /// Defines the program for `clap`. It takes memory.

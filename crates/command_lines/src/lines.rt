@@ -14,13 +14,14 @@ use std::alloc::Global;
 /// What a line asks for.
 #[derive(Debug, Drop)]
 pub enum Line<T> {
-    /// This, asked for by words that `clap` takes.
+    /// The value that the words ask for, which `clap` takes.
     Asked(T),
     /// The text of help or version, which the words ask for.
     Told(String),
 }
 
-/// Returns the text of help or version with which `clap` answers a line, or why it refuses it.
+/// Returns the text of help or version if `error`, the answer of `clap`, is one. Else the error is
+/// `Memory` if memory was refused, and `Usage` if `clap` refuses the words.
 fn told(alloc: Global, error: &Error) -> Result<String, RunFault>
     ensures help { IfOk result (λ _. IsHelpKind (kind_of error.now)) }
     ensures fault { IfErr result (λ found. (found ≡ fault.Memory)

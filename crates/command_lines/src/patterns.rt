@@ -12,8 +12,8 @@ use shape_core::Shape;
 ///
 /// # Errors
 ///
-/// `Usage` if the glyphs or the colour are missing, or if the colour is none; else `Glyph` if the
-/// glyphs are not those of a pattern.
+/// `Usage` if the glyphs or the colour are missing, or if the colour is neither black nor white;
+/// else `Glyph` if the glyphs are not those of a pattern.
 pub fn spelled_pattern(matches: &ArgMatches<'_>) -> Result<Shape, RunFault>
     ensures shape { IfOk result (IsSpelled (rows_in matches.now)) }
     ensures fault { IfErr result (IsSpellingFault (rows_in matches.now)) }

@@ -8,7 +8,7 @@ use crate::values::small_number;
 use clap::ArgMatches;
 use shape_dict::Text;
 
-/// Returns the text of this number, from 1 to 3, or None if there is none.
+/// Returns the text format of this number, from 1 to 3, or None if there is none.
 fn text_numbered(number: u8) -> Option<Text>
     ensures text { IfSome result (λ text. number ≡ number_of text) }
     ensures none { IfNone result ((text : Text) → number ≢ number_of text) }
@@ -21,8 +21,8 @@ fn text_numbered(number: u8) -> Option<Text>
     }
 }
 
-/// Returns which of the three texts `--text` asks for, or None if it names none. It takes no
-/// memory.
+/// Returns which of the three text formats of a dictionary `--text` asks for, or None if its value
+/// is none of 1 to 3. It takes no memory.
 pub fn text_of(matches: &ArgMatches<'_>) -> Option<Text>
     ensures text { IfSome result (λ text. IsNumberOf (codes "text") (rows_in matches.now)
         (number_of text)) }

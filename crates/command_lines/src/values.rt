@@ -46,7 +46,7 @@ pub fn number(matches: &ArgMatches<'_>, name: &str) -> Option<u64>
 }
 
 /// Returns the number of the option of this name: `Some(None)` if the option isn't given, and None
-/// if its value is no number. It takes no memory.
+/// if it is given and its value is no number. It takes no memory.
 pub fn optional_number(matches: &ArgMatches<'_>, name: &str) -> Option<Option<u64>>
     ensures number { IfSome result (IsOptionalNumberOf name.now (rows_in matches.now)) }
     ensures none { IfNone result (HasNoOptionalNumber name.now (rows_in matches.now)) }

@@ -13,15 +13,19 @@ use std::sync::Wait;
 use std::thread::Threads;
 use tally_core::{Report, Settings};
 
-/// How many threads make a text at least, even for one worker, since counting is over then. They
-/// are more than most machines have processors, since parts of a text end unevenly.
+/// The least number of threads that make a text, even if one worker counts, since counting is over
+/// by then. It is more than most machines have processors, since the parts of a text are not ready
+/// at one time.
 const LEAST_THREADS: usize = 8;
 
-/// How many threads make a text at most. With more, each part would be too small for large pages.
+/// The greatest number of threads that make a text. With more, each part would be too small for
+/// large pages.
 const MOST_THREADS: usize = 16;
 
-/// Counts an input, and returns the text of the dictionary of its games, in parts, and how many
-/// trees it has of each sort.
+/// Counts the collection `input`. Returns the text of the dictionary of its games, in parts that
+/// follow one another, and how many of its trees are games, of other games, or refused. `gate`
+/// learns which worker is about to count which game. It takes memory for what `harvest` takes and
+/// for the text.
 #[tactic(auto, using(crate::proofs::Order::comes_first))]
 fn counted_text<T: Threads + Wait + Sync, G: Gate>(
     rt: &T,
@@ -49,8 +53,8 @@ fn counted_text<T: Threads + Wait + Sync, G: Gate>(
 /// memory for the input, for what `harvest` takes, and for the text.
 ///
 /// The gate is for a test or a display of progress: it learns which worker is about to count which
-/// game. It changes no answer. That the call ends rests on those calls that wait for another thread
-/// keeping their promise, as `harvest` says.
+/// game. It does not change the result. That the call ends rests on a promise that no contract
+/// states: that the calls which wait for another thread end (`harvest` says which calls wait).
 ///
 /// # Errors
 ///
@@ -60,8 +64,8 @@ fn counted_text<T: Threads + Wait + Sync, G: Gate>(
 /// first fault of syntax (S1 to S3), else with F1 if it has more than 2^k patterns: F1 names the
 /// pattern with which they first become more, in the order of the games and of their walks, and the
 /// first game that has it. The input and the settings alone determine which of these comes. Nothing
-/// is written then. `Write` if the writer failed: exactly as many bytes of the text are out as it
-/// says. F2 to F4, F8 and F9 never come.
+/// is written then. `Write` if the writer failed: exactly as many bytes of the text are written as
+/// the fault says. F2 to F4, F8 and F9 are never returned.
 pub fn run_count<T: Threads + Wait + Sync, G: Gate, R: Read, W: Write>(
     rt: &T,
     alloc: Global,

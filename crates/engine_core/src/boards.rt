@@ -58,14 +58,14 @@ fn first_text(alloc: Global, input: &[u8]) -> Result<Option<Vec<u8>>, RunFault>
 
 /// Reads a collection and writes the final position of its first game: its rows from the top, `.`
 /// for an empty point, `X` for Black, `O` for White, each row ended by a line feed. Bytes after the
-/// first tree are not judged. If there is no tree, or the first is of another game than Go, it
-/// writes nothing and answers `NotFound`.
+/// first tree are not checked. If there is no tree, or the first is of another game than Go, it
+/// writes nothing and returns `NotFound`.
 ///
 /// # Errors
 ///
 /// The fault of the collection (S1 to S5), of the record (G1 to G4) or of the board (B1), `Read` if
 /// the reader failed, `Memory` if memory for the input or the text was refused: nothing is written
-/// then. `Write` if the writer failed: exactly that number of bytes of the text is out.
+/// then. `Write` if the writer failed: exactly `written` bytes of the text were written.
 pub fn run_board<R: Read, W: Write>(
     alloc: Global,
     reader: &mut R,

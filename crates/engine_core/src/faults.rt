@@ -32,8 +32,8 @@ pub enum RunFault {
     /// The collection was not counted.
     #[error("{0}")]
     Harvest(HarvestFault),
-    /// The input's dictionary of this number, from 1, cannot be read, or it cannot be added to
-    /// those before it.
+    /// Dictionary `n` of the input, counted from 1, cannot be read, or it cannot be added to those
+    /// before it.
     #[error("{}", DictLine {n: *.n, fault: *.fault})]
     Dict { n: usize, fault: DictFault },
     /// The program does not know the words of the command line.
@@ -42,7 +42,7 @@ pub enum RunFault {
     /// A read of the input failed.
     #[error("I1 read failed")]
     Read,
-    /// A write failed; exactly that number of bytes of the text is out.
+    /// A write failed; exactly `written` bytes of the text were written.
     #[error("I2 write failed after {written} bytes")]
     Write { written: usize },
     /// There was no memory for the input, the text or the words of the command line.
@@ -107,8 +107,8 @@ impl<T: Drop> From<AllocFailed<T>> for RunFault {
     }
 }
 
-/// The text of a dictionary's fault. Too large an input and a lack of memory concern no one
-/// dictionary, so they are said without a number.
+/// The fault of dictionary `n`, to be printed. Too large an input and a lack of memory concern no
+/// one dictionary, so these are printed without the number.
 #[derive(Clone, Copy)]
 struct DictLine {
     n: usize,

@@ -35,8 +35,8 @@ fn found_line(alloc: Global, entry: &Entry) -> Result<Vec<u8>, AllocError>
     Ok(line)
 }
 
-/// Returns the pattern's line by the dictionary whose text the input is, and whether the dictionary
-/// has the pattern.
+/// Returns the pattern's line by the dictionary whose text `input` is, and `Done`. If the
+/// dictionary does not have the pattern, the line says 0 twice, and the outcome is `NotFound`.
 fn answer(alloc: Global, input: &[u8], shape: Shape) -> Result<(Vec<u8>, Outcome), RunFault>
     ensures done { IfOk result (λ p. p.1 ≡ outcome.Done → IsFoundText shape input.now p.0.items) }
     ensures not_found { IfOk result (λ p. p.1 ≡ outcome.NotFound
@@ -60,14 +60,14 @@ fn answer(alloc: Global, input: &[u8], shape: Shape) -> Result<(Vec<u8>, Outcome
 
 /// Reads one dictionary, in any of the three texts, and writes the pattern's line: its word in 13
 /// hexadecimal digits, how often it was there, and how often it was played. If the dictionary has
-/// no such pattern, the line says 0 twice, and the answer is `NotFound`. It takes memory for the
+/// no such pattern, the line says 0 twice, and the call returns `NotFound`. It takes memory for the
 /// input, the dictionary and the line.
 ///
 /// # Errors
 ///
 /// `Dict` with 1 and the first fault of the text (X1 to X6, X8), `Read` if the reader failed,
 /// `Memory` if memory for the input or the line was refused: nothing is written then. `Write` if
-/// the writer failed: exactly that number of bytes of the line is out.
+/// the writer failed: exactly `written` bytes of the line were written.
 pub fn run_find<R: Read, W: Write>(
     alloc: Global,
     shape: Shape,

@@ -1,5 +1,5 @@
-//! Joins dictionaries that follow one another by halves of their bytes: none is in more joins than
-//! the bytes can be halved.
+//! Joins dictionaries that follow one another by halves of their bytes: none is joined more often
+//! than the number of bytes can be halved.
 ghost use Rattle.std.specs.Prelude.{◌≡◌, ℕ, ◌+◌, ◌^◌, ◌<◌, ◌≤◌, List, length, IfSome};
 ghost use Rattle.engine_core.specs.Inner.Batches.{IsBatch, AreBatches};
 
@@ -17,7 +17,8 @@ pub(crate) struct Batch {
     pub(crate) length: usize,
 }
 
-/// Reads the first dictionary alone. None if it cannot be read, or memory was refused.
+/// Reads the dictionary at the front of the bytes into a batch of it alone (a batch is the join of
+/// dictionaries that were read). None if it cannot be read, or memory was refused.
 fn read_one(alloc: Global, bytes: &[u8]) -> Option<Batch>
     ensures batch { IfSome result (IsBatch bytes.now) }
     ensures some { IfSome result (λ batch. 1 ≤ batch.length) }
@@ -32,8 +33,8 @@ fn read_one(alloc: Global, bytes: &[u8]) -> Option<Batch>
     }
 }
 
-/// Joins two batches, of which the second follows the first, into one. None if they cannot be
-/// joined, or memory was refused.
+/// Joins two batches (each the join of dictionaries that were read), of which the second follows
+/// the first, into one. None if they cannot be joined, or memory was refused.
 pub(crate) fn join_two(alloc: Global, first: &Batch, next: &Batch) -> Option<Batch>
     requires number { first.now.number + next.now.number < 2 ^ 64 }
     requires length { first.now.length + next.now.length < 2 ^ 64 }
@@ -51,10 +52,10 @@ pub(crate) fn join_two(alloc: Global, first: &Batch, next: &Batch) -> Option<Bat
     }
 }
 
-/// Reads and joins the dictionaries at the front of the bytes whose texts have `least` bytes or
-/// more, and no more of them than that takes. It joins those of the first half of these bytes,
-/// those of what is left of them, and then both. So each dictionary is in no more joins than
-/// `least` can be halved. None if one of them cannot be read or joined, or memory was refused.
+/// Reads and joins dictionaries from the front of the bytes, as few as have texts of `least` bytes
+/// or more together. It joins those of the first half of these bytes, those of what is left of
+/// them, and then both. So each dictionary is joined no more often than `least` can be halved. None
+/// if one of them cannot be read or joined, or memory was refused.
 pub(crate) fn join_front(alloc: Global, bytes: &[u8], least: usize) -> Option<Batch>
     requires { least ≤ length bytes.now }
     ensures batch { IfSome result (IsBatch bytes.now) }

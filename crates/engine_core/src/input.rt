@@ -15,7 +15,8 @@ use std::io::Read;
 /// How many bytes a read asks for at once.
 const BLOCK: usize = 1 << 16;
 
-/// Reads once, and returns how many bytes it read. Unless the buffer is empty, 0 is the end.
+/// Reads once into `room`, and returns how many bytes were read. 0 means the reader's end, unless
+/// `room` is empty.
 fn read_some<R: Read>(reader: &mut R, room: &mut [u8]) -> Result<usize, RunFault>
     ensures within { IfOk result (λ count. count ≤ length room.new) }
     ensures taken { IfOk result (λ count. Consumes (R.remaining reader.old)
@@ -27,7 +28,8 @@ fn read_some<R: Read>(reader: &mut R, room: &mut [u8]) -> Result<usize, RunFault
     reader.read(room).map_err(|_| RunFault::Read)
 }
 
-/// Reads in blocks, up to the end, or up to one byte more than a run may have.
+/// Reads blocks and appends them to `input`, up to the reader's end, or up to one byte more than a
+/// run may have. `block` is the buffer of each read.
 fn read_by_block<R: Read>(
     reader: &mut R,
     block: &mut [u8],

@@ -29,8 +29,8 @@ fn add_next(alloc: Global, sum: &Dictionary, bytes: &[u8]) -> Result<(Dictionary
     Ok((both, length))
 }
 
-/// Adds the dictionary that follows a batch (the joined dictionaries at the front of the input) to
-/// it.
+/// Reads the dictionary that follows a batch (the joined dictionaries at the front of the input),
+/// and returns a batch with that one added.
 ///
 /// `RunFault::Dict` has the number of that dictionary, from 1, and why it cannot be read or added,
 /// or out of memory.
@@ -53,9 +53,9 @@ fn add_one(alloc: Global, input: &[u8], before: &Batch) -> Result<Batch, RunFaul
     }
 }
 
-/// Adds to a batch at the front of the input the dictionaries that follow it, up to byte `end` at
-/// least. They are joined before they are added. None if one of them cannot be read or joined, or
-/// memory was refused.
+/// Adds to a batch (the joined dictionaries at the front of the input) those that follow it, up to
+/// byte index `end` at least. They are joined before they are added. None if one of them cannot be
+/// read or joined, or memory was refused.
 fn add_joined(alloc: Global, input: &[u8], before: &Batch, end: usize) -> Option<Batch>
     requires before { IsBatch input.now before.now }
     requires more { before.now.length ≤ end }
@@ -67,10 +67,10 @@ fn add_joined(alloc: Global, input: &[u8], before: &Batch, end: usize) -> Option
     join_two(alloc, before, &next)
 }
 
-/// Adds to a batch at the front of the input the dictionaries that follow it, up to byte `end` at
-/// least. If they cannot be joined before they are added, those of the first half of the bytes are
-/// added, and then the others: so the first fault is met, and each time only half of the bytes are
-/// read again.
+/// Adds to a batch (the joined dictionaries at the front of the input) those that follow it, up to
+/// byte index `end` at least. If they cannot be joined before they are added, those of the first
+/// half of the bytes are added, and then the others: so the first fault is found, and each time
+/// only half of the bytes are read again.
 fn add_up_to(alloc: Global, input: &[u8], before: Batch, end: usize) -> Result<Batch, RunFault>
     requires few { length input.now ≤ most_bytes }
     requires before { IsBatch input.now before }
@@ -96,7 +96,8 @@ fn add_up_to(alloc: Global, input: &[u8], before: Batch, end: usize) -> Result<B
     }
 }
 
-/// Joins all dictionaries whose texts the input is, and returns how many they are too.
+/// Joins all dictionaries whose texts follow one another in `input`. Returns the join, and how many
+/// dictionaries there are.
 fn join_all(alloc: Global, input: &[u8]) -> Result<(Dictionary, usize), RunFault>
     requires { length input.now ≤ most_bytes }
     ensures joined { IfOk result (λ p. IsJoinedText input.now p.1 p.0) }
@@ -112,7 +113,8 @@ fn join_all(alloc: Global, input: &[u8]) -> Result<(Dictionary, usize), RunFault
     Ok((all.sum, all.number))
 }
 
-/// Returns the text of the join of all dictionaries whose texts the input is.
+/// Joins all dictionaries whose texts follow one another in `input`, and returns the text of their
+/// join that `text` names.
 fn joined_text(alloc: Global, text: Text, input: &[u8]) -> Result<Vec<u8>, RunFault>
     ensures written { IfOk result (λ written. IsJoinText text input.now written.items) }
     ensures fault { IfErr result (IsJoinRunFault input.now) }
@@ -131,9 +133,10 @@ fn joined_text(alloc: Global, text: Text, input: &[u8]) -> Result<Vec<u8>, RunFa
 }
 
 /// Reads one dictionary or more, one after another, each in any of the three texts, and writes a
-/// text of their join: the earlier ones are the left of each join. It takes memory for the input,
-/// the joins of parts that follow one another, of which there are no more than the input's bytes
-/// can be halved, the join that is made of two of them, and the text.
+/// text of their join: the games of each are numbered after those of the dictionaries before it. It
+/// takes memory for the input, for joins of parts of the input that wait to be joined, of which
+/// there are no more than the input's bytes can be halved, for the join that is made of two of
+/// them, and for the text.
 ///
 /// # Errors
 ///
@@ -141,8 +144,8 @@ fn joined_text(alloc: Global, text: Text, input: &[u8]) -> Result<Vec<u8>, RunFa
 /// to those before it (X7, X9), and its fault; an input without a byte is X1 of dictionary 1.
 /// `Dict` with X8 if the whole input has more than 2^28 bytes, and with X6 if memory for a
 /// dictionary, a join or the text was refused. `Read` if the reader failed, `Memory` if memory for
-/// the input was refused. Nothing is written then. `Write` if the writer failed: exactly that
-/// number of bytes of the text is out.
+/// the input was refused. Nothing is written then. `Write` if the writer failed: exactly `written`
+/// bytes of the text were written.
 pub fn run_join<R: Read, W: Write>(
     alloc: Global,
     text: Text,

@@ -7,7 +7,8 @@ ghost use Rattle.engine_core.specs.Output.{WroteFront};
 use crate::faults::RunFault;
 use std::io::Write;
 
-/// Writes bytes. If the writer fails or writes none, the error is how many of the bytes are out.
+/// Writes all the bytes. If the writer fails or writes none, the error is how many of the bytes
+/// were written.
 fn write_bytes<W: Write>(writer: &mut W, bytes: &[u8]) -> Result<(), usize>
     ensures whole { OnOk result (Appends (W.contents writer.old) (W.contents writer.new) bytes.now) }
     ensures short { IfErr result (λ written. written < length bytes.now) }
@@ -28,8 +29,8 @@ fn write_bytes<W: Write>(writer: &mut W, bytes: &[u8]) -> Result<(), usize>
 ///
 /// # Errors
 ///
-/// `Write` if the writer failed, or wrote no bytes: exactly that number of bytes of the text is
-/// out.
+/// `Write` if the writer failed, or wrote no bytes: exactly `written` bytes of the text were
+/// written.
 pub fn write_output<W: Write>(writer: &mut W, text: &[u8]) -> Result<(), RunFault>
     ensures whole { OnOk result (Appends (W.contents writer.old) (W.contents writer.new) text.now) }
     ensures front { IfErr result (WroteFront (W.contents writer.old) (W.contents writer.new)
@@ -45,9 +46,9 @@ pub fn write_output<W: Write>(writer: &mut W, text: &[u8]) -> Result<(), RunFaul
 ///
 /// # Errors
 ///
-/// `Write` if the writer failed, or wrote no bytes: exactly that number of bytes of the text is
-/// out. It also comes before a part that would take the text past 2^64 - 1 bytes, which is more
-/// than memory holds.
+/// `Write` if the writer failed, or wrote no bytes: exactly `written` bytes of the text were
+/// written. It is also returned before a part that would take the text past 2^64 - 1 bytes, which
+/// is more than memory holds.
 pub fn write_parts<W: Write>(writer: &mut W, parts: &[Vec<u8>]) -> Result<(), RunFault>
     ensures whole { OnOk result (Appends (W.contents writer.old) (W.contents writer.new)
         (joined parts.now)) }

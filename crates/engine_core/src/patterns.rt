@@ -24,7 +24,7 @@ fn colour_of(text: &str) -> Option<Colour>
     None
 }
 
-/// Reads these glyphs as those of a square or a diamond, and returns the word they spell.
+/// Reads `glyphs` as those of a pattern of `kind`, and returns the word they spell.
 fn word_of(kind: Kind, glyphs: &str) -> Result<Word, GlyphFault>
     ensures spelled { IfOk result (λ word. glyphs_of word ≡ glyphs.now) }
     ensures small { IfOk result (λ word. word < 2 ^ 51) }
@@ -37,12 +37,12 @@ fn word_of(kind: Kind, glyphs: &str) -> Result<Word, GlyphFault>
     }
 }
 
-/// Returns the pattern of these glyphs with this mover, `black` or `white`: its canonical form.
+/// Returns the canonical form of the pattern with these glyphs and this mover, `black` or `white`.
 ///
 /// # Errors
 ///
 /// `Usage` exactly if the mover is neither, and else `Glyph` if the glyphs are not 25 (H2) or one
-/// is none (H1).
+/// of them is no glyph (H1).
 pub fn pattern_of(kind: Kind, glyphs: &str, mover: &str) -> Result<Shape, RunFault>
     ensures shape { IfOk result (IsPatternOf kind glyphs.now mover.now) }
     ensures fault { IfErr result (IsPatternFault glyphs.now mover.now) }

@@ -33,18 +33,19 @@ enum Stage {
     Fault(GamesFault),
 }
 
-/// What reading one tree gave.
+/// The result of reading one tree.
 #[derive(Drop)]
 enum TreeOutcome<'a> {
-    /// The job of its game.
+    /// The tree is a game, and this is its job: its number, its bounds in the input and its record.
     Job(Job<'a>),
-    /// The tree is passed over: it is of another game, or its record has a fault.
+    /// The tree is skipped: it is of another game, or its record has a fault.
     Passed,
     /// No tree was left.
     End,
 }
 
-/// A tree that was read: its bounds, and its record or the record's fault.
+/// A tree that was read: its bounds as byte offsets in the input, and its record or the record's
+/// fault.
 #[derive(Drop)]
 struct Recorded {
     at: usize,
@@ -55,8 +56,9 @@ struct Recorded {
 /// A reader of the games of an input, which are numbered from 0 in their order. It counts which
 /// trees are games, which are of other games, and which are refused.
 ///
-/// Contracts see the input, the place `from` up to which its trees were read, the report on these,
-/// the `fault` that was met, if any, and whether the reader has `ended`: no tree was left.
+/// Contracts see the input, the byte offset `from` up to which its trees were read, the report on
+/// these trees, the `fault` that was met, if any, and whether the reader has `ended`: no tree was
+/// left.
 #[derive(Drop)]
 pub struct Games<'a> {
     bytes: &'a [u8],
@@ -87,8 +89,8 @@ impl<'a> Model for Games<'a> {
         × (games.trees.bytes ≡ games.bytes.now) };
 }
 
-/// The next tree, or None if none is left. The reader of trees keeps a fault of syntax and answers
-/// it from then on.
+/// Reads the next tree, or returns None if none is left. `Sgf` at a fault of syntax, which `trees`
+/// keeps and returns again at each later call. `Memory` if memory was refused.
 fn next_tree<'a>(alloc: Global, trees: &mut Trees<'a>) -> Result<Option<Tree<'a>>, GamesFault>
     ensures tree { IfOk result (λ found. IfSome found (λ read. (tree : GameTree)
         × IsNextTree trees.old.bytes trees.old.from read.at read.end tree
@@ -107,7 +109,8 @@ fn next_tree<'a>(alloc: Global, trees: &mut Trees<'a>) -> Result<Option<Tree<'a>
     }
 }
 
-/// Passes on what reading a record gave, faults included, but makes out of memory an error.
+/// Returns what reading a record gave, `recorded`, as it is: a fault of the record is then inside
+/// of `Ok`. Only if that fault is out of memory, returns `GamesFault::Memory`.
 fn unless_memory(
     recorded: Result<Kind, RecordFault>,
 ) -> Result<Result<Kind, RecordFault>, GamesFault>
@@ -123,7 +126,8 @@ fn unless_memory(
     }
 }
 
-/// The next tree's bounds and record, or None if no tree is left.
+/// Reads the next tree and its record, or returns None if no tree is left. A fault of the record is
+/// part of the result. `Sgf` at a fault of syntax, `Memory` if memory was refused.
 fn next_record(alloc: Global, trees: &mut Trees<'_>) -> Result<Option<Recorded>, GamesFault>
     ensures record { IfOk result (λ found.
         IfSome found (IsNextRecord trees.old.bytes trees.old.from)) }
@@ -193,7 +197,8 @@ impl<'a> Games<'a> {
         })
     }
 
-    /// Reads the next tree, and returns what it gave.
+    /// Reads the next tree, counts it in the report, and returns what it was. A fault of syntax or
+    /// out of memory is kept: each later call returns it again and changes nothing.
     fn read_one_tree(&mut self, alloc: Global) -> Result<TreeOutcome<'a>, GamesFault>
         ensures bytes { self.new.bytes ≡ self.old.bytes }
         ensures outcome { IfOk result (IsTreeOutcome self.old self.new) }
@@ -232,18 +237,19 @@ impl<'a> Games<'a> {
         }
     }
 
-    /// The job of the next game, or None if no game is left. Trees of other games, and those whose
-    /// records have a fault, are counted and passed over.
+    /// Returns the job of the next game (its number, its bounds in the input and its record), or
+    /// None if no game is left. Trees of other games, and those whose records have a fault, are
+    /// counted in the report and skipped.
     ///
-    /// It takes memory for a tree and its record. After None each later call answers None and
+    /// It takes memory for a tree and its record. After None each later call returns None and
     /// changes nothing.
     ///
     /// # Errors
     ///
-    /// `Sgf` if the tree after those that were passed over has a fault of syntax. `Memory` if
-    /// memory was refused, which is asked for only if that tree is whole, so never in place of a
-    /// fault of syntax. The report is then that of the trees before this one. Each later call
-    /// answers the same fault, even out of memory, and changes nothing.
+    /// `Sgf` if the tree after those that were skipped has a fault of syntax. `Memory` if memory
+    /// was refused, which is asked for only if that tree is whole, so never in place of a fault of
+    /// syntax. The report is then that of the trees before the faulty one. Each later call returns
+    /// the same fault, even out of memory, and changes nothing.
     pub fn next_job(&mut self, alloc: Global) -> Result<Option<Job<'a>>, GamesFault>
         ensures bytes { self.new.bytes ≡ self.old.bytes }
         ensures job { IfOk result (λ found. IfSome found (IsNextGame self.old self.new)) }

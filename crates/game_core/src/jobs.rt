@@ -6,11 +6,12 @@ ghost use Rattle.sgf_core.specs.Limit.{most_bytes};
 use go_record::Record;
 use std::marker::Model;
 
-/// A game of an input that is to be counted: its number, its place and its record. It borrows the
-/// input.
+/// A game of an input that is to be counted: its number, the bounds of its tree in the input, and
+/// its record. It borrows the input.
 ///
-/// Contracts see the input's bytes and these, and that the record is that of the game of this
-/// number among the trees of the input. Jobs come from `Games::next_job` alone.
+/// Contracts see the input's bytes, the number, the bounds and the record, and that the record is
+/// that of the game of this number among the trees of the input. Jobs come from `Games::next_job`
+/// alone.
 #[derive(Drop)]
 pub struct Job<'a> {
     bytes: &'a [u8],
@@ -40,7 +41,8 @@ impl<'a> Model for Job<'a> {
 }
 
 impl<'a> Job<'a> {
-    /// The job of a game of this input.
+    /// Makes the job of the game of number `game` in the input `bytes`. Its tree has the bytes from
+    /// index `at` on and before index `end`.
     pub(crate) fn new(bytes: &'a [u8], game: u64, at: usize, end: usize, actions: Record) -> Job<'a>
         requires game { IsGameOf bytes.now game at end actions }
         requires few { game < most_bytes }
@@ -64,14 +66,14 @@ impl<'a> Job<'a> {
         self.game
     }
 
-    /// The place of the first parenthesis of its tree, a byte offset in the whole input, from 0.
+    /// The byte index, in the whole input, of the first parenthesis of the game's tree.
     pub fn at(&self) -> usize
         ensures { result ≡ self.now.at }
     {
         self.at
     }
 
-    /// The place after the last parenthesis of its tree, a byte offset in the whole input, from 0.
+    /// The byte index, in the whole input, after the last parenthesis of the game's tree.
     pub fn end(&self) -> usize
         ensures { result ≡ self.now.end }
     {
@@ -95,7 +97,7 @@ impl<'a> Job<'a> {
         &self.actions
     }
 
-    /// The record of the game, without the job. It takes no memory.
+    /// Turns the job into the record of its game. It takes no memory.
     pub fn into_record(self) -> Record
         ensures value { result ≡ self.entry.actions }
         ensures game { IsGameOf

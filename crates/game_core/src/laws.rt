@@ -7,8 +7,9 @@ ghost use Rattle.go_record.specs.Actions.{Actions};
 ghost use Rattle.game_core.specs.Collection.{AreTrees, record_of_tree, games_among};
 ghost use Rattle.game_core.specs.Games.{IsGameOf};
 
-/// An input has one list of trees, so the record of a job is that of the game of its number: among
-/// all trees, and among any first trees that have a game of that number.
+/// States for proofs that an input has one list of trees, so that the record of a job is that of
+/// the game of the job's number: among all trees, and among any first trees that have a game of
+/// that number.
 pub fn a_number_is_of_one_game()
     ensures all { (bytes : List ℕ) (trees : List GameTree) (end game at stop : ℕ)
         → (actions : Actions)

@@ -4,8 +4,8 @@
 pub struct Report {
     /// Games: trees of Go whose records have no fault.
     pub games: u64,
-    /// Trees of other games. They are passed over.
+    /// Trees of other games. They are skipped.
     pub others: u64,
-    /// Trees whose records have a fault. They are passed over.
+    /// Trees whose records have a fault. They are skipped.
     pub refused: u64,
 }

@@ -39,14 +39,15 @@ impl fmt::Display for Why {
 /// A name, and what is wrong with it.
 #[derive(Debug, Drop)]
 pub struct Flaw {
-    /// The name as the word has it; for a name below a folder, the folder's stands before it.
+    /// The name as it stands in the command line; for a name below a folder, that of the folder
+    /// stands before it.
     pub name: String,
     /// What is wrong with it.
     pub why: Why,
 }
 
-/// The exit status of a run that met this: 0 if it is no fault, 1 if a folder has no file of games,
-/// 6 if a file could not be read.
+/// The exit status of a run that met `why`: 0 if it is no fault, 1 if a folder has no file of
+/// games, 6 if a file could not be read.
 pub fn status_of(why: Why) -> u8
     ensures { result ≡ status_of why }
 {

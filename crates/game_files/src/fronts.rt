@@ -57,7 +57,8 @@ impl<'a, R: Read> Fronted<'a, R> {
         self.kept = end;
     }
 
-    /// What the input may be, if it has no tree: `cause_of` of all bytes that were given so far.
+    /// Returns what the input may be if it has no tree of SGF, such as packed by gzip: `cause_of`
+    /// the first eight bytes that were read so far, or all if they are fewer.
     pub fn cause(&self) -> Cause
         ensures kept { result ≡ cause_of self.now.kept }
         ensures given { (given : List ℕ) → IsFrontOf self.now.kept given

@@ -1,7 +1,7 @@
 //! Which files of games the words of a command line mean, and how a file's name is shown.
 #![tactic(auto)]
 
-// what is known of names
+// names of files, and what is wrong with them
 mod flaws;
 mod names;
 mod showing;
@@ -10,7 +10,7 @@ mod showing;
 mod causes;
 mod fronts;
 
-// what the system tells of them
+// files and folders that names stand for
 mod looks;
 mod walks;
 mod words;

@@ -1,4 +1,4 @@
-//! What the system tells of a name, links followed.
+//! What a name stands for in the file system, links followed.
 ghost use Rattle.std.specs.Prelude.{◌≡◌, IfOk, IfErr};
 ghost use Rattle.game_files.specs.Flaws.{status_of};
 ghost use Rattle.game_files.specs.Inner.Looks.{HasStatus};
@@ -10,7 +10,7 @@ use std::io::ErrorKind;
 use std::os::unix::fs::MetadataExt;
 use std::{fs, io};
 
-/// The identity of a folder: its device, and its number there.
+/// The identity of a folder: the number of its device, and its inode number there.
 #[derive(Clone, Copy, PartialEq, Eq)]
 pub(crate) struct Place {
     device: u64,
@@ -29,7 +29,7 @@ pub(crate) enum Seen {
     Unseen(Why),
 }
 
-/// Returns why the system failed.
+/// Returns why a call of the system failed with `error`.
 ///
 /// # Errors
 ///
@@ -65,8 +65,8 @@ pub(crate) fn look(rt: &HostRuntime, name: &str) -> Result<Seen, AllocError>
     }
 }
 
-/// Opens the file of this name, to be read from its beginning. If it can't be opened, the answer is
-/// why, which has the exit status 6.
+/// Opens the file of this name, to be read from its beginning. If it can't be opened, returns `Ok`
+/// with why not, for which the exit status is 6.
 ///
 /// # Errors
 ///

@@ -9,7 +9,7 @@ use std::alloc::AllocError;
 use std::fs;
 use std::io::ErrorKind;
 
-/// A name that the walk has yet to look at, and how many folders it stands in.
+/// A name that the walk has yet to look at, and how many of the walk's folders it stands in.
 #[derive(Drop)]
 struct Waiting {
     path: String,
@@ -32,14 +32,15 @@ pub(crate) struct Below {
 struct Walk<'a> {
     rt: &'a HostRuntime,
     waiting: Vec<Waiting>,
-    /// The folders that the next name stands in.
+    /// The identities of the folders that the next name stands in, from the outermost.
     inside: Vec<Place>,
     below: Below,
 }
 
 impl Walk<'_> {
-    /// Enters a folder, whose names wait to be looked at. A folder that it stands in has been
-    /// entered before, so a link to that ends the walk there.
+    /// Enters the folder `path`, whose identity is `place`: the names in it are to be looked at
+    /// next. Does nothing if the folder stands in itself, by a link back to a folder that was
+    /// entered. If it can't be read, that is noted in `below.flaws`.
     fn enter(&mut self, path: String, place: Place) -> Result<(), AllocError>
         ensures { self.new.below.files ≡ self.old.below.files }
     {
@@ -53,7 +54,8 @@ impl Walk<'_> {
         }
     }
 
-    /// Has the names in a folder wait to be looked at.
+    /// Adds the names in `folder` to those that are yet to be looked at. Names that are not UTF-8
+    /// are only counted. If reading the folder fails, that is noted in `below.flaws`.
     fn wait_for(&mut self, entries: fs::ReadDir, folder: String) -> Result<(), AllocError>
         ensures { self.new.below.files ≡ self.old.below.files }
     {
@@ -73,8 +75,8 @@ impl Walk<'_> {
         Ok(())
     }
 
-    /// Takes note that a name could not be looked at. One that leads nowhere and is not that of a
-    /// file of games is no fault.
+    /// Notes in `below.flaws` that `name` could not be looked at. A name that leads nowhere (no
+    /// such file, or a circle of links) is noted only if it ends in `.sgf`.
     fn fail(&mut self, name: String, why: Why) -> Result<(), AllocError>
         ensures { self.new.below.files ≡ self.old.below.files }
     {
@@ -85,7 +87,7 @@ impl Walk<'_> {
         Ok(())
     }
 
-    /// Looks at one name that waits. Returns whether there was one.
+    /// Takes one name that is yet to be looked at, and looks at it. Returns whether there was one.
     fn step(&mut self) -> Result<bool, AllocError>
         ensures { OnOk result (AreGames self.old.below.files.items
             → AreGames self.new.below.files.items) }
@@ -129,8 +131,8 @@ fn walk_at<'a>(rt: &'a HostRuntime, folder: &str) -> Result<Walk<'a>, AllocError
     })
 }
 
-/// Returns what is below the folder of this name: its files in the order of their whole names, each
-/// once.
+/// Returns what is below the folder of this name: the files whose names end in `.sgf`, in the order
+/// of their whole names, each once; what could not be looked at; and how many names are not UTF-8.
 pub(crate) fn walk_below(rt: &HostRuntime, folder: &str) -> Result<Below, AllocError>
     ensures { IfOk result (λ below. AreGameFiles below.files.items) }
 {

@@ -69,7 +69,8 @@ fn push_files(files: Vec<String>, all: &mut Vec<Source>) -> Result<(), AllocErro
     Ok(())
 }
 
-/// Appends what was found below a folder; if that is nothing, the flaw that it has no games.
+/// Appends what was found below `folder`: first what is wrong, then the files. If both are none,
+/// appends the flaw that it has no games.
 fn push_below(
     rt: &HostRuntime,
     folder: &str,
@@ -113,17 +114,17 @@ fn push_word(rt: &HostRuntime, word: &str, all: &mut Vec<Source>) -> Result<(), 
     }
 }
 
-/// Returns the inputs that these words stand for, each in its place. `-` is standard input, and so
-/// is a line without words. A word that is a file is that file, whatever its name is. A folder
-/// stands for all files below it whose names end in `.sgf` (`is_game_name`), links followed, in the
-/// order of their whole names (`sort_names`). A link to a folder that it stands in is not followed.
-/// What is wrong with names of a folder comes before its files.
+/// Returns the inputs that these words stand for, in the order of the words. `-` is standard input,
+/// and so is a line without words. A word that is a file is that file, whatever its name is. A
+/// folder stands for all files below it whose names end in `.sgf` (`is_game_name`), links followed,
+/// in the order of their whole names (`sort_names`). A link to a folder that the link stands in is
+/// not followed. What is wrong with names of a folder comes before its files.
 ///
-/// A name that can't be looked at is a `Flaw` in its place, except for one below a folder that
-/// leads nowhere and does not end in `.sgf`. A folder without a file of games is a `Flaw`, unless
-/// something of it could not be looked at. Names below a folder that are not UTF-8 are passed over,
-/// and how many they are is one `Flaw` more. A file that two words stand for comes twice. It takes
-/// memory for all names; no file is opened.
+/// A name that can't be looked at is a `Flaw` in place of an input, except for one below a folder
+/// that leads nowhere and does not end in `.sgf`. A folder without a file of games is a `Flaw`,
+/// unless something of it could not be looked at. Names below a folder that are not UTF-8 are
+/// passed over, and how many they are is one `Flaw` more. A file that two words stand for comes
+/// twice. It takes memory for all names; no file is opened.
 ///
 /// # Errors
 ///

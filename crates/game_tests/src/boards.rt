@@ -7,19 +7,19 @@ use shape_core::{Field, Kinds};
 use std::alloc::Global;
 use std::test::Fail;
 
-/// What a move takes that takes nothing.
+/// The result of a move that takes no stone.
 const NOTHING: Played = Played {
     taken: 0,
     own_lost: 0,
 };
 
-/// What a move takes that takes one stone of the opponent.
+/// The result of a move that takes one stone of the opponent.
 const ONE: Played = Played {
     taken: 1,
     own_lost: 0,
 };
 
-/// What a move takes that takes its own stone alone.
+/// The result of a move that takes its own stone alone.
 const OWN: Played = Played {
     taken: 0,
     own_lost: 1,
@@ -37,7 +37,7 @@ fn set(board: &mut Board, stone: Stone, column: u8, row: u8) {
     }
 }
 
-/// What a move takes, if its point is on the board.
+/// Plays a move and returns what it takes; None if its point is off the board.
 fn play(board: &mut Board, colour: Colour, column: u8, row: u8) -> Option<Played> {
     let point = Point { column, row };
     if !board.size().has(point) {
@@ -46,7 +46,7 @@ fn play(board: &mut Board, colour: Colour, column: u8, row: u8) -> Option<Played
     Some(board.play(colour, point))
 }
 
-/// Whether the stone at a point has a liberty, if there is one.
+/// Whether the stone at a point has a liberty; None if there is no stone or no such point.
 fn lives(board: &mut Board, column: u8, row: u8) -> Option<bool> {
     let point = Point { column, row };
     if !board.size().has(point) || board.cell(point) == Stone::Empty {
@@ -55,7 +55,7 @@ fn lives(board: &mut Board, column: u8, row: u8) -> Option<bool> {
     Some(board.has_liberty(point))
 }
 
-/// How a cell is written: `.` empty, `X` black, `O` white.
+/// The letter of a cell: `.` empty, `X` black, `O` white.
 fn letter(stone: Stone) -> u8 {
     match stone {
         Stone::Empty => b'.',
@@ -64,7 +64,7 @@ fn letter(stone: Stone) -> u8 {
     }
 }
 
-/// Whether the cells are these, row by row from the top.
+/// Whether the cells of the board have these letters, row by row from the top.
 fn shows(board: &Board, cells: &[u8]) -> bool {
     let size = board.size();
     for index in 0..size.area() {
@@ -101,8 +101,7 @@ fn sizes_are_from_1_to_52(rt: HostRuntime) {
     assert!(rt; Size::new(53, 9).is_none() && Size::new(9, 53).is_none());
 }
 
-/// Whether the point of a board of three columns and two rows that has this index is this one, and
-/// it has that index.
+/// Whether the point at this column and row has this `index`, and the index has this point.
 fn is_place(size: Size, index: usize, column: u8, row: u8) -> bool {
     let point = Point { column, row };
     index < size.area()
@@ -136,7 +135,8 @@ fn stones_with_liberties_stay(rt: HostRuntime) -> Result<(), Fail> {
     Ok(())
 }
 
-/// Whether the opponent's stone on two points is taken, and none of one's own.
+/// Whether a move of `colour` in this column, on a board of one row, takes one stone of the
+/// opponent and none of its own.
 fn takes(board: &mut Board, colour: Colour, column: u8) -> bool {
     play(board, colour, column, 0) == Some(ONE) && board.removed().len() == 1
 }
@@ -190,13 +190,13 @@ fn take_by_trait<B: Replayable>(pair: &mut B) -> bool
     first == NOTHING && second == ONE && third == ONE
 }
 
-/// The same for a board, where a board is made.
+/// Whether White and Black take each other's stones so on a board; None if none is made.
 fn board_takes(alloc: Global) -> Option<bool> {
     let mut pair = Board::new(alloc, Size::new(2, 1)?).ok()?;
     Some(take_by_trait(&mut pair))
 }
 
-/// The same for a field.
+/// Whether White and Black take each other's stones so on a field; None if none is made.
 fn field_takes(alloc: Global) -> Option<bool> {
     let size = Size::new(2, 1)?;
     let mut pair = Field::with_kinds(alloc, size, Kinds::Both).ok()?;
@@ -225,7 +225,7 @@ fn moves_by_the_trait_say_what_they_take(rt: HostRuntime) {
     assert!(rt; field_of_one_takes(rt.alloc()) == Some(OWN));
 }
 
-/// Whether a row of Black at the edge, below which White has set one, has no liberty and stays.
+/// Whether a row of Black at the edge, next to which White has set a row, has no liberty and stays.
 fn stays_without_liberties(board: &mut Board) -> bool {
     for column in 0..3 {
         set(board, Stone::Black, column, 0);
@@ -244,7 +244,8 @@ fn setup_captures_nothing(rt: HostRuntime) -> Result<(), Fail> {
     Ok(())
 }
 
-/// What the last move takes on the largest board, where Black has all other points.
+/// What a move of `colour` at the last free point takes on the largest board, if Black has all
+/// other points.
 fn last_of_all(alloc: Global, colour: Colour) -> Option<Played> {
     let mut board = board_of(alloc, 52, 52)?;
     for row in 0..52 {
@@ -270,7 +271,7 @@ fn the_largest_group_is_removed(rt: HostRuntime) {
     assert!(rt; last_of_all(rt.alloc(), Colour::Black) == Some(by_black));
 }
 
-/// Whether out of memory is said so.
+/// Whether the fault for out of memory has this text.
 fn says(alloc: Global, wanted: &str) -> Result<bool, Fail> {
     Ok(format!(in alloc; "{}", BoardFault::Memory)?.as_str() == wanted)
 }

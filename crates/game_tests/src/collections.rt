@@ -14,7 +14,8 @@ fn next_bounds(alloc: Global, trees: &mut Trees<'_>) -> Result<Option<(usize, us
     }
 }
 
-/// Whether the trees of a collection begin and end here, and then this comes.
+/// Whether the first trees of `bytes` begin and end at these byte indices, and the call after them
+/// returns `last`.
 fn reads(
     alloc: Global,
     bytes: &[u8],
@@ -46,7 +47,7 @@ fn trees_and_faults(rt: HostRuntime) {
     assert!(rt; reads(alloc, b"( \n;)(;)", &[(0, 5), (5, 8)], Ok(None)) == Ok(true));
 }
 
-/// Whether a fault that comes after the first tree comes at each further call.
+/// Whether a fault that is returned after the first tree is returned by each further call.
 fn is_kept(alloc: Global, trees: &mut Trees<'_>) -> bool {
     let fault = Err(SgfFault::Truncated(14));
     next_bounds(alloc, trees) == Ok(Some((0, 14)))
@@ -89,7 +90,7 @@ fn names_of_older_formats(rt: HostRuntime) {
     assert!(rt; are_older_names(rt.alloc()) == Ok(true));
 }
 
-/// A value's bytes: all that there are, with a backslash before what it takes the meaning from.
+/// All 256 bytes as a value, with a backslash before `]` and before the backslash.
 fn all_bytes(alloc: Global) -> Result<Vec<u8>, AllocError> {
     let mut value = Vec::new(alloc);
     for byte in 0..=255u8 {
@@ -101,7 +102,7 @@ fn all_bytes(alloc: Global) -> Result<Vec<u8>, AllocError> {
     Ok(value)
 }
 
-/// A tree with a property of two values, of which this is the first.
+/// A tree with a property of two values, of which `value` is the first.
 fn with_value(alloc: Global, value: &[u8]) -> Result<Vec<u8>, AllocError> {
     let mut bytes = Vec::new(alloc);
     bytes.extend_from_slice(b"(;C[")?;
@@ -110,7 +111,7 @@ fn with_value(alloc: Global, value: &[u8]) -> Result<Vec<u8>, AllocError> {
     Ok(bytes)
 }
 
-/// Whether a tree has this value, and then one of a byte.
+/// Whether the first property of a tree has two values: `value`, and then one byte.
 fn has_values(tree: &Tree<'_>, value: &[u8]) -> bool {
     for mark in tree.marks() {
         if let Mark::Prop(property) = mark {
@@ -124,7 +125,7 @@ fn has_values(tree: &Tree<'_>, value: &[u8]) -> bool {
     false
 }
 
-/// Whether this value is read as it is.
+/// Whether `value` is read as it is.
 fn is_read(alloc: Global, value: &[u8]) -> Result<bool, SgfFault> {
     let bytes = with_value(alloc, value)?;
     let mut trees = Trees::new(bytes.as_slice())?;
@@ -141,7 +142,7 @@ fn a_value_of_all_bytes(rt: HostRuntime) -> Result<(), SgfFault> {
     Ok(())
 }
 
-/// A million times `(;`, and then `)` this often.
+/// A million times `(;`, and then `ends` times `)`.
 fn nested(alloc: Global, ends: usize) -> Result<Vec<u8>, AllocError> {
     let mut bytes = Vec::new(alloc);
     for _ in 0..1_000_000 {
@@ -211,7 +212,7 @@ fn too_large(rt: HostRuntime) -> Result<(), SgfFault> {
     Ok(())
 }
 
-/// Where the values of the properties with this name stand, in the main line's order.
+/// The byte indices of the values of the properties with this name, in the main line's order.
 fn places(alloc: Global, tree: &Tree<'_>, name: &[u8]) -> Result<Vec<usize>, AllocError>
     ensures { IfOk result (λ places. (whole : GameTree) → tree.now.marks ≡ marks_of whole
         → places.items ≡ flat_map (λ node. flat_map (λ property.
@@ -232,7 +233,7 @@ fn places(alloc: Global, tree: &Tree<'_>, name: &[u8]) -> Result<Vec<usize>, All
     Ok(places)
 }
 
-/// Whether the values of the moves of Black stand here.
+/// Whether the values of Black's moves have these byte indices.
 fn are_places(alloc: Global, bytes: &[u8], wanted: &[usize]) -> Result<bool, SgfFault> {
     let mut trees = Trees::new(bytes)?;
     match trees.next_tree(alloc)? {
@@ -261,7 +262,8 @@ fn long_tree(alloc: Global) -> Result<Vec<u8>, AllocError> {
     Ok(bytes)
 }
 
-/// How many values the properties with this name have, and where the first and the last stand.
+/// How many values the properties with this name have, and the byte indices of the first and the
+/// last.
 fn ends_of(
     alloc: Global,
     tree: &Tree<'_>,
@@ -295,7 +297,7 @@ fn many_values_and_nodes(rt: HostRuntime) -> Result<(), SgfFault> {
     Ok(())
 }
 
-/// Where the next tree begins and ends, asked once more where memory was refused.
+/// Where the next tree begins and ends; the call is repeated once if memory was refused.
 fn bounds_again(alloc: Global, trees: &mut Trees<'_>) -> Result<Option<(usize, usize)>, SgfFault> {
     let found = next_bounds(alloc, trees);
     if found == Err(SgfFault::Memory) {
@@ -304,15 +306,15 @@ fn bounds_again(alloc: Global, trees: &mut Trees<'_>) -> Result<Option<(usize, u
     found
 }
 
-/// Whether three answers come, each at the second call at the latest.
+/// Whether three calls return two trees and a fault, each when it is repeated once at most.
 fn are_found_again(alloc: Global, trees: &mut Trees<'_>) -> bool {
     bounds_again(alloc, trees) == Ok(Some((0, 23)))
         && bounds_again(alloc, trees) == Ok(Some((23, 31)))
         && bounds_again(alloc, trees) == Err(SgfFault::Truncated(31))
 }
 
-/// With memory refused at any request each answer comes at the second call at the latest, once
-/// memory is there again.
+/// With memory refused at any request, each call returns its tree or fault when it is repeated at
+/// most once, with memory there again.
 #[test]
 fn memory_is_found_when_asked_again(rt: HostRuntime) -> Result<(), SgfFault> {
     let mut trees = Trees::new(b"(;AB[aa][bb][cc];B[aa])(;SZ[1])(;SZ[1]")?;

@@ -13,7 +13,7 @@ const BOTH: &[u8] =
 const FIRST: &[u8] =
     b"shapes 3 games 1 moves 2 squares 2 diamonds 2\n3fff3fcffffff 2 1 0\n3fffbfcffffff 1 1 0\n7ffcffcffffff 2 1 0\n7ffeffcffffff 1 1 0\n";
 
-/// Whether the text of a dictionary is this one.
+/// Whether the dictionary is written as `wanted` in the format `text`.
 fn is_text(
     alloc: Global,
     dictionary: &Dictionary,
@@ -25,7 +25,7 @@ fn is_text(
     Ok(out.as_slice() == wanted)
 }
 
-/// Whether the dictionary of the first text is written so.
+/// Whether the dictionary with the text `read` is written as `wanted` in the format `text`.
 fn rewrites(alloc: Global, read: &[u8], text: Text, wanted: &[u8]) -> Result<bool, DictFault> {
     let dictionary = Dictionary::read(alloc, read)?;
     is_text(alloc, &dictionary, text, wanted)
@@ -45,7 +45,7 @@ fn texts_are_read_and_written(rt: HostRuntime) {
     assert!(rt; rewrites(alloc, ONE, Text::Two, unknown) == Ok(true));
 }
 
-/// Whether the first dictionary finds each of its own entries, and none of the second.
+/// Whether `one` finds each of its own entries, and none of `other`.
 fn finds_its_own(one: &Dictionary, other: &Dictionary) -> bool {
     for entry in one.entries() {
         if one.find(entry.shape) != Some(*entry) {
@@ -82,7 +82,8 @@ fn joined(alloc: Global, left: &[u8], right: &[u8]) -> Result<Dictionary, DictFa
     Dictionary::join(alloc, &one, &other)
 }
 
-/// Whether the sum of the dictionaries of these texts is written so.
+/// Whether the sum of the dictionaries of the texts `left` and `right` is written as `wanted` in
+/// the format `text`.
 fn adds_up(
     alloc: Global,
     left: &[u8],
@@ -115,7 +116,7 @@ fn joins_are_refused(rt: HostRuntime) {
     assert!(rt; joined(alloc, ONE, BOTH).err() == Some(DictFault::MixedKinds));
 }
 
-/// Whether the dictionary at the front of a text is this one, and ends here.
+/// Whether `text` begins with the dictionary `wanted`, which ends at byte index `end`.
 fn has_front(alloc: Global, text: &[u8], wanted: &[u8], end: usize) -> Result<bool, DictFault> {
     let (front, count) = Dictionary::read_front(alloc, text)?;
     Ok(count == end && is_text(alloc, &front, Text::One, wanted)?)
@@ -128,7 +129,7 @@ fn fronts_are_read(rt: HostRuntime) {
     assert!(rt; has_front(rt.alloc(), b"x", ONE, 1) == Err(DictFault::BadHeader));
 }
 
-/// Texts that are none, each with its fault.
+/// Texts that are no dictionary, each with its fault.
 const FAULTS: [(&[u8], DictFault); 17] = [
     (b"", DictFault::BadHeader),
     (
@@ -204,7 +205,7 @@ fn faults_stand_at_their_lines(rt: HostRuntime) {
     }
 }
 
-/// Appends numbers, each before a space.
+/// Appends numbers in decimal, each with a space after it.
 fn push_numbers(out: &mut Vec<u8>, numbers: &[u64]) -> Result<(), AllocError> {
     for number in numbers {
         push_number(out, *number)?;
@@ -213,7 +214,7 @@ fn push_numbers(out: &mut Vec<u8>, numbers: &[u64]) -> Result<(), AllocError> {
     Ok(())
 }
 
-/// Whether numbers are written so.
+/// Whether these numbers are written as `wanted`.
 fn are_written(alloc: Global, numbers: &[u64], wanted: &[u8]) -> Result<bool, AllocError> {
     let mut out = Vec::new(alloc);
     push_numbers(&mut out, numbers)?;
@@ -241,7 +242,7 @@ fn push_all(out: &mut Vec<u8>, dictionary: &Dictionary) -> Result<(), AllocError
     Ok(())
 }
 
-/// Whether the words and lines of the dictionary of the first text are these.
+/// Whether the words and lines of the dictionary with this `text` are `wanted`.
 fn has_lines(alloc: Global, text: &[u8], wanted: &[u8]) -> Result<bool, DictFault> {
     let dictionary = Dictionary::read(alloc, text)?;
     let mut out = Vec::new(alloc);

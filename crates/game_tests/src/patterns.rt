@@ -7,7 +7,7 @@ use shape_core::{
 use std::alloc::{AllocError, Global};
 use std::test::Fail;
 
-/// The canonical words of a square that is written so, before a move of Black and of White.
+/// The canonical words of the square with these glyphs, with Black to move and with White to move.
 fn squares(glyphs: &[u8]) -> Option<(u64, u64)> {
     let word = from_glyphs(glyphs).ok()?;
     let black = canonical(word, Colour::Black).word().bits();
@@ -28,7 +28,7 @@ fn squares_have_these_canonical_words(rt: HostRuntime) {
     assert!(rt; squares(b"....X....................") == Some((1, 2)));
 }
 
-/// The canonical word of a diamond that is written so, before a move.
+/// The canonical word of the diamond with these glyphs, with `mover` to move.
 fn diamond_of(glyphs: &[u8], mover: Colour) -> Option<u64> {
     let word = from_diamond_glyphs(glyphs).ok()?;
     Some(canonical(word, mover).word().bits())
@@ -52,7 +52,7 @@ fn wrong_glyphs_are_refused(rt: HostRuntime) {
     assert!(rt; from_diamond_glyphs(b"") == Err(GlyphFault::BadLength));
 }
 
-/// Whether a fault is said so.
+/// Whether the fault has this text.
 fn says(alloc: Global, fault: GlyphFault, wanted: &str) -> Result<bool, Fail> {
     Ok(format!(in alloc; "{fault}")?.as_str() == wanted)
 }
@@ -64,7 +64,7 @@ fn faults_have_these_texts(rt: HostRuntime) -> Result<(), Fail> {
     Ok(())
 }
 
-/// Whether a word is the square of a point above a white stone, where the board has no other point.
+/// Whether a word is the square of a point above a white stone, on a board without any other point.
 fn is_read(word: Word) -> bool {
     word.kind() == Kind::Square
         && word.bits() == 0x3fffbfcffffff
@@ -111,7 +111,8 @@ fn shapes_are_least_words(rt: HostRuntime) -> Result<(), Fail> {
     Ok(())
 }
 
-/// Whether the cell, the square and the diamond of a point are those of the board.
+/// Whether the cell, the square and the diamond of a point are the same in the field and on the
+/// board.
 fn is_seen(field: &Field, board: &Board, point: Point) -> bool {
     field.size().has(point)
         && board.size().has(point)
@@ -121,7 +122,8 @@ fn is_seen(field: &Field, board: &Board, point: Point) -> bool {
         && field.diamond(point) == diamond(board, point)
 }
 
-/// Whether this is so at each point of the board.
+/// Whether the cell, the square and the diamond of each point are the same in the field and on the
+/// board.
 fn are_seen(field: &Field, board: &Board) -> bool {
     let size = board.size();
     for index in 0..size.area() {
@@ -132,7 +134,8 @@ fn are_seen(field: &Field, board: &Board) -> bool {
     true
 }
 
-/// Whether both patterns of a point before a move are those of the board.
+/// Whether the canonical square and diamond of a point, with `mover` to move, are the same in the
+/// field and by the board.
 fn is_canonical(field: &Field, board: &Board, point: Point, mover: Colour) -> bool {
     field.size().has(point)
         && board.size().has(point)
@@ -141,7 +144,7 @@ fn is_canonical(field: &Field, board: &Board, point: Point, mover: Colour) -> bo
         && field.canonical_diamond(point, mover) == canonical(diamond(board, point), mover)
 }
 
-/// Whether the field says of a point that it is empty where the board does.
+/// Whether the field says that a point is empty exactly if the board does.
 fn is_empty_alike(field: &Field, board: &Board, point: Point) -> bool {
     if point.row >= field.size().rows() || !board.size().has(point) || point.column >= 64 {
         return false;
@@ -166,7 +169,8 @@ fn are_canonical(field: &Field, board: &Board) -> bool {
     true
 }
 
-/// The field's marks, which are taken out: for each row a number with a bit for each column.
+/// Takes out of the field the set of points whose words have changed since the last call: for each
+/// row a number with a bit for each column.
 fn moved_marks(alloc: Global, field: &mut Field) -> Result<Vec<u64>, AllocError> {
     let rows = usize::from(field.size().rows());
     let mut marks = vec![in alloc; 0u64; rows]?;
@@ -175,7 +179,7 @@ fn moved_marks(alloc: Global, field: &mut Field) -> Result<Vec<u64>, AllocError>
     Ok(marks)
 }
 
-/// Whether a point's bit is set.
+/// Whether the bit of a point is set in `marks`, which has a number for each row.
 fn is_among(marks: &[u64], point: Point) -> bool {
     match marks.get(usize::from(point.row)) {
         Some(row) => point.column < 64 && (row >> point.column) & 1 == 1,
@@ -183,14 +187,14 @@ fn is_among(marks: &[u64], point: Point) -> bool {
     }
 }
 
-/// Whether a point is among the field's marks, which are taken out.
+/// Whether a point is in the field's set of changed points, which is taken out of it.
 fn is_marked(alloc: Global, field: &mut Field, point: Point) -> Result<bool, AllocError> {
     let marks = moved_marks(alloc, field)?;
     Ok(is_among(&marks, point))
 }
 
-/// Whether each point whose square or diamond is another than that of the board is among these
-/// marks.
+/// Whether `marks` has each point whose square or diamond in the field is not that of the board
+/// `before`.
 fn are_among(marks: &[u64], field: &Field, before: &Board) -> bool {
     let size = before.size();
     for index in 0..size.area() {
@@ -202,7 +206,8 @@ fn are_among(marks: &[u64], field: &Field, before: &Board) -> bool {
     true
 }
 
-/// Whether a point has the square and the diamond of the board.
+/// Whether the square and the diamond of a point are the same in the field and on the board
+/// `before`.
 fn has_same_words(field: &Field, before: &Board, point: Point) -> bool {
     field.size().has(point)
         && before.size().has(point)
@@ -211,14 +216,15 @@ fn has_same_words(field: &Field, before: &Board, point: Point) -> bool {
         && field.diamond(point) == diamond(before, point)
 }
 
-/// Whether each point whose square or diamond is another than that of the board is among the
-/// field's marks, which are taken out.
+/// Whether the field's set of changed points, which is taken out of it, has each point whose square
+/// or diamond is not that of the board `before`.
 fn has_marks(alloc: Global, field: &mut Field, before: &Board) -> Result<bool, AllocError> {
     let marks = moved_marks(alloc, field)?;
     Ok(are_among(&marks, field, before))
 }
 
-/// A point of a window of five columns and five rows that wanders over a board.
+/// The point of move number `turn`: in a window of five columns and five rows that wanders over a
+/// board.
 fn wandering(size: Size, turn: usize) -> Point {
     let wander = turn / 30 * 4;
     Point {
@@ -227,7 +233,7 @@ fn wandering(size: Size, turn: usize) -> Point {
     }
 }
 
-/// Whether a move does the same on a field and on a board.
+/// Whether a move takes the same stones on a field and on a board.
 fn is_played_alike(field: &mut Field, board: &mut Board, colour: Colour, point: Point) -> bool {
     field.size().has(point)
         && board.size().has(point)
@@ -242,8 +248,9 @@ fn follow(board: &mut Board, colour: Colour, point: Point) {
     }
 }
 
-/// Whether the same moves on a field and on two boards, of which the second is one move behind,
-/// have the same words and marks after each of them.
+/// Plays 300 moves on a field and on two boards, of which `before` is always one move late. Whether
+/// field and board have the same words after each of them, and the field marks each point whose
+/// words changed.
 fn are_played_alike(
     alloc: Global,
     field: &mut Field,
@@ -269,19 +276,19 @@ fn are_played_alike(
     Ok(are_canonical(field, board))
 }
 
-/// The same on two new boards.
+/// Plays the moves of `are_played_alike`, with a new board for `before`.
 fn play_beside(alloc: Global, field: &mut Field, board: &mut Board) -> Option<bool> {
     let mut before = Board::new(alloc, board.size()).ok()?;
     are_played_alike(alloc, field, board, &mut before).ok()
 }
 
-/// The same on new boards of the field's size.
+/// Plays the moves of `are_played_alike`, with new boards of the field's size.
 fn play_on(alloc: Global, field: &mut Field) -> Option<bool> {
     let mut board = Board::new(alloc, field.size()).ok()?;
     play_beside(alloc, field, &mut board)
 }
 
-/// The same on a new field and new boards of this size.
+/// Plays the moves of `are_played_alike`, on a new field and new boards of this size.
 fn play_along(alloc: Global, columns: u8, rows: u8) -> Option<bool> {
     let mut field = Field::new(alloc, Size::new(columns, rows)?).ok()?;
     play_on(alloc, &mut field)
@@ -302,7 +309,7 @@ fn small_field(alloc: Global) -> Result<Field, Fail> {
     Ok(Field::with_kinds(alloc, size, Kinds::Squares)?)
 }
 
-/// The corner of a field, and its middle where it has three columns and three rows.
+/// The corner of a field, and its middle if it has three columns and three rows.
 const CORNER: Point = Point { column: 0, row: 0 };
 
 const MIDDLE: Point = Point { column: 1, row: 1 };
@@ -322,8 +329,8 @@ fn at_corner(field: &Field) -> Option<(Stone, Word)> {
     Some((field.cell(CORNER), field.word(CORNER)))
 }
 
-/// Whether the copy of a field with a white stone at its corner has the stone, its word and its
-/// mark.
+/// Whether the copy of a field with a white stone at its corner has the stone, its word, and the
+/// corner in its set of changed points.
 fn is_copied(alloc: Global, field: &Field) -> Result<bool, Fail> {
     let mut copied = field.copied(alloc)?;
     let corner = at_corner(&copied).map(|(cell, _)| cell);
@@ -339,7 +346,7 @@ fn copied_field_has_the_stones(rt: HostRuntime) -> Result<(), Fail> {
     Ok(())
 }
 
-/// Whether the square of the corner is written so.
+/// Whether the square of the corner has these glyphs.
 fn is_at_corner(field: &Field, wanted: &[u8; 25]) -> bool {
     match at_corner(field) {
         Some((_, word)) => glyphs(word) == *wanted,
@@ -347,8 +354,8 @@ fn is_at_corner(field: &Field, wanted: &[u8; 25]) -> bool {
     }
 }
 
-/// Whether a stone in the middle that is set and taken off changes the square of the corner and
-/// marks it.
+/// Whether a stone that is set in the middle changes the square of the corner and adds the corner
+/// to the set of changed points, and taking it off changes the square back.
 fn is_changed(alloc: Global, field: &mut Field) -> Result<bool, AllocError> {
     set(field, MIDDLE, Stone::White);
     let has_stone = is_at_corner(field, b"############...##.O.##...");

@@ -5,8 +5,8 @@ use sgf_core::Trees;
 use std::alloc::Global;
 use std::test::Fail;
 
-/// What a tree has to give: nothing where it is of another game, else the columns, the rows and the
-/// actions.
+/// What reading a tree has to give: None if it is of another game, else the columns, the rows and
+/// the actions; or a fault.
 type Wanted<'a> = Result<Option<(u8, u8, &'a [Action])>, RecordFault>;
 
 const fn point(column: u8, row: u8) -> Point {
@@ -24,7 +24,7 @@ const fn set(low: Point, high: Point, stone: Stone) -> Action {
     Action::Set { low, high, stone }
 }
 
-/// The record of the first tree is this, or it has this fault.
+/// Whether reading the record of the first tree gives `wanted`.
 fn is_recorded(alloc: Global, bytes: &[u8], wanted: Wanted<'_>) -> Result<bool, Fail> {
     let mut trees = Trees::new(bytes)?;
     let Some(tree) = trees.next_tree(alloc)? else {

@@ -1,20 +1,20 @@
-//! What threads put in order, from outside.
+//! Sorting by several threads, from outside.
 use go_board::Colour;
 use shape_core::{Shape, Word, canonical};
 use shape_dict::{Entry, FirstGame, put_in_order};
 use std::process::Abort;
 use std::test::Fail;
 
-/// Enough entries for threads.
+/// So many entries that threads share the work of sorting them.
 const MANY: u64 = 5000;
 
-/// The pattern of the word that is this number.
+/// The canonical pattern of the word with this number.
 fn shape(number: u64) -> Result<Shape, Fail> {
     let word = Word::new(number).ok_or("a word")?;
     Ok(canonical(word, Colour::Black))
 }
 
-/// The entry at a place of many, which are in no order.
+/// The entry at index `place` of the list of `MANY`, which is in no order.
 fn entry(place: u64) -> Result<Entry, Fail> {
     let number = place.wrapping_mul(7) % MANY;
     Ok(Entry {
@@ -25,7 +25,8 @@ fn entry(place: u64) -> Result<Entry, Fail> {
     })
 }
 
-/// These are the many entries, and their patterns' words do not fall.
+/// Asserts that these are the `MANY` entries, sorted by their patterns' words (of which some may be
+/// equal).
 fn assert_sorted(rt: &impl Abort, sorted: &[Entry]) -> Result<(), Fail> {
     let mut least = shape(0)?;
     let mut there: u64 = 0;
@@ -57,7 +58,7 @@ fn first_games_and_those_before_them(rt: HostRuntime) -> Result<(), Fail> {
     let fifth = FirstGame::new(Some(4));
     assert!(&rt; fifth.get() == Some(4));
     assert!(&rt; fifth.moved(7) == Some(FirstGame::new(Some(11))));
-    // The last that can be told is 2^64 - 2.
+    // The last first game that can be represented is 2^64 - 2.
     assert!(&rt; fifth.moved(u64::MAX - 5).and_then(|last| last.get()) == Some(u64::MAX - 1));
     assert!(&rt; fifth.moved(u64::MAX - 4) == None);
     Ok(())

@@ -51,7 +51,7 @@ const COLLECTIONS: [(&[u8], &str, (u64, u64, u64)); 8] = [
     (b"", "shapes 1 games 0 moves 0 patterns 0\n", (0, 0, 0)),
 ];
 
-/// The game of a tree; None where it is another game, or there was no memory.
+/// The game of a tree; None if it is another game, or there was no memory.
 fn record_of(alloc: Global, tree: &Tree<'_>) -> Option<Record> {
     match read_record(alloc, tree) {
         Ok(Kind::Go(game)) => Some(game),
@@ -59,7 +59,7 @@ fn record_of(alloc: Global, tree: &Tree<'_>) -> Option<Record> {
     }
 }
 
-/// The first game of an input; None where its first tree is none, or there was no memory.
+/// The first game of an input; None if its first tree is none, or there was no memory.
 pub(crate) fn game_of(alloc: Global, bytes: &[u8]) -> Option<Record> {
     let mut trees = Trees::new(bytes).ok()?;
     match trees.next_tree(alloc) {
@@ -68,7 +68,7 @@ pub(crate) fn game_of(alloc: Global, bytes: &[u8]) -> Option<Record> {
     }
 }
 
-/// Whether the entries have these words and counts, and no first games.
+/// Whether the entries have these words and counts (there and played), and no first games.
 fn are(entries: &[Entry], wanted: &[(u64, u64, u64)]) -> bool {
     for (entry, wanted) in entries.iter().zip(wanted) {
         let found = (entry.shape.word().bits(), entry.there, entry.played);
@@ -119,7 +119,7 @@ fn settings_have_limits(rt: HostRuntime) -> Result<(), TallyFault> {
     Ok(())
 }
 
-/// Whether a dictionary is written so.
+/// Whether a dictionary is written as `wanted` in the format `text`.
 fn is_written(
     alloc: Global,
     dictionary: &Dictionary,
@@ -131,7 +131,8 @@ fn is_written(
     Ok(written.as_slice() == wanted.as_bytes())
 }
 
-/// Whether an input counts so: the text of its squares, and its games, others and refused.
+/// Whether counting `input` gives the text `wanted` of squares, and these numbers of games, trees
+/// of other games and refused trees.
 fn counts(
     alloc: Global,
     kinds: Kinds,
@@ -153,7 +154,8 @@ fn counts(
     is_written(alloc, &dictionary, Text::One, wanted)
 }
 
-/// Whether an input counts so with either kinds of pattern.
+/// Whether counting `input` gives `wanted` and `trees`, as in `counts`, with squares alone and with
+/// both kinds of pattern.
 fn counts_either_way(
     alloc: Global,
     input: &[u8],
@@ -234,8 +236,8 @@ fn patterns(alloc: Global, bytes: &[u8]) -> Result<usize, TallyFault> {
     Ok(counted.dictionary.len())
 }
 
-/// With memory refused at any request it still holds: the tally is the game's, or out of memory is
-/// answered.
+/// With memory refused at any request, counting a game returns its counts or the fault for out of
+/// memory.
 #[test]
 fn memory_is_found_or_named(rt: HostRuntime) {
     let alloc = rt.alloc();

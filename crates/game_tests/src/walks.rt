@@ -11,7 +11,7 @@ use std::process::Abort;
 use std::test::Fail;
 use tally_core::{Meeting, TallyFault, Walk, tally_plain};
 
-/// Numbers that look as if thrown.
+/// A generator of numbers that look random.
 #[derive(Clone, Copy)]
 struct Dice(u64);
 
@@ -64,7 +64,7 @@ fn made_up(alloc: Global, columns: u8, rows: u8) -> Result<Option<Record>, Alloc
     Ok(game_of(alloc, text.as_slice()))
 }
 
-/// What the plain definition counts of a game.
+/// What a look at every point at every move counts of a game.
 #[derive(Drop)]
 struct Plain {
     moves: u64,
@@ -114,7 +114,7 @@ impl Plain {
         Ok(())
     }
 
-    /// Counts an occasion, if the move is one.
+    /// Counts the patterns of all empty points before a move, if it is onto an empty point.
     fn look(
         &mut self,
         rt: &impl Abort,
@@ -137,7 +137,7 @@ impl Plain {
         Ok(())
     }
 
-    /// Counts a walk's meetings.
+    /// Adds the meetings of a walk: the patterns of a game, each with its counts.
     fn meet(&mut self, meetings: &[Meeting]) -> Result<(), AllocError> {
         for meeting in meetings {
             self.add(meeting.shape, meeting.there, meeting.played)?;
@@ -146,7 +146,7 @@ impl Plain {
     }
 }
 
-/// Does an action on a board.
+/// Applies an action to a board.
 fn act(rt: &impl Abort, board: &mut Board, action: Action) {
     match action {
         Action::Move { colour, at } => {
@@ -166,7 +166,8 @@ fn act(rt: &impl Abort, board: &mut Board, action: Action) {
     }
 }
 
-/// Counts the occasions of these actions, and does them.
+/// Applies the actions to a board, and before each move onto an empty point counts the patterns of
+/// all empty points.
 fn follow(
     rt: &impl Abort,
     kinds: Kinds,
@@ -195,14 +196,15 @@ fn count_plainly(
     Ok(plain)
 }
 
-/// Whether the meetings say what the plain definition does, in the order of first meetings.
+/// Whether the meetings (patterns of a game with their counts) are those of the plain count, in the
+/// order in which the patterns were first there.
 fn are_met(alloc: Global, meetings: &[Meeting], plain: &Plain) -> Result<bool, AllocError> {
     let mut met = Plain::new(alloc);
     met.meet(meetings)?;
     Ok(met.order.as_slice() == plain.order.as_slice() && met.counts == plain.counts)
 }
 
-/// Whether the entries say what the plain definition does.
+/// Whether the entries are the patterns and counts of the plain count.
 fn are_entered(entries: &[Entry], plain: &Plain) -> bool {
     for entry in entries {
         let wanted = plain.counts.get(&entry.shape).copied();
@@ -213,7 +215,7 @@ fn are_entered(entries: &[Entry], plain: &Plain) -> bool {
     entries.len() == plain.counts.len()
 }
 
-/// Whether the tally says what the plain definition does.
+/// Whether the tally of a game has the moves, patterns and counts of the plain count.
 fn is_tallied(
     alloc: Global,
     kinds: Kinds,
@@ -224,7 +226,8 @@ fn is_tallied(
     Ok(tally.moves() == plain.moves && are_entered(tally.entries(), plain))
 }
 
-/// The walk of a game, and its tally, say what the plain definition does.
+/// Asserts that the walk of a game, and its tally, have the moves, patterns and counts of the plain
+/// count.
 fn compare_with(
     rt: &impl Abort,
     alloc: Global,
@@ -238,13 +241,15 @@ fn compare_with(
     Ok(())
 }
 
-/// The same, by the plain definition's own count.
+/// Counts a game by looking at every point, and asserts that its walk and its tally are equal to
+/// that.
 fn compare(rt: &impl Abort, alloc: Global, walk: &mut Walk, game: &Record) -> Result<(), Fail> {
     let plain = count_plainly(rt, alloc, walk.kinds(), game)?;
     compare_with(rt, alloc, walk, game, &plain)
 }
 
-/// Compares both walks on a board of this size.
+/// Compares the walk of squares and that of both kinds with the plain count, for a game on a board
+/// of this size.
 fn compare_on(
     rt: &impl Abort,
     alloc: Global,
@@ -260,7 +265,8 @@ fn compare_on(
     compare(rt, alloc, both, &game)
 }
 
-/// Compares both walks on each size of board.
+/// Compares the walk of squares and that of both kinds with the plain count, for a game on each
+/// size of board.
 fn compare_all(
     rt: &impl Abort,
     alloc: Global,
@@ -284,14 +290,14 @@ fn walks_count_as_the_plain_definition(rt: HostRuntime) -> Result<(), Fail> {
     compare_all(&rt, alloc, &mut squares, &mut both)
 }
 
-/// How many moves and meetings the walk of a game has.
+/// How many moves the walk of a game has, and how many meetings: patterns with counts.
 fn walked(walk: &mut Walk, game: &Record) -> Result<(u64, usize), TallyFault> {
     let moves = walk.walk(game)?;
     Ok((moves, walk.meetings().len()))
 }
 
-/// With memory refused at any request a walk says so, or what the game has; after that it can be
-/// used again.
+/// With memory refused at any request, a walk returns what the game has or the fault for out of
+/// memory; after that it can be used again.
 #[test]
 fn a_walk_finds_memory_or_says_so(rt: HostRuntime) {
     let alloc = rt.alloc();

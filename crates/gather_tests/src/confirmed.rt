@@ -1,4 +1,4 @@
-//! Why a table had no number for a pattern, as all shares tell it.
+//! Why a table has no slot for a pattern, by all shares (the counts of all workers).
 ghost use Rattle.std.specs.Prelude.{◌<◌};
 ghost use Rattle.sgf_core.specs.Limit.{most_bytes};
 ghost use Rattle.slot_table.specs.Passes.{IsPassOf};
@@ -14,7 +14,8 @@ use std::alloc::Global;
 use std::test::Fail;
 use table_shares::{Share, confirm_full};
 
-/// The fault of a number that has this pattern in a share, and that one in the table.
+/// The fault if slot `number` of the table has the pattern `of_table`, and a share has `of_share`
+/// there; None for no pattern.
 fn stranger(number: usize, of_share: Option<Word>, of_table: Option<Word>) -> HarvestFault {
     HarvestFault::Stranger {
         number,
@@ -23,13 +24,13 @@ fn stranger(number: usize, of_share: Option<Word>, of_table: Option<Word>) -> Ha
     }
 }
 
-/// The fault of a table without a number for this pattern of a game.
+/// The fault of a table without a free slot for this pattern of a game.
 fn full(game: u64, word: Word) -> HarvestFault {
     HarvestFault::Full { game, word }
 }
 
-/// What all shares tell of a pattern that a table of one number has not, and of the one that it
-/// has.
+/// What `confirm_full` returns for a table of one slot, which has `own`: for the pattern `other`,
+/// which it has not, and for `own`.
 fn confirmed_of_one(alloc: Global, other: Word, own: Word) -> Option<(HarvestFault, HarvestFault)> {
     let (table, mut pass) = table_of(alloc, 0)?;
     let shares = [first_share(alloc, &table, &mut pass, ONE_POINT)?];
@@ -46,7 +47,8 @@ fn a_table_is_full_of_patterns_but_not_of_one_it_has(rt: HostRuntime) -> Result<
     Ok(())
 }
 
-/// Why a share takes no game, and what it tells of the pattern without a number: both are said.
+/// Adds a game, for one of whose patterns the table has no slot, to a share. Returns the result of
+/// that, and what `confirm_full` returns for the share and this pattern.
 fn refuse<O: ProbeOrder>(
     alloc: Global,
     mut share: Share,
@@ -63,7 +65,8 @@ fn refuse<O: ProbeOrder>(
     (added, confirm_full(table, pass, &[share], game, word))
 }
 
-/// The same of a table of two numbers, a share of two patterns, and a game with another one.
+/// Adds a game with a third pattern to a share of two patterns, over a table of two slots, as
+/// `refuse`.
 fn refuse_third(
     alloc: Global,
     word: Word,
@@ -81,8 +84,8 @@ fn a_refusal_of_a_full_table_is_confirmed(rt: HostRuntime) -> Result<(), Fail> {
     Ok(())
 }
 
-/// The same of a table of one number and a game of two patterns: the first one has the number, and
-/// a row that counts nothing.
+/// Adds a game of two patterns to an empty share, over a table of one slot, as `refuse`. The first
+/// pattern gets the slot, and a row in the share that counts nothing.
 fn refuse_second(
     alloc: Global,
     word: Word,
@@ -100,7 +103,8 @@ fn a_refusal_is_confirmed_by_a_row_without_counts(rt: HostRuntime) -> Result<(),
     Ok(())
 }
 
-/// The same where one of two numbers has a key that no share entered.
+/// Adds a game of two patterns to an empty share, over a table of two slots of which one has a key
+/// that no share entered, as `refuse`.
 fn refuse_beside_a_key(
     alloc: Global,
     key: Key,

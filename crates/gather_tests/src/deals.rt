@@ -1,4 +1,5 @@
-//! Games dealt to several shares in several ways: always the dictionary that one thread counts.
+//! Games divided among several shares (the counts of one worker each) in several ways: always the
+//! dictionary that one thread counts.
 ghost use Rattle.std.specs.Prelude.{◌≡◌, ◌<◌, ◌≤◌, All, IfOk, OnOk, length};
 ghost use Rattle.shape_core.specs.declared.words.Kinds.TheVariants as kinds;
 ghost use Rattle.slot_table.specs.Passes.{IsPassOf};
@@ -17,7 +18,8 @@ use std::thread::Threads;
 use table_shares::{Share, gather};
 use tally_core::count_plain;
 
-/// Six games that share patterns, so that the first of a pattern is often not the first of a share.
+/// Six games that have patterns in common, so that the first game of a pattern is often not the
+/// first of a share.
 const SIX: [&[u8]; 6] = [
     b"(;SZ[5];B[aa];W[bb];B[cc])",
     b"(;SZ[3];B[bb];W[ab];B[bc])",
@@ -27,7 +29,8 @@ const SIX: [&[u8]; 6] = [
     b"(;SZ[5];B[cc];W[aa])",
 ];
 
-/// The share of each game, in several ways: all in one share, in two, and in three.
+/// Ways to divide the six games: for each game the number of its share, so that all are in one
+/// share, in two or in three.
 const WAYS: [[usize; 6]; 6] = [
     [1, 1, 1, 1, 1, 1],
     [0, 1, 0, 1, 0, 1],
@@ -37,7 +40,8 @@ const WAYS: [[usize; 6]; 6] = [
     [1, 2, 0, 0, 2, 1],
 ];
 
-/// Adds a game, where the share has none but of these.
+/// Adds the game `game`, which is that of `records`, to a share whose games are all among
+/// `records`.
 fn add_one<O: ProbeOrder>(
     share: &mut Share,
     table: &SlotTable<O>,
@@ -56,7 +60,8 @@ fn add_one<O: ProbeOrder>(
     share.add(table, pass, game as u64, &records[game])
 }
 
-/// A share of those games that are dealt to it: each second share takes the last one first.
+/// Returns share number `turn`: that of the games for which `dealt` has this number. Every second
+/// share takes its last game first.
 fn share_of<O: ProbeOrder>(
     alloc: Global,
     table: &SlotTable<O>,
@@ -72,7 +77,6 @@ fn share_of<O: ProbeOrder>(
     ensures kinds { IfOk result (λ share. share.kinds ≡ kinds.Both) }
     ensures games { IfOk result (λ share. All (λ game. game < length records.now) share.games) }
 {
-    // A share among 16 or 32 workers has a smaller index, with chains.
     let mut share = Share::begin(alloc, turn, Kinds::Both);
     for step in 0..records.len() {
         let game = if turn % 2 == 0 {
@@ -87,7 +91,7 @@ fn share_of<O: ProbeOrder>(
     Ok(share)
 }
 
-/// The dictionary of the games, dealt to three shares.
+/// Returns the dictionary of the games, divided among three shares as `dealt` says.
 fn gather_three<R: Threads + Sync, O: ProbeOrder>(
     rt: &R,
     alloc: Global,
@@ -115,7 +119,8 @@ fn gather_three<R: Threads + Sync, O: ProbeOrder>(
     )
 }
 
-/// The same over a table of its own.
+/// Returns the dictionary of the games, divided among three shares as `dealt` says, over a new
+/// table.
 fn gathered_of<R: Threads + Sync>(
     rt: &R,
     alloc: Global,
@@ -155,7 +160,8 @@ fn are_alike(one: &Dictionary, other: &Dictionary) -> bool {
     one.games() == other.games() && one.moves() == other.moves() && one.entries() == other.entries()
 }
 
-/// Whether the six games give the dictionary of one thread in each way.
+/// Whether the dictionary is `wanted`, which one thread counts, for each way to divide the six
+/// games.
 fn are_gathered<R: Threads + Sync>(
     rt: &R,
     alloc: Global,

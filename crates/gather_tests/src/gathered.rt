@@ -1,5 +1,5 @@
-//! Shares put together: games that are there twice or not at all, what others did to a table, and a
-//! table that is too small.
+//! Shares (the counts of one worker each) joined to a dictionary: games that are there twice or not
+//! at all, what others did to a table, and a table that is too small.
 ghost use Rattle.std.specs.Prelude.{◌≡◌, ◌∷◌, [], ◌<◌, ◌≤◌, All, IfOk};
 ghost use Rattle.shape_core.specs.declared.words.Kinds.TheVariants as kinds;
 ghost use Rattle.slot_table.specs.Passes.{IsPassOf};
@@ -23,7 +23,8 @@ use std::test::Fail;
 use std::thread::Threads;
 use table_shares::{Share, confirm_full, gather};
 
-/// Gathers two shares, of this game as game 0 and under another number.
+/// Joins two shares to the dictionary of `games` games: one has `record` as game 0, and one has it
+/// as game `other`.
 fn gather_two<R: Threads + Sync, O: ProbeOrder>(
     rt: &R,
     alloc: Global,
@@ -48,7 +49,7 @@ pub(crate) fn is_of(dictionary: &Dictionary, games: u64, moves: u64) -> bool {
     dictionary.games() == games && dictionary.moves() == moves
 }
 
-/// Whether a dictionary has these entries, which are all there.
+/// Whether the entries of a dictionary are exactly these, none of which is None.
 pub(crate) fn has(dictionary: &Dictionary, wanted: &[Option<Entry>]) -> bool {
     for (entry, wanted) in dictionary.entries().iter().zip(wanted) {
         if Some(*entry) != *wanted {
@@ -58,7 +59,7 @@ pub(crate) fn has(dictionary: &Dictionary, wanted: &[Option<Entry>]) -> bool {
     dictionary.entries().len() == wanted.len()
 }
 
-/// Whether both games are in the dictionary of two shares, of which each has one.
+/// Whether the dictionary of two shares has both games, of which each share has one.
 fn are_both_gathered<R: Threads + Sync, O: ProbeOrder>(
     rt: &R,
     alloc: Global,
@@ -73,8 +74,9 @@ fn are_both_gathered<R: Threads + Sync, O: ProbeOrder>(
     Ok(is_right && has(&both, &[entry_of(ALONE, 2, 2, 0)]))
 }
 
-/// Why two shares with the same game give no dictionary of three games, and two with the first and
-/// the last of them, and whether two shares with the first and the second give one of both.
+/// Joins two shares of one game each, three times, and returns: the fault if both have game 0, of
+/// three games; the fault if they have the first and the last of three; and whether the first and
+/// the second give a dictionary of both.
 fn gathered_in_pairs<R: Threads + Sync>(
     rt: &R,
     alloc: Global,
@@ -103,7 +105,7 @@ fn each_game_is_in_one_share(rt: HostRuntime) -> Result<(), Fail> {
     Ok(())
 }
 
-/// Whether no share gives a dictionary without games, which counts diamonds.
+/// Whether joining no shares gives a dictionary without games, which counts diamonds.
 fn gathers_none<R: Threads + Sync>(rt: &R, alloc: Global) -> Result<bool, HarvestFault> {
     let Some((table, mut pass)) = table_of(alloc, 0) else {
         return Err(HarvestFault::Memory);
@@ -117,7 +119,8 @@ fn no_share_has_no_pattern(rt: HostRuntime) {
     assert!(rt; gathers_none(&rt, rt.alloc()) == Ok(true));
 }
 
-/// Why a share gives no dictionary over another table, and what is told there of another pattern.
+/// Returns the fault of joining a share over a table other than its own, and what `confirm_full`
+/// returns there for another pattern.
 fn gathered_elsewhere<R: Threads + Sync>(
     rt: &R,
     alloc: Global,
@@ -133,7 +136,7 @@ fn gathered_elsewhere<R: Threads + Sync>(
     Some((gathered, confirm_full(&table, &mut pass, &shares, 0, word)))
 }
 
-/// The same of a share of the game of one point.
+/// Returns what `gathered_elsewhere` does for a share of the game of one point.
 fn first_elsewhere<R: Threads + Sync>(
     rt: &R,
     alloc: Global,
@@ -144,7 +147,7 @@ fn first_elsewhere<R: Threads + Sync>(
     gathered_elsewhere(rt, alloc, share, word)
 }
 
-/// The fault of the game of one point over a table that has no pattern.
+/// The fault of a share of the game of one point, over a table that has no pattern.
 fn first_is_free() -> HarvestFault {
     HarvestFault::Stranger {
         number: 0,
@@ -161,7 +164,8 @@ fn a_share_of_another_table_is_a_stranger(rt: HostRuntime) -> Result<(), Fail> {
     Ok(())
 }
 
-/// Why a share gives no dictionary where another marked the number of its pattern.
+/// Returns the fault of joining a share if another caller has noted game 0 at the slot of its
+/// pattern.
 fn gathered_with_a_mark<R: Threads + Sync>(rt: &R, alloc: Global) -> Option<HarvestFault> {
     let (table, mut pass) = table_of(alloc, 0)?;
     let share = first_share(alloc, &table, &mut pass, b"(;SZ[1]AB[aa];W[aa])")?;
@@ -179,8 +183,8 @@ fn a_mark_of_another_differs(rt: HostRuntime) {
     assert!(rt; gathered_with_a_mark(&rt, rt.alloc()) == Some(differs));
 }
 
-/// What two workers have counted by words: one of them these games, the games 0 and 1, and the
-/// other none.
+/// What two workers have counted by words, without a table: one of them the games 0 and 1, which
+/// are `first` and `second`, and the other none.
 fn shares_by_words(
     alloc: Global,
     first: &Record,
@@ -199,7 +203,8 @@ fn shares_by_words(
     Ok(shares)
 }
 
-/// Gathers what was counted by words of two games, over a table of 2^exponent numbers.
+/// Joins what two workers have counted by words of two games, and enters the patterns into a table
+/// of 2^`exponent` slots.
 fn gathered_by_words<R: Threads + Sync>(
     rt: &R,
     alloc: Global,
@@ -214,8 +219,8 @@ fn gathered_by_words<R: Threads + Sync>(
     gather_words(rt, alloc, Kinds::Squares, 2, &table, &mut pass, shares)
 }
 
-/// Whether each pattern of the games of two points and of one has its number, over a table of
-/// 2^exponent numbers. None where the dictionary of both is not gathered.
+/// Whether each pattern of the games of two points and of one has a slot in a table of 2^`exponent`
+/// slots. None if the dictionary is not that of both games.
 fn are_numbered<R: Threads + Sync>(
     rt: &R,
     alloc: Global,

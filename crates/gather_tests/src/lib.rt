@@ -1,4 +1,4 @@
-//! Dictionaries of several shares, tried from outside.
+//! Dictionaries made of several shares (the counts of one worker each), tried from outside.
 #![tactic(auto)]
 
 #[cfg(test)]

@@ -1,5 +1,5 @@
-//! Memory that is refused, whichever request it is: a share has a game or is as before, and a fault
-//! says so.
+//! Memory that is refused, whichever request it is: a share has a game or stays as it was before,
+//! and the fault is out of memory.
 ghost use Rattle.std.specs.Prelude.{◌≡◌, ◌++◌, ◌∷◌, [], ◌<◌, IfSome};
 ghost use Rattle.std.specs.Bool.{OnTrue};
 ghost use Rattle.shape_core.specs.declared.words.Kinds.TheVariants as kinds;
@@ -28,7 +28,7 @@ const BLACK_ALONE: &[u8] = b"(;SZ[2:1];B[aa];B[ba])";
 /// How many slots the table has.
 const SLOTS: usize = 16;
 
-/// The row of each number that a share has.
+/// The row of a share (the counts of one pattern) for each slot of the table; None if it has none.
 fn rows_of(share: &Share) -> [Option<Row>; SLOTS] {
     let mut rows = [None; SLOTS];
     for row in share.rows() {
@@ -40,7 +40,7 @@ fn rows_of(share: &Share) -> [Option<Row>; SLOTS] {
     rows
 }
 
-/// Whether a row counts nothing, or there is none.
+/// Whether a row counts nothing, or is None.
 fn is_blank(row: Option<Row>) -> bool {
     match row {
         Some(row) => row.there == 0 && row.played == 0 && row.first.get().is_none(),
@@ -48,7 +48,7 @@ fn is_blank(row: Option<Row>) -> bool {
     }
 }
 
-/// Whether a share still has these rows, and all its other rows count nothing.
+/// Whether a share still has these rows, and any other row of it counts nothing.
 fn has_kept(share: &Share, rows: &[Option<Row>; SLOTS]) -> bool {
     for number in 0..SLOTS {
         let row = share.row_at(number);
@@ -59,8 +59,8 @@ fn has_kept(share: &Share, rows: &[Option<Row>; SLOTS]) -> bool {
     true
 }
 
-/// Adds a game to a share of these games; where memory is refused, which has to leave the share as
-/// it was, once more. Whether the share has the game.
+/// Adds a game to a share, which has the games `games`. If memory is refused, asserts that the
+/// share is as it was, and adds the game once more. Returns whether the share has the game.
 fn add_or_keep<O: ProbeOrder>(
     rt: &impl Abort,
     table: &SlotTable<O>,
@@ -88,8 +88,8 @@ fn add_or_keep<O: ProbeOrder>(
     share.add(table, pass, game, record).is_ok()
 }
 
-/// The share of both games, if memory was found for it, at the second time where it was refused at
-/// the first.
+/// Returns the share of both games. A game for which memory is refused is added once more; None if
+/// memory is refused again.
 fn share_of_both<O: ProbeOrder>(
     rt: &impl Abort,
     alloc: Global,
@@ -118,8 +118,8 @@ fn has_both(share: &Share) -> bool {
     share.games() == [1, 0].as_slice() && share.moves() == 4
 }
 
-/// Gathers a share of both games; where memory is refused, which has to leave the share as it was,
-/// once more.
+/// Returns the dictionary of a share of both games. If memory is refused, asserts that the share is
+/// as it was, and tries once more.
 fn gather_or_keep<O: ProbeOrder>(
     rt: &(impl Abort + Threads + Sync),
     alloc: Global,
@@ -142,9 +142,9 @@ fn gather_or_keep<O: ProbeOrder>(
     gathered.ok()
 }
 
-/// Whether a dictionary has the counts of both games, in which an empty point was next to an empty
-/// one twice each, once next to the other colour, and once next to its own; by squares, and by
-/// diamonds.
+/// Whether a dictionary has the counts of both games, as squares and as diamonds: an empty point
+/// was next to an empty one twice in each game, once next to the other colour, and once next to its
+/// own.
 fn is_right(dictionary: &Dictionary) -> bool {
     let wanted = [
         entry_of(0x3fff3fcffffff, 4, 2, 0),
@@ -157,7 +157,7 @@ fn is_right(dictionary: &Dictionary) -> bool {
     is_of(dictionary, 2, 4) && has(dictionary, &wanted)
 }
 
-/// Whether a share has both games, and its dictionary their counts; None where memory was refused
+/// Whether a share has both games, and its dictionary their counts; None if memory was refused
 /// twice.
 fn counts_both(rt: &(impl Abort + Threads + Sync), alloc: Global) -> Option<bool> {
     let (table, mut pass) = table_of(alloc, 4)?;

@@ -74,7 +74,7 @@ impl Board {
         })
     }
 
-    /// Another board with the same stones, from which nothing was removed. It takes memory for each
+    /// Makes another board with the same stones, whose `removed` is empty. It takes memory for each
     /// point of the board.
     ///
     /// # Errors
@@ -121,7 +121,7 @@ impl Board {
 
     /// Plays a move, by the rule of capture: the stone is placed, whatever stood there; then each
     /// group of the other colour that is next to it and has no liberty is removed; then its own
-    /// group, if that has none. The point is on the board.
+    /// group, if that has none. Returns how many stones were removed. The point is on the board.
     ///
     /// It takes no memory, and its time is that of the groups that it looks at.
     pub fn play(&mut self, colour: Colour, point: Point) -> Played
@@ -160,8 +160,8 @@ impl Board {
     }
 
     /// Whether the group of the stone on a point has a liberty: an empty neighbour of one of its
-    /// stones. The point is on the board, and a stone stands there. The position stays, and the
-    /// points that the last move emptied stay listed.
+    /// stones. The point is on the board, and a stone stands there. The position does not change,
+    /// nor do the points that `removed` lists.
     pub fn has_liberty(&mut self, point: Point) -> bool
         requires on_board { IsOn self.old.size point }
         requires stone { position_of self.old point ≢ kind.Empty }
@@ -172,7 +172,7 @@ impl Board {
     }
 
     /// The points that the last `play` emptied, each once; none before the first. `set` and
-    /// `has_liberty` leave them.
+    /// `has_liberty` do not change them.
     pub fn removed(&self) -> &[Point]
         ensures value { result.now ≡ self.now.removed }
         ensures board { IsBoard self.now }

@@ -12,8 +12,8 @@ use crate::around::neighbours;
 use crate::point_sets::PointSet;
 use crate::points::{Colour, Point, Size, Stone};
 
-/// Whether the point has an empty neighbour. If it has none, its neighbours with this stone are put
-/// into the group.
+/// Returns whether `point` has an empty neighbour. If it has none, its neighbours with this `stone`
+/// are added to `group`; if it has one, some of them may be.
 fn visit(size: Size, stones: &[Stone], group: &mut PointSet, stone: Stone, point: Point) -> bool
     requires on_board { IsOn size point }
     requires board { length stones.now ≡ size.columns * size.rows }
@@ -39,7 +39,8 @@ fn visit(size: Size, stones: &[Stone], group: &mut PointSet, stone: Stone, point
     false
 }
 
-/// Whether the group of a point has a liberty. If it has none, `group` is that group afterwards.
+/// Returns whether the group of the stone on `point` has a liberty. `group` is cleared and used to
+/// collect the stones: if there is no liberty, it has the whole group afterwards.
 pub(crate) fn is_alive(size: Size, stones: &[Stone], group: &mut PointSet, point: Point) -> bool
     requires on_board { IsOn size point }
     requires board { length stones.now ≡ size.columns * size.rows }
@@ -64,7 +65,7 @@ pub(crate) fn is_alive(size: Size, stones: &[Stone], group: &mut PointSet, point
     false
 }
 
-/// Takes the stones of the group off the board, and adds their points to `removed`.
+/// Removes the stones at the points of `group` from the board, and adds the points to `removed`.
 fn remove(size: Size, stones: &mut [Stone], group: &PointSet, removed: &mut PointSet)
     requires board { length stones.old ≡ size.columns * size.rows }
     requires group_sized { group.now.size ≡ size }
@@ -82,7 +83,9 @@ fn remove(size: Size, stones: &mut [Stone], group: &PointSet, removed: &mut Poin
     }
 }
 
-/// Removes the group of a point if this stone stands there and the group has no liberty.
+/// Removes the group of `point` from the board, and adds its points to `removed`, if `stone` stands
+/// there and the group has no liberty. `group` is used to collect the stones, and has no meaning
+/// afterwards.
 pub(crate) fn remove_if_dead(
     size: Size,
     stones: &mut [Stone],
@@ -111,8 +114,9 @@ pub(crate) fn remove_if_dead(
     }
 }
 
-/// Removes the stones that a move of this colour at a point captures. The stone of the move is
-/// already on the board.
+/// Removes the opponent's stones that a move of `mover` at `point` captures, and adds their points
+/// to `removed`, which must be empty. The stone of the move is already on the board. `group` is
+/// used to collect stones, and has no meaning afterwards.
 pub(crate) fn capture(
     size: Size,
     stones: &mut [Stone],

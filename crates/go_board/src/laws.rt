@@ -6,8 +6,8 @@ ghost use Rattle.go_board.specs.Point.{IsOn};
 ghost use Rattle.go_board.specs.Position.{Position, AreSame};
 ghost use Rattle.go_board.specs.Play.{Plays};
 
-/// A move has one result: if two positions are the same on the board, they are the same there after
-/// the move.
+/// States for proofs that a move has one result: if two positions are the same on the board, they
+/// are the same there after the same move. A call does nothing.
 pub fn moves_have_one_result()
     ensures { (size : Extent) (before again : Position) (mover : Colour) (at : Point)
         (first second : Position) →

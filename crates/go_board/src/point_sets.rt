@@ -3,7 +3,8 @@ use crate::points::{Point, Size};
 use std::alloc::{AllocError, Global};
 use std::marker::Model;
 
-/// A set of points, in the order in which they were added, with a mark at each of them.
+/// A set of points of one board. `members` lists them in the order in which they were added, and
+/// `marks` says of each point of the board whether it is in the set.
 #[derive(Debug, Drop)]
 pub(crate) struct PointSet {
     size: Size,
@@ -30,7 +31,8 @@ impl PointSet {
     ghost use Rattle.go_board.specs.Inner.Gathered.{Gathered};
     ghost use Rattle.go_board.specs.Point.{IsOn};
 
-    /// An empty set, with room for each point of a board of this size.
+    /// Makes an empty set, with room for each point of a board of this `size`. It takes memory for
+    /// each point; `AllocError` if that is refused.
     pub fn new(alloc: Global, size: Size) -> Result<PointSet, AllocError>
         ensures { IfOk result (λ set. set ≡ record { size = size; points = [] }) }
     {

@@ -110,8 +110,8 @@ impl Size {
         usize::from(self.columns) * usize::from(self.rows)
     }
 
-    /// The place of a point in a list with an item for each point, row by row from the top and each
-    /// row from the left. The point is on a board of this size.
+    /// Returns the index of a point in a list with an item for each point of the board, row by row
+    /// from the top and each row from the left. The point is on a board of this size.
     pub fn index(self, point: Point) -> usize
         requires { IsOn self point }
         ensures value { result ≡ index_of self point }
@@ -120,8 +120,8 @@ impl Size {
         point.row as usize * self.columns as usize + point.column as usize
     }
 
-    /// The point at this place of a list with an item for each point, in the order of `index`. The
-    /// place is below `area`.
+    /// Returns the point that has this `index` in a list with an item for each point of the board,
+    /// row by row from the top and each row from the left. The index is below `area`.
     pub fn point(self, index: usize) -> Point
         requires { index < self.columns * self.rows }
         ensures on_board { IsOn self result }

@@ -13,8 +13,8 @@ pub trait Replayable {
     /// The board as it is now.
     ghost board_of: { Self → Stones };
 
-    /// How what is kept beside the board may change from the first state to the second. For a board
-    /// alone this says nothing.
+    /// Used in contracts only: how that which the type keeps beside its board may change from the
+    /// first state to the second. For a `Board`, which keeps no more, it is always true.
     ghost Stays: { Self → Self → Type 0 };
 
     /// `Stays` is reflexive.
@@ -24,12 +24,14 @@ pub trait Replayable {
     ghost stays_on: { (before between after : Self) → Stays before between
         → Stays between after → Stays before after };
 
-    /// How what is kept beside the board may change from the first state to the second if only the
-    /// stones on these points change. For a board alone this says nothing.
+    /// Used in contracts only: how that which the type keeps beside its board may change from the
+    /// first state to the second if only the stones on these points change. For a `Board`, which
+    /// keeps no more, it is always true.
     ghost Touches: { List At → Self → Self → Type 0 };
 
-    /// Puts a stone on a point, or empties it, whatever stood there; nothing is captured. If this
-    /// stone was there, no point's stone changes. The point is on the board. It takes no memory.
+    /// Puts a stone on a point, or empties it, whatever stood there; nothing is captured. If
+    /// `stone` stood there already, no point's stone changes. The point is on the board. It takes
+    /// no memory.
     fn put(&mut self, point: Point, stone: Stone)
         requires { IsOn (board_of self.old).size point }
         ensures sets { SetsOn (board_of self.old) point stone (board_of self.new) }
@@ -38,7 +40,8 @@ pub trait Replayable {
         ensures still { position_of (board_of self.old) point ≡ stone
             → Touches [] self.old self.new };
 
-    /// Plays a move by the rule of capture. The point is on the board. It takes no memory.
+    /// Plays a move by the rule of capture, and returns how many stones it removed. The point is on
+    /// the board. It takes no memory.
     fn play_move(&mut self, colour: Colour, point: Point) -> Played
         requires { IsOn (board_of self.old).size point }
         ensures plays { PlaysOn (board_of self.old) colour point (board_of self.new) result }

@@ -4,7 +4,9 @@ use go_board::{Colour, Point, Stone};
 /// One action of a game's record.
 #[derive(Clone, Copy, Debug, PartialEq, Eq)]
 pub enum Action {
-    /// Every point of a rectangle is set; `low` has its lesser column and row, `high` its greater.
+    /// Every point of a rectangle gets this stone, or is emptied, and nothing is captured. The
+    /// corner `low` has the rectangle's least column and row, `high` its greatest; both are part of
+    /// it.
     Set {
         low: Point,
         high: Point,

@@ -13,8 +13,10 @@ use crate::names::{Round, deed_in};
 use go_board::Size;
 use sgf_core::{MainLine, Node, Value};
 
-/// Appends the action that each of a property's values stands for, if it stands for one, in order.
-/// `deed` says what the property does with a value. It fails at the first value with a fault.
+/// Appends to `actions`, in order, the action of each of a property's `values`; an empty setup
+/// value has none. `deed` says whether the property sets stones or plays moves, and which. It stops
+/// at the first value with a fault and returns that fault, or `Memory` if memory was refused. The
+/// actions before that stay appended.
 fn add_values(
     size: Size,
     deed: Deed,
@@ -34,7 +36,8 @@ fn add_values(
     Ok(())
 }
 
-/// Appends the actions of a node's properties in this round: those of its setups, or its moves.
+/// Appends to `actions` those of a node's setup properties or of its move properties, as `round`
+/// says. It stops at the first fault and returns it; the actions before that stay appended.
 fn add_round(
     size: Size,
     round: Round,
@@ -55,7 +58,8 @@ fn add_round(
 }
 
 /// Appends the actions of a main line's nodes to `actions`: of each node its setups, then its
-/// moves.
+/// moves. It takes memory. It stops at the first fault and returns it; the actions before that stay
+/// appended.
 pub(crate) fn add_nodes(
     size: Size,
     line: MainLine<'_, '_>,

@@ -23,7 +23,8 @@ fn is_pass(size: Size, text: &[u8]) -> bool
     }
 }
 
-/// The move or the pass that a value spells.
+/// Returns the move or the pass of this `colour` that a value spells. `BadPoint` if it spells
+/// neither, `OffBoard` if the point is off the board.
 fn move_of(size: Size, colour: Colour, value: Value<'_>) -> Result<Action, RecordFault>
     ensures value { result ≡ move_of size colour (value_of value.entry) }
     ensures on_board { IfOk result (IsActionOn size) }
@@ -45,8 +46,10 @@ fn move_of(size: Size, colour: Colour, value: Value<'_>) -> Result<Action, Recor
     }
 }
 
-/// The action that sets the rectangle between two corners, spelled by the value at `at`. A corner
-/// is None if it is misspelled.
+/// Makes the action that puts `stone` on the rectangle between the corners `p` and `q`, which may
+/// be any two opposite ones. `BadPoint` if a corner is None, which means that it was misspelled,
+/// and else `OffBoard` if one is off the board. `at` is the value's byte offset in the input, for
+/// the fault.
 fn spanned(
     size: Size,
     stone: Stone,
@@ -77,7 +80,8 @@ fn spanned(
     }
 }
 
-/// The setup that a value spells, or None if it is empty and sets nothing.
+/// Returns the setup of a point or a rectangle that a value spells, or None if the value is empty
+/// and sets nothing. `BadPoint` if it is misspelled, `OffBoard` if a corner is off the board.
 fn setup_of(size: Size, stone: Stone, value: Value<'_>) -> Result<Option<Action>, RecordFault>
     ensures value { result ≡ setup_of size stone (value_of value.entry) }
     ensures on_board { IfOk result (λ deed. IfSome deed (IsActionOn size)) }
@@ -108,7 +112,9 @@ impl Deed {
     ghost use Rattle.go_record.specs.Inner.Adding.{action_of};
     ghost use Rattle.go_record.specs.declared.faults.RecordFault.TheVariants as fault;
 
-    /// The action of one of the property's values, or None if the value does nothing.
+    /// Returns the action of one of the property's values, or None if it is an empty setup value,
+    /// which does nothing. `BadPoint` if the value is misspelled, `OffBoard` if a point of it is
+    /// off the board.
     pub(crate) fn action(self, size: Size, value: Value<'_>) -> Result<Option<Action>, RecordFault>
         ensures value { result ≡ action_of size self (value_of value.entry) }
         ensures on_board { IfOk result (λ action. IfSome action (IsActionOn size)) }

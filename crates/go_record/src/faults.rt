@@ -5,8 +5,8 @@ ghost use Rattle.go_record.specs.declared.faults.RecordFault.TheVariants.{Memory
 use std::alloc::{AllocError, AllocFailed};
 use thiserror::Error;
 
-/// Why a tree gives no record. A place is the offset in the whole input of the first byte of the
-/// value at fault.
+/// Why a tree gives no record. The number in a fault is the byte offset, in the whole input, of the
+/// first byte of the value at fault.
 #[derive(Clone, Copy, Debug, PartialEq, Eq, Error)]
 pub enum RecordFault {
     /// The board's size is not one from 1 to 52 by 1 to 52.

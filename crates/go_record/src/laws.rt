@@ -10,15 +10,15 @@ ghost use Rattle.go_record.specs.declared.actions.Action.{Action};
 ghost use Rattle.go_record.specs.Record.{record_of};
 ghost use Rattle.go_record.specs.declared.records.Kind.TheVariants as kind;
 
-/// A record has no more actions than its main line has values. So a count of actions over the games
-/// of a collection stays below the limit on the input's bytes.
+/// States for proofs that a record has no more actions than its main line has values. So a count of
+/// actions over the games of a collection stays below the limit on the input's bytes.
 pub fn few_actions()
     ensures { (nodes : List Node) (game : Actions) → record_of nodes ≡ Ok (kind.Go game)
         → length game.actions ≤ value_count nodes }
 {}
 
-/// A replay has one result, so a game has one final position: if two positions are the same on the
-/// board, they are the same there after the same actions.
+/// States for proofs that a replay has one result, so that a game has one final position: if two
+/// positions are the same on the board, they are the same there after the same actions.
 pub fn replays_have_one_result()
     ensures { (size : Extent) (actions : List Action) (before again first second : Position) →
         All (IsActionOn size) actions →

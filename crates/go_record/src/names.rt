@@ -51,7 +51,7 @@ fn front_value<'a>(prop: &Prop<'a>) -> Option<Value<'a>>
     prop.values().first().copied()
 }
 
-/// One of the two rounds through the properties of a node.
+/// One of the two rounds in which the properties of a node are read: setups first, then moves.
 #[derive(Clone, Copy)]
 pub(crate) enum Round {
     /// The round of the setups, which comes first.
@@ -60,7 +60,8 @@ pub(crate) enum Round {
     Moves,
 }
 
-/// What a property does in a round, if anything.
+/// Returns what a property does in this `round`. None if it belongs to the other round, or is
+/// neither a setup nor a move.
 pub(crate) fn deed_in(round: Round, prop: &Prop<'_>) -> Option<Deed>
     ensures { (size : Extent) → deeds_of size result prop.now ≡ round_deeds size round prop.now }
 {
@@ -70,7 +71,8 @@ pub(crate) fn deed_in(round: Round, prop: &Prop<'_>) -> Option<Deed>
     }
 }
 
-/// The first value of the node's first property of this name.
+/// Returns the first value of the node's first property of this `name`, or None if it has no such
+/// property.
 pub(crate) fn first_value<'a>(node: &Node<'_, 'a>, name: &[u8]) -> Option<Value<'a>>
     ensures { option_map value_of result ≡ first_value name.now node.now }
 {

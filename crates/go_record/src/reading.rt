@@ -22,7 +22,8 @@ use go_board::Size;
 use sgf_core::{MainLine, Tree, Value};
 use std::alloc::Global;
 
-/// The first value of this name in the first node of a main line.
+/// Returns the first value of the first property of this `name` in the first node of a main line,
+/// or None if there is no such property.
 fn root_value<'a>(mut line: MainLine<'_, 'a>, name: &[u8]) -> Option<Value<'a>>
     ensures { option_map value_of result ≡ first_value name.now (root_of line.entry) }
 {
@@ -30,7 +31,8 @@ fn root_value<'a>(mut line: MainLine<'_, 'a>, name: &[u8]) -> Option<Value<'a>>
     first_value(&root, name)
 }
 
-/// Whether the tree is of Go, by its value of GM.
+/// Returns whether a tree with this `value` of GM is a game of Go: it has no GM, or the value is
+/// empty or the number 1.
 fn is_go(value: Option<Value<'_>>) -> bool
     ensures { result ≡ is_go (option_map value_of value.entry) }
 {
@@ -41,7 +43,8 @@ fn is_go(value: Option<Value<'_>>) -> bool
     text.is_empty() || number(text) == Some(1)
 }
 
-/// The board's size, by the value of SZ.
+/// Returns the board's size by the `value` of SZ: 19 by 19 if there is none or it is empty.
+/// `BadSize` if it is no size from 1 to 52 by 1 to 52.
 fn board_of(value: Option<Value<'_>>) -> Result<Size, RecordFault>
     ensures { result ≡ board_of (option_map value_of value.entry) }
 {
@@ -51,7 +54,8 @@ fn board_of(value: Option<Value<'_>>) -> Result<Size, RecordFault>
     }
 }
 
-/// The actions of a main line, on a board of this size.
+/// Returns the actions of a main line, on a board of this `size`. It takes memory for them. It
+/// returns the first fault instead if there is one, or `Memory` if memory was refused before that.
 fn actions_of(alloc: Global, size: Size, line: MainLine<'_, '_>) -> Result<Vec<Action>, RecordFault>
     ensures actions { IfOk result (λ actions. collected (flat_map (node_deeds size) line.entry)
         ≡ Ok actions.items) }
@@ -73,13 +77,13 @@ fn actions_of(alloc: Global, size: Size, line: MainLine<'_, '_>) -> Result<Vec<A
 ///
 /// # Errors
 ///
-/// None if the tree is of another game, whatever its SZ is. `BadSize` if the value of SZ is no size
-/// from 1 to 52 by 1 to 52. Otherwise the first of these, in the order of the actions: `BadPoint`
-/// if a value spells no point, rectangle or pass, and `OffBoard` if a point of it is off the board.
-/// Each has the place of its value. `Memory` if memory for the actions was refused. It is asked for
-/// only if an action comes before the first fault: never for a tree of another game, with a bad
-/// size, or without an action before its first fault. The tree is only read, so the call may be
-/// tried again.
+/// There is no error if the tree is of another game, whatever its SZ is. `BadSize` if the value of
+/// SZ is no size from 1 to 52 by 1 to 52. Otherwise the first of these, in the order of the
+/// actions: `BadPoint` if a value spells no point, rectangle or pass, and `OffBoard` if a point of
+/// it is off the board. Each has the byte offset of its value in the input. `Memory` if memory for
+/// the actions was refused. It is asked for only if an action comes before the first fault: never
+/// for a tree of another game, with a bad size, or without an action before its first fault. The
+/// tree is only read, so the call may be tried again.
 pub fn read_record(alloc: Global, tree: &Tree<'_>) -> Result<Kind, RecordFault>
     ensures reads { (game : GameTree) → tree.now.marks ≡ marks_of game
         → IsRecordOrMemory (main_line_of game) result }

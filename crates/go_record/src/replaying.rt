@@ -11,7 +11,8 @@ ghost use Rattle.go_record.specs.Replay.{filled, Does, Replays};
 use crate::actions::Action;
 use go_board::{Point, Replayable, Stone};
 
-/// Sets each point of one row from column `first` to column `last`.
+/// Puts `stone` on each point of one row from column `first` to column `last`, both included, or
+/// empties them. Nothing is captured.
 fn fill_row<B: Replayable>(board: &mut B, row: u8, first: u8, last: u8, stone: Stone)
     requires on_board { IsOn (B.board_of board.old).size (record { column = last; row = row }) }
     requires corners { first ≤ last }
@@ -27,7 +28,8 @@ fn fill_row<B: Replayable>(board: &mut B, row: u8, first: u8, last: u8, stone: S
     }
 }
 
-/// Sets each point of a rectangle.
+/// Puts `stone` on each point of a rectangle, or empties them. Nothing is captured. The corner
+/// `low` has the lesser column and row, `high` the greater ones; both are part of it.
 fn fill<B: Replayable>(board: &mut B, low: Point, high: Point, stone: Stone)
     requires on_board { IsOn (B.board_of board.old).size high }
     requires corners { (low.column ≤ high.column) × (low.row ≤ high.row) }

@@ -12,7 +12,7 @@ ghost use Rattle.go_record.specs.declared.spelling.TheConstants.{CAP};
 use go_board::{Point, Size};
 use sgf_core::is_white;
 
-/// A number above this one is read as this one. No rule tells the two apart: each asks for 1, or
+/// A number above `CAP` is read as `CAP`. No rule treats the two differently: each asks for 1, or
 /// for a side up to 52.
 const CAP: u32 = 100;
 
@@ -42,7 +42,7 @@ fn without_white_back(bytes: &[u8]) -> &[u8]
     rest
 }
 
-/// The bytes without the white bytes at both ends.
+/// Returns the bytes without the white space at both ends.
 pub(crate) fn trimmed(bytes: &[u8]) -> &[u8]
     ensures { result.now ≡ trimmed bytes.now }
 {
@@ -55,7 +55,8 @@ fn is_digit(byte: u8) -> bool
     byte.is_ascii_digit()
 }
 
-/// The number that decimal digits spell, at most `CAP`, or None if they spell none.
+/// Returns the number that decimal digits spell, or `CAP` if it is greater. None if there are no
+/// digits, or a byte is no digit.
 fn unsigned(digits: &[u8]) -> Option<u32>
     ensures { result ≡ option_map (λ n. min n CAP) (unsigned_of digits.now) }
 {
@@ -72,7 +73,8 @@ fn unsigned(digits: &[u8]) -> Option<u32>
     Some(total)
 }
 
-/// The number that a text spells, at most `CAP`, or None if it spells none.
+/// Returns the number that a text spells, or `CAP` if it is greater. None if the text is not
+/// decimal digits, with or without a plus sign before them.
 pub(crate) fn number(text: &[u8]) -> Option<u32>
     ensures { result ≡ option_map (λ n. min n CAP) (number_of text.now) }
 {
@@ -82,7 +84,8 @@ pub(crate) fn number(text: &[u8]) -> Option<u32>
     }
 }
 
-/// The size whose columns and rows these texts spell.
+/// Returns the size whose columns and rows these texts spell. None if one is no number, or is
+/// outside 1 to 52.
 fn sides(columns: &[u8], rows: &[u8]) -> Option<Size>
     ensures { result ≡ extent_of (side_of columns.now) (side_of rows.now) }
 {
@@ -91,7 +94,7 @@ fn sides(columns: &[u8], rows: &[u8]) -> Option<Size>
     Size::new(columns as u8, rows as u8)
 }
 
-/// The place of the first colon, if there is one.
+/// The byte index of the first colon, or None if there is no colon.
 fn colon_at(text: &[u8]) -> Option<usize>
     ensures { result ≡ position is_colon text.now }
 {
@@ -119,7 +122,8 @@ fn coordinate(letter: u8) -> Option<u8>
     }
 }
 
-/// The point that a text spells, or None if it spells none.
+/// Returns the point that a text spells: two letters, the column and the row, `a` to `z` for 0 to
+/// 25 and `A` to `Z` for 26 to 51. None for any other text.
 pub(crate) fn point(text: &[u8]) -> Option<Point>
     ensures { result ≡ point_of text.now }
 {
@@ -132,7 +136,8 @@ pub(crate) fn point(text: &[u8]) -> Option<Point>
     }
 }
 
-/// The size that a value of SZ spells, or None if it spells none. An empty value is 19 by 19.
+/// Returns the size that a value of SZ spells: a number for a square board, or columns, a colon and
+/// rows. An empty value is 19 by 19. None if it is no size from 1 to 52 by 1 to 52.
 pub(crate) fn size(bytes: &[u8]) -> Option<Size>
     ensures { result ≡ size_of bytes.now }
 {

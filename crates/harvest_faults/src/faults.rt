@@ -13,22 +13,24 @@ use thiserror::Error;
 /// Why no dictionary was made.
 #[derive(Clone, Copy, Debug, PartialEq, Eq, Error)]
 pub enum HarvestFault {
-    /// The table has no number left for a pattern of this game.
+    /// The shared table has no free slot left for the pattern `word`. `game` is the number of a
+    /// game that has it.
     #[error("F1 full in game {game} at {:013x}", word.bits())]
     Full {
         game: u64,
         word: Word,
     },
-    /// No share has this game.
+    /// No share (what one worker has counted) has the game of this number.
     #[error("F2 missing game {0}")]
     Missing(u64),
-    /// Shares have this game twice.
+    /// The shares (what each worker has counted) have the game of this number twice.
     #[error("F3 game {0} twice")]
     Twice(u64),
-    /// The shares and the table disagree at this number, which the table gives to a pattern:
-    /// `of_share` is the pattern of a share's row of this number, None if no share has one, and
-    /// `of_table` is the table's pattern there, None if the number is free. From `confirm_full`
-    /// both may be the same: then a row has the refused pattern.
+    /// The shares (what each worker has counted, listed by the slots that the patterns have in the
+    /// shared table) and that table disagree on the slot `number`. `of_share` is the pattern that a
+    /// share has under that number, None if no share has one. `of_table` is the table's pattern in
+    /// that slot, None if the slot is free. From `confirm_full` both may be the same: then a share
+    /// has counts of the pattern that was refused.
     #[error("F4 stranger at number {number}")]
     Stranger {
         number: usize,
@@ -47,7 +49,9 @@ pub enum HarvestFault {
     /// A count is over 2^64 - 1, or a game has more actions than any input.
     #[error("F8 count too large")]
     Overflow,
-    /// The least game marked at a number is not the least game of the number's rows in the shares.
+    /// The shared table's note of the least game that has the pattern in its slot `number`
+    /// (`of_table`) is not the least game that the shares (what each worker has counted) have under
+    /// that number (`of_shares`).
     #[error("F9 mark differs at number {number}")]
     Marks {
         number: usize,
@@ -61,8 +65,9 @@ impl HarvestFault {
     ghost use Rattle.harvest_faults.specs.declared.faults.HarvestFault.TheVariants as fault;
     ghost use Rattle.harvest_faults.specs.Faults.{same_fault};
 
-    /// The `Stranger` fault: a share's row of a number has this word, and the number has another
-    /// word in the table, or none.
+    /// Makes the `Stranger` fault: a share (what one worker has counted) has the pattern `held`
+    /// under this `number`, and the shared table has `of_table` in that slot: another pattern, or
+    /// None if the slot is free.
     pub fn stranger(number: usize, held: Word, of_table: Option<Word>) -> HarvestFault
         ensures { result ≡ fault.Stranger number (Some held) of_table }
     {

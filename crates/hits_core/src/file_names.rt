@@ -7,7 +7,7 @@ use crate::writing::push_point;
 use shape_dict::push_number;
 use std::alloc::{AllocError, Global};
 
-/// Appends this many zeros.
+/// Appends the digit 0 `count` times.
 fn push_zeros(text: &mut Vec<u8>, count: usize) -> Result<(), AllocError>
     ensures { OnOk result (text.new.items ≡ text.old.items ++ replicate count 48) }
 {
@@ -17,7 +17,7 @@ fn push_zeros(text: &mut Vec<u8>, count: usize) -> Result<(), AllocError>
     Ok(())
 }
 
-/// Appends a number with zeros before it, up to this many digits.
+/// Appends `number` in decimal, with zeros before it if it has fewer than `digits` digits.
 fn push_padded(
     alloc: Global,
     text: &mut Vec<u8>,
@@ -32,9 +32,10 @@ fn push_padded(
     text.extend_from_slice(&spelled)
 }
 
-/// Returns the name of the file of a hit: the number of the game, in six digits or more, that of
-/// the move, in three or more, and the point, as SGF has it. Hits at the same point before the same
-/// move of a game have the same name, and the same file. It takes memory for the name.
+/// Returns the name of the SGF file for `hit`, such as `game-000003-move-017-dp.sgf`: the number of
+/// the game in six digits or more, the number of the move in three or more, and the letters of the
+/// point in SGF. Hits at the same point before the same move of the same game have the same name,
+/// and so the same file. It takes memory for the name.
 ///
 /// # Errors
 ///

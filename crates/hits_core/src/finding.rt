@@ -14,7 +14,8 @@ use crate::watching::find_there;
 use std::alloc::Global;
 use tally_core::TallyFault;
 
-/// Replays a game, and adds its hits.
+/// Replays `game`, and adds to `found` the times that a pattern of `wanted` was played, or was
+/// there, as `sought` says. The only error is `Memory`: memory was refused.
 fn find_one(
     alloc: Global,
     wanted: &Wanted,
@@ -31,8 +32,10 @@ fn find_one(
     }
 }
 
-/// Returns the first hits of these games, as many as are asked for. Once that number is found, no
-/// further game is replayed. It takes memory for the hits, and for one game's board.
+/// Returns the first hits in `games`, at most `most` (None for all): the times that a pattern of
+/// `wanted` was played, or was there, as `sought` says. Once that number is found, no further game
+/// is replayed. It takes memory for the hits, and for one game's board. The only error is `Memory`:
+/// memory was refused.
 pub(crate) fn find_in(
     alloc: Global,
     wanted: &Wanted,

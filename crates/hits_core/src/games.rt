@@ -1,4 +1,4 @@
-//! A game of a collection, with its number and its place.
+//! A game of a collection, with its number and the byte index at which its tree begins.
 use go_record::Record;
 
 /// A game, kept until its hits are found.
@@ -6,7 +6,7 @@ use go_record::Record;
 pub struct Game {
     /// The game's number among the collection's games, from 0.
     pub number: u64,
-    /// The place of the first parenthesis of its tree, a byte offset in the input, from 0.
+    /// The byte index in the input, from 0, of the parenthesis with which the game's tree begins.
     pub place: usize,
     /// The game's record.
     pub recorded: Record,

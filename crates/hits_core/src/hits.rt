@@ -13,7 +13,7 @@ pub struct Hit {
     pub at: Point,
     /// The player who was to move.
     pub mover: Colour,
-    /// The place of the first parenthesis of the game's tree, a byte offset in the input, from 0.
+    /// The byte index in the input, from 0, of the parenthesis with which the game's tree begins.
     pub place: usize,
     /// How many rows the game's board has.
     pub rows: u8,

@@ -19,9 +19,10 @@ ghost use Rattle.hits_core.specs.declared.searches.Sought.{Sought as What};
 use go_record::replays_have_one_result;
 use shape_core::kinds_stay;
 
-/// The trees whose games have the hits are those that `count` counts. Each word that is looked for
-/// has as many hits as the dictionary of the input says that it was played, or was there. A
-/// dictionary of squares alone says nothing of diamonds.
+/// States in its contract that hits agree with counts; a call does nothing. The trees whose games
+/// have the hits are those that `shapes count` counts. Each word that is looked for has as many
+/// hits as the dictionary of the same input says that its pattern was played, or was there. If that
+/// dictionary has squares alone, nothing is stated for diamonds.
 pub fn hits_agree_with_counts()
     ensures trees { (input : List ℕ) (number place end : ℕ) (trees : List GameTree)
         (games : List Kept) → AreGames input number place trees end games

@@ -27,11 +27,11 @@ pub enum WordsFault {
     Memory,
 }
 
-/// Reads a list of words, and returns the patterns that it asks for. In each line a canonical word,
-/// as a dictionary has it, stands first, and what follows a space is skipped. Squares and diamonds
-/// may be mixed, and a word may come again. It takes the reader's bytes up to its end, or 2^28 + 1
-/// of them, and no more, unless the reader fails or memory is refused. It takes memory for the list
-/// and its words.
+/// Reads a list of words from `reader`, and returns the patterns that it asks for. Each line begins
+/// with a pattern's canonical word in 13 hexadecimal digits, as a line of a dictionary does; a
+/// space and anything else may follow. Squares and diamonds may be mixed, and a word may come more
+/// than once. It reads up to the reader's end, or 2^28 + 1 bytes and no more, unless the reader
+/// fails or memory is refused. It takes memory for the list and its words.
 ///
 /// # Errors
 ///
@@ -57,7 +57,7 @@ pub fn read_wanted<R: Read>(alloc: Global, reader: &mut R) -> Result<Wanted, Wor
     }
 }
 
-/// The exit status of a fault: 2 if the list is refused, 6 if it was not read, and 5 if memory was
+/// The exit status for a fault: 2 if the list is refused, 6 if it was not read, and 5 if memory was
 /// refused.
 pub fn status_of(fault: &WordsFault) -> u8
     ensures { result ≡ status_of fault.now }

@@ -14,15 +14,15 @@ use go_board::{Board, Colour, Point};
 use shape_core::{Field, Kinds, Shape, around, canonical, diamond, kinds_stay};
 use tally_core::TallyFault;
 
-/// Those of a point's patterns that are looked for.
+/// The patterns of one point, its square and its diamond: each is None if it is not looked for.
 #[derive(Clone, Copy)]
 pub(crate) struct Sight {
     pub(crate) square: Option<Shape>,
     pub(crate) diamond: Option<Shape>,
 }
 
-/// An occasion: its game's number, place and rows, the number of its move, and the player who
-/// moves.
+/// A move onto an empty point: the number of its game, the byte index at which that game's tree
+/// begins, the rows of the board, the number of the move in the game, and the player who moves.
 #[derive(Clone, Copy)]
 pub(crate) struct Moment {
     pub(crate) game: u64,
@@ -32,13 +32,14 @@ pub(crate) struct Moment {
     pub(crate) mover: Colour,
 }
 
-/// Returns those patterns of a point of a board that are looked for.
+/// Returns the square and the diamond round `point`, canonical for the player `mover`, each only if
+/// it is one of `wanted`.
 pub(crate) fn see_board(board: &Board, wanted: &Wanted, mover: Colour, point: Point) -> Sight
     requires { IsOn board.now.size point }
     ensures { patterns_in result
         ≡ wanted_at wanted.now board.now.size (position_of board.now) mover point }
 {
-    // A canonical word is of the kind that was looked at.
+    // The canonical word of a square is that of a square, and of a diamond that of a diamond.
     kinds_stay();
     let square = wanted.pick(canonical(around(board, point), mover));
     let diamond = match wanted.kinds() {
@@ -48,7 +49,9 @@ pub(crate) fn see_board(board: &Board, wanted: &Wanted, mover: Colour, point: Po
     Sight { square, diamond }
 }
 
-/// Adds a hit for each pattern of a point that is looked for.
+/// Adds to `found` a hit for each pattern in `sight`, the wanted patterns that `point` has before
+/// the move `moment`. Nothing is added once `found` has as many hits as are asked for. The only
+/// error is `Memory`: memory was refused.
 pub(crate) fn push_sight(
     found: &mut Found,
     moment: Moment,
@@ -72,7 +75,8 @@ impl Moment {
     ghost use Rattle.std.specs.Prelude.{◌≡◌};
     ghost use Rattle.hits_core.specs.Inner.Finding.{hit_in, moment_on};
 
-    /// The occasion of the move of this number in a game, by this colour.
+    /// Returns the moment of a move of `game`: its number in the game is `number`, and `mover`
+    /// plays it.
     pub(crate) fn of(game: &Game, number: u64, mover: Colour) -> Moment
         ensures { result ≡ moment_on game.now number mover }
     {
@@ -85,7 +89,7 @@ impl Moment {
         }
     }
 
-    /// The hit of a pattern at a point, at this occasion.
+    /// Returns the hit of the pattern `word`, which the point `at` has before this move.
     fn hit(self, at: Point, word: Shape) -> Hit
         ensures { result ≡ hit_in self at word }
     {

@@ -17,15 +17,18 @@ use std::thread;
 use std::thread::Threads;
 use tally_core::TallyFault;
 
-/// How many games a part has, if this many threads share all games.
+/// Returns how many games a part has at most, if `games` games are divided into at most `threads`
+/// parts: one at least. 0 threads count as 1.
 fn part_length(games: usize, threads: usize) -> usize
     ensures { 0 < result }
 {
     games.div_ceil(threads.max(1)).max(1)
 }
 
-/// Returns the first hits of each part of the games, in order. At most this many threads find them,
-/// and each part may be refused memory.
+/// Divides `games` into parts of consecutive games, one for each of at most `threads` threads, and
+/// returns the first hits of each part, at most `most` (None for all), in the order of the parts. A
+/// part for which memory was refused has the error in its place. `AllocError` if memory for the
+/// parts themselves was refused.
 fn made_parts<T: Threads + Sync>(
     rt: &T,
     alloc: Global,
@@ -48,7 +51,7 @@ fn made_parts<T: Threads + Sync>(
     )
 }
 
-/// Adds hits, no more than are asked for.
+/// Adds `hits` to `found`, up to as many as are asked for.
 fn push_all(found: &mut Found, hits: &[Hit]) -> Result<(), TallyFault>
     ensures grown { OnOk result (GrowsBy found.old found.new hits.now) }
     ensures fault { IfErr result (λ found. found ≡ fault.Memory) }
@@ -59,7 +62,8 @@ fn push_all(found: &mut Found, hits: &[Hit]) -> Result<(), TallyFault>
     Ok(())
 }
 
-/// Joins the hits of all parts in order, and returns the first, no more than are asked for.
+/// Joins the hits of all parts in order, and returns the first of all, at most `most` (None for
+/// all). If a part has an error, the first such error is returned.
 fn joined(
     alloc: Global,
     most: Option<u64>,
@@ -80,8 +84,9 @@ fn joined(
     Ok(found.hits)
 }
 
-/// Returns the first hits of the games, as many as are asked for. At most this many threads find
-/// them. It takes memory for the hits, and for each thread for one game's board.
+/// Returns the first hits in `games`, at most `most` (None for all): the times that a pattern of
+/// `wanted` was played, or was there, as `sought` says. At most `threads` threads find them; the
+/// call waits for these. It takes memory for the hits, and for each thread for one game's board.
 pub(crate) fn find_all<T: Threads + Sync>(
     rt: &T,
     alloc: Global,

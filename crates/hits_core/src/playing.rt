@@ -1,4 +1,5 @@
-//! Finds each time in a game that a wanted pattern was played, with one look at each occasion.
+//! Finds each time in a game that a wanted pattern was played, with one look at each move onto an
+//! empty point.
 ghost use Rattle.std.specs.Prelude.{◌≡◌, ◌+◌, ◌<◌, ◌^◌, map, IfErr, OnOk};
 ghost use Rattle.std.specs.List.{flat_map};
 ghost use Rattle.go_board.specs.Board.{position_of};
@@ -19,7 +20,8 @@ use go_record::{Action, apply};
 use std::alloc::Global;
 use tally_core::TallyFault;
 
-/// The number of the next move after an action; `number` is that of the next move before it.
+/// Returns the number of the next move or pass after `action`. `number` is that of the next move or
+/// pass before `action`: a move and a pass add one to it, setup leaves it as it is.
 pub(crate) fn number_after(number: u64, action: Action) -> u64
     requires { number + 1 < 2 ^ 64 }
     ensures { result ≡ number_after number action }
@@ -30,7 +32,9 @@ pub(crate) fn number_after(number: u64, action: Action) -> u64
     }
 }
 
-/// Adds the hits of an action, if it is an occasion at which a wanted pattern is played.
+/// Adds to `found` a hit for each wanted pattern of the point on which `action` plays. It adds none
+/// if `action` is no move, or a move onto a stone. `board` is the position before `action`, and
+/// `number` is the number of the move in the game.
 fn look(
     board: &Board,
     wanted: &Wanted,
@@ -56,7 +60,8 @@ fn look(
     push_sight(found, moment, at, see_board(board, wanted, colour, at))
 }
 
-/// Replays a game, and adds its hits. It takes memory for a board.
+/// Replays `game`, and adds to `found` each time that a pattern of `wanted` was played. It takes
+/// memory for a board. The only error is `Memory`: memory was refused.
 pub(crate) fn find_played(
     alloc: Global,
     wanted: &Wanted,

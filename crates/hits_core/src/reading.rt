@@ -1,4 +1,4 @@
-//! The games of an input, kept with their numbers and places.
+//! The games of an input, with their numbers and the byte indices of their trees.
 ghost use Rattle.std.specs.Prelude.{IfOk, IfErr};
 ghost use Rattle.hits_core.specs.Inner.Reading.{HasReadAll, IsReadFault};
 
@@ -7,8 +7,9 @@ use game_core::{Games, Report};
 use std::alloc::Global;
 use tally_core::TallyFault;
 
-/// Returns all games of an input, of which the first has this number, and the report on its trees.
-/// It takes memory for the records of the games, and for a tree at a time.
+/// Returns all games of `input`, of which the first has the number `first`, and the report: how
+/// many trees are games, of other games, and refused. It takes memory for the records of the games,
+/// and for a tree at a time.
 ///
 /// # Errors
 ///

@@ -19,7 +19,8 @@ use std::io::{Read, Write};
 use std::thread::Threads;
 use tally_core::TallyFault;
 
-/// Returns the fault of a run for a fault of reading or finding.
+/// Returns the `RunFault` for a fault of reading games or finding hits: that of SGF stays, and any
+/// other becomes `Memory`.
 fn run_fault(fault: TallyFault) -> RunFault
     ensures { (input : List ℕ) → IsReadFault input fault → IsHitsFault input result }
 {
@@ -29,8 +30,8 @@ fn run_fault(fault: TallyFault) -> RunFault
     }
 }
 
-/// How many hits are looked for, if this number is asked for: one at least, by which it is known
-/// whether there are any.
+/// Returns how many hits have to be looked for if at most `most` are listed (None for all): one at
+/// least, since the outcome says whether there is any hit.
 fn limit_of(most: Option<u64>) -> Option<u64>
     ensures { result ≡ limit_of most }
 {
@@ -40,7 +41,7 @@ fn limit_of(most: Option<u64>) -> Option<u64>
     }
 }
 
-/// The outcome of a search: whether there is a hit.
+/// The outcome of a search: `Done` if there is a hit, else `NotFound`.
 fn outcome_of(hits: &[Hit]) -> Outcome
     ensures { IsAnswer result hits.now }
 {
@@ -51,7 +52,7 @@ fn outcome_of(hits: &[Hit]) -> Outcome
     }
 }
 
-/// Keeps the first hits, no more than are asked for.
+/// Drops all hits but the first `most` (None keeps all).
 fn cut(hits: &mut Vec<Hit>, most: Option<u64>)
     ensures { hits.new.items ≡ first_of most hits.old.items }
 {
@@ -61,7 +62,8 @@ fn cut(hits: &mut Vec<Hit>, most: Option<u64>)
     }
 }
 
-/// Returns the games of an input, the report on its trees, and the first hits.
+/// Returns the games of `input`, the report on its trees, and the first hits, at most as many as
+/// `search` lists. At most `workers` threads find them.
 fn find<T: Threads + Sync>(
     rt: &T,
     alloc: Global,
@@ -106,28 +108,29 @@ fn hits_text<T: Threads + Sync>(
     Ok((text, results))
 }
 
-/// Reads a collection and writes a line for each hit of the patterns that are looked for. The lines
-/// are in the order of games, moves and points (row by row from the top, each row from the left),
-/// at one point the square before the diamond. A line has the game's number, the number of the
-/// move, the point, who was to move, the place of the game's tree, and the name of the file if it
-/// has one. The games' numbers begin with that of the search. The answer has the games, the report
-/// on the trees of the input, the hits that are written, and whether there is any. If there is
-/// none, nothing is written.
+/// Reads a collection and writes a line for each hit: each time that a pattern of `wanted` was
+/// played, or was there, as `search.sought` says. The lines are in the order of games, moves and
+/// points (row by row from the top, each row from the left), at one point the square before the
+/// diamond. A line has the game's number, the number of the move, the point, who was to move, the
+/// byte index at which the game's tree begins, and the name of the file if it has one. The first
+/// game has the number `search.first`. Returned are the games, the report on the trees of the
+/// input, the hits that are written, and whether there is any. If there is none, nothing is
+/// written.
 ///
-/// If no more than some number of hits is asked for, the first of all are written. The whole input
-/// is judged all the same; once that number is found, and one at least, a thread replays no further
-/// game. Games are numbered and replayed as `count` does. At most as many threads as `workers` says
-/// replay them; the text is the same whatever their number.
+/// If at most `search.most` hits are asked for, the first of all are written. The whole input is
+/// checked to be well-formed all the same; once that number is found, and one at least, a thread
+/// replays no further game. Games are numbered and replayed as by `shapes count`. At most `workers`
+/// threads replay them; the text is the same whatever their number.
 ///
 /// It takes memory for the input, for the records of all games, for a tree at a time, for each
 /// thread for a board, for the hits, and for their lines.
 ///
 /// # Errors
 ///
-/// `Read` if the reader failed. `Memory` if memory was refused, which says nothing of the
-/// collection, since memory for that is asked first. Else `Sgf` with S4 if the collection has more
-/// than 2^28 bytes, else with its first fault of syntax (S1 to S3). Nothing is written then.
-/// `Write` if the writer failed: exactly that number of bytes of the text is out.
+/// `Read` if the reader failed. `Memory` if memory was refused: the collection may be well-formed
+/// or not, since memory is asked for first. Else `Sgf` with S4 if the collection has more than 2^28
+/// bytes, else with its first fault of syntax (S1 to S3). Nothing is written then. `Write` if the
+/// writer failed: it has the exact number of bytes of the text that were written.
 pub fn run_hits<T: Threads + Sync, R: Read, W: Write>(
     rt: &T,
     alloc: Global,

@@ -12,7 +12,7 @@ pub enum Sought {
 /// What the lines of hits show.
 #[derive(Clone, Copy, Debug, PartialEq, Eq)]
 pub enum Shown {
-    /// The game, the move, the point, the colour and the place.
+    /// The game, the move, the point, the colour, and the byte index of the game's tree.
     Places,
     /// The pattern's word before these.
     WordsToo,

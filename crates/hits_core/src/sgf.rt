@@ -13,7 +13,8 @@ use go_record::{Action, Record};
 use shape_dict::push_number;
 use std::alloc::{AllocError, Global};
 
-/// How many actions come before the move or pass that follows this number of moves and passes.
+/// Returns the index in `actions` of the move or pass with `moves` moves and passes before it, or
+/// the length of `actions` if there is none. Setup is not counted.
 fn place_of(actions: &[Action], moves: u64) -> usize
     ensures inside { result ≤ length actions.now }
     ensures before { take result actions.now ≡ actions_before moves actions.now }
@@ -119,7 +120,8 @@ fn is_same_stone(one: Stone, other: Stone) -> bool
     }
 }
 
-/// Whether setup of this stone is one more value of the property of the action before it.
+/// Whether a setup of `stone` after the action `before` is written as one more value of that
+/// action's property: if `before` is a setup of the same stone.
 fn goes_on(before: Option<Action>, stone: Stone) -> bool
     ensures { result ≡ goes_on before stone }
 {
@@ -129,8 +131,9 @@ fn goes_on(before: Option<Action>, stone: Stone) -> bool
     }
 }
 
-/// Appends the name of a setup property, unless it goes on with that of the action before. It
-/// stands in a new node if there is an action before.
+/// Appends the name of the property that sets up `stone`. If there is an action `before`, a new
+/// node is begun first; but nothing is appended if `before` is a setup of the same stone, whose
+/// property gets one more value.
 fn push_setup_front(
     text: &mut Vec<u8>,
     before: Option<Action>,
@@ -172,7 +175,7 @@ fn push_action(text: &mut Vec<u8>, before: Option<Action>, action: Action) -> Re
     }
 }
 
-/// Appends actions; what the first of them sets up stands in the first node.
+/// Appends `actions` as SGF. If the first of them is setup, it is written into the first node.
 fn push_actions(text: &mut Vec<u8>, actions: &[Action]) -> Result<(), AllocError>
     ensures { OnOk result (text.new.items ≡ text.old.items ++ actions_text None actions.now) }
 {

@@ -48,7 +48,8 @@ impl Wanted {
     ghost use Rattle.hits_core.specs.Wanted.{is_wanted};
     ghost use Rattle.hits_core.specs.Inner.Finding.{listed};
 
-    /// Looks for these patterns, in any order, and each as often as it may be. It takes no memory.
+    /// Makes the set of these patterns to look for. `words` may be in any order, and have a pattern
+    /// more than once. It takes no memory.
     pub fn new(words: Vec<Shape>) -> Wanted
         ensures { (word : ℕ) → is_wanted result word ≡ is_wanted words.items word }
     {
@@ -58,7 +59,7 @@ impl Wanted {
         Wanted { words, kinds }
     }
 
-    /// Looks for one pattern.
+    /// Makes the set that has `shape` alone. It takes memory for that.
     ///
     /// # Errors
     ///
@@ -69,7 +70,8 @@ impl Wanted {
         Ok(Wanted::new(vec![in alloc; shape; 1]?))
     }
 
-    /// The kinds of pattern that have to be looked at.
+    /// The kinds of pattern that have to be looked at: `Both` if a diamond is wanted, else
+    /// `Squares`.
     pub(crate) fn kinds(&self) -> Kinds
         ensures { result ≡ kinds.Squares → (word : ℕ) → kind_of word ≡ kind.Diamond
             → is_wanted self.now word ≡ false }
@@ -77,7 +79,7 @@ impl Wanted {
         self.kinds
     }
 
-    /// Returns the pattern if it is looked for.
+    /// Returns `shape` if it is one of the wanted patterns, else None.
     pub(crate) fn pick(&self, shape: Shape) -> Option<Shape>
         ensures { listed result ≡ filter (is_wanted self.now) (shape ∷ []) }
     {

@@ -38,8 +38,9 @@ pub(crate) struct Watch {
     pub(crate) white: Vec<u64>,
 }
 
-/// Returns those patterns of a point of a field that are looked for. The field keeps the words of
-/// the kinds that are wanted.
+/// Returns the square and the diamond round `point`, canonical for the player `mover`, each only if
+/// it is one of `wanted`. `field`, a board with a word for each point, must have words of the kinds
+/// that `wanted` has.
 fn see_field(field: &Field, wanted: &Wanted, mover: Colour, point: Point) -> Sight
     requires on_board { IsOn field.now.board.size point }
     requires kinds { KeepsWanted field.now wanted.now }
@@ -56,7 +57,8 @@ fn see_field(field: &Field, wanted: &Wanted, mover: Colour, point: Point) -> Sig
     Sight { square, diamond }
 }
 
-/// Looks at a point, and adds a hit for each wanted pattern. Returns whether it has any.
+/// Adds to `found` a hit for each wanted pattern that `point` has before the move `moment`. Returns
+/// whether it has any; a point with a stone has none.
 fn see_point(
     field: &Field,
     wanted: &Wanted,
@@ -80,8 +82,9 @@ fn see_point(
     Ok(sight.square.is_some() || sight.diamond.is_some())
 }
 
-/// Looks at a point of a row if its bit is set. Returns the bit if the point has a wanted pattern,
-/// and else 0. If its bit is not set it has none.
+/// Looks at `point` if its bit (that of its column) is set in `bits`, and adds its hits to `found`.
+/// Returns the bit if the point has a wanted pattern, else 0. A point whose bit is not set must
+/// have none.
 fn see_bit(
     field: &Field,
     wanted: &Wanted,
@@ -108,8 +111,9 @@ fn see_bit(
     Ok(1 << point.column)
 }
 
-/// Looks at the points of these bits of a row, from the left. Returns the bits of those that have a
-/// wanted pattern. The other points of the row have none.
+/// Looks at the points of `row` whose bits (one for each column) are set in `bits`, from the left,
+/// and adds their hits to `found`. Returns the bits of those that have a wanted pattern. The other
+/// points of the row must have none.
 fn see_row(
     field: &Field,
     wanted: &Wanted,
@@ -136,8 +140,9 @@ fn see_row(
     Ok(left)
 }
 
-/// Looks at the points that have to be looked at, row by row from the top, each row from the left,
-/// and adds their hits. Points without a wanted pattern leave the set.
+/// Looks at the points whose bits are set in `open_rows` (a word for each row, a bit for each
+/// column), row by row from the top, each row from the left. Adds their hits to `found`, and clears
+/// the bits of points without a wanted pattern.
 fn see(
     field: &Field,
     wanted: &Wanted,
@@ -180,7 +185,8 @@ impl Watch {
         })
     }
 
-    /// Adds the hits before an action, if it is an occasion.
+    /// Adds to `found` the hits in the position before `action`, if that is a move onto an empty
+    /// point. `number` is the number of the move in the game.
     fn look(
         &mut self,
         wanted: &Wanted,
@@ -229,7 +235,8 @@ impl Watch {
     }
 }
 
-/// Replays a game, and adds its hits. It takes memory for a board with its words.
+/// Replays `game`, and adds to `found` each time that a pattern of `wanted` was there. It takes
+/// memory for a board with a word for each point. The only error is `Memory`: memory was refused.
 pub(crate) fn find_there(
     alloc: Global,
     wanted: &Wanted,

@@ -37,7 +37,8 @@ fn is_skipped(rest: &[u8]) -> bool
     }
 }
 
-/// The word that a line begins with, if it does.
+/// Returns the canonical word that `line` begins with. None if it does not begin with one, or if a
+/// byte other than a space follows.
 fn word_of(line: &[u8]) -> Option<Shape>
     ensures found { IfSome result (HasWord line.now) }
     ensures only { IfNone result ((word : ℕ) → HasWord line.now word → ⊥) }
@@ -62,14 +63,15 @@ fn split_line(bytes: &[u8]) -> (&[u8], &[u8])
     }
 }
 
-/// The place of the first line feed, if there is one.
+/// The byte index of the first line feed, or None if there is none.
 fn line_end(bytes: &[u8]) -> Option<usize>
     ensures { result ≡ position is_line_feed bytes.now }
 {
     bytes.iter().position(|byte| *byte == b'\n')
 }
 
-/// Returns the words of the lines, in their order.
+/// Returns the word that each line begins with, in the order of the lines. If one begins with none,
+/// the error is `BadLine` with the number of the first such line, from 1.
 pub(crate) fn words_of(alloc: Global, bytes: &[u8]) -> Result<Vec<Shape>, ListFault>
     ensures words { IfOk result (λ words. AreWordsOf bytes.now words.items) }
     ensures fault { IfErr result (IsListFault bytes.now) }

@@ -13,7 +13,7 @@ use shape_core::Shape;
 use shape_dict::{push_number, push_word};
 use std::alloc::{AllocError, Global};
 
-/// The letter of a column or a row, as SGF has them.
+/// The letter that SGF has for a column or row, `side` from 0: a to z, then A to Z.
 fn letter(side: u8) -> u8
     ensures { result ≡ letter_of side }
 {
@@ -52,7 +52,8 @@ fn push_column(text: &mut Vec<u8>, column: u8) -> Result<(), AllocError>
     text.extend_from_slice(&[column_letter(column / 25 - 1), column_letter(column % 25)])
 }
 
-/// Appends a point of a board of this many rows, as boards are labelled.
+/// Appends a point of a board of `rows` rows as boards are labelled: the letter of its column and
+/// the number of its row from below, such as Q16.
 fn push_coordinates(text: &mut Vec<u8>, rows: u8, point: Point) -> Result<(), AllocError>
     ensures { OnOk result (text.new.items ≡ text.old.items ++ coordinates_text rows point) }
 {
@@ -60,7 +61,7 @@ fn push_coordinates(text: &mut Vec<u8>, rows: u8, point: Point) -> Result<(), Al
     push_number(text, u64::from(rows.saturating_sub(point.row)))
 }
 
-/// Appends a point of a board of this many rows, in this spelling.
+/// Appends a point of a board of `rows` rows, in this `spelling`.
 fn push_spelled(
     text: &mut Vec<u8>,
     spelling: Spelling,
@@ -85,7 +86,7 @@ fn push_colour(text: &mut Vec<u8>, colour: Colour) -> Result<(), AllocError>
     }
 }
 
-/// Appends the word that begins a line, if words are shown.
+/// Appends the word and a space, with which a line begins if words are shown; else nothing.
 fn push_front(text: &mut Vec<u8>, shown: Shown, word: Shape) -> Result<(), AllocError>
     ensures { OnOk result (text.new.items ≡ text.old.items ++ front_text shown word) }
 {
@@ -98,7 +99,7 @@ fn push_front(text: &mut Vec<u8>, shown: Shown, word: Shape) -> Result<(), Alloc
     }
 }
 
-/// Appends the game and the number of the move.
+/// Appends the number of the game and that of the move.
 fn push_turn(text: &mut Vec<u8>, hit: &Hit) -> Result<(), AllocError>
     ensures { OnOk result (text.new.items ≡ text.old.items ++ turn_text hit.now) }
 {
@@ -108,7 +109,7 @@ fn push_turn(text: &mut Vec<u8>, hit: &Hit) -> Result<(), AllocError>
     text.extend_from_slice(b" ")
 }
 
-/// Appends the point, who was to move, and the place of the game's tree.
+/// Appends the point, who was to move, and the byte index at which the game's tree begins.
 fn push_where(text: &mut Vec<u8>, spelling: Spelling, hit: &Hit) -> Result<(), AllocError>
     ensures { OnOk result (text.new.items ≡ text.old.items ++ where_text spelling hit.now) }
 {

@@ -1,4 +1,5 @@
-//! What the passes of the queue know, each a thread's right to call it, and the queue's rule.
+//! For contracts: what each pass (a thread's right to call the queue) has seen, and the queue's
+//! rule.
 ghost use Rattle.std.specs.Prelude.{◌≡◌, ⊤};
 
 use crate::items::Item;
@@ -7,7 +8,7 @@ use crossbeam_queue::{Pass, RuledArrayQueue};
 use std::collections::LinkedList;
 use std::marker::{Brand, Model, PhantomData};
 
-/// The identity of a queue of jobs. No value of it is made.
+/// The identity of a queue of jobs. Used in contracts only; no code makes one.
 pub struct QueueName;
 
 impl Model for QueueName {
@@ -21,10 +22,13 @@ impl Model for QueueName {
     ghost view = { λ _. nowhere };
 }
 
-/// What a pass knows: the queue and the input, once they are named, and its parts of the right to
-/// know all that was put and drawn. It knows the games that it put, if it may put any, those that
-/// it drew and, in no order, those that were drawn by passes that it took up. It knows how many
-/// ends it put, and how many it and these passes drew. No value of it is made.
+/// What a pass (a thread's right to call the queue) has seen of the queue's calls. Used in
+/// contracts only; no code makes one. It has the `queue` and the input's `bytes`, once these are
+/// `named`, and whether it may add items (`writes`). It has the games that it added (`put`), those
+/// that it took from the queue (`drawn`) and, in no order, those that passes took which were merged
+/// into it (`taken`). It has how many ends (signs that no job is left) it added (`ends_put`), and
+/// how many it and these passes took (`ends_drawn`). Only a pass with all `parts` may conclude that
+/// it has seen all that was added and taken.
 pub struct Knowledge {
     pub queue: QueueName,
     pub parts: u64,
@@ -38,10 +42,11 @@ pub struct Knowledge {
     pub ends_drawn: u64,
 }
 
-/// The rule of the queue: all passes name the same input, each queued job is of this input, the
-/// queued games rise, each is above every game that was drawn, and none is above the last that was
-/// put. Nothing is lost: what was put was drawn or is queued, by the parts of all passes together,
-/// and no job comes after an end.
+/// The rule of the queue. Used in contracts only; no code makes one. All passes (rights to call the
+/// queue) are for one input, and each queued job is of it. The numbers of the queued games rise;
+/// each is above every game that was taken, and none is above the last that was added. Nothing is
+/// lost: what all passes together added was taken or is queued. No job comes after an end, the sign
+/// that no job is left.
 pub struct InTurn;
 
 impl<'a> Protocol<Item<'a>, Knowledge> for InTurn {
@@ -59,7 +64,8 @@ pub type Jobs<'a> = RuledArrayQueue<Item<'a>, Knowledge, InTurn>;
 /// A pass of a queue of jobs: the right of one thread to call it.
 pub type Seat<'a> = Pass<Item<'a>, Knowledge>;
 
-/// What a pass knows after it put an item.
+/// What a pass (a thread's right to call the queue) has seen after it added an item. Used in
+/// contracts only; no code makes one.
 pub(crate) struct Puts;
 
 impl<'a> Outcome<Item<'a>, Knowledge> for Puts {
@@ -73,7 +79,8 @@ impl<'a> Lesson<Item<'a>, Knowledge> for Puts {
     ghost fact = { λ v items. ⊤ };
 }
 
-/// What a pass knows after it drew an item.
+/// What a pass (a thread's right to call the queue) has seen after it took an item from the queue.
+/// Used in contracts only; no code makes one.
 pub(crate) struct Takes;
 
 impl<'a> Outcome<Item<'a>, Knowledge> for Takes {
@@ -87,7 +94,8 @@ impl<'a> Lesson<Item<'a>, Knowledge> for Takes {
     ghost fact = { λ v items. ⊤ };
 }
 
-/// What a pass that has all parts learns of the whole queue.
+/// What a pass (a thread's right to call the queue) that has all parts may conclude about the whole
+/// queue. Used in contracts only; no code makes one.
 pub(crate) struct Settles;
 
 impl<'a> Lesson<Item<'a>, Knowledge> for Settles {
@@ -96,7 +104,7 @@ impl<'a> Lesson<Item<'a>, Knowledge> for Settles {
     ghost fact = { λ v items. IsSettled v };
 }
 
-/// A queue and an input, for the proof alone.
+/// A type that stands for a queue and an input. Used in contracts only.
 pub(crate) trait Input {
     ghost use Rattle.std.specs.Prelude.{ℕ, List};
     ghost use Rattle.atomic_table.specs.Seated.{TableId};
@@ -115,8 +123,9 @@ impl Input for Brand {
     ghost bytes = { [] };
 }
 
-/// The split in which the first pass becomes the reader's, of this queue and input. The pass beside
-/// it has no part.
+/// The split of the first pass (a thread's right to call the queue) in which it becomes the
+/// reader's, for the queue and the input of `B`. The pass that is split off has no part. Used in
+/// contracts only; no code makes one.
 pub(crate) struct Names<B> {
     input: PhantomData<B>,
 }
@@ -130,7 +139,8 @@ impl<B: Input> Split<Knowledge> for Names<B> {
     ghost right = { λ v. spent };
 }
 
-/// The split in which one part of a pass goes to a worker's pass.
+/// The split of a pass (a thread's right to call the queue) in which one of its parts goes to a new
+/// pass, a worker's. Used in contracts only; no code makes one.
 pub(crate) struct Cut;
 
 impl Split<Knowledge> for Cut {
@@ -142,7 +152,8 @@ impl Split<Knowledge> for Cut {
     ghost right = { λ v. worker v.queue v.bytes [] };
 }
 
-/// The join in which a pass takes up another one, with its parts and what it drew.
+/// The join in which a pass (a thread's right to call the queue) gets another one's parts, and has
+/// seen what that one took from the queue. Used in contracts only; no code makes one.
 pub(crate) struct Joined;
 
 impl Join<Knowledge> for Joined {

@@ -5,8 +5,9 @@ ghost use Rattle.job_core.specs.Rising.{Rising, past};
 
 pub use game_core::a_number_is_of_one_game;
 
-/// If the numbers of a list rise, so do those of its last part, all above the numbers before it. So
-/// the games that a worker draws in one call rise, whatever its pass drew before.
+/// States for proofs that if the numbers of a list rise, so do those of its last part, all above
+/// the numbers before it. So the games that a worker takes from the queue in one call rise,
+/// whatever it took before.
 pub fn the_end_of_rising_numbers_rises()
     ensures { (low high : ℕ) (before : List ℕ) (after : List ℕ)
         → Rising low (before ++ after) high → Rising (past before) after high }

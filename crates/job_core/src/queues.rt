@@ -16,8 +16,8 @@ use std::marker::{Brand, Model};
 use std::sync::Wait;
 use tally_core::TallyFault;
 
-/// Makes a queue with this many places, above 0, and its first pass. It takes memory for the
-/// places.
+/// Makes a queue with a capacity of `places` items, above 0, and its first pass: the right of one
+/// thread to call it. It takes memory for these items.
 ///
 /// # Errors
 ///
@@ -31,7 +31,8 @@ pub fn new_queue<'a>(alloc: Global, places: usize) -> Result<(Jobs<'a>, Seat<'a>
     Ok(Jobs::ruled(alloc, places)?)
 }
 
-/// Names the queue and the input to the first pass, and returns the pass that comes beside it.
+/// For contracts: binds the first `pass` (a thread's right to call the queue) to this `queue` and
+/// to the input `bytes`. Returns the pass that is split off, which has no part and is of no use.
 fn name<'a, B: Input>(queue: &Jobs<'a>, pass: &mut Seat<'a>, bytes: &[u8]) -> Seat<'a>
     requires queue { id_of queue.now ≡ B.queue }
     requires bytes { bytes.now ≡ B.bytes }
@@ -43,8 +44,9 @@ fn name<'a, B: Input>(queue: &Jobs<'a>, pass: &mut Seat<'a>, bytes: &[u8]) -> Se
     queue.another::<Names<B>>(pass)
 }
 
-/// Makes the first pass of a new queue the reader's, of this input. The pass that comes beside it
-/// has no part, so that nothing goes with it.
+/// For contracts: makes the first `pass` (a thread's right to call the queue) of a new `queue` the
+/// reader's, for the input `bytes`. The pass that is split off is dropped; it has no part, so no
+/// part is lost.
 fn open<'a>(queue: &Jobs<'a>, pass: &mut Seat<'a>, bytes: &[u8])
     requires pass { IsPassOf queue.now pass.old × (view pass.old ≡ blank) }
     ensures queue { IsSamePass pass.old pass.new }
@@ -53,17 +55,18 @@ fn open<'a>(queue: &Jobs<'a>, pass: &mut Seat<'a>, bytes: &[u8])
     let _spent = name::<Brand>(queue, pass, bytes);
 }
 
-/// An endpoint of a queue of jobs, which has a pass of it: the right of one thread to put or to
-/// draw.
+/// One thread's end of a queue of jobs. It has a pass, which is the right of one thread to add
+/// items to the queue or to take them from it.
 ///
-/// Contracts see at which `queue` it is, and what the pass knows: its `parts`, the `bytes` of the
-/// input, whether it `writes`, the games that it `put`, those that it has `drawn`, those that were
-/// drawn at endpoints that it took up, `taken`, and how many ends it put and all these drew,
-/// `ends_put` and `ends_drawn`.
+/// Contracts see at which `queue` it is, and what the pass has seen: its `parts`, the `bytes` of
+/// the input, whether it may add items (`writes`), the games that it added (`put`), those that it
+/// took (`drawn`), those that were taken at endpoints that `take_up` merged into it (`taken`), and
+/// how many ends (signs that no job is left) it added and all these took, `ends_put` and
+/// `ends_drawn`.
 ///
-/// The parts of all endpoints of a queue are 1024, and each has one at least. An endpoint that is
-/// dropped takes its parts along, so an endpoint has all 1024 only if each that was made of it came
-/// back.
+/// The endpoints of a queue have 1024 parts together, a number for contracts alone, and each has
+/// one at least. The parts of an endpoint that is dropped are lost, so an endpoint has all 1024
+/// only if each that was made from it came back by `take_up`.
 #[derive(Drop)]
 pub struct Endpoint<'q, 'a> {
     queue: &'q Jobs<'a>,
@@ -82,10 +85,10 @@ impl<'q, 'a> Model for Endpoint<'q, 'a> {
 }
 
 impl<'q, 'a> Endpoint<'q, 'a> {
-    /// Makes the reader's endpoint at a new queue, for the jobs of this input, with all parts. It
-    /// takes no memory.
+    /// Makes the reader's endpoint at a new `queue`, for the jobs of the input `bytes`. It has all
+    /// 1024 parts (see `Endpoint`). It takes no memory.
     ///
-    /// The pass must be the first of the queue, and new.
+    /// `pass` must be the one that `new_queue` returned with the queue, and unused.
     pub fn open(queue: &'q Jobs<'a>, pass: Seat<'a>, bytes: &'a [u8]) -> Endpoint<'q, 'a>
         requires { IsPassOf queue.now pass × (view pass ≡ blank) }
         ensures { result ≡ reader (id_of queue.now) bytes.now [] }
@@ -95,8 +98,8 @@ impl<'q, 'a> Endpoint<'q, 'a> {
         Endpoint { queue, pass }
     }
 
-    /// Makes a worker's endpoint at the same queue. It gets one part of this endpoint, which must
-    /// have more than one. It takes no memory.
+    /// Makes a worker's endpoint at the queue of `self`, for another thread. It gets one of the
+    /// parts (see `Endpoint`) of `self`, which must have more than one. It takes no memory.
     pub fn another(&mut self) -> Endpoint<'q, 'a>
         requires { 1 < self.old.parts }
         ensures lent { self.new ≡ record self.old { parts = self.old.parts - 1 } }
@@ -109,8 +112,9 @@ impl<'q, 'a> Endpoint<'q, 'a> {
         }
     }
 
-    /// Takes back a worker's endpoint at the same queue: this endpoint then has the parts of both,
-    /// and knows what was drawn at both. It takes no memory.
+    /// Merges a worker's endpoint `theirs`, at the same queue, into `self`. For contracts `self`
+    /// then has the parts of both, and has seen what was taken from the queue at both. It takes no
+    /// memory.
     pub fn take_up(&mut self, theirs: Endpoint<'q, 'a>)
         requires queue { theirs.queue ≡ self.old.queue }
         requires draws { theirs.writes ≡ false }
@@ -120,10 +124,11 @@ impl<'q, 'a> Endpoint<'q, 'a> {
         self.queue.absorb::<Joined>(&mut self.pass, pass);
     }
 
-    /// Puts an item. It takes no memory, and may wait for a thread that is in the middle of a call.
+    /// Adds an item to the queue. It takes no memory, and may wait for a thread that is in the
+    /// middle of a call.
     ///
-    /// The reader alone puts. A job must be of the input of the queue, its game above all that were
-    /// put, and no end may have been put before it.
+    /// The reader's endpoint alone may add items. A job must be of the queue's input, the number of
+    /// its game above those of all jobs added before, and no end may have been added before it.
     ///
     /// # Errors
     ///
@@ -136,10 +141,10 @@ impl<'q, 'a> Endpoint<'q, 'a> {
         self.queue.push_as::<Puts, R>(rt, &mut self.pass, item)
     }
 
-    /// Draws an item, or returns None if it finds the queue empty. A job that is drawn is of the
-    /// input of the queue, and its game is above all that this endpoint drew before. The items come
-    /// in the queue's own order, that of first in, first out, of which no clause speaks. It takes
-    /// no memory, and may wait for a thread that is in the middle of a call.
+    /// Takes an item from the queue, or returns None if it finds the queue empty. A job that it
+    /// returns is of the queue's input, and the number of its game is above those of all jobs that
+    /// this endpoint took before. The items come first in, first out, which the contract does not
+    /// state. It takes no memory, and may wait for a thread that is in the middle of a call.
     pub fn draw<R: Wait>(&mut self, rt: &R) -> Option<Item<'a>>
         ensures { MatchOption result (self.new ≡ self.old)
             (λ x. (self.new ≡ drawing self.old x) × Draws self.old x) }
@@ -147,9 +152,9 @@ impl<'q, 'a> Endpoint<'q, 'a> {
         self.queue.pop_as::<Takes, R>(rt, &mut self.pass)
     }
 
-    /// Lets a proof conclude what an endpoint with all parts knows of the whole queue: no game was
-    /// drawn more often than it was put, and once an end was drawn, each game was drawn just as
-    /// often. It changes nothing, and takes no memory.
+    /// Lets a proof conclude what holds of the whole queue, at an endpoint with all 1024 parts (see
+    /// `Endpoint`): no game was taken more often than it was added, and once an end was taken, each
+    /// game was taken as often as it was added. It changes nothing, and takes no memory.
     pub fn settle(&mut self)
         requires { self.old.parts ≡ all_parts }
         ensures same { self.new ≡ self.old }

@@ -14,8 +14,8 @@ use crate::writing::{push_fault, push_line};
 use sgf_core::{SgfFault, Tree};
 use std::alloc::{AllocError, Global};
 
-/// Whether trees that are no games have lines: only without conditions, and not if trees are cut
-/// out.
+/// Whether trees that are no games are written too: if there are no conditions, and the form is
+/// lines or columns. Only games are cut out.
 fn lists_all(asked: &Asked<'_>) -> bool
     ensures { result ≡ lists_all asked.now.form asked.now.conditions.now }
 {
@@ -25,7 +25,8 @@ fn lists_all(asked: &Asked<'_>) -> bool
     }
 }
 
-/// Whether a tree is chosen; `what` is what the tree is by its record.
+/// Whether `tree` is chosen, which its record says is `what`: a game if it meets all conditions,
+/// and any other tree if `lists_all` is true. It takes memory for the texts that are compared.
 fn is_chosen(
     alloc: Global,
     asked: &Asked<'_>,
@@ -41,7 +42,7 @@ fn is_chosen(
     }
 }
 
-/// Appends the bytes of a tree, and a line feed.
+/// Appends the bytes of a tree, which are those of `input` from `from` up to `to`, and a line feed.
 fn push_cut(text: &mut Vec<u8>, input: &[u8], from: usize, to: usize) -> Result<(), AllocError>
     requires { (from ≤ to) × (to ≤ length input.now) }
     ensures { OnOk result (text.new.items
@@ -91,7 +92,9 @@ pub(crate) fn push_piece(
     Ok(())
 }
 
-/// Appends the last line of an input with a fault of syntax, if all trees have lines.
+/// Appends the last line of an input with a fault of syntax: no tree can be read from byte `from`
+/// on, up to `to`, the end of the input. Appends nothing if there are conditions, or if trees are
+/// cut out.
 pub(crate) fn push_fault_piece(
     asked: &Asked<'_>,
     from: usize,

@@ -1,4 +1,4 @@
-//! The columns of a line: the tree's place, what it is, and what a game's first node says.
+//! The columns of a line: where the tree is, what it is, and what a game's first node says.
 ghost use Rattle.std.specs.Prelude.{◌≡◌, ◌++◌, ℕ, OnOk, option_map, List};
 ghost use Rattle.std.specs.Fmt.{decimal};
 ghost use Rattle.sgf_core.specs.Marks.{marks_of};
@@ -68,7 +68,8 @@ fn push_property(text: &mut Vec<u8>, name: &[u8], tree: &Tree<'_>) -> Result<(),
     push_value(text, root_value(tree.main_line(), name))
 }
 
-/// Appends what a game says of a key: the size of its board, or a property of its first node.
+/// Appends what a game says for `key`: the size of its board, or the property of this name in its
+/// first node (nothing if it has none).
 pub(crate) fn push_key_value(
     text: &mut Vec<u8>,
     key: Key,

@@ -14,7 +14,8 @@ use go_board::Size;
 use sgf_core::Tree;
 use std::alloc::{AllocError, Global};
 
-/// A condition for a game: what it says of the key is this value, or a text that begins with it.
+/// A condition for a game: what the game says for `key` (such as its date) has to be `value`, or
+/// only to begin with `value` if `is_front` is true.
 #[derive(Clone, Copy, Debug, PartialEq, Eq)]
 pub struct Condition<'a> {
     /// The key that is looked at.
@@ -71,7 +72,7 @@ pub fn condition_of(text: &str) -> Option<Condition<'_>>
     }
 }
 
-/// Whether a text is what the condition asks for.
+/// Whether `text` is the value of `condition`, or begins with it if that is enough.
 fn fits(condition: &Condition<'_>, text: &[u8]) -> bool
     ensures { result ≡ fits condition.now text.now }
 {
@@ -82,7 +83,8 @@ fn fits(condition: &Condition<'_>, text: &[u8]) -> bool
     }
 }
 
-/// Whether the side of a board is what the condition asks for; a board that is not square has none.
+/// Whether the number of columns of a square board is what `condition` asks for, so that `SZ=19` is
+/// met by 19x19. False if the board is not square. It takes memory for the number.
 fn side_fits(alloc: Global, condition: &Condition<'_>, size: Size) -> Result<bool, AllocError>
     ensures { IfOk result (λ found. found ≡ side_fits condition.now size) }
 {

@@ -2,7 +2,7 @@
 ghost use Rattle.std.specs.Prelude.{◌≡◌};
 ghost use Rattle.listing_core.specs.Columns.{key_text, shown_keys};
 
-/// What a column shows, or a condition speaks of.
+/// What a column shows, or a condition tests.
 #[derive(Clone, Copy, Debug, PartialEq, Eq)]
 pub enum Key {
     /// SZ: the size of the board, which every game has.

@@ -18,9 +18,10 @@ ghost use Rattle.listing_core.specs.Agreement.{Agrees, occasions_in};
 
 use go_record::replays_have_one_result;
 
-/// The trees that are listed are those that `count` counts, and the lines are of as many games,
-/// trees of other games and refused trees as its report says. Their occasions add up to the moves
-/// of its dictionary.
+/// States in its contract that listings agree with counts; a call does nothing. The trees that are
+/// listed are those that `shapes count` counts. The lines are of as many games, trees of other
+/// games and refused trees as its report says. Their occasions (moves onto empty points) add up to
+/// the moves of its dictionary.
 pub fn listings_agree_with_counts()
     ensures trees { (input : List ℕ) (number place end : ℕ) (trees : List GameTree)
         (lines : List Line) → AreLines input number place trees end lines
@@ -36,9 +37,9 @@ pub fn listings_agree_with_counts()
     replays_have_one_result();
 }
 
-/// The text of trees that are cut out is read back as just those trees, in their order, and nothing
-/// else. Each is the tree that is chosen, with its values at other places. A game among them is the
-/// game that it was.
+/// States in its contract what is read back; a call does nothing. The text of trees that are cut
+/// out is read back as exactly those trees, in their order. Each is the tree that was chosen, with
+/// its values at other byte indices. If it is a game, it is the same game.
 pub fn cuts_are_read_back()
     ensures trees { (asked : Asked) (input : List ℕ) (number place end : ℕ)
         (trees : List GameTree) (lines : List Line) → asked.form ≡ form.Trees

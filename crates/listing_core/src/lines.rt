@@ -18,15 +18,14 @@ pub enum What {
     Refused(RecordFault),
 }
 
-/// What a listing says of a tree of a collection. Places are byte offsets in the whole input, from
-/// 0.
+/// What a listing says of a tree of a collection.
 #[derive(Clone, Copy, Debug, PartialEq, Eq)]
 pub struct Line {
     /// The number of the game among the collection's games, from 0; None if the tree is no game.
     pub number: Option<u64>,
-    /// The place of the parenthesis with which the tree begins.
+    /// The byte index in the whole input, from 0, of the parenthesis with which the tree begins.
     pub from: usize,
-    /// The place after the parenthesis with which the tree ends.
+    /// The byte index after the parenthesis with which the tree ends.
     pub to: usize,
     /// What the tree is.
     pub what: What,

@@ -35,8 +35,9 @@ pub struct Summary {
     pub report: Report,
 }
 
-/// How the reading of trees ended: where the last tree ends (0 if there is none), how many trees of
-/// each sort there are, and the fault for which no further one was read, if there is one.
+/// How the reading of trees ended: the byte index after the last tree (0 if there is none), how
+/// many trees of each sort there are, and the fault of syntax for which no further one was read, if
+/// there is one.
 #[derive(Clone, Copy)]
 pub(crate) struct Ending {
     pub(crate) end: usize,
@@ -58,7 +59,8 @@ fn counted(report: Report, what: What) -> Report
     report
 }
 
-/// Appends what is written of all trees of this input, and returns how they ended.
+/// Appends what is written of all trees of `input`, and returns how the reading of them ended.
+/// `trees` reads the same `input`, from its beginning.
 fn push_lines(
     alloc: Global,
     asked: &Asked<'_>,

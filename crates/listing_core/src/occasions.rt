@@ -1,4 +1,4 @@
-//! How many moves and how many occasions a game has.
+//! How many moves a game has, and how many of them are occasions: moves onto empty points.
 ghost use Rattle.std.specs.Prelude.{◌≡◌, ◌≤◌, All};
 ghost use Rattle.go_board.specs.Board.{position_of};
 ghost use Rattle.go_record.specs.Actions.{IsActionOn};
@@ -25,7 +25,7 @@ fn is_move(action: &Action) -> bool
     }
 }
 
-/// How many occasions an action is: one if it is a move onto an empty point, else none.
+/// Returns 1 if `action` is a move onto a point that is empty on `board`, else 0.
 fn occasions_of(board: &Board, action: Action) -> usize
     requires { IsActionOn board.now.size action }
     ensures number { result ≡ occasions_of (position_of board.now) action }
@@ -37,7 +37,8 @@ fn occasions_of(board: &Board, action: Action) -> usize
     }
 }
 
-/// Applies the actions to a board in order, and counts their occasions.
+/// Applies the actions to a board in order, and returns how many of them are moves onto empty
+/// points when they are played.
 pub(crate) fn count_occasions(board: &mut Board, actions: &[Action]) -> usize
     requires { All (IsActionOn board.old.size) actions.now }
     ensures { HasNumberFrom board.old.size actions.now (position_of board.old) result }

@@ -12,31 +12,32 @@ use std::io::{Read, Write};
 /// The greatest number that the first game of an input may have: 2^63.
 pub const MOST_FIRST: u64 = 1 << 63;
 
-/// Reads a collection and writes what is asked for of it, tree after tree in their order. The
-/// answer says how the listing ended, and how many of the trees are games, of other games, and
-/// refused: the next input's first game has the number `asked.first` and as many games more.
+/// Reads a collection and writes what is asked for of it, tree after tree in their order. Returns
+/// how the listing ended, and how many of the trees are games, of other games, and refused. The
+/// next input's first game has the number `asked.first` plus the number of games here.
 ///
-/// In lines and in columns a tree has the number of its game, where it begins and ends (bytes, from
-/// 0), and what it is: a game with its board, its moves and its occasions, a tree of another game,
-/// or a tree that is refused, with the fault of its record. Columns have what the game's first node
-/// says besides. Else the trees that are chosen are cut out, each as it stands.
+/// In lines and in columns a tree has the number of its game, where it begins and ends (byte
+/// indices, from 0), and what it is: a game with its board, its moves and its occasions (moves onto
+/// empty points), a tree of another game, or a tree that is refused, with the fault of its record.
+/// Columns have what the game's first node says besides. Else the trees that are chosen are cut
+/// out, each as it stands in the input.
 ///
 /// With conditions only games that meet them all are written; their numbers stay those of all
 /// games. Without conditions, a fault of syntax has a last line, after those of the trees before
 /// it, unless trees are cut out. If there is no tree, nothing is written.
 ///
-/// Games are numbered and occasions counted as `count` does. It takes memory for the input, what is
-/// written, and a tree with its record and board at a time.
+/// Games are numbered and occasions counted as by `shapes count`. It takes memory for the input,
+/// what is written, and a tree with its record and board at a time.
 ///
 /// # Errors
 ///
 /// `Sgf` with S4 if the input has more than 2^28 bytes, and with S5 if memory for a tree was
 /// refused. `Record` with G4 and `Board` with B1 if memory for the record or the board of a game
-/// was refused. Such memory is asked for only when a whole tree is next, G4 only if an action of it
+/// was refused. Such memory is asked for only if a whole tree is next, G4 only if an action of it
 /// comes before the first fault, and B1 only if it is a game. `Memory` if memory for the input, for
 /// what is written, or for the text of a condition's key was refused. `Read` if the reader failed.
-/// Nothing is written then. `Write` if the writer failed: exactly that number of bytes is out. A
-/// fault of syntax is no error of the run: the answer says it.
+/// Nothing is written then. `Write` if the writer failed: it has the exact number of bytes that
+/// were written. A fault of syntax is no error: the returned `Summary` has it.
 pub fn run_listing<R: Read, W: Write>(
     alloc: Global,
     asked: &Asked<'_>,

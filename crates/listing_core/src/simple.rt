@@ -6,7 +6,7 @@ ghost use Rattle.listing_core.specs.Simple.{text_byte, meaning, next, simple_tex
 use sgf_core::is_white;
 use std::alloc::AllocError;
 
-/// What the bytes before a byte of a value do to its meaning.
+/// What the bytes before a byte of a value mean for that byte.
 #[derive(Clone, Copy)]
 pub(crate) enum After {
     /// Nothing.
@@ -19,7 +19,7 @@ pub(crate) enum After {
     Feed,
 }
 
-/// Whether the byte is the second one of a line break.
+/// Whether `byte`, after bytes that mean `before`, is the second one of a line break.
 fn ends_break(before: After, byte: u8) -> bool
     ensures { result ≡ ends_break before byte }
 {
@@ -47,7 +47,8 @@ fn breaks(byte: u8) -> bool
     byte == b'\n' || byte == b'\r'
 }
 
-/// Whether nothing stands for the byte in the simple text.
+/// Whether `byte` is left out of the simple text: the second byte of a line break, a line break
+/// after a backslash, and a backslash that none escapes.
 fn is_left_out(before: After, byte: u8) -> bool
     ensures { result ≡ is_left_out before byte }
 {
@@ -68,7 +69,8 @@ fn text_byte(byte: u8) -> u8
     if is_white(byte) { b' ' } else { byte }
 }
 
-/// What a byte means for the one after it, if it is not the second one of a line break.
+/// What `byte` means for the byte after it, if `byte` is not the second one of a line break.
+/// `before` is what the bytes before it mean for `byte`.
 fn meaning(before: After, byte: u8) -> After
     ensures { result ≡ meaning before byte }
 {
@@ -85,7 +87,7 @@ fn meaning(before: After, byte: u8) -> After
     }
 }
 
-/// What a byte means for the one after it.
+/// What `byte` means for the byte after it; `before` is what the bytes before it mean for `byte`.
 fn next(before: After, byte: u8) -> After
     ensures { result ≡ next before byte }
 {

@@ -22,7 +22,7 @@ use go_record::{Kind, Record, RecordFault, read_record};
 use sgf_core::{SgfFault, Tree, Trees};
 use std::alloc::Global;
 
-/// What one step of a listing met.
+/// What one step of a listing found.
 #[derive(Clone, Copy)]
 pub(crate) enum Step {
     /// A tree with this line.
@@ -33,7 +33,8 @@ pub(crate) enum Step {
     Fault(SgfFault),
 }
 
-/// Returns what a game is: its board, and how many moves and occasions it has.
+/// Returns what a game is: its board's size, how many moves and passes it has, and how many moves
+/// onto empty points. The error is `Board`: memory for a board was refused.
 fn game_of(alloc: Global, game_record: &Record) -> Result<What, Want>
     ensures what { IfOk result (IsWhat (Ok (kind.Go game_record.now))) }
     ensures wanted { IfErr result (λ found. found ≡ want.Board) }
@@ -48,7 +49,8 @@ fn game_of(alloc: Global, game_record: &Record) -> Result<What, Want>
     })
 }
 
-/// Returns what a tree is, by its record. It is an error if memory for the record was refused.
+/// Returns what a tree is, by `recorded`, the result of reading its record. The error is `Record`
+/// if memory for that record was refused, and `Board` if memory for a board was refused.
 fn what_of(alloc: Global, recorded: Result<Kind, RecordFault>) -> Result<What, Want>
     ensures what { (line : List Node) → IsRecordOrMemory line recorded
         → IfOk result (IsWhat (record_of line)) }
@@ -110,8 +112,9 @@ fn push_tree(
     Ok(line)
 }
 
-/// Appends what is written of the next tree of this input, and returns what was met; `next` is the
-/// number of the next game.
+/// Appends what is written of the next tree of `input`, and returns whether there was a tree, none
+/// was left, or it had a fault of syntax. `trees` reads the same `input`; `next` is the number of
+/// the next game.
 pub(crate) fn push_next_tree(
     alloc: Global,
     asked: &Asked<'_>,

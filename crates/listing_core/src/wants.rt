@@ -9,17 +9,17 @@ use go_record::RecordFault;
 use sgf_core::SgfFault;
 use std::alloc::{AllocError, AllocFailed};
 
-/// What memory was refused for while the trees of an input were read. A run's fault is too large to
-/// be passed through each step; it is made from this at the end.
+/// What memory was refused for while the trees of an input were read. Steps return this and not
+/// `RunFault`, which is too large for that; a `RunFault` is made from it at the end.
 #[derive(Clone, Copy, Debug, PartialEq, Eq)]
 pub enum Want {
-    /// A tree: S5 of a run.
+    /// A tree: the run's fault is S5.
     Tree,
-    /// The record of a tree: G4.
+    /// The record of a tree: the run's fault is G4.
     Record,
-    /// The board of a game: B1.
+    /// The board of a game: the run's fault is B1.
     Board,
-    /// All else, such as what is written.
+    /// All else, such as what is written: the run's fault is `Memory`.
     Text,
 }
 

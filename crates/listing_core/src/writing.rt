@@ -13,14 +13,14 @@ use sgf_core::SgfFault;
 use shape_dict::push_number;
 use std::alloc::AllocError;
 
-/// Appends a number of bytes, a place or a count, in decimal.
+/// Appends a byte index or a count in decimal.
 pub(crate) fn push_count(text: &mut Vec<u8>, count: usize) -> Result<(), AllocError>
     ensures { OnOk result (text.new.items ≡ text.old.items ++ decimal count) }
 {
     push_number(text, count as u64)
 }
 
-/// Appends a fault's name and its place.
+/// Appends the name of a fault and `at`, the byte index of what is wrong.
 fn push_placed(text: &mut Vec<u8>, name: &[u8], at: usize) -> Result<(), AllocError>
     ensures { OnOk result (text.new.items ≡ text.old.items ++ (name.now ++ decimal at)) }
 {
@@ -63,7 +63,8 @@ fn push_game_number(text: &mut Vec<u8>, number: Option<u64>) -> Result<(), Alloc
     }
 }
 
-/// Appends the number of a game, and where its tree begins and ends, with `between` after each.
+/// Appends the number of a game (`-` if it is None), and the byte indices `from` and `to` between
+/// which its tree is, with `between` after each of the three.
 pub(crate) fn push_place(
     text: &mut Vec<u8>,
     between: &[u8],
@@ -133,7 +134,8 @@ pub(crate) fn push_ending(
     Ok(())
 }
 
-/// Appends a tree's line: its number and place, what it is, and its file's name, if there is one.
+/// Appends a tree's line: its number, where it begins and ends, what it is, and the name of its
+/// file if there is one.
 pub(crate) fn push_line(
     text: &mut Vec<u8>,
     name: Option<&str>,
@@ -147,8 +149,9 @@ pub(crate) fn push_line(
     push_ending(text, b" ", name)
 }
 
-/// Appends the last line of an input with a fault of syntax: its parts with `between` between them,
-/// these columns after the fault, and the name of the file, if there is one.
+/// Appends the last line of an input with a fault of syntax: the byte indices `from` and `to`
+/// between which no tree could be read, the fault, `columns` (the tabs of columns that are empty,
+/// or nothing) and the name of the file if there is one. `between` stands between the parts.
 pub(crate) fn push_fault(
     text: &mut Vec<u8>,
     between: &[u8],

@@ -18,7 +18,9 @@ use crate::tallies::{Tally, no_tally, with_kept};
 use crate::trees::{Tree, next_of};
 use std::alloc::Global;
 
-/// Returns the tally of the entries of a join that are kept.
+/// Reads the join that `tree` makes to its end. Returns how many squares and diamonds it keeps, and
+/// how often these were played: all, or with `least` only squares that were there at least as
+/// often. `Changed` if a sum is over 2^64 - 1.
 pub(crate) fn tally_of_kept<E: Entries>(
     mut tree: Tree<E>,
     least: Option<u64>,
@@ -44,8 +46,10 @@ pub(crate) fn tally_of_kept<E: Entries>(
     Err(NextFault::Changed)
 }
 
-/// Joins the first `count` dictionaries, and returns their totals and the tally of the entries that
-/// are kept. Each is read to its end: if there is an answer, all of them are judged.
+/// Joins the first `count` dictionaries. Returns their totals, and how many squares and diamonds
+/// the join keeps and how often these were played: all, or with `least` only squares that were
+/// there at least as often. Each dictionary is read to its end: `Ok` means that all are
+/// well-formed.
 pub(crate) fn count_join<S: Sources>(
     alloc: Global,
     sources: &S,

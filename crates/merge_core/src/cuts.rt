@@ -1,17 +1,21 @@
-//! Cuts: the words, and the places in dictionaries, where one range ends and the next begins.
+//! Cuts: the words, and the byte indices in dictionaries, at which one range of words ends and the
+//! next begins.
 ghost use Rattle.std.specs.Prelude.{◌≡◌, Some, IfSome, slice_get};
 
 use shape_dict::Header;
 
-/// A word, and for each dictionary the place of the first line whose word isn't below it.
+/// A word at which one range of words ends and the next begins. `places` has for each dictionary
+/// the byte index of the first line whose word isn't below it.
 #[derive(Drop)]
 pub(crate) struct Cut {
     pub(crate) word: u64,
     pub(crate) places: Vec<usize>,
 }
 
-/// The headers of dictionaries, the cuts between ranges of their lines, and which patterns of the
-/// join are kept. The first cut is where the lines begin, and the last is their end.
+/// How the lines of dictionaries are divided into ranges of words: the first cut (a word, and a
+/// byte index in each dictionary) is where the lines begin, and the last is their end. `headers`
+/// are those of the dictionaries. If there is a `least`, the join keeps only squares that were
+/// there at least as often.
 #[derive(Drop)]
 pub(crate) struct Plan {
     pub(crate) headers: Vec<Header>,
@@ -19,7 +23,7 @@ pub(crate) struct Plan {
     pub(crate) least: Option<u64>,
 }
 
-/// Returns a cut's place in the dictionary of this number, from 0, if it has one.
+/// Returns the byte index of a cut in dictionary `n`, counted from 0, or None if the cut has none.
 pub(crate) fn place_at(cut: &Cut, n: usize) -> Option<usize>
     ensures { IfSome result (λ place. slice_get cut.now.places.items n ≡ Some place) }
 {
@@ -29,7 +33,7 @@ pub(crate) fn place_at(cut: &Cut, n: usize) -> Option<usize>
     None
 }
 
-/// Returns the header of this number, from 0, if there is one.
+/// Returns the header of dictionary `n`, counted from 0, or None if there are fewer.
 pub(crate) fn header_at(headers: &[Header], n: usize) -> Option<Header>
     ensures { IfSome result (λ header. slice_get headers.now n ≡ Some header) }
 {
@@ -39,7 +43,7 @@ pub(crate) fn header_at(headers: &[Header], n: usize) -> Option<Header>
     None
 }
 
-/// Returns the cut of this number, from 0, if there is one.
+/// Returns cut `n`, counted from 0, or None if there are fewer.
 pub(crate) fn cut_at(cuts: &[Cut], n: usize) -> Option<&Cut>
     ensures { IfSome result (λ cut. slice_get cuts.now n ≡ Some cut.now) }
 {

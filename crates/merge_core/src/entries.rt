@@ -6,7 +6,8 @@ use shape_dict::Entry;
 pub enum NextFault {
     /// A sum is over 2^64 - 1.
     Overflow,
-    /// A read of the dictionary of this number, from 1, failed, or the bytes read are no text.
+    /// A read of the dictionary of this number, from 1, failed, or the bytes read are not
+    /// well-formed, or a word is outside of the range of words that was read.
     Read(usize),
     /// What was read does not fit what was read before.
     Changed,
@@ -20,10 +21,10 @@ pub trait Entries: Drop {
     ghost use Rattle.shape_dict.specs.declared.entries.Entry.{Entry as One};
     ghost use Rattle.merge_core.specs.Entries.{IsNext, IsNextFault, WasNext};
 
-    /// Whether these are the entries that are still to come.
+    /// For contracts: whether the list has exactly the entries that are still to come.
     ghost yields: { Self → List One → Type 0 };
 
-    /// What is known if these entries come from here on, and then the end.
+    /// For contracts: what holds if the entries of the list come from here on, and then the end.
     ghost came: { Self → List One → Type 0 };
 
     /// Returns the next entry, or None at the end.
@@ -31,7 +32,7 @@ pub trait Entries: Drop {
     /// # Errors
     ///
     /// `Overflow` if the counts of an entry that is still to come are too large; `Read` if a reader
-    /// failed. What comes after an error is not said.
+    /// failed. After an error a further call may return anything.
     fn next_entry(&mut self) -> Result<Option<Entry>, NextFault>
         ensures next { (entries : List One) → yields self.old entries
             → MatchResult result (IsNext (yields self.new) entries) (IsNextFault entries) }

@@ -5,19 +5,19 @@ ghost use Rattle.merge_core.specs.Status.{status_of};
 use shape_dict::DictFault;
 use thiserror::Error;
 
-/// Why dictionaries were not joined, or why their join was not written whole. Each says how many
-/// bytes of the text are out; if it has no such number, none are.
+/// Why dictionaries were not joined, or why their join was not written whole. `written` is how many
+/// bytes of the text were written; faults without it come before any is written.
 #[derive(Clone, Copy, Debug, PartialEq, Eq, Error)]
 pub enum MergeFault {
     /// There is no dictionary.
     #[error("U1 usage")]
     Empty,
-    /// The dictionary of this number, from 1, cannot be read as one, or it cannot be added to those
-    /// before it.
+    /// Dictionary `n`, counted from 1, is not well-formed, or it cannot be added to those before
+    /// it.
     #[error("dictionary {n}: {fault}")]
     Dict { n: usize, fault: DictFault },
-    /// A read of the dictionary of this number failed, or what it gave in the second reading is no
-    /// text, or has a word outside of the range that was read.
+    /// A read of dictionary `n`, counted from 1, failed, or what it gave in the second reading is
+    /// not well-formed, or has a word outside of the range of words that was read.
     #[error("dictionary {n}: I1 read failed, {written} bytes written")]
     Read { n: usize, written: usize },
     /// The join of the second reading can't be made, or has another number of patterns than the

@@ -26,7 +26,8 @@ pub(crate) fn is_square(entry: Entry) -> bool
     entry.shape.word().kind() == Kind::Square
 }
 
-/// Whether the join keeps a pattern, by the least number of times that it must have been there.
+/// Whether the join keeps a pattern: always if `least` is None, else if it is a square that was
+/// there at least `least` times.
 pub(crate) fn is_kept(least: Option<u64>, entry: &Entry) -> bool
     ensures kept { result ≡ is_kept least entry.now }
     ensures small { IsSmallUse entry.now }

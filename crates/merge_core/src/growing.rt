@@ -26,7 +26,9 @@ pub(crate) struct Grown<E> {
     pub(crate) totals: Totals,
 }
 
-/// Joins the lists that two trees give into one tree. The first entry of each list is read.
+/// Makes one tree that joins the entries of two trees, with the games of `right` after those of
+/// `left`. The first entry of each is read at once. `Changed` if their totals can't be added,
+/// `Memory` if memory was refused, else a fault of reading the first entries.
 fn pair<E: Entries>(alloc: Global, left: Grown<E>, right: Grown<E>) -> Result<Grown<E>, NextFault>
     ensures next { (mine : List One) → (other : List One) → Yields E.yields left.tree mine
         → Yields E.yields right.tree other → MatchResult result
@@ -73,9 +75,9 @@ fn pair<E: Entries>(alloc: Global, left: Grown<E>, right: Grown<E>) -> Result<Gr
     })
 }
 
-/// Builds the tree of `count` dictionaries, from the one of this number on, from 0. It joins the
-/// tree of the first half and that of the other, so that no entry meets more nodes than `count` can
-/// be halved.
+/// Opens `count` dictionaries, from number `from` on, counted from 0, and builds the tree that
+/// joins them. It joins the tree of the first half and that of the other, so that an entry goes
+/// through no more nodes than `count` can be halved (rounded up).
 pub(crate) fn grow<S: Sources>(
     alloc: Global,
     sources: &S,

@@ -15,7 +15,8 @@ pub(crate) struct Heads {
     pub(crate) right: Option<Entry>,
 }
 
-/// Which of two next entries has the lesser word.
+/// The next entries of two lists that have the least word: one list's entry, both if their words
+/// are equal, or neither if both lists are at their ends.
 #[derive(Clone, Copy)]
 pub(crate) enum First {
     Neither,
@@ -25,7 +26,8 @@ pub(crate) enum First {
 }
 
 impl Heads {
-    /// Returns which of the two entries has the lesser word.
+    /// Returns the entry with the lesser word, or both entries if their words are equal, or neither
+    /// if both lists are at their ends.
     #[inline(always)]
     pub(crate) fn first(&self) -> First
         ensures { IsFirst self.now result }
@@ -49,9 +51,10 @@ impl Heads {
     }
 }
 
-/// Returns an entry of the right list alone, with its first game moved up by the left's games. The
-/// numbers of games add up to less than 2^64 in dictionaries that were judged, so a sum that is too
-/// large means that a dictionary has changed.
+/// Returns an entry that the right list alone has, always in Some, with `games`, the number of the
+/// left one's games, added to its first game. The numbers of games add up to less than 2^64 in
+/// dictionaries that were checked before, so a sum that is too large means that a dictionary has
+/// changed: `Changed`.
 #[inline(always)]
 pub(crate) fn moved(entry: Entry, games: u64) -> Result<Option<Entry>, NextFault>
     ensures ok { IfOk result (λ moved. moved ≡ Some (moved_entry games entry)) }
@@ -61,7 +64,8 @@ pub(crate) fn moved(entry: Entry, games: u64) -> Result<Option<Entry>, NextFault
     Ok(Some(moved))
 }
 
-/// Returns the sum of the entries of both lists for the same pattern.
+/// Returns the sum of two entries of the same pattern, always in Some, with the first game of
+/// `left`. `Overflow` if a count would pass 2^64 - 1.
 #[inline(always)]
 pub(crate) fn summed(left: Entry, right: Entry) -> Result<Option<Entry>, NextFault>
     ensures ok { IfOk result (λ both. both ≡ Some (summed_entry left right)) }

@@ -1,4 +1,4 @@
-//! What is kept of dictionaries that were judged: their totals.
+//! What is remembered of dictionaries that were checked to be well-formed: their totals.
 ghost use Rattle.std.specs.Prelude.{IfOk, IfErr};
 ghost use Rattle.merge_core.specs.Inner.Judging.{IsTotal, IsBoth, IsBothFault};
 
@@ -12,15 +12,16 @@ pub(crate) struct Totals {
     pub(crate) counts_diamonds: bool,
 }
 
-/// The totals of dictionaries, and how often all their patterns were there, or 2^64 - 1 if that is
-/// more.
+/// What is remembered of dictionaries that were checked to be well-formed: their totals, and how
+/// often their patterns were there in all, or 2^64 - 1 if that is more.
 #[derive(Clone, Copy)]
 pub(crate) struct Judged {
     pub(crate) totals: Totals,
     pub(crate) there: u64,
 }
 
-/// Adds up the totals of two dictionaries, or runs of them, that follow one another.
+/// Adds up the totals of dictionaries and of those that follow them. `MixedKinds` if one of the two
+/// counts diamonds and the other does not, `Overflow` if a sum is over 2^64 - 1.
 pub(crate) fn total_of(before: Totals, next: Totals) -> Result<Totals, DictFault>
     ensures ok { IfOk result (IsTotal before next) }
     ensures fault { IfErr result (IsBothFault before next) }
@@ -41,7 +42,9 @@ pub(crate) fn total_of(before: Totals, next: Totals) -> Result<Totals, DictFault
     })
 }
 
-/// Adds up what was judged of two that follow one another, if all sums of patterns are small.
+/// Adds up what is remembered of checked dictionaries and of those that follow them. `there`
+/// saturates: if it is below 2^64 - 1, no pattern's sum is too large. `MixedKinds` if one of the
+/// two counts diamonds and the other does not, `Overflow` if the games or the moves pass 2^64 - 1.
 pub(crate) fn both_of(before: Judged, next: Judged) -> Result<Judged, DictFault>
     ensures ok { IfOk result (IsBoth before next) }
     ensures fault { IfErr result (IsBothFault before.totals next.totals) }

@@ -1,4 +1,5 @@
-//! Judges dictionaries one after another: each by itself, and then as one more to be added.
+//! Checks dictionaries one after another: whether each is well-formed, and whether it can be added
+//! to those before it.
 ghost use Rattle.std.specs.Prelude.{◌≡◌, ◌+◌, ◌<◌, ◌≤◌, ◌^◌, ◌++◌};
 ghost use Rattle.std.specs.Prelude.{◌∷◌, [], ℕ, List, Some, length, MatchResult};
 ghost use Rattle.std.specs.Prelude.{OnOk, IfErr};
@@ -24,8 +25,8 @@ use std::alloc::Global;
 use std::io::Read;
 use stream_core::{Lines, StreamFault};
 
-/// Returns how often all patterns of a text were there, or 2^64 - 1 if that is more. The text is
-/// read to its end.
+/// Reads a text to its end. Returns how often its patterns were there in all, or 2^64 - 1 if that
+/// is more, or else the text's first fault.
 fn total_of<R: Read + Drop>(lines: &mut Lines<R>) -> Result<u64, StreamFault>
     ensures { (whole : List ℕ) → HasGiven lines.old whole [] → MatchResult result
         (λ there. (entries : List One) × IsTextOf (contents_of lines.old.header entries) whole
@@ -43,7 +44,7 @@ fn total_of<R: Read + Drop>(lines: &mut Lines<R>) -> Result<u64, StreamFault>
     Err(StreamFault::Read)
 }
 
-/// Makes a fault of a text into one that names its dictionary by number, from 1.
+/// Turns a fault of a text into that of dictionary `n`, counted from 1, with no byte written.
 fn numbered(fault: StreamFault, n: usize) -> MergeFault
     ensures value { result ≡ numbered n fault }
     ensures quiet { written_of result ≡ 0 }
@@ -55,7 +56,8 @@ fn numbered(fault: StreamFault, n: usize) -> MergeFault
     }
 }
 
-/// Judges the dictionary of this number, from 0, by itself.
+/// Reads dictionary `n`, counted from 0, to its end, to check that it is well-formed. Returns its
+/// totals and how often its patterns were there in all.
 fn judge_one<S: Sources>(alloc: Global, sources: &S, n: usize) -> Result<Judged, MergeFault>
     requires few { n + 1 < 2 ^ 64 }
     requires within { n < S.number sources.now }
@@ -87,9 +89,10 @@ fn judge_one<S: Sources>(alloc: Global, sources: &S, n: usize) -> Result<Judged,
     }
 }
 
-/// Judges the dictionary of this number, from 0, by itself, and as one to be added to those before
-/// it. If the sum of all that was there is below 2^64 - 1, no pattern's sum is too large; else the
-/// join is made, and not written.
+/// Checks that dictionary `n`, counted from 0, is well-formed and can be added to those before it,
+/// whose totals are `before`. Returns the totals of all. If the patterns of all were there less
+/// than 2^64 - 1 times together, no pattern's sum is too large; else the join is made, and not
+/// written, to see whether one is.
 fn judge_next<S: Sources>(
     alloc: Global,
     sources: &S,
@@ -128,7 +131,8 @@ fn judge_next<S: Sources>(
     }
 }
 
-/// Judges this many dictionaries, one after another, in their order.
+/// Checks the first `count` dictionaries in their order: that each is well-formed and can be added
+/// to those before it. The error is the first fault in that order.
 fn judge_each<S: Sources>(alloc: Global, sources: &S, count: usize) -> Result<Judged, MergeFault>
     requires some { 1 ≤ count }
     requires few { count < 2 ^ 64 }
@@ -151,9 +155,11 @@ fn judge_each<S: Sources>(alloc: Global, sources: &S, count: usize) -> Result<Ju
     Ok(judged)
 }
 
-/// Judges all dictionaries, and returns the totals of their join and the tally of the patterns that
-/// are kept. If one pass over all of them gives no join, they are judged one after another, and the
-/// first fault is the answer.
+/// Checks that all dictionaries are well-formed and can be joined. Returns the totals of their
+/// join, and how many squares and diamonds it keeps and how often these were played: all, or with
+/// `least` only squares that were there at least as often. If one pass over all of them gives no
+/// join, they are checked one after another, and the first fault is the error. `Empty` if there is
+/// none.
 pub(crate) fn judge_all<S: Sources>(
     alloc: Global,
     sources: &S,

@@ -1,4 +1,4 @@
-//! The leaves of a tree of joins: the lines of one dictionary each, which was judged before.
+//! The leaves of a tree of joins: the lines of one dictionary each, read one after another.
 ghost use Rattle.std.specs.Prelude.{◌≡◌, ◌<◌, ◌+◌, ◌^◌, ◌⊎◌, ℕ, [], List, Some, MatchResult, IfOk};
 ghost use Rattle.std.specs.Prelude.{IfErr};
 ghost use Rattle.shape_dict.specs.declared.entries.Entry.{Entry as One};
@@ -18,7 +18,7 @@ use std::alloc::Global;
 use std::io::Read;
 use stream_core::{Lines, StreamFault};
 
-/// A leaf: the lines that are left of the dictionary of this number, from 1.
+/// A leaf of a tree of joins: the lines still to be read of dictionary `number`, counted from 1.
 #[derive(Drop)]
 pub(crate) struct Leaf<R: Read> {
     pub(crate) number: usize,
@@ -44,7 +44,8 @@ impl<R: Read + Drop> Entries for Leaf<R> {
     }
 }
 
-/// Opens the dictionary of this number, from 0, and returns its lines and its header's totals.
+/// Opens dictionary `n`, counted from 0, and returns its lines and its header's totals. `Memory` if
+/// memory was refused; `Read` with `n + 1` if it can't be read or has no header at its front.
 pub(crate) fn open_leaf<S: Sources>(
     alloc: Global,
     sources: &S,

@@ -15,14 +15,16 @@ use crate::tallies::{Tally, both_tallies, count_of, each_tally};
 use std::alloc::{AllocError, Global};
 use std::thread::{Threads, map_indices};
 
-/// The tallies of a range: of what the join keeps, and of each dictionary by itself.
+/// The tallies of a range of words (how many squares and diamonds it has, and how often these were
+/// played): of what the join keeps, and of each dictionary by itself.
 #[derive(Drop)]
 pub(crate) struct Ranged {
     pub(crate) joined: Tally,
     pub(crate) each: Vec<Tally>,
 }
 
-/// Counts the range from the cut of this number, from 0, up to the next cut.
+/// Counts what is in the range of words from cut `n`, counted from 0, up to the next cut: in the
+/// join and in each dictionary. A cut is the word and the byte indices at which a range begins.
 fn count_one<S: Sources>(
     alloc: Global,
     sources: &S,
@@ -47,7 +49,7 @@ fn count_one<S: Sources>(
     })
 }
 
-/// Copies the tallies of a range into memory of their own.
+/// Copies the tallies of a range of words into memory of their own. `Memory` if it was refused.
 fn copied(alloc: Global, ranged: &Ranged) -> Result<Ranged, NextFault>
     ensures joined { IfOk result (λ copy. copy.joined ≡ ranged.now.joined) }
     ensures each { IfOk result (λ copy. copy.each.items ≡ ranged.now.each.items) }
@@ -61,7 +63,8 @@ fn copied(alloc: Global, ranged: &Ranged) -> Result<Ranged, NextFault>
     }
 }
 
-/// Adds up the tallies of two ranges that follow one another.
+/// Adds up the tallies of two ranges of words that follow one another. `Overflow` if a sum is over
+/// 2^64 - 1, `Memory` if memory was refused.
 fn both_ranged(alloc: Global, left: &Ranged, right: &Ranged) -> Result<Ranged, NextFault>
     ensures joined { IfOk result (λ both. both.joined ≡ sum_of left.now.joined right.now.joined) }
     ensures each { IfOk result (λ both. both.each.items
@@ -76,7 +79,8 @@ fn both_ranged(alloc: Global, left: &Ranged, right: &Ranged) -> Result<Ranged, N
     }
 }
 
-/// Counts the ranges from the cut of one number, from 0, up to the cut of another.
+/// Counts the ranges of words from cut `from` up to cut `to`, both counted from 0, one after
+/// another in this thread, and returns the sums of their tallies.
 fn count_ranges<S: Sources>(
     alloc: Global,
     sources: &S,
@@ -105,7 +109,8 @@ fn count_ranges<S: Sources>(
     Ok(total)
 }
 
-/// Counts one block of `size` ranges; the last block has the ranges that are left.
+/// Counts block number `block`, from 0: `size` ranges of words that follow one another, or in the
+/// last block those that are left before cut `last`. Returns the sums of their tallies.
 fn count_block<S: Sources>(
     alloc: Global,
     sources: &S,
@@ -126,8 +131,9 @@ fn count_block<S: Sources>(
     count_ranges(alloc, sources, plan, from, last.min(from + size))
 }
 
-/// Counts each block of `size` ranges, up to the cut of this number, from 0: each in a thread of
-/// its own if one can be started.
+/// Counts the ranges of words before cut `last`, counted from 0, in blocks of `size` ranges: each
+/// block in a thread of its own if one can be started. Returns the tallies of each block, or its
+/// fault.
 fn blocks_of<T: Threads + Sync, S: Sources + Sync>(
     rt: &T,
     alloc: Global,
@@ -158,7 +164,8 @@ fn blocks_of<T: Threads + Sync, S: Sources + Sync>(
     )
 }
 
-/// Adds up the tallies of blocks of ranges that follow one another.
+/// Adds up the tallies of blocks of ranges of words that follow one another. The error is that of
+/// the first block that has one, or `Changed` if there is no block, or a fault of adding.
 fn sum_up(alloc: Global, blocks: &[Result<Ranged, NextFault>]) -> Result<Ranged, NextFault>
     ensures { (bytes : ℕ → Option (List ℕ)) → (plan : Cuts) → (end : ℕ → ℕ)
         → AreBlocks bytes plan end blocks.now
@@ -188,8 +195,8 @@ fn sum_up(alloc: Global, blocks: &[Result<Ranged, NextFault>]) -> Result<Ranged,
     Ok(total)
 }
 
-/// Counts all ranges of a plan up to the cut of a number, from 0, by about this many threads, if
-/// they can be started.
+/// Counts all ranges of words of a plan before cut `last`, counted from 0, in about `threads`
+/// threads if they can be started. It waits for them, and returns the sums of all tallies.
 pub(crate) fn count_all<T: Threads + Sync, S: Sources + Sync>(
     rt: &T,
     alloc: Global,

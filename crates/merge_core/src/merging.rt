@@ -7,7 +7,8 @@ use crate::entries::NextFault;
 use shape_dict::Entry;
 use std::alloc::Global;
 
-/// Returns an entry of the right list alone, with its first game moved up by the left's games.
+/// Returns an entry that the right list alone has, with `games`, the number of the left one's
+/// games, added to its first game. `Changed` if that would pass 2^64 - 2.
 #[inline(always)]
 fn moved(entry: Entry, games: u64) -> Result<Entry, NextFault>
     ensures { IfOk result (λ moved. moved ≡ moved_entry games entry) }
@@ -15,7 +16,8 @@ fn moved(entry: Entry, games: u64) -> Result<Entry, NextFault>
     entry.moved(games).ok_or(NextFault::Changed)
 }
 
-/// Returns the sum of the entries of both lists for the same pattern.
+/// Returns the sum of two entries of the same pattern, with the first game of `left`. `Overflow` if
+/// a count would pass 2^64 - 1.
 #[inline(always)]
 fn summed(left: Entry, right: Entry) -> Result<Entry, NextFault>
     ensures { IfOk result (λ both. both ≡ summed_entry left right) }
@@ -44,7 +46,8 @@ fn push_kept(entries: &mut Vec<Entry>, left: &[Entry]) -> Result<(), NextFault>
     Ok(())
 }
 
-/// Appends the entries of the right list, with their first games moved up by the left's games.
+/// Appends the entries of the right list, with `games`, the number of the left one's games, added
+/// to their first games.
 fn push_moved(entries: &mut Vec<Entry>, right: &[Entry], games: u64) -> Result<(), NextFault>
     ensures ok { OnOk result (entries.new.items
         ≡ entries.old.items ++ map (moved_entry games) right.now) }
@@ -55,12 +58,14 @@ fn push_moved(entries: &mut Vec<Entry>, right: &[Entry], games: u64) -> Result<(
     Ok(())
 }
 
-/// Joins two lists of entries whose words rise. The left list is of this number of games.
+/// Merges two lists of entries whose words rise into a new one, and adds the counts of patterns
+/// that both have. `games` is how many games the left list is of; it is added to the first games of
+/// patterns that the right list alone has.
 ///
 /// # Errors
 ///
-/// `Overflow` if a sum is over 2^64 - 1, `Changed` if a first game is, and `Memory` if memory was
-/// refused.
+/// `Overflow` if a sum is over 2^64 - 1, `Changed` if a first game would pass 2^64 - 2, and
+/// `Memory` if memory was refused.
 pub(crate) fn merge(
     alloc: Global,
     games: u64,

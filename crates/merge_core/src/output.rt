@@ -9,7 +9,8 @@ use std::io::Write;
 /// How many bytes are written at once, or a few more.
 const BLOCK: usize = 1 << 16;
 
-/// Writes bytes. If the writer fails or writes none, the error is how many of the bytes are out.
+/// Writes all the bytes. If the writer fails or writes none, the error is how many of the bytes
+/// were written.
 fn write_bytes<W: Write>(writer: &mut W, bytes: &[u8]) -> Result<(), usize>
     ensures whole { OnOk result (Appends (W.contents writer.old) (W.contents writer.new) bytes.now) }
     ensures short { IfErr result (λ written. written < length bytes.now) }
@@ -26,7 +27,8 @@ fn write_bytes<W: Write>(writer: &mut W, bytes: &[u8]) -> Result<(), usize>
     Ok(())
 }
 
-/// Writes bytes after this number of others, and returns how many are out then.
+/// Writes more bytes of a text, after the `written` bytes that it has so far, and returns how many
+/// it has then. `Write` if the writer failed, or if the number would pass 2^64 - 1.
 pub(crate) fn write_more<W: Write>(
     writer: &mut W,
     bytes: &[u8],
@@ -48,7 +50,8 @@ pub(crate) fn write_more<W: Write>(
     }
 }
 
-/// Writes all that is pending after this number of bytes, and returns how many are out then.
+/// Writes all of `pending`, after the `written` bytes of the text that are written so far, and
+/// empties it. Returns how many are written then. `Write` if the writer failed.
 pub(crate) fn write_pending<W: Write>(
     writer: &mut W,
     pending: &mut Vec<u8>,
@@ -69,7 +72,9 @@ pub(crate) fn write_pending<W: Write>(
     }
 }
 
-/// Writes what is pending if it is a block or more, and returns how many bytes are out then.
+/// Writes and empties `pending` if it has 65,536 bytes or more; else it does nothing. `written` is
+/// how many bytes of the text are written so far. Returns how many are written then. `Write` if the
+/// writer failed.
 pub(crate) fn write_block<W: Write>(
     writer: &mut W,
     pending: &mut Vec<u8>,

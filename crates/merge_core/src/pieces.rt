@@ -11,7 +11,8 @@ use std::alloc::Global;
 use std::io::Read;
 use stream_core::read_rows;
 
-/// A range of words: two cuts, and the headers of the dictionaries whose lines lie between them.
+/// A range of words: the two cuts at which it begins and ends (each a word, and a byte index in
+/// each dictionary), and the headers of the dictionaries whose lines lie between them.
 #[derive(Clone, Copy)]
 pub(crate) struct Range<'a> {
     pub(crate) headers: &'a [Header],
@@ -19,7 +20,8 @@ pub(crate) struct Range<'a> {
     pub(crate) high: &'a Cut,
 }
 
-/// Fills the vector with bytes from a reader, and returns whether it is full.
+/// Overwrites the whole vector with bytes from a reader. Returns false if the reader failed or
+/// ended too early.
 fn fill<R: Read>(reader: &mut R, bytes: &mut Vec<u8>) -> bool
     ensures size { length bytes.new.items ≡ length bytes.old.items }
     ensures full { IsTrue result → Consumes (R.remaining reader.old) (R.remaining reader.new)
@@ -28,7 +30,9 @@ fn fill<R: Read>(reader: &mut R, bytes: &mut Vec<u8>) -> bool
     reader.read_exact(bytes).is_ok()
 }
 
-/// Reads the bytes of the dictionary of this number, from 0, from one place up to another.
+/// Reads the bytes of dictionary `n`, counted from 0, from byte index `from` up to `to`, which is
+/// not included. `Changed` if `to` is below `from`, `Memory` if memory was refused, and `Read` if
+/// the dictionary can't be opened or read, or has fewer bytes.
 pub(crate) fn read_bytes<S: Sources>(
     alloc: Global,
     sources: &S,
@@ -56,7 +60,8 @@ pub(crate) fn read_bytes<S: Sources>(
     Ok(bytes)
 }
 
-/// Whether the dictionary of this number, from 0, has no byte from this place on.
+/// Whether dictionary `n`, counted from 0, has no byte from byte index `place` on. False also if it
+/// can't be read.
 pub(crate) fn ends_at<S: Sources>(sources: &S, n: usize, place: usize) -> bool
     requires within { n < S.number sources.now }
     ensures { IsTrue result → (text : List ℕ) → S.bytes sources.now n ≡ Some text
@@ -72,12 +77,13 @@ pub(crate) fn ends_at<S: Sources>(sources: &S, n: usize, place: usize) -> bool
     count == 0
 }
 
-/// Reads the entries that the dictionary of this number, from 0, has between two cuts.
+/// Reads the entries that dictionary `n`, counted from 0, has in a range of words.
 ///
 /// # Errors
 ///
-/// `Memory` if memory was refused, and `Read` if a read failed, or if a line isn't one that is read
-/// here, or if the cuts don't have this dictionary.
+/// `Memory` if memory was refused, `Changed` if the range ends before it begins, and `Read` if a
+/// read failed, or if a line is not well-formed, outside of the range or with a number of more than
+/// 18 digits, or if the range has no header or byte index of this dictionary.
 pub(crate) fn piece_of<S: Sources>(
     alloc: Global,
     sources: &S,

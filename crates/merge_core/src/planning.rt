@@ -1,5 +1,5 @@
-//! Plans where dictionaries are cut, so that ranges are about even. Nothing rests on it: what is
-//! between the cuts is judged.
+//! Plans at which words dictionaries are divided into ranges, so that these are about even. A bad
+//! plan costs time alone: what is between the cuts is checked.
 ghost use Rattle.std.specs.Prelude.{◌≡◌, ◌≤◌, ◌<◌, ◌+◌, ◌^◌, IfSome, length};
 
 use crate::cuts::{Cut, Plan};
@@ -25,15 +25,15 @@ const LINE: usize = 1 << 7;
 /// How many bytes are read at once when lines are looked at one after another.
 const BLOCK: usize = 1 << 12;
 
-/// How far the first step goes in the search for a line.
+/// How many bytes the first step of the search for a line goes.
 const STEP: usize = 1 << 14;
 
 /// The most steps that a search takes.
 const MOST_STEPS: usize = 128;
 
-/// Room for sampled words, 16 MiB. The C library takes that much from the system and gives it back.
-/// From then on it keeps smaller pieces that are given back to it, such as the memory of a range,
-/// which the system would otherwise have to clear anew for each range.
+/// Capacity for sampled words, 16 MiB. The C library takes that much from the system and gives it
+/// back. From then on it keeps smaller blocks that are freed, such as the memory of a range, which
+/// the system would otherwise have to clear anew for each range.
 const ROOM: usize = 1 << 21;
 
 /// The least word of a diamond; the words of squares are below it.
@@ -42,7 +42,8 @@ const DIAMONDS: u64 = 1 << 50;
 /// The bound of all words, which are below it.
 const END: u64 = 1 << 51;
 
-/// Returns where the line after the first line feed begins, if there is a line feed.
+/// Returns the index after the first line feed, at which the next line begins, or None if there is
+/// no line feed.
 fn next_line(bytes: &[u8]) -> Option<usize>
     ensures { IfSome result (λ start. start ≤ length bytes.now) }
 {
@@ -54,8 +55,8 @@ fn next_line(bytes: &[u8]) -> Option<usize>
     None
 }
 
-/// Finds the first line of a dictionary that begins after a place: its place and its word. None if
-/// none begins before `end`.
+/// Finds the first line of dictionary `n` that begins after byte index `place`, and returns its
+/// byte index and its word. None if none begins before `end`, or it can't be read.
 fn line_after<S: Sources>(
     alloc: Global,
     sources: &S,
@@ -73,8 +74,9 @@ fn line_after<S: Sources>(
     Some((place.saturating_add(start), word))
 }
 
-/// Returns the place, from a line's beginning on, of the first line whose word is not below this
-/// one, or the end. The bytes up to there are read as one block.
+/// Returns the byte index of the first line of dictionary `n` whose word is not below `word`, among
+/// those from `from`, at which a line begins, up to `to`; or `to` if there is none. It reads all
+/// these bytes at once. None if they can't be read as lines.
 fn place_in_block<S: Sources>(
     alloc: Global,
     sources: &S,
@@ -97,9 +99,10 @@ fn place_in_block<S: Sources>(
     Some(to)
 }
 
-/// Searches, from a line's beginning on, for the first line whose word is not below this one, and
-/// returns its place, or the end. The line is mostly near, so steps grow until it is passed, and
-/// only then are halved.
+/// Searches dictionary `n`, from byte index `from` on, at which a line begins, for the first line
+/// whose word is not below `word`. Returns the line's byte index, or `end` if there is none, or
+/// None if a read fails. The line is mostly near, so steps grow until it is passed, and only then
+/// are halved.
 fn place_of<S: Sources>(
     alloc: Global,
     sources: &S,
@@ -131,7 +134,9 @@ fn place_of<S: Sources>(
     place_in_block(alloc, sources, n, word, low, high)
 }
 
-/// Cuts dictionaries at a word, searching from the places of an earlier cut up to the ends.
+/// Makes the cut at `word`: finds in each dictionary the byte index of the first line whose word is
+/// not below it, from the byte indices `before` of an earlier cut up to `ends`. None if a search
+/// fails or memory was refused.
 fn cut_of<S: Sources>(
     alloc: Global,
     sources: &S,
@@ -150,7 +155,9 @@ fn cut_of<S: Sources>(
     Some(Cut { word, places })
 }
 
-/// Cuts dictionaries at each of these words, which rise.
+/// Makes a cut (a byte index in each dictionary) at each of these words, which rise. `starts` and
+/// `ends` are the byte indices at which the dictionaries' lines begin and end. None if a search
+/// fails or memory was refused.
 fn cuts_of<S: Sources>(
     alloc: Global,
     sources: &S,
@@ -170,7 +177,7 @@ fn cuts_of<S: Sources>(
     Some(cuts)
 }
 
-/// Dictionaries before they are cut: their headers, and where their lines begin and end.
+/// The headers of dictionaries, and the byte indices at which their lines begin and end.
 #[derive(Drop)]
 struct Fronts {
     headers: Vec<Header>,
@@ -178,7 +185,8 @@ struct Fronts {
     ends: Vec<usize>,
 }
 
-/// Reads the headers of all dictionaries, where their lines begin, and their sizes.
+/// Reads the headers of all dictionaries, the byte indices at which their lines begin, and their
+/// sizes. None if one can't be read, or memory was refused.
 fn fronts_of<S: Sources>(alloc: Global, sources: &S) -> Option<Fronts> {
     let mut fronts = Fronts {
         headers: Vec::new(alloc),
@@ -197,8 +205,9 @@ fn fronts_of<S: Sources>(alloc: Global, sources: &S) -> Option<Fronts> {
     Some(fronts)
 }
 
-/// Appends the words of some lines of a dictionary: about `step` bytes apart, the first of them
-/// `skip` bytes after the beginning.
+/// Appends to `words` the words of some lines of dictionary `n` before byte index `end`: about
+/// `step` bytes apart, the first of them `skip` bytes after the beginning. None if memory was
+/// refused.
 fn push_words<S: Sources>(
     alloc: Global,
     sources: &S,
@@ -224,8 +233,9 @@ fn push_words<S: Sources>(
     Some(())
 }
 
-/// Samples words from all dictionaries, rising: one each `step` bytes, as if their bytes followed
-/// one another.
+/// Returns a sorted sample of all dictionaries' words: one each `step` bytes, as if their bytes
+/// followed one another. `ends` are their sizes. None if memory was refused, `ends` has too few, or
+/// `step` is 0.
 fn sample<S: Sources>(alloc: Global, sources: &S, ends: &[usize], step: usize) -> Option<Vec<u64>> {
     let mut words = Vec::with_capacity(alloc, ROOM).ok()?;
     let mut skip: usize = 0;
@@ -243,8 +253,8 @@ fn sample<S: Sources>(alloc: Global, sources: &S, ends: &[usize], step: usize) -
     Some(words)
 }
 
-/// Returns the words of the cuts between the first and the last: every eighth of the sampled words,
-/// and the word where the diamonds begin.
+/// Returns the sorted words of all cuts but the first and the last: every eighth of the sampled
+/// words, and the word at which the diamonds begin. None if memory was refused.
 fn cut_words(alloc: Global, samples: &[u64]) -> Option<Vec<u64>> {
     let mut words = Vec::new(alloc);
     words.push(DIAMONDS).ok()?;
@@ -257,7 +267,8 @@ fn cut_words(alloc: Global, samples: &[u64]) -> Option<Vec<u64>> {
     Some(words)
 }
 
-/// Makes the cuts of dictionaries between the first cut and the last, by that many threads.
+/// Makes the cuts at `words`, that is all but the first and the last, in about `threads` threads.
+/// None if a search fails or memory was refused.
 fn inner_cuts<T: Threads + Sync, S: Sources + Sync>(
     rt: &T,
     alloc: Global,
@@ -287,8 +298,9 @@ fn inner_cuts<T: Threads + Sync, S: Sources + Sync>(
     Some(cuts)
 }
 
-/// Makes a plan for dictionaries that are large enough for one, by that many threads. None if there
-/// is no plan.
+/// Plans how the lines of dictionaries are divided into ranges of words, in about `threads`
+/// threads. `least`, by which the join keeps patterns, is copied into the plan. None if the
+/// dictionaries have less than 256 KiB together, one can't be read, or memory was refused.
 pub(crate) fn plan_for<T: Threads + Sync, S: Sources + Sync>(
     rt: &T,
     alloc: Global,

@@ -17,7 +17,7 @@ use std::thread::{Threads, map_indices};
 /// About how many bytes a line has.
 const LINE: usize = 24;
 
-/// Makes the lines of a text for the entries that are kept.
+/// Makes the lines of those entries that the form asks for. `Memory` if memory was refused.
 fn lines_of(alloc: Global, form: Form, entries: &[Entry]) -> Result<Vec<u8>, NextFault>
     ensures { IfOk result (λ lines. lines.items ≡ lines_of form entries.now) }
 {
@@ -33,7 +33,8 @@ fn lines_of(alloc: Global, form: Form, entries: &[Entry]) -> Result<Vec<u8>, Nex
     Ok(lines)
 }
 
-/// Makes the lines of the join in the range from the cut of this number, from 0, up to the next.
+/// Joins what the dictionaries have in the range of words from cut `n`, counted from 0, up to the
+/// next cut, and returns the lines that the form asks for.
 fn print_one<S: Sources>(
     alloc: Global,
     sources: &S,
@@ -52,15 +53,17 @@ fn print_one<S: Sources>(
     }
 }
 
-/// A round: the lines of ranges that follow one another, from the range of a number on, from 0.
+/// The lines of ranges of words that follow one another and are made at the same time. `made` has
+/// those of range `from`, counted from 0, first; an error is why a range's lines were not made.
 #[derive(Drop)]
 pub(crate) struct Round {
     pub(crate) from: usize,
     pub(crate) made: Vec<Result<Vec<u8>, NextFault>>,
 }
 
-/// Makes the lines of `count` ranges from the one of this number on, from 0, each in a thread of
-/// its own if one can be started.
+/// Makes the lines of `count` ranges of words from range `from` on, counted from 0, each in a
+/// thread of its own if one can be started. It waits for all. `Memory` if memory for the list was
+/// refused.
 pub(crate) fn print_round<T: Threads + Sync, S: Sources + Sync>(
     rt: &T,
     alloc: Global,
@@ -98,7 +101,8 @@ impl Round {
     ghost use Rattle.merge_core.specs.declared.cuts.Plan.{Plan as Cuts};
     ghost use Rattle.merge_core.specs.Inner.Printing.{ArePrinted, IsPrinted};
 
-    /// Returns the lines of the range of this number, from 0.
+    /// Returns the lines of range `n`, counted from 0 over all ranges, or why they were not made.
+    /// `Changed` if `self` does not have that range.
     pub(crate) fn lines_at(&self, n: usize) -> Result<&[u8], NextFault>
         ensures { (bytes : ℕ → Option (List ℕ)) → (plan : Cuts) → (form : Shown)
             → ArePrinted bytes plan form self.now

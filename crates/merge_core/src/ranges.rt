@@ -15,15 +15,16 @@ use crate::tallies::{Tally, tally_of};
 use shape_dict::Entry;
 use std::alloc::Global;
 
-/// The join of what dictionaries that follow one another have in a range, and how many games these
-/// dictionaries have.
+/// The join of what dictionaries that follow one another have in a range of words, and how many
+/// games these dictionaries have.
 #[derive(Drop)]
 pub(crate) struct Joined {
     pub(crate) games: u64,
     pub(crate) entries: Vec<Entry>,
 }
 
-/// Reads what the dictionary of this number, from 0, has in a range. Its tally is appended.
+/// Reads what dictionary `n`, counted from 0, has in a range of words. Its tally (how many squares
+/// and diamonds these are, and how often they were played) is appended to `each`.
 fn one_joined<S: Sources>(
     alloc: Global,
     sources: &S,
@@ -58,7 +59,9 @@ fn one_joined<S: Sources>(
     })
 }
 
-/// Joins what two dictionaries, or runs of them, that follow one another have in a range.
+/// Joins what some dictionaries, `left`, and those that follow them, `right`, have in a range of
+/// words. `Overflow` if a sum is over 2^64 - 1, `Changed` if a first game would pass 2^64 - 2, and
+/// `Memory` if memory was refused.
 fn both_joined(alloc: Global, left: &Joined, right: &Joined) -> Result<Joined, NextFault>
     ensures games { IfOk result (λ both. both.games ≡ left.now.games + right.now.games) }
     ensures entries { IfOk result (λ both. both.entries.items
@@ -73,8 +76,9 @@ fn both_joined(alloc: Global, left: &Joined, right: &Joined) -> Result<Joined, N
     }
 }
 
-/// Joins what `count` dictionaries have in a range, from the one of this number on, from 0: what
-/// the first half has with what the other half has. The tally of each dictionary is appended.
+/// Joins what `count` dictionaries have in a range of words, from dictionary `from` on, counted
+/// from 0: what the first half has with what the other half has. The tally of each dictionary (how
+/// many squares and diamonds, and how often played) is appended to `each`.
 pub(crate) fn join_range<S: Sources>(
     alloc: Global,
     sources: &S,
@@ -107,8 +111,9 @@ pub(crate) fn join_range<S: Sources>(
     both_joined(alloc, &left, &right)
 }
 
-/// Joins what all dictionaries have in the range from the cut of this number, from 0, up to the
-/// next cut. The tally of each dictionary is appended.
+/// Joins what all dictionaries have in the range of words from cut `n`, counted from 0, up to the
+/// next cut. The tally of each dictionary (how many squares and diamonds, and how often played) is
+/// appended to `each`. `Changed` if there is no such cut, or no dictionary.
 pub(crate) fn join_at<S: Sources>(
     alloc: Global,
     sources: &S,

@@ -34,7 +34,7 @@ pub(crate) fn ranges_at_once<T: Threads>(rt: &T) -> usize
     }
 }
 
-/// The header of a join, and how many patterns the header names.
+/// The bytes of a join's header, and how many patterns the header says there are.
 #[derive(Drop)]
 pub(crate) struct Front {
     pub(crate) header: Vec<u8>,
@@ -46,9 +46,10 @@ fn count_lines(lines: &[u8]) -> u64 {
     lines.iter().filter(|byte| **byte == b'\n').count() as u64
 }
 
-/// Writes the header of a join, and the lines of its ranges. The lines of a round's ranges are made
-/// at the same time, and written one after another. Before the last are written, the number of all
-/// lines is compared with that of the header.
+/// Writes the header of a join, and the lines of its ranges of words in order. The lines of some
+/// ranges at a time, at most 16, are made in threads, and then this thread writes them. Before
+/// those of the last range are written, the number of all lines is compared with that of the
+/// header: `Changed` if they differ.
 pub(crate) fn write_ranges<T: Threads + Sync, S: Sources + Sync, W: Write>(
     rt: &T,
     alloc: Global,

@@ -21,8 +21,9 @@ use std::alloc::Global;
 use std::io::Write;
 use std::thread::Threads;
 
-/// Joins dictionaries line by line, in this thread alone. They are judged, in whatever order it
-/// takes to tell the first fault, and then written.
+/// Joins dictionaries line by line, in this thread alone. They are all checked first, if need be
+/// again one after another to find the first fault; then they are read again, and their join is
+/// written.
 fn merge_lines<S: Sources, W: Write>(
     alloc: Global,
     form: Form,
@@ -53,7 +54,8 @@ fn merge_lines<S: Sources, W: Write>(
     write_lines(tree, form, counts, header, writer)
 }
 
-/// Writes the join of dictionaries that were judged range by range.
+/// Writes the join of dictionaries that were checked range by range. `joined` has the join's totals
+/// and the tally of the patterns that it keeps, as the check found them.
 fn merge_ranges<T: Threads + Sync, S: Sources + Sync, W: Write>(
     rt: &T,
     alloc: Global,
@@ -90,26 +92,26 @@ fn merge_ranges<T: Threads + Sync, S: Sources + Sync, W: Write>(
 }
 
 /// Joins dictionaries and writes the text of their join. Each input is a text of its own, in any of
-/// the three texts and of any size; the earlier ones are the left of each join. If the form has a
-/// least number, the text is that of another dictionary: its games are those of the join, its
-/// patterns are the squares of the join that were there at least as often, and its moves are those
-/// at which one of them was played. Each input is read twice: to be judged while what the join has
-/// is counted, and to be written. If they are large, twice as many threads as there are processors,
-/// at most 16, do that side by side, each with a range of the words; it takes memory for a range of
-/// about half a megabyte for each. If they are small, or something is odd, this thread reads them
-/// line by line, with a block of 65,536 bytes of each in memory, and one more; if there is a fault,
-/// they are judged again, one after another.
+/// the three texts and of any size; the games of each are numbered after those of the inputs before
+/// it. If the form has a least number, the text is that of another dictionary: its games are those
+/// of the join, its patterns are the squares of the join that were there at least as often, and its
+/// moves are those at which one of them was played. Each input is read twice: first to check it and
+/// to count what the join has, and then to write. If the inputs are large, twice as many threads as
+/// there are processors, at most 16, do that at the same time, each with a range of words; it takes
+/// memory for a range of about half a megabyte for each. If they are small, or can't be checked by
+/// ranges, this thread reads them line by line, with a block of 65,536 bytes of each in memory, and
+/// one more; if there is a fault, they are checked again, one after another.
 ///
 /// # Errors
 ///
 /// `Empty` if there is no dictionary. `Dict` with the number of the first dictionary, from 1, that
-/// cannot be read (X1 to X5) or added to those before it (X7, X9), and its fault: nothing is
-/// written then. `Read` if a dictionary could not be opened or read, or if what it gave in the
-/// second reading is no text, or has a word outside of the range that is read; `Changed` if the
-/// join of the second reading can't be made, or what is kept of it has another number of patterns
-/// than in the first; `Memory` if memory was refused; `Write` if the writer failed. Each of these
-/// has the number of bytes that are out. Any other change between the readings goes unseen, and
-/// what is written is then the join of neither.
+/// is not well-formed (X1 to X5) or cannot be added to those before it (X7, X9), and its fault:
+/// nothing is written then. `Read` if a dictionary could not be opened or read, or if what it gave
+/// in the second reading is not well-formed, or has a word outside of the range of words that is
+/// read; `Changed` if the join of the second reading can't be made, or what it keeps has another
+/// number of patterns than in the first; `Memory` if memory was refused; `Write` if the writer
+/// failed. Each of these four has the number of bytes that were written. Any other change between
+/// the readings goes unseen, and what is written is then the join of neither.
 pub fn run_merge<T: Threads + Sync, S: Sources + Sync, W: Write>(
     rt: &T,
     alloc: Global,

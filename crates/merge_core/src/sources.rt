@@ -12,14 +12,15 @@ pub trait Sources {
     /// How many texts there are.
     ghost number: { Self → ℕ };
 
-    /// The bytes of each text, numbered from 0, if they are known.
+    /// For contracts: the bytes of text `n`, counted from 0, or None if nothing can be proved of
+    /// them, such as those of a file.
     ghost bytes: { Self → ℕ → Option (List ℕ) };
 
     /// How many texts there are.
     fn count(&self) -> usize
         ensures { result ≡ number self.now };
 
-    /// Opens the text of this number, from 0, and returns a reader at its first byte.
+    /// Opens text `n`, counted from 0, and returns a reader at its first byte.
     ///
     /// # Errors
     ///
@@ -28,16 +29,16 @@ pub trait Sources {
         requires { n < number self.now }
         ensures { IfOk result (λ reader. Self.Reader.remaining reader ≡ bytes self.now n) };
 
-    /// Returns how many bytes the text of this number, from 0, has. If the answer is wrong, or an
-    /// error, joining takes longer, and its answer is the same.
+    /// Returns how many bytes text `n`, counted from 0, has. If the size is wrong, or an error,
+    /// joining takes longer, and its result is the same.
     ///
     /// # Errors
     ///
-    /// An error of the system, if the size can't be told.
+    /// An error of the system, if it can't find the size.
     fn size(&self, n: usize) -> io::Result<usize>
         requires { n < number self.now };
 
-    /// Opens the text of this number, from 0, and returns a reader at byte `place`, from 0.
+    /// Opens text `n`, counted from 0, and returns a reader at byte index `place`.
     ///
     /// # Errors
     ///

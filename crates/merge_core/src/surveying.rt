@@ -1,5 +1,5 @@
-//! Judges dictionaries range by range: either all are known to be good, or nothing is known of
-//! them, and they are joined line by line instead.
+//! Checks dictionaries range by range: either all are found to be well-formed and are joined, or
+//! nothing is found out about them, and they are joined line by line instead.
 ghost use Rattle.std.specs.Prelude.{◌≡◌, ◌≤◌, ◌<◌, ◌+◌, ◌^◌, ℕ, List, Some, IfOk, IfSome, IsTrue};
 ghost use Rattle.std.specs.Prelude.{length, vec_len, slice_get};
 ghost use Rattle.merge_core.specs.declared.tallies.Tally.{Tally as Sums};
@@ -16,13 +16,15 @@ use shape_dict::{Header, read_header};
 use std::alloc::Global;
 use std::thread::Threads;
 
-/// A plan with this many ranges or more is not judged; no plan has as many.
+/// A plan with this many ranges of words or more is not used; no plan has as many.
 const MOST_RANGES: usize = 1 << 32;
 
 /// How many bytes are read for a header: no header has more.
 const LONGEST: usize = 1 << 7;
 
-/// Reads the header of the dictionary of this number, from 0, and the place where its lines begin.
+/// Reads the header of dictionary `n`, counted from 0, and returns it and the byte index at which
+/// the lines begin. `Memory` if memory was refused; `Read` if the dictionary can't be read or has
+/// no header at its front.
 pub(crate) fn read_front<S: Sources>(
     alloc: Global,
     sources: &S,
@@ -47,7 +49,8 @@ pub(crate) fn read_front<S: Sources>(
     Ok((header, front.len() - rest.len()))
 }
 
-/// Whether a dictionary has as many lines, played as often, as its header says.
+/// Whether a dictionary's lines, whose tally this is, fit its header: as many squares and diamonds
+/// as it says, each kind played as often in all as it has moves, and no moves without games.
 fn fits(header: &Header, tally: Tally) -> bool
     ensures { IsTrue result → Fits header.now tally }
 {
@@ -70,9 +73,9 @@ fn is_same(one: &Header, other: &Header) -> bool
     one == other
 }
 
-/// Whether the lines between the first cut and the last, which have this tally, are all that the
-/// dictionary of this number, from 0, has after its header, and whether they are as many as the
-/// header says.
+/// Whether the lines of dictionary `n`, counted from 0, between the cuts `low` and `high` are all
+/// that it has after its header, and whether `tally`, how many they are and how often they were
+/// played, is what the header says. It reads the header again. False also if a read fails.
 fn is_whole<S: Sources>(
     alloc: Global,
     sources: &S,
@@ -104,7 +107,9 @@ fn is_whole<S: Sources>(
     ends_at(sources, n, to)
 }
 
-/// Whether this is so for each dictionary whose tally is listed.
+/// Whether each dictionary has, after its header, no lines but those between the cuts `low` and
+/// `high`, and as many as the header says. `each` has the tallies of these lines. False also if a
+/// read fails.
 fn are_whole<S: Sources>(
     alloc: Global,
     sources: &S,
@@ -125,8 +130,8 @@ fn are_whole<S: Sources>(
     true
 }
 
-/// Adds up the games and moves of the headers. None if a sum is over 2^64 - 1, or if some count
-/// diamonds and others don't.
+/// Adds up the games and moves of the headers. None if a sum is over 2^64 - 1, if some count
+/// diamonds and others don't, or if there is no header.
 fn totals_of(headers: &[Header]) -> Option<Totals>
     ensures { IfSome result (IsTotalsOf headers.now) }
 {
@@ -149,10 +154,10 @@ fn totals_of(headers: &[Header]) -> Option<Totals>
     })
 }
 
-/// Judges the dictionaries that are cut by this plan, by about this many threads, and returns the
-/// totals of their join and the tally of its patterns that are written (all, or by `plan.least`).
-/// None if these can't be made: it says nothing of the dictionaries, which are then joined line by
-/// line.
+/// Checks the dictionaries range by range of this plan, in about `threads` threads. Returns the
+/// totals of their join and the tally of its patterns that are written (all, or by `plan.least`):
+/// how many they are, and how often they were played. None if a check or a read failed: that says
+/// nothing of the dictionaries, which are then joined line by line.
 pub(crate) fn survey<T: Threads + Sync, S: Sources + Sync>(
     rt: &T,
     alloc: Global,

@@ -69,7 +69,8 @@ pub(crate) fn tally_of(entries: &[Entry]) -> Option<Tally>
     Some(tally)
 }
 
-/// Adds one more entry to a tally, if the join keeps it; None if a sum is over 2^64 - 1.
+/// Adds one more entry to a tally if the join keeps it: always without `least`, else if it is a
+/// square that was there at least as often. None if a sum is over 2^64 - 1.
 pub(crate) fn with_kept(least: Option<u64>, tally: Tally, entry: &Entry) -> Option<Tally>
     ensures { IfSome result (λ next. (before : List One) → IsCountOf least before tally
         → IsCountOf least (before ++ entry.now ∷ []) next) }
@@ -81,7 +82,8 @@ pub(crate) fn with_kept(least: Option<u64>, tally: Tally, entry: &Entry) -> Opti
     }
 }
 
-/// Returns the tally of those entries that the join keeps; None if a sum is over 2^64 - 1.
+/// Returns the tally of the entries, or with `least` of the squares alone that were there at least
+/// as often; None if a sum is over 2^64 - 1.
 pub(crate) fn count_of(least: Option<u64>, entries: &[Entry]) -> Option<Tally>
     ensures { IfSome result (IsCountOf least entries.now) }
 {
@@ -107,12 +109,12 @@ pub(crate) fn both_tallies(left: Tally, right: Tally) -> Option<Tally>
     })
 }
 
-/// Adds up two lists of tallies, place by place.
+/// Adds up two lists of tallies, element by element, into a new list.
 ///
 /// # Errors
 ///
-/// `Memory` if memory was refused, `Overflow` if a sum is over 2^64 - 1, and `Changed` if there are
-/// not as many on both sides.
+/// `Memory` if memory was refused, `Overflow` if a sum is over 2^64 - 1, and `Changed` if the lists
+/// have different lengths.
 pub(crate) fn each_tally(
     alloc: Global,
     left: &[Tally],

@@ -20,8 +20,8 @@ pub(crate) enum Tree<E> {
     },
 }
 
-/// Puts the next entry of the join into `next`, or None at the end. In a tree of many levels a
-/// returned entry would be moved several times at each level.
+/// Puts the next entry of the join into `next`, or None at the end. The entry is not the result,
+/// since in a tree of many levels it would then be copied several times at each level.
 #[tactic(auto, using(crate::proofs::Unmerged::left_fault, crate::proofs::Unmerged::right_fault, crate::proofs::Unmerged::both_fault))]
 fn advance<E: Entries>(tree: &mut Tree<E>, next: &mut Option<Entry>) -> Result<(), NextFault>
     ensures next { (entries : List One) → Yields E.yields tree.old entries → MatchResult result
@@ -80,7 +80,7 @@ fn advance<E: Entries>(tree: &mut Tree<E>, next: &mut Option<Entry>) -> Result<(
     }
 }
 
-/// Returns the next entry of the join, or None at the end.
+/// Returns the next entry of the join that `tree` makes, or None at the end.
 #[inline(always)]
 pub(crate) fn next_of<E: Entries>(tree: &mut Tree<E>) -> Result<Option<Entry>, NextFault>
     ensures next { (entries : List One) → Yields E.yields tree.old entries

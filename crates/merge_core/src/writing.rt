@@ -20,7 +20,7 @@ use shape_dict::{Entry, Text, push_header, push_line};
 use std::alloc::{AllocError, Global};
 use std::io::Write;
 
-/// Returns the header's moves: how often kept squares were played, if there is a least number.
+/// Returns the moves for the header: all moves, or with `least` how often kept squares were played.
 fn moves_for(least: Option<u64>, totals: Totals, counts: Tally) -> u64
     ensures { result ≡ moves_for least totals counts }
 {
@@ -46,7 +46,8 @@ fn diamonds_for(least: Option<u64>, totals: Totals, counts: Tally) -> Option<u64
     }
 }
 
-/// Makes the header of the text of what a join keeps.
+/// Makes the bytes of a join's header. `counts` is the tally of the patterns that the join keeps by
+/// `form.least`.
 pub(crate) fn header_of(
     alloc: Global,
     form: Form,
@@ -70,7 +71,7 @@ pub(crate) fn header_of(
     Ok(header)
 }
 
-/// Appends an entry's line, if the text has one for its pattern.
+/// Appends an entry's line, except that text 1 has no line for a diamond.
 fn push_one(out: &mut Vec<u8>, text: Text, entry: &Entry) -> Result<(), AllocError>
     ensures line { OnOk result (out.new.items
         ≡ out.old.items ++ text_lines text (entry.now ∷ [])) }
@@ -87,7 +88,8 @@ fn push_one(out: &mut Vec<u8>, text: Text, entry: &Entry) -> Result<(), AllocErr
     }
 }
 
-/// Appends an entry's line, if the join keeps the entry and the text has a line for its pattern.
+/// Appends an entry's line if the form asks for it: if the entry passes `form.least`, and if the
+/// text has a line for its kind.
 pub(crate) fn push_entry(out: &mut Vec<u8>, form: Form, entry: &Entry) -> Result<(), AllocError>
     ensures line { OnOk result (out.new.items
         ≡ out.old.items ++ lines_of form (entry.now ∷ [])) }
@@ -98,7 +100,9 @@ pub(crate) fn push_entry(out: &mut Vec<u8>, form: Form, entry: &Entry) -> Result
     push_one(out, form.text, entry)
 }
 
-/// Returns the fault that a fault of a tree is after this number of bytes are out.
+/// Turns a fault in making a join into a `MergeFault` after `written` bytes of the text were
+/// written. `Overflow` becomes `Changed`, since another reading of the dictionaries had no such
+/// sum.
 pub(crate) fn stopped(fault: NextFault, written: usize) -> MergeFault
     ensures { result ≡ stopped written fault }
 {
@@ -109,9 +113,9 @@ pub(crate) fn stopped(fault: NextFault, written: usize) -> MergeFault
     }
 }
 
-/// Writes the header, which is pending, and a line for each entry of the join that is kept and that
-/// the text has. Their tally is compared with that of the first reading before the last block is
-/// written.
+/// Writes the header, which is in `pending`, and a line for each entry of the join that the form
+/// asks for. Before the last block is written, the entries' tally is compared with `counts`, that
+/// of the first reading: `Changed` if they differ.
 pub(crate) fn write_lines<E: Entries, W: Write>(
     mut tree: Tree<E>,
     form: Form,

@@ -7,7 +7,7 @@ use std::io;
 use std::sync::atomic::{AtomicU64, Ordering};
 use std::thread::Threads;
 
-/// One text in memory: this at its first opening, and another from the second on.
+/// One text in memory that changes: `first` at its first opening, and `then` from the second on.
 #[derive(Drop)]
 struct Changing<'a> {
     first: &'a [u8],
@@ -62,7 +62,8 @@ const TWO_PATTERNS: &[u8] =
 
 const ONE_PATTERN: &[u8] = b"shapes 1 games 1 moves 2 patterns 1\n3fff3fcffffff 2 2\n";
 
-/// What a join of the one text that changes ends with, and how many bytes it wrote.
+/// Joins one text that is `TWO_PATTERNS` in the first reading and `then` in the second. Returns the
+/// join's result, and how many bytes it wrote.
 fn rejoined<T: Threads + Sync>(
     rt: &T,
     alloc: Global,

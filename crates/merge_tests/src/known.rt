@@ -1,4 +1,5 @@
-//! Texts in memory whose bytes are known, and what it means for them that a join ended well.
+//! Texts in memory whose bytes contracts see, and what is proved for them of a join that ended
+//! well.
 ghost use Rattle.std.specs.Prelude.{ℕ, List, [], map, Some, IfOk, IfErr};
 ghost use Rattle.merge_core.specs.Merge.{IsMergeText, IsMergeFault};
 
@@ -8,7 +9,7 @@ use std::alloc::Global;
 use std::io;
 use std::thread::Threads;
 
-/// Texts in memory.
+/// Texts in memory, whose bytes contracts see.
 #[derive(Clone, Copy)]
 struct Known<'a> {
     texts: &'a [&'a [u8]],
@@ -44,7 +45,7 @@ impl<'a> Sources for Known<'a> {
     }
 }
 
-/// A text of what stays of the join of the dictionaries of these texts.
+/// Joins the dictionaries of these texts, and returns the text that `form` asks for.
 fn join_of<T: Threads + Sync>(
     rt: &T,
     alloc: Global,
@@ -73,7 +74,8 @@ const JOINED: &[u8] =
 
 const OFTEN: &[u8] = b"shapes 3 games 4 moves 2 squares 1 diamonds -\n3fff3fcffffff 7 2 -\n";
 
-/// Whether this is what stays of the join of the two texts.
+/// Whether text 3 of the join of `LEFT` and `RIGHT` is `wanted`. With `least`, the join keeps only
+/// squares that were there at least as often.
 fn is_joined<T: Threads + Sync>(rt: &T, alloc: Global, least: Option<u64>, wanted: &[u8]) -> bool {
     let form = Form {
         text: Text::Three,

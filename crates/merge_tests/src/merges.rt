@@ -87,8 +87,8 @@ const FIVE: &[u8] = b"shapes 1 games 9 moves 8 patterns 2\n3fff3fcffffff 16 5\n3
 
 const MIXED: &[u8] = b"shapes 2 games 0 moves 0 squares 0 diamonds 0\n";
 
-/// What is written of the join, or its fault, where each text gives `read` bytes and the writer
-/// takes `written`.
+/// Joins the texts, each of which gives at most `read` bytes, into a writer that takes at most
+/// `written`. Returns the join's result, and the bytes that were written.
 fn joined<T: Threads + Sync>(
     rt: &T,
     alloc: Global,
@@ -107,7 +107,7 @@ fn joined<T: Threads + Sync>(
     (done, out.got)
 }
 
-/// The join of the texts is this one.
+/// Asserts that the join of the texts is `wanted`.
 fn assert_joined(
     rt: &(impl Abort + Threads + Sync),
     alloc: Global,
@@ -120,7 +120,8 @@ fn assert_joined(
     assert!(rt; got.as_slice() == wanted);
 }
 
-/// The texts have this fault, and nothing is written.
+/// Asserts that the join of the texts fails with `fault` at dictionary `n`, counted from 1, and
+/// that nothing is written.
 fn assert_fault(
     rt: &(impl Abort + Threads + Sync),
     alloc: Global,
@@ -153,8 +154,8 @@ fn first_faults(rt: HostRuntime) {
     assert!(rt; done == Err(MergeFault::Empty));
 }
 
-/// The number of the dictionary whose reading failed, where each text gives `read` bytes and
-/// nothing is written.
+/// Joins the texts, each of which gives at most `read` bytes. Returns the number, from 1, of the
+/// dictionary whose reading failed, or None if the join ended otherwise or wrote something.
 fn unread<T: Threads + Sync>(rt: &T, alloc: Global, texts: &[&[u8]], read: usize) -> Option<usize> {
     let (done, got) = joined(rt, alloc, Text::One, texts, read, 1000);
     let is_empty = got.is_empty();

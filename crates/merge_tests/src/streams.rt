@@ -6,7 +6,7 @@ use std::io::Read;
 use std::process::Abort;
 use stream_core::{Lines, StreamFault};
 
-/// The occurrences of all entries, added up.
+/// Reads all entries, and returns how often their patterns were there in all, or the first fault.
 fn sum_of<R: Read + Drop>(lines: &mut Lines<R>) -> Result<u64, StreamFault> {
     let mut sum: u64 = 0;
     for _ in 0..1000 {
@@ -19,7 +19,8 @@ fn sum_of<R: Read + Drop>(lines: &mut Lines<R>) -> Result<u64, StreamFault> {
     Ok(sum)
 }
 
-/// The same of a text, where the call after the end or the fault tells that again; else 0.
+/// Reads a text, and returns how often its patterns were there in all, or its first fault. It
+/// returns 0 if one more call after the end or the fault does not return the same again.
 fn told_twice(alloc: Global, reader: Drip<'_>) -> Result<u64, StreamFault> {
     let mut lines = match Lines::open(alloc, reader) {
         Ok(lines) => lines,
@@ -64,7 +65,7 @@ fn a_failed_read_is_told_again(rt: HostRuntime) {
     }
 }
 
-/// The fault of a text that comes by steps of two bytes.
+/// Asserts that `text`, read by steps of two bytes, has the fault `found`.
 fn assert_fault(rt: &impl Abort, alloc: Global, text: &[u8], found: DictFault) {
     let reader = Drip {
         left: text,

@@ -35,7 +35,7 @@ impl Capacity {
         }
     }
 
-    /// The number of slots: 2 to the power of the exponent, from 1 to 2^22. It takes no memory.
+    /// Returns the number of slots: a power of two from 1 to 2^22. It takes no memory.
     pub fn slots(self) -> usize
         ensures value { result ≡ 2 ^ self }
         ensures some { 1 ≤ result }

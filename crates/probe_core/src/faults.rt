@@ -1,11 +1,12 @@
-//! What can go wrong when a table is made, or events are run on it.
+//! What can go wrong when a table is made, or events of callers are simulated on one.
 ghost use Rattle.std.specs.Prelude.{◌≡◌};
 ghost use Rattle.probe_core.specs.declared.faults.ProbeFault.TheVariants.{Memory};
 
 use std::alloc::{AllocError, AllocFailed};
 use thiserror::Error;
 
-/// Why a table, or a world of callers at a table, was not made, or why its events were not run.
+/// Why a table or a `World` (a simulation of callers at a table) was not made, or why a world's
+/// events were not run.
 #[derive(Clone, Copy, Debug, PartialEq, Eq, Error)]
 pub enum ProbeFault {
     /// Memory was refused.

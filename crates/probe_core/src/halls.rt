@@ -1,4 +1,4 @@
-//! Halls: a table's words with the callers at them, and what each event does.
+//! Halls: a simulated table with its callers, and what each event does.
 ghost use Rattle.std.specs.Prelude.{◌≡◌, ℕ, ◌+◌, ◌<◌, ◌≤◌, ◌^◌, ◌↔◌, [], ◌∷◌, replicate, IsTrue};
 ghost use Rattle.std.specs.Prelude.{IfOk, Some, None, slice_get, count_by, vec_len, vec_capacity};
 ghost use Rattle.probe_core.specs.World.{new_world, began, stepped, happened, counted};
@@ -18,8 +18,9 @@ pub(crate) struct UnderWay<O: ProbeOrder> {
     since: usize,
 }
 
-/// A table's words, its callers, each idle or with a call under way, the calls that have ended, and
-/// the count of events.
+/// The state of a simulation: the order in which slots are probed, the table's words (one a slot),
+/// the callers, each with a call under way or None, the calls that have ended, and the number of
+/// events so far.
 #[derive(Drop)]
 pub(crate) struct Hall<O: ProbeOrder> {
     pub(crate) order: O,
@@ -30,7 +31,8 @@ pub(crate) struct Hall<O: ProbeOrder> {
 }
 
 impl<O: ProbeOrder> Hall<O> {
-    /// Makes a hall of this number of idle callers, with a free word for each slot of the order.
+    /// Makes a simulation before any event, with `callers` callers that have no call under way, and
+    /// a free slot's word for each slot of `order`. `AllocError` if memory was refused.
     pub(crate) fn new(alloc: Global, order: O, callers: usize) -> Result<Hall<O>, AllocError>
         ensures order { IfOk result (λ hall. hall.order ≡ order) }
         ensures world { IfOk result (λ hall. world_of hall
@@ -49,7 +51,8 @@ impl<O: ProbeOrder> Hall<O> {
         })
     }
 
-    /// Carries out an event and counts it. The list of ended calls must have room for one more.
+    /// Carries out an event and counts it. If it is a step, the list `finished` must have the
+    /// capacity for one more, as no memory is taken.
     pub(crate) fn happen(&mut self, event: Event)
         requires fitted { IsFitted O.exponent self.old }
         requires room { HasRoom self.old (event ∷ []) }
@@ -78,7 +81,8 @@ impl<O: ProbeOrder> Hall<O> {
         caller < self.callers.len() && self.callers[caller].is_none()
     }
 
-    /// Begins a call, if the caller exists and is idle.
+    /// Begins a call of this caller. Nothing is done if the caller has a call under way or doesn't
+    /// exist.
     fn begin(&mut self, caller: usize, call: Call)
         requires { IsFitted O.exponent self.old }
         ensures order { self.new.order ≡ self.old.order }
@@ -95,8 +99,8 @@ impl<O: ProbeOrder> Hall<O> {
         }
     }
 
-    /// Takes the next step of the caller's call, if the caller exists and is busy. The list of
-    /// ended calls must have room for that call.
+    /// Takes the next step of the caller's call. Nothing is done if the caller has none or doesn't
+    /// exist. The list `finished` must have the capacity for that call.
     fn step(&mut self, caller: usize)
         requires fitted { IsFitted O.exponent self.old }
         requires room { vec_len self.old.finished < vec_capacity self.old.finished }
@@ -117,8 +121,8 @@ impl<O: ProbeOrder> Hall<O> {
         }
     }
 
-    /// Takes the next step of a call that was taken from its caller. The caller gets the call back
-    /// if it has not ended.
+    /// Takes the next step of `call`, which was removed from its caller. If the call goes on, the
+    /// caller gets it back; else it is appended to `finished`.
     fn go_on(&mut self, caller: usize, call: UnderWay<O>)
         requires fitted { IsFitted O.exponent self.old }
         requires ordered { call.probe.order ≡ self.old.order }
@@ -148,7 +152,7 @@ impl<O: ProbeOrder> Hall<O> {
     }
 }
 
-/// Returns a list of this number of callers, each without a call.
+/// Returns a list of `count` callers, each without a call. `AllocError` if memory was refused.
 fn idle_callers<O: ProbeOrder>(
     alloc: Global,
     count: usize,

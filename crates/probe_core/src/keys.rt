@@ -1,4 +1,4 @@
-//! Keys: the whole numbers to which the table gives numbers of its own.
+//! Keys: the whole numbers that are entered into a table, each of which gets a slot's index there.
 use std::marker::Model;
 
 /// A key: a whole number below 2^51. The key of a pattern is its canonical word. This is the

@@ -1,5 +1,6 @@
-//! Laws of the definitions, for proofs in the crates above. Each is a function that does nothing,
-//! and its contract is the law. They speak of words as plain lists.
+//! Laws of the definitions, for proofs in the crates that use this one. Each is a function that
+//! does nothing, and its contract is the law. In them the words of a table's slots are a plain
+//! list.
 ghost use Rattle.std.specs.Prelude.{◌≡◌, ℕ, ◌^◌, None, List, [], ◌∷◌, ◌++◌, slice_index_or};
 ghost use Rattle.probe_core.specs.Machine.{Machine, follows, place_in};
 ghost use Rattle.probe_core.specs.Sequential.{Table, Step, IsNumber};
@@ -11,10 +12,12 @@ ghost use Rattle.probe_core.specs.Way.{IsOnWay, Tells};
 
 use crate::orders::ProbeOrder;
 
-/// What a step, a load or an exchange, tells a call that is under way on orderly words. Either the
-/// call goes on and the words stay, or its answer is a step of the sequential table, from what the
-/// words showed before to what they show after. The words are orderly again, and every other call
-/// under way stays so. It takes no memory.
+/// Law of one step (a load or a compare-exchange) of a call. The words must be orderly: no key
+/// comes after a free slot in its probe order. The slots that the call has passed must hold other
+/// keys. After the step either the call goes on and the words are as they were, or its answer is
+/// right for a sequential table with the content that the words showed before, and leaves the
+/// content that they show after it. The words are orderly again, and each other call still has
+/// passed other keys alone. It takes no memory.
 pub fn steps_tell_of_the_key<O: ProbeOrder>(_order: &O)
     ensures tells { (words : List ℕ) (machine : Machine) →
         IsOrderly (2 ^ O.exponent _order.now) (O.place_of _order.now) words →
@@ -33,8 +36,9 @@ pub fn steps_tell_of_the_key<O: ProbeOrder>(_order: &O)
         (words_after words machine (place_in (O.place_of _order.now) machine)) other }
 {}
 
-/// A legal history stays legal if a step of the sequential table from its content is appended. Its
-/// content is then what the step made of it. It takes no memory.
+/// Law: if a call with an answer that a sequential table would give, from the content after a legal
+/// history, is appended to that history, the new history is legal. (In a legal history a sequential
+/// table gives each answer.) Its content is what the call leaves. It takes no memory.
 pub fn legal_histories_go_on()
     ensures legal { (slots : ℕ) (history : List Answered) (entry : Answered) (new : Table) →
         IsLegal slots history →
@@ -45,10 +49,11 @@ pub fn legal_histories_go_on()
         content slots (history ++ entry ∷ []) ≡ new }
 {}
 
-/// The front of a legal history is legal, and the rest of the history is a run from the front's
-/// content. A number that a key has after the front is its number after the whole. If words show
-/// the front's content and later words show that of the whole, the words have only grown. It takes
-/// no memory.
+/// Law: the first part of a legal history (one whose answers a sequential table gives) is legal,
+/// and the rest is what such a table does from there on. A number that a key has after the first
+/// part is its number after the whole. If words show the content after the first part, and later
+/// words that after the whole, free slots were taken in between, and no other word has changed. It
+/// takes no memory.
 pub fn longer_histories_keep_numbers()
     ensures front { (slots : ℕ) (front rest : List Answered) → IsLegal slots (front ++ rest)
         → IsLegal slots front }
@@ -65,7 +70,8 @@ pub fn longer_histories_keep_numbers()
         HaveGrown words later }
 {}
 
-/// After a legal history no key has two numbers. It takes no memory.
+/// Law: after a legal history (one whose answers a sequential table gives) no key has two numbers.
+/// It takes no memory.
 pub fn keys_have_one_number()
     ensures { (slots : ℕ) (history : List Answered) (key p q : ℕ) →
         IsLegal slots history →
@@ -74,9 +80,9 @@ pub fn keys_have_one_number()
         p ≡ q }
 {}
 
-/// Words and what they show determine each other: a number has the key x exactly if the number's
-/// word is x + 1. Words that are made of a table show that table, and words that are made of what
-/// words show are those words again. It takes no memory.
+/// Law: the words of the slots and the table's content determine each other. The slot p has the key
+/// x exactly if its word is x + 1. Words made from a table's content show that content, and the
+/// words made from the content that some words show are those words again. It takes no memory.
 pub fn words_are_of_what_they_show()
     ensures words { (words : List ℕ) (table : Table) → table ≡ table_of words
         → AreWordsOf words table }

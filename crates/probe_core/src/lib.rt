@@ -1,5 +1,5 @@
-//! A table that gives numbers to keys: which slots a call probes, what it learns from each, and
-//! what happens with any number of callers at one table.
+//! A hash table that gives numbers (indices of slots) to keys: which slots a call probes, what it
+//! does at each, and a simulation of any number of callers at one table.
 #![tactic(auto)]
 
 mod calls;

@@ -7,28 +7,28 @@ ghost use Rattle.probe_core.specs.Stepping.{linear_is_order, steps_are_order, ru
 use crate::capacities::Capacity;
 use crate::keys::Key;
 
-/// The order in which the places (the slots) of a table are probed for each key.
+/// The order in which the slots of a table are probed for each key. A place is the index of a slot.
 ///
-/// For each key the places at the indices below the number of slots are all places, each once: that
-/// is a law, which each implementation proves.
+/// For each key, the first N places of its order, for N slots, are all slots, each once. That is a
+/// law, which each implementation proves.
 pub trait ProbeOrder: Copy {
     /// The exponent of the number of slots.
     ghost exponent: { Self → ℕ };
 
-    /// The place of a key at an index.
+    /// The slot that is probed for a key at an index of its order, from 0: order, key, index.
     ghost place_of: { Self → ℕ → ℕ → ℕ };
 
-    /// The number of slots of the table. It takes no memory.
+    /// Returns the number of slots of the table. It takes no memory.
     fn capacity(&self) -> Capacity
         ensures { result ≡ exponent self.now };
 
-    /// Returns the place to probe for a key at this index of its order, for an index below the
-    /// number of slots. It takes no memory.
+    /// Returns the index of the slot that is probed for the key after `i` other slots. `i` must be
+    /// below the number of slots. It takes no memory.
     fn place(&self, key: Key, i: usize) -> usize
         requires { i < 2 ^ exponent self.now }
         ensures { result ≡ place_of self.now key i };
 
-    /// For each key the places at the indices below the number of slots are all places, each once.
+    /// For each key, the first N places of its order, for N slots, are all slots, each once.
     ghost is_order: { (order : Self) (key : ℕ) →
         IsOrder (2 ^ exponent order) (place_of order key) };
 }
@@ -36,8 +36,7 @@ pub trait ProbeOrder: Copy {
 /// The multiplier of keys: 2^64 over the golden ratio, made odd. No claim rests on it.
 const MULTIPLIER: u64 = 0x9E37_79B9_7F4A_7C15;
 
-/// Returns the product of the key and the multiplier mod 2^64, from which the key's places are
-/// taken.
+/// Returns the key's hash: the product of the key and `MULTIPLIER` mod 2^64.
 fn mixed(key: Key) -> u64
     ensures value { result ≡ mixed_of key }
     ensures small { result < 2 ^ 64 }
@@ -45,7 +44,8 @@ fn mixed(key: Key) -> u64
     key.bits().wrapping_mul(MULTIPLIER)
 }
 
-/// Returns the first place of a key: the top bits of its mixed value, as many as the exponent.
+/// Returns the slot that is probed first for a key, from its hash `mixed`: the top k bits, for 2^k
+/// slots.
 fn start(mixed: u64, capacity: Capacity) -> usize
     ensures value { result ≡ start_of capacity mixed }
     ensures small { result < 2 ^ 22 }
@@ -53,10 +53,10 @@ fn start(mixed: u64, capacity: Capacity) -> usize
     (mixed >> 1 >> (63 - capacity.exponent())) as usize
 }
 
-/// Linear probing: the order that goes on to the next place, and from the last place to the first.
+/// Linear probing: from a slot to the next one, and from the last slot to the first.
 ///
-/// Place i of a key is `(start + i) mod N` for N = 2^k slots, where the start is the top k bits of
-/// the key's product with a constant mod 2^64.
+/// The slot at index i of a key's order is `(start + i) mod N` for N = 2^k slots. The start is the
+/// top k bits of the key's product with a constant mod 2^64.
 #[derive(Clone, Copy, Debug, PartialEq, Eq)]
 pub struct Linear {
     /// The number of slots of the table.
@@ -81,8 +81,8 @@ impl ProbeOrder for Linear {
     ghost is_order = { λ order key. linear_is_order order.capacity key };
 }
 
-/// Returns the odd step of a key: its mixed value over 2^20, mod the number of slots, with the
-/// lowest bit set.
+/// Returns the odd step of a key, from its hash `mixed`: the hash over 2^20, mod the number of
+/// slots, with the lowest bit set.
 fn odd_step(mixed: u64, capacity: Capacity) -> usize
     ensures value { result ≡ step_of capacity mixed }
     ensures small { result ≤ 2 ^ 22 }
@@ -90,11 +90,12 @@ fn odd_step(mixed: u64, capacity: Capacity) -> usize
     ((mixed >> 20) as usize & (capacity.slots() - 1)) | 1
 }
 
-/// The order that goes on by an odd step, which depends on the key. This is the project's own.
+/// Double hashing: from slot to slot by an odd step, which depends on the key. This is the
+/// project's own.
 ///
-/// Place i of a key is `(start + i * s) mod N` for N slots. The start is that of `Linear`. The step
-/// s is the key's product with the constant of `Linear` mod 2^64, over 2^20, mod N, with its lowest
-/// bit set.
+/// The slot at index i of a key's order is `(start + i * s) mod N` for N slots. The start is that
+/// of `Linear`: the top bits of the key's product with a constant mod 2^64. The step s is that
+/// product over 2^20, mod N, with its lowest bit set.
 #[derive(Clone, Copy, Debug, PartialEq, Eq)]
 pub struct OddStep {
     /// The number of slots of the table.
@@ -121,16 +122,16 @@ impl ProbeOrder for OddStep {
     ghost is_order = { λ order key. steps_are_order order.capacity key };
 }
 
-/// The number of neighbouring places in a run.
+/// The number of neighbouring slots that are probed before a jump.
 const RUN: usize = 16;
 
-/// The order that goes on to the next place within a run of 16 places, and from run to run by an
-/// odd step, which depends on the key. This is the project's own.
+/// Probes runs of 16 neighbouring slots, and goes from run to run by a jump of 16 times an odd
+/// step, which depends on the key. This is the project's own.
 ///
-/// Place i of a key is `(start + i mod 16 + (i / 16) * 16 * s) mod N` for N slots, where the start
-/// and the step s are those of `OddStep`. So a place mostly lies in the same cache line as the one
-/// before it, or in the next line. In a table that is nearly full, a key leaves the places that
-/// other keys with its start have taken.
+/// The slot at index i of a key's order is `(start + i mod 16 + (i / 16) * 16 * s) mod N` for N
+/// slots. The start and the step s are those of `OddStep`: both come from a hash of the key. So a
+/// slot mostly lies in the same cache line as the one before it, or in the next line. In a table
+/// that is nearly full, a key leaves the slots that other keys with its start have taken.
 #[derive(Clone, Copy, Debug, PartialEq, Eq)]
 pub struct OddRuns {
     /// The number of slots of the table.

@@ -1,4 +1,4 @@
-//! Probes: a call on its way through the places of its key, one step at a time.
+//! Probes: a call that probes the slots of its key, one step at a time.
 ghost use Rattle.std.specs.Prelude.{◌≡◌, ℕ, ◌+◌, ◌*◌, ◌^◌, ◌<◌, ◌≤◌, false, true};
 ghost use Rattle.probe_core.specs.Machine.{Machine, begun, next_step, follows, followed_by};
 ghost use Rattle.probe_core.specs.Machine.{left_of, steps_of, place_in, key_of, code_of};
@@ -10,7 +10,8 @@ use crate::keys::Key;
 use crate::orders::ProbeOrder;
 use std::marker::Model;
 
-/// A call under way: it probes the places of its key one after another.
+/// A call under way: it probes the slots of its key one after another, in the key's order. `index`
+/// is how many it has passed, and `swaps` whether a compare-exchange is next, not a load.
 #[derive(Drop)]
 pub struct Probe<O: ProbeOrder> {
     order: O,
@@ -60,12 +61,11 @@ fn key_asked(call: Call) -> Key
 }
 
 impl<O: ProbeOrder> Probe<O> {
-    /// Returns a call before its first step, which loads the first place of its key. It takes no
-    /// memory.
+    /// Returns a call before its first step, which loads the first slot of its key in `order`. It
+    /// takes no memory.
     ///
     /// An Enter takes at most 2N steps, and a LookUp at most N, with N slots, whatever other
     /// callers do.
-    /// others do.
     pub fn begin(order: &O, call: Call) -> Probe<O>
         ensures order { result.order ≡ order.now }
         ensures machine { result.machine ≡ begun call }
@@ -80,11 +80,11 @@ impl<O: ProbeOrder> Probe<O> {
         }
     }
 
-    /// Returns a call before its load of the place that its key has at this index. It takes no
+    /// Returns a call that loads next the slot at this index of its key's order. It takes no
     /// memory.
     ///
-    /// The index must be below the number of slots. Whether the places before it were passed is for
-    /// the caller to know.
+    /// The index must be below the number of slots. The caller must have found other keys in the
+    /// slots at lesser indices; that is not checked.
     pub fn at(order: &O, call: Call, index: usize) -> Probe<O>
         requires { index < 2 ^ O.exponent order.now }
         ensures order { result.order ≡ order.now }
@@ -102,8 +102,8 @@ impl<O: ProbeOrder> Probe<O> {
         }
     }
 
-    /// Returns the next step: a load, or a compare-exchange from 0 to the key plus 1. Its place is
-    /// below the number of slots. It takes no memory.
+    /// Returns the next step, which the caller is to take: a load, or a compare-exchange from 0 to
+    /// the key plus 1. Its slot's index is below the number of slots. It takes no memory.
     pub fn wants(&self) -> Want
         ensures step { result ≡ next_step self.now.machine
             (place_in (O.place_of self.now.order) self.now.machine) }
@@ -120,20 +120,21 @@ impl<O: ProbeOrder> Probe<O> {
         }
     }
 
-    /// Returns what is asked. It takes no memory.
+    /// Returns the call that is under way. It takes no memory.
     pub(crate) fn call(&self) -> Call
         ensures { result ≡ self.now.machine.call }
     {
         self.call
     }
 
-    /// Returns what follows the next step, given the value that the word of its place held before
-    /// it. It takes no memory.
+    /// Returns what follows the step of `wants`, once the caller has taken it: the call goes on, or
+    /// has ended with an answer. `value` is what the slot's word held before that step. It takes no
+    /// memory.
     ///
-    /// If the word is free, an Enter swaps it next, and a LookUp ends with Absent. If the word is
-    /// the key's, or a swap has won, the answer is Number. After any other word the next place is
-    /// loaded, and after the last place the answer is Full. A probe that goes on has fewer steps
-    /// left.
+    /// If a load found the word free, an Enter does the compare-exchange next, and a LookUp ends
+    /// with Absent. If the word is the key's, or the compare-exchange found it free, the answer is
+    /// Number. After any other word the next slot is loaded, and after the last slot the answer is
+    /// Full. A probe that goes on has fewer steps left.
     pub fn told(self, value: u64) -> Turn<O>
         ensures turn { result ≡ turn_of self.order (follows (2 ^ O.exponent self.order)
             self.machine (place_in (O.place_of self.order) self.machine) value) }
@@ -143,7 +144,7 @@ impl<O: ProbeOrder> Probe<O> {
         self.turn(value)
     }
 
-    /// Returns what follows a step that found this value.
+    /// Returns what follows the step of `wants` that found `value` in the slot's word: see `told`.
     fn turn(self, value: u64) -> Turn<O>
         ensures turn { result ≡ turn_of self.order (follows (2 ^ O.exponent self.order)
             self.machine (place_in (O.place_of self.order) self.machine) value) }
@@ -164,7 +165,7 @@ impl<O: ProbeOrder> Probe<O> {
         }
     }
 
-    /// Goes on to load the next place, or ends with Full after the last one.
+    /// Returns the probe that loads the next slot, or the answer Full if this was the last one.
     fn moved_on(self) -> Turn<O>
         ensures { result ≡ turn_of self.order (followed_by (2 ^ O.exponent self.order) self.machine
             GoesOn) }
@@ -183,14 +184,14 @@ impl<O: ProbeOrder> Probe<O> {
         }
     }
 
-    /// Returns the place that the probe is at.
+    /// Returns the index of the slot that the next step reads.
     fn place(&self) -> usize
         ensures { result ≡ place_in (O.place_of self.now.order) self.now.machine }
     {
         self.order.place(key_asked(self.call), self.index)
     }
 
-    /// Returns the word that stands for its key: the key plus 1.
+    /// Returns the word of a slot that has the probe's key: the key plus 1.
     fn coded(&self) -> u64
         ensures { result ≡ code_of (key_of self.now.machine.call) }
     {

@@ -1,4 +1,4 @@
-//! A table for one user, who alone calls it.
+//! A table that one caller alone uses.
 ghost use Rattle.std.specs.Prelude.{◌≡◌, ◌^◌, IfOk, IsOkUnless, length};
 ghost use Rattle.probe_core.specs.Sequential.{Step};
 ghost use Rattle.probe_core.specs.History.{empty_table};
@@ -12,7 +12,8 @@ use crate::steps::{advance, look};
 use std::alloc::Global;
 use std::marker::Model;
 
-/// A table for one user: it gives each key a number and keeps it.
+/// A hash table for one caller at a time: it gives each key that is entered a number (the index of
+/// a slot), which the key keeps.
 ///
 /// All memory is taken by `new`: a word for each slot of the order.
 #[derive(Drop)]
@@ -36,7 +37,8 @@ impl<O: ProbeOrder> Model for SoloTable<O> {
 }
 
 impl<O: ProbeOrder> SoloTable<O> {
-    /// Makes a table with the order's slots in which no key has a number.
+    /// Makes a table in which no key has a number. `order` says how many slots it has, and in which
+    /// order they are probed.
     ///
     /// It takes memory for each slot.
     ///
@@ -53,8 +55,8 @@ impl<O: ProbeOrder> SoloTable<O> {
         Ok(SoloTable { order, words })
     }
 
-    /// Returns the key's number. If the key has none, a free number becomes the key's from then on,
-    /// or the answer is `Full` if no number is free. It takes no memory.
+    /// Returns the key's number. If the key has none, it gets a free number and keeps it; if none
+    /// is free, the answer is `Full`. It takes no memory.
     pub fn enter(&mut self, key: Key) -> Answer
         ensures order { self.new.order ≡ self.old.order }
         ensures step { Step self.old.table (Call.Enter key) result self.new.table }

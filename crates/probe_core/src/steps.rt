@@ -1,4 +1,4 @@
-//! Steps on a table's words: a load or a compare-exchange, and what a probe learns by it.
+//! Steps on a table's words (one a slot): a load or a compare-exchange, and what follows it.
 ghost use Rattle.std.specs.Prelude.{◌≡◌, ◌<◌, ◌≤◌, ◌^◌, length, slice_index};
 ghost use Rattle.probe_core.specs.Machine.{place_wanted, follows, place_in, left_of};
 ghost use Rattle.probe_core.specs.Inner.Machine.{words_wanted};
@@ -9,7 +9,7 @@ use crate::calls::Want;
 use crate::orders::ProbeOrder;
 use crate::probes::{Probe, Turn};
 
-/// Takes a step on the words, and returns what the word of its place held before it.
+/// Takes the step `want` on the words, and returns what the slot's word held before it.
 fn take_step(words: &mut [u64], want: Want) -> u64
     requires { place_wanted want < length words.old }
     ensures held { result ≡ slice_index words.old (place_wanted want) }
@@ -27,8 +27,8 @@ fn take_step(words: &mut [u64], want: Want) -> u64
     }
 }
 
-/// Takes the next step of a probe on the words, and returns what follows it. There must be a word
-/// for each slot.
+/// Takes the next step of a probe (a call under way) on the words, and returns the probe after it,
+/// or the call's answer. There must be a word for each slot.
 pub(crate) fn advance<O: ProbeOrder>(words: &mut [u64], probe: Probe<O>) -> Turn<O>
     requires { 2 ^ O.exponent probe.order ≤ length words.old }
     ensures words { words.new ≡ words_after words.old probe.machine
@@ -43,8 +43,9 @@ pub(crate) fn advance<O: ProbeOrder>(words: &mut [u64], probe: Probe<O>) -> Turn
     probe.told(held)
 }
 
-/// Returns what follows the next step of a probe, without changing the words: the probe learns what
-/// the word of that step's place holds. There must be a word for each slot.
+/// Takes the next step of a probe (a call under way) without changing the words: it only reads the
+/// slot's word. Returns the probe after it, or the call's answer. There must be a word for each
+/// slot.
 pub(crate) fn look<O: ProbeOrder>(words: &[u64], probe: Probe<O>) -> Turn<O>
     requires { 2 ^ O.exponent probe.order ≤ length words.now }
     ensures turn { let place = place_in (O.place_of probe.order) probe.machine
@@ -57,7 +58,7 @@ pub(crate) fn look<O: ProbeOrder>(words: &[u64], probe: Probe<O>) -> Turn<O>
     probe.told(words[place])
 }
 
-/// Returns the place on which a step is taken.
+/// Returns the index of the slot on which a step is taken.
 fn wanted_place(want: Want) -> usize
     ensures { result ≡ place_wanted want }
 {

@@ -1,4 +1,4 @@
-//! Worlds: any number of callers at one table, one step at a time in any order.
+//! Worlds: simulations of any number of callers at one table, one step at a time in any order.
 ghost use Rattle.std.specs.Prelude.{◌≡◌, ◌+◌, ◌<◌, ◌^◌, ◌↔◌, IfOk, OnOk, OnErr, IsOkUnless};
 ghost use Rattle.std.specs.Prelude.{IsErrOf, length, count_by};
 ghost use Rattle.probe_core.specs.World.{new_world, after_events};
@@ -12,10 +12,11 @@ use crate::orders::ProbeOrder;
 use std::alloc::Global;
 use std::marker::Model;
 
-/// The most events that all runs of a world may have together.
+/// The most events that all calls of `World::run` on one world may have together.
 const MOST_EVENTS: usize = 1 << 62;
 
-/// A table's words with the callers at them, and the history of their calls.
+/// A simulation of callers that use one table at the same time: the table's words (one a slot), the
+/// callers, and the calls that have ended.
 ///
 /// Memory is taken by `new`, for each slot and caller, and by `run`, for each call that may end.
 #[derive(Drop)]
@@ -36,7 +37,8 @@ impl<O: ProbeOrder> Model for World<O> {
 }
 
 impl<O: ProbeOrder> World<O> {
-    /// Makes a world of free words and this number of idle callers, before any event.
+    /// Makes a simulation before any event: a table whose slots are all free, and `callers` callers
+    /// without a call. `order` says how many slots there are, and in which order they are probed.
     ///
     /// It takes memory for each slot of the order and each caller.
     ///
@@ -54,16 +56,17 @@ impl<O: ProbeOrder> World<O> {
         Ok(World { hall })
     }
 
-    /// Runs these events in their order.
+    /// Simulates these events one after another, in their order.
     ///
-    /// A Begin of a busy caller, a Step of an idle one, and an event of a caller that does not
-    /// exist change the count of events and nothing else. Memory is taken first, for each call that
-    /// may end.
+    /// A Begin of a caller with a call under way, a Step of a caller without one, and an event of a
+    /// caller that does not exist change the count of events and nothing else. Memory is taken
+    /// first, for each call that may end.
     ///
     /// # Errors
     ///
-    /// `TooLong` exactly if the events of all runs together would be more than 2^62, judged before
-    /// memory is asked for; `Memory` if memory was refused. After either the world is as it was.
+    /// `TooLong` exactly if the events of all runs together would be more than 2^62, which is
+    /// checked before memory is asked for; `Memory` if memory was refused. After either the world
+    /// is as it was.
     pub fn run(&mut self, events: &[Event]) -> Result<(), ProbeFault>
         ensures order { self.new.order ≡ self.old.order }
         ensures world { OnOk result
@@ -95,7 +98,8 @@ impl<O: ProbeOrder> World<O> {
         &self.hall.finished
     }
 
-    /// Returns the words: 0 for a free place, else its key plus 1. It takes no memory.
+    /// Returns the table's words, one a slot: 0 for a free slot, else its key plus 1. It takes no
+    /// memory.
     pub fn words(&self) -> &[u64]
         ensures value { result.now ≡ self.now.world.words }
         ensures lawful { IsLawful (2 ^ O.exponent self.now.order) self.now.world }
@@ -104,7 +108,7 @@ impl<O: ProbeOrder> World<O> {
     }
 }
 
-/// Counts the events that may end a call: the steps.
+/// Returns how many of the events may end a call: the steps.
 fn count_steps(events: &[Event]) -> usize
     ensures { result ≡ count_by is_step events.now }
 {

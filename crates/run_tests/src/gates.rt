@@ -1,5 +1,5 @@
-//! Gates that hold workers back: games are in work at once, and the thread that reads helps. And
-//! one that notes its calls.
+//! Gates (called when a thread begins a game) that hold workers back: games are in work at once,
+//! and the thread that reads helps. And one that notes its calls.
 use crate::harvests::{CREWS, capacity_of, collection, counted_on, text_of};
 use crate::sheets::{Bytes, Full};
 use count_core::run_count;
@@ -14,11 +14,11 @@ use std::thread;
 use std::thread::Threads;
 use tally_core::Settings;
 
-/// How often a gate looks before it gives up. A program that works one game after another fails,
-/// and does not hang.
+/// How often a gate checks its condition before it gives up. A program that works one game after
+/// another fails by that, and does not hang.
 const LOOKS: u64 = 1 << 24;
 
-/// Holds whoever begins the first game of all, until another game has begun.
+/// Makes the thread that begins the first game of all wait until another game has begun.
 #[derive(Drop)]
 struct TwoAtOnce {
     begun: AtomicU64,
@@ -41,7 +41,8 @@ impl Gate for TwoAtOnce {
     }
 }
 
-/// Counts the squares of a collection over a new table of four slots: the text.
+/// Counts the squares of a collection over a new table of four slots, and returns the text of the
+/// dictionary.
 fn text_over_new<R: Threads + Wait + Sync, G: Gate>(
     rt: &R,
     alloc: Global,
@@ -55,7 +56,8 @@ fn text_over_new<R: Threads + Wait + Sync, G: Gate>(
     text_of(alloc, counted.dictionary)
 }
 
-/// The same by `harvest`.
+/// Counts the squares of a collection by `harvest`, with room for four patterns, and returns the
+/// text of the dictionary.
 fn text_of_harvest<R: Threads + Wait + Sync, G: Gate>(
     rt: &R,
     alloc: Global,
@@ -71,7 +73,7 @@ fn text_of_harvest<R: Threads + Wait + Sync, G: Gate>(
 const OF_10: &str =
     "shapes 3 games 10 moves 15 squares 3 diamonds -\n3fff3fcffffff 10 5 1\n3fffbfcffffff 5 5 1\n3fffffcffffff 5 5 0\n";
 
-/// Whether two games were in work at once, where each of ten games was begun once.
+/// Whether two games were in work at once, and ten games were begun, as many as there are.
 fn was_together(gate: &TwoAtOnce) -> bool {
     let begun = gate.begun.load(Ordering::SeqCst);
     begun == 10 && gate.together.load(Ordering::SeqCst) == 1
@@ -102,7 +104,7 @@ fn gate_two_at_once_over_a_table(rt: HostRuntime) -> Result<(), Fail> {
     let alloc = rt.alloc();
     let bytes = collection(alloc, 5)?;
     let capacity = capacity_of(&rt, 2);
-    // One worker alone has all of so few games: the queue has room for them.
+    // A single worker has all of so few games: the queue has room for them.
     for workers in [2, 7, 64] {
         let gate = two_at_once();
         let text = text_over_new(&rt, alloc, OddStep { capacity }, workers, &bytes, &gate)?;
@@ -112,7 +114,7 @@ fn gate_two_at_once_over_a_table(rt: HostRuntime) -> Result<(), Fail> {
     Ok(())
 }
 
-/// Holds all workers until the thread that reads counts a game.
+/// Makes each worker wait until the thread that reads (worker 0) counts a game.
 #[derive(Drop)]
 struct ReaderHelps {
     helped: AtomicU64,
@@ -120,7 +122,7 @@ struct ReaderHelps {
 }
 
 impl ReaderHelps {
-    /// Whether no worker is to be held any more.
+    /// Whether no worker has to wait any more.
     fn is_open(&self) -> bool {
         self.helped.load(Ordering::SeqCst) > 0 || self.given_up.load(Ordering::SeqCst) > 0
     }
@@ -169,8 +171,8 @@ fn reader_helps(rt: HostRuntime) -> Result<(), Fail> {
     Ok(())
 }
 
-/// Counts its calls for each of the games 0 to 9 with a worker from 0 to 3, in four bits a game,
-/// and all its other calls.
+/// Counts its calls for each of the games 0 to 9 by a worker from 0 to 3, in four bits a game, and
+/// all its other calls together.
 #[derive(Drop)]
 struct Notes {
     told: AtomicU64,
@@ -187,7 +189,8 @@ impl Gate for Notes {
     }
 }
 
-/// What a gate notes while three workers count this collection.
+/// What a `Notes` gate has counted after three workers have counted this collection: its calls for
+/// games 0 to 9, in four bits a game, and all others.
 fn noted<R: Threads + Wait + Sync>(
     rt: &R,
     alloc: Global,

@@ -37,7 +37,7 @@ const TAKEN: u64 = 0x3fffbfcffffff;
 /// How many workers each collection is counted by.
 pub(crate) const CREWS: [u8; 4] = [1, 2, 7, 64];
 
-/// A collection of twice as many games: one of one point and one of two points in turn.
+/// A collection of 2 * `pairs` games: one of one point and one of two points in turn.
 pub(crate) fn collection(alloc: Global, pairs: u64) -> Result<Vec<u8>, AllocError> {
     let mut bytes = Vec::new(alloc);
     for _ in 0..pairs {
@@ -47,7 +47,7 @@ pub(crate) fn collection(alloc: Global, pairs: u64) -> Result<Vec<u8>, AllocErro
     Ok(bytes)
 }
 
-/// The text of a dictionary with both counts and the first games.
+/// The dictionary in text format 3: squares, diamonds if they were counted, and the first games.
 pub(crate) fn text_of(alloc: Global, counted: PieceDictionary) -> Result<Vec<u8>, Fail> {
     let dictionary = counted.into_dictionary(alloc)?;
     let mut text = Vec::new(alloc);
@@ -92,7 +92,8 @@ fn any_number_of_workers_counts_the_same(rt: HostRuntime) -> Result<(), Fail> {
     Ok(())
 }
 
-/// Counts squares over a new table of this order.
+/// Counts a collection, with the kinds of pattern in `settings`, over a new table that tries slots
+/// in this `order`.
 pub(crate) fn counted_on<R: Threads + Wait + Sync, O: ProbeOrder + Send + Sync, G: Gate>(
     rt: &R,
     alloc: Global,
@@ -111,7 +112,7 @@ pub(crate) fn counted_on<R: Threads + Wait + Sync, O: ProbeOrder + Send + Sync, 
 const OF_20: &str =
     "shapes 3 games 20 moves 30 squares 3 diamonds -\n3fff3fcffffff 20 10 1\n3fffbfcffffff 10 10 1\n3fffffcffffff 10 10 0\n";
 
-/// What was counted of twenty games is what one thread counts.
+/// Asserts that `counted` is what one thread counts of the twenty games in `bytes`.
 fn assert_20(rt: &impl Abort, alloc: Global, bytes: &[u8], counted: Counted) -> Result<(), Fail> {
     let plain = count_plain(alloc, Kinds::Squares, bytes)?;
     assert!(rt; counted.report == report_of(20, 0, 0) && counted.report == plain.report);
@@ -153,7 +154,8 @@ fn any_order_of_probes_counts_the_same(rt: HostRuntime) -> Result<(), Fail> {
     Ok(())
 }
 
-/// A worker draws to its end, and adds these games.
+/// Runs a worker until it takes an end from the queue. Asserts that it has no fault, and has
+/// counted exactly these games, with this number of moves.
 fn draw_to_the_end<'q, 'a, R: Abort + Wait, O: ProbeOrder>(
     rt: &R,
     alloc: Global,
@@ -175,7 +177,9 @@ fn draw_to_the_end<'q, 'a, R: Abort + Wait, O: ProbeOrder>(
     back
 }
 
-/// A worker beside these, who counts squares with a part of the endpoint and of the pass.
+/// Returns worker `number` of `workers`, which counts squares. It has its own end of the job queue
+/// of `endpoint`, and a part split off `pass` (what a caller has seen of the table's calls, for
+/// proofs).
 fn worker_beside<'q, 'a, 't, O: ProbeOrder>(
     endpoint: &mut Endpoint<'q, 'a>,
     table: &'t SlotTable<O>,
@@ -202,8 +206,8 @@ fn worker_beside<'q, 'a, 't, O: ProbeOrder>(
     }
 }
 
-/// More workers draw to their ends, one after another, and no game is left for them. Their
-/// endpoints and passes come back.
+/// Runs the workers from 1 up to `workers`, one after another. Each takes an end from the queue,
+/// with no game left for it. Their endpoints and passes are joined to `endpoint` and `pass` again.
 fn draw_ends<R: Abort + Wait, O: ProbeOrder>(
     rt: &R,
     alloc: Global,
@@ -223,7 +227,8 @@ fn draw_ends<R: Abort + Wait, O: ProbeOrder>(
     }
 }
 
-/// Workers draw to their ends, one after another: the first one has all games.
+/// Runs workers one after another, on a queue with all games and an end for each worker: the first
+/// takes all games and an end, and each later one an end.
 fn work_in_turn<R: Abort + Wait>(
     rt: &R,
     alloc: Global,
@@ -256,7 +261,8 @@ fn a_worker_draws_to_the_first_end(rt: HostRuntime) -> Result<(), Fail> {
     Ok(())
 }
 
-/// Whether the fault is F1 with the third pattern of a collection, which is first in game 1.
+/// Whether the fault is F1 (no free slot) for the third pattern of a collection, which is first in
+/// game 1.
 fn is_third(fault: &HarvestFault) -> bool {
     match fault {
         HarvestFault::Full { game, word } => *game == 1 && word.bits() == TAKEN,
@@ -337,8 +343,8 @@ fn a_table_of_another_input_disagrees(rt: HostRuntime) -> Result<(), Fail> {
     Ok(())
 }
 
-/// With memory refused at any request the answer is the dictionary or out of memory, and all
-/// threads end.
+/// With memory refused at any request, `harvest` returns the dictionary or the fault for out of
+/// memory, and all threads end.
 #[test]
 fn memory_is_found_or_named(rt: HostRuntime) -> Result<(), Fail> {
     let alloc = rt.alloc();
@@ -351,7 +357,7 @@ fn memory_is_found_or_named(rt: HostRuntime) -> Result<(), Fail> {
         &FreeGate,
     ) {
         Ok(counted) => {
-            // The list of all entries is this test's own request.
+            // Memory for this list of all entries is requested by the test, not by `harvest`.
             let Ok(dictionary) = counted.dictionary.into_dictionary(alloc) else {
                 return Ok(());
             };

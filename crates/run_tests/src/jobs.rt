@@ -16,7 +16,7 @@ use tally_core::{Report, TallyFault};
 /// Two games, and between them a tree of another game and one with a board of no column.
 const MIXED: &[u8] = b"(;SZ[1];B[aa])(;GM[2])(;SZ[0])\n(;B[aa];W[bb])";
 
-/// A collection of n games.
+/// A collection of this number of games, each without a move.
 fn collection(alloc: Global, games: u64) -> Result<Vec<u8>, AllocError> {
     let mut bytes = Vec::new(alloc);
     for _ in 0..games {
@@ -25,8 +25,8 @@ fn collection(alloc: Global, games: u64) -> Result<Vec<u8>, AllocError> {
     Ok(bytes)
 }
 
-/// What a job says: its number, its place, and of its record the columns of the board and how many
-/// actions there are.
+/// What a job has: its game's number, the byte indices at which its tree begins and ends, the
+/// columns of the board, and how many actions there are.
 fn said(job: &Job<'_>) -> (u64, usize, usize, u8, usize) {
     let record = job.record();
     (
@@ -38,7 +38,7 @@ fn said(job: &Job<'_>) -> (u64, usize, usize, u8, usize) {
     )
 }
 
-/// What the job of the next game says, where there is one.
+/// What the job of the next game has (as in `said`); None if no game is left.
 fn next_said(
     alloc: Global,
     games: &mut Games<'_>,
@@ -66,7 +66,7 @@ fn games_are_numbered_in_their_order(rt: HostRuntime) -> Result<(), TallyFault> 
     Ok(())
 }
 
-/// Whether the next job borrows this input.
+/// Whether the next job has the whole input `bytes`.
 fn borrows(alloc: Global, bytes: &[u8]) -> Result<bool, TallyFault> {
     let mut games = Games::new(bytes)?;
     match games.next_job(alloc)? {
@@ -93,7 +93,8 @@ fn a_fault_comes_after_the_games_before_it(rt: HostRuntime) -> Result<(), TallyF
     Ok(())
 }
 
-/// Puts the jobs of the next games, up to one that comes back.
+/// Adds the jobs of the next games to the queue until it is full. Returns the item for which there
+/// was no room, or None if all games were added.
 pub(crate) fn put_until_full<'a, R: Wait>(
     rt: &R,
     alloc: Global,
@@ -113,7 +114,7 @@ pub(crate) fn put_until_full<'a, R: Wait>(
     Ok(None)
 }
 
-/// The number of the game, where this is a job.
+/// The number of the game if the item is a job, else None.
 fn number(item: Option<Item<'_>>) -> Option<u64> {
     match item {
         Some(Item::Job(job)) => Some(job.game()),
@@ -121,7 +122,7 @@ fn number(item: Option<Item<'_>>) -> Option<u64> {
     }
 }
 
-/// Puts an end, and says whether there was room.
+/// Adds an end to the queue, and returns whether there was room.
 pub(crate) fn puts_an_end<R: Wait>(rt: &R, endpoint: &mut Endpoint<'_, '_>) -> bool
     requires { endpoint.old.writes ≡ true }
     ensures { endpoint.new ≡ record endpoint.old { ends_put = endpoint.new.ends_put } }
@@ -129,7 +130,7 @@ pub(crate) fn puts_an_end<R: Wait>(rt: &R, endpoint: &mut Endpoint<'_, '_>) -> b
     endpoint.put(rt, Item::End).is_ok()
 }
 
-/// Draws the game of the next job, where the next item is one.
+/// Takes the next item from the queue, and returns its game if it is a job, else None.
 fn draw_game<R: Wait>(rt: &R, endpoint: &mut Endpoint<'_, '_>) -> Option<u64>
     ensures { endpoint.new ≡ record endpoint.old {
       drawn = endpoint.new.drawn;
@@ -139,7 +140,7 @@ fn draw_game<R: Wait>(rt: &R, endpoint: &mut Endpoint<'_, '_>) -> Option<u64>
     number(endpoint.draw(rt))
 }
 
-/// Draws the next item, and says whether it was an end.
+/// Takes the next item from the queue, and returns whether it was an end.
 fn draws_an_end<R: Wait>(rt: &R, endpoint: &mut Endpoint<'_, '_>) -> bool
     ensures { endpoint.new ≡ record endpoint.old {
       drawn = endpoint.new.drawn;
@@ -149,7 +150,7 @@ fn draws_an_end<R: Wait>(rt: &R, endpoint: &mut Endpoint<'_, '_>) -> bool
     matches!(endpoint.draw(rt), Some(Item::End))
 }
 
-/// Draws, and says whether the queue was empty.
+/// Tries to take an item from the queue, and returns whether the queue was empty.
 fn draws_nothing<R: Wait>(rt: &R, endpoint: &mut Endpoint<'_, '_>) -> bool
     ensures { endpoint.new ≡ record endpoint.old {
       drawn = endpoint.new.drawn;
@@ -159,7 +160,8 @@ fn draws_nothing<R: Wait>(rt: &R, endpoint: &mut Endpoint<'_, '_>) -> bool
     endpoint.draw(rt).is_none()
 }
 
-/// A worker draws the jobs of a queue that was full, and the end, which the reader puts.
+/// Takes all 128 jobs of a full queue through `own`, and then the end that `endpoint` adds once one
+/// job is gone. Asserts that they come in order.
 fn empty<R: Abort + Wait>(rt: &R, endpoint: &mut Endpoint<'_, '_>, own: &mut Endpoint<'_, '_>)
     requires { endpoint.old.writes ≡ true }
 {
@@ -173,7 +175,7 @@ fn empty<R: Abort + Wait>(rt: &R, endpoint: &mut Endpoint<'_, '_>, own: &mut End
     assert!(rt; draws_nothing(rt, own));
 }
 
-/// Fills a queue and empties it.
+/// Fills the queue of `endpoint` with jobs until one is handed back, and takes all of them out.
 fn fill_and_empty<'a, R: Abort + Wait>(
     rt: &R,
     alloc: Global,
@@ -192,7 +194,7 @@ fn fill_and_empty<'a, R: Abort + Wait>(
     Ok(())
 }
 
-/// Opens a queue for the games of these bytes, and fills and empties it.
+/// Makes a queue for the games of these bytes, fills it and takes all jobs out.
 fn open_and_fill<R: Abort + Wait>(rt: &R, alloc: Global, bytes: &[u8]) -> Result<(), TallyFault> {
     let mut games = Games::new(bytes)?;
     let (queue, pass) = new_queue(alloc, 128)?;
@@ -207,8 +209,8 @@ fn a_full_queue_hands_the_item_back(rt: HostRuntime) -> Result<(), Fail> {
     Ok(())
 }
 
-/// A worker's endpoint draws the one job and the end, and comes back: the reader's has all parts
-/// again.
+/// Takes the one job and the end through a worker's endpoint (its end of the queue), and joins that
+/// to the reader's endpoint, which can add and take again.
 fn draw_and_come_back<R: Abort + Wait>(
     rt: &R,
     alloc: Global,
@@ -237,7 +239,7 @@ fn a_endpoint_comes_back(rt: HostRuntime) -> Result<(), Fail> {
     Ok(())
 }
 
-/// Puts an item once there is room.
+/// Adds an item to the queue, and tries again until there is room.
 fn put_at_last<'a, R: Wait>(rt: &R, endpoint: &mut Endpoint<'_, 'a>, item: Item<'a>)
     requires { MayPut endpoint.old item }
     ensures { endpoint.new ≡ putting endpoint.old item.entry }
@@ -252,7 +254,8 @@ fn put_at_last<'a, R: Wait>(rt: &R, endpoint: &mut Endpoint<'_, 'a>, item: Item<
     }
 }
 
-/// Puts the jobs of all games, and an end for each of two workers.
+/// Adds the jobs of all games to the queue, and an end for each of two workers; waits while the
+/// queue is full. Returns how many games there are.
 fn put_all<'a, R: Wait>(
     rt: &R,
     alloc: Global,
@@ -269,7 +272,8 @@ fn put_all<'a, R: Wait>(
     Ok(games.report().games)
 }
 
-/// The games of the jobs up to the first end.
+/// Takes jobs from the queue until an end comes, and returns their games; waits while the queue is
+/// empty.
 fn draw_all<R: Wait>(
     rt: &R,
     alloc: Global,
@@ -286,7 +290,7 @@ fn draw_all<R: Wait>(
     Ok(drawn)
 }
 
-/// One game more.
+/// Adds a game to a list.
 fn keep(games: &mut Vec<u64>, game: u64) -> Result<(), TallyFault> {
     match games.push(game) {
         Ok(()) => Ok(()),
@@ -294,7 +298,7 @@ fn keep(games: &mut Vec<u64>, game: u64) -> Result<(), TallyFault> {
     }
 }
 
-/// The games of both lists.
+/// Joins two lists of games.
 fn all_of(mut left: Vec<u64>, right: &[u64]) -> Result<Vec<u64>, TallyFault> {
     for game in right {
         keep(&mut left, *game)?;
@@ -302,7 +306,8 @@ fn all_of(mut left: Vec<u64>, right: &[u64]) -> Result<Vec<u64>, TallyFault> {
     Ok(left)
 }
 
-/// The games that two workers draw, all together.
+/// Returns the games of the jobs that two workers take from the queue, each in a thread until an
+/// end comes.
 fn draw_by_two<R: Threads + Wait + Sync>(
     rt: &R,
     alloc: Global,
@@ -317,7 +322,7 @@ fn draw_by_two<R: Threads + Wait + Sync>(
     all_of(left?, right?.as_slice())
 }
 
-/// Both answers, or the fault of one.
+/// Both values, or the first fault.
 fn both(
     read: Result<u64, TallyFault>,
     drawn: Result<Vec<u64>, TallyFault>,
@@ -328,7 +333,8 @@ fn both(
     }
 }
 
-/// How many games the reader reports, and the games that two workers draw.
+/// Adds all games to the queue in one thread, while two workers take them in others. Returns how
+/// many games were read, and those that the workers took.
 fn put_and_draw<'a, R: Threads + Wait + Sync>(
     rt: &R,
     alloc: Global,
@@ -350,7 +356,7 @@ fn put_and_draw<'a, R: Threads + Wait + Sync>(
     both(read, drawn)
 }
 
-/// The same for the games of these bytes.
+/// Makes a queue and hands the games of these bytes through it to two workers, as `put_and_draw`.
 fn drawn_by_two<R: Threads + Wait + Sync>(
     rt: &R,
     alloc: Global,
@@ -361,7 +367,7 @@ fn drawn_by_two<R: Threads + Wait + Sync>(
     put_and_draw(rt, alloc, Endpoint::open(&queue, pass, bytes), games)
 }
 
-/// Whether each number is that of its place.
+/// Whether the list is 0, 1, 2 and so on.
 fn are_in_place(games: &[u64]) -> bool {
     for game in 0..games.len() {
         if games[game] != game as u64 {
@@ -390,8 +396,8 @@ fn next_number(alloc: Global, games: &mut Games<'_>) -> Result<Option<u64>, Tall
     }
 }
 
-/// With memory refused at any request the games come as they do, or out of memory is answered, then
-/// and later.
+/// With memory refused at any request, each call returns its game or the fault for out of memory,
+/// and a call after that fault returns it again.
 #[test]
 fn memory_is_found_or_named(rt: HostRuntime) -> Result<(), TallyFault> {
     let alloc = rt.alloc();

@@ -15,7 +15,7 @@ const GAMES: &[u8] = b"(;SZ[2]B[aa][bb];W[aa])(;GM[2])";
 /// The listing of `GAMES`.
 const LINES: &[u8] = b"0 0 23 game 2x2 moves 3 occasions 2\n- 23 31 other\n";
 
-/// Lines of standard input.
+/// A listing in lines, with no condition and no file name.
 const ASKED: Asked<'static> = Asked {
     form: Form::Lines,
     conditions: &[],
@@ -23,8 +23,8 @@ const ASKED: Asked<'static> = Asked {
     name: None,
 };
 
-/// A run over these bytes answers so, and what a writer of at most this many bytes got is this
-/// text.
+/// Asserts that a listing of `input`, to a writer of at most `most` bytes, returns `wanted` and
+/// that the writer got `text`.
 fn assert_listing(
     rt: &impl Abort,
     alloc: Global,
@@ -63,8 +63,8 @@ fn failed_writes_are_said(rt: HostRuntime) -> Result<(), Fail> {
     assert_listing(&rt, rt.alloc(), (GAMES, 8), stopped, b"0 0 23 g")
 }
 
-/// With memory refused at any request the listing is made, or out of memory is answered and nothing
-/// is written.
+/// With memory refused at any request, the listing is made or the fault for out of memory is
+/// returned; nothing is written then.
 #[test]
 fn memory_is_found_or_named(rt: HostRuntime) -> Result<(), Fail> {
     let mut writer = Full {

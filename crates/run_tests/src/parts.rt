@@ -9,8 +9,8 @@ use std::test::Fail;
 /// A dictionary of one pattern: a header of 36 bytes, and a line.
 const ONE: &[u8] = b"shapes 1 games 1 moves 2 patterns 1\n0000000009000 3 2\n";
 
-/// Writing these parts to a writer that takes at most this many bytes answers so, and this is what
-/// it got.
+/// Asserts that writing these parts to a writer of at most `most` bytes returns `wanted`, and that
+/// the writer got the beginning of `ONE`.
 fn assert_written(
     rt: &impl Abort,
     alloc: Global,

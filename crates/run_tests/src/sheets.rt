@@ -9,15 +9,16 @@ use std::io::{Read, Write};
 use std::process::Abort;
 use std::test::Fail;
 
-/// Four squares, of which two tie in plays and two in urgency, and a diamond.
+/// A dictionary of four squares, of which two are played equally often and two are equally urgent,
+/// and a diamond.
 const TIES: &[u8] =
     b"shapes 2 games 2 moves 12 squares 4 diamonds 1\n0000000000000 10 4\n0000000000001 8 4\n0000000000002 2 1\n0000000000010 3 3\n4000000000000 20 12\n";
 
-/// The point beside another one of a row of two points, that one empty at first and then with a
-/// stone.
+/// The dictionary of a game on a row of two points: the other point is empty at first, and then has
+/// a stone.
 const PAIR: &[u8] = b"shapes 1 games 1 moves 2 patterns 2\n3fff3fcffffff 2 1\n3fffbfcffffff 1 1\n";
 
-/// What is asked for where nothing else is said.
+/// What is asked for if nothing else is said.
 const USUAL: Asked = Asked {
     order: Order::Played,
     kind: Kind::Square,
@@ -26,7 +27,7 @@ const USUAL: Asked = Asked {
     form: Form::Plain,
 };
 
-/// The words of the patterns that are chosen from `TIES` are these, as numbers.
+/// Asserts that the patterns chosen from `TIES` have these words, in this order.
 fn assert_chosen(rt: &impl Abort, alloc: Global, asked: Asked, wanted: &[u64]) -> Result<(), Fail> {
     let dictionary = Dictionary::read(alloc, TIES)?;
     let chosen = choose(
@@ -78,7 +79,7 @@ fn orders_choose(rt: HostRuntime) -> Result<(), Fail> {
     )
 }
 
-/// The sheet of this dictionary is this text.
+/// Asserts that the sheet of the dictionary with the text `input` is `wanted`.
 fn assert_sheet(
     rt: &impl Abort,
     alloc: Global,
@@ -146,7 +147,7 @@ impl<'a> Read for Bytes<'a> {
     }
 }
 
-/// A writer that takes this many bytes, and then fails.
+/// A writer that takes `most` bytes, and then fails.
 #[derive(Drop)]
 pub(crate) struct Full {
     pub(crate) got: Vec<u8>,
@@ -165,8 +166,8 @@ impl Write for Full {
     }
 }
 
-/// A run over these bytes answers so, and what a writer of at most this many bytes got is the front
-/// of a text.
+/// Asserts that a sheet of `input`, to a writer of at most `most` bytes, returns `wanted` and that
+/// the writer got `text`.
 fn assert_run(
     rt: &impl Abort,
     alloc: Global,
@@ -202,8 +203,8 @@ fn runs_write_all_or_say_why(rt: HostRuntime) -> Result<(), Fail> {
     assert_run(&rt, alloc, (short, 9), refused(DictFault::BadLine(2)), b"")
 }
 
-/// With memory refused at any request the sheet is made, or out of memory is answered and nothing
-/// is written.
+/// With memory refused at any request, the sheet is made or the fault for out of memory is
+/// returned; nothing is written then.
 #[test]
 fn memory_is_found_or_named(rt: HostRuntime) -> Result<(), Fail> {
     let mut writer = Full {

@@ -5,19 +5,19 @@ ghost use Rattle.sgf_core.specs.declared.faults.SgfFault.TheVariants.{Memory};
 use std::alloc::{AllocError, AllocFailed};
 use thiserror::Error;
 
-/// Why no tree was read: its bytes break the grammar of SGF FF[4], the input is over this
-/// project's own limit, or memory was refused. Places are byte offsets in the whole input, from 0.
+/// Why no tree was read: its bytes break the grammar of SGF FF[4], the input is over this project's
+/// own limit, or memory was refused. The number in a fault is a byte offset in the whole input.
 #[derive(Clone, Copy, Debug, PartialEq, Eq, Error)]
 pub enum SgfFault {
-    /// The input ends within the tree whose first parenthesis is at this place.
+    /// The input ends within the tree whose first parenthesis is at this byte offset.
     #[error("S1 truncated tree at {0}")]
     Truncated(usize),
-    /// The byte at this place can't come there: some tree begins with this tree's bytes before it,
-    /// but no tree goes on with this byte.
+    /// The byte at this offset may not stand there: some tree begins with this tree's bytes before
+    /// it, but no tree goes on with this byte.
     #[error("S2 bad byte at {0}")]
     BadByte(usize),
-    /// An identifier has no value: the byte at this place comes after it and any white bytes, where
-    /// its first value has to come.
+    /// An identifier has no value: the byte at this offset comes after it and any white space,
+    /// where its first value has to come.
     #[error("S3 no value at {0}")]
     NoValue(usize),
     /// The input has more than `MOST_BYTES` bytes, 2^28.

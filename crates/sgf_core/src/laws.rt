@@ -7,8 +7,8 @@ ghost use Rattle.sgf_core.specs.Next.{IsNextTree, HasNoTree};
 ghost use Rattle.sgf_core.specs.Reading.{IsFaultAt};
 ghost use Rattle.sgf_core.specs.declared.faults.SgfFault.{SgfFault};
 
-/// At most one tree is next from a given place on, with one place where it begins and one where it
-/// ends. So the tree that is read is the one that is next.
+/// States for proofs that at most one tree is next from a given byte offset on, with one offset at
+/// which it begins and one at which it ends. So the tree that is read is the one that is next.
 pub fn one_next_tree()
     ensures { (bytes : List ℕ) (from at end : ℕ) (tree : GameTree) (other_at other_end : ℕ)
         (other : GameTree)
@@ -16,15 +16,15 @@ pub fn one_next_tree()
         → (at ≡ other_at) × (end ≡ other_end) × (tree ≡ other) }
 {}
 
-/// The next tree from a given place on has at most one fault. So the fault that is answered is the
-/// one that it has.
+/// States for proofs that the next tree from a given byte offset on has at most one fault. So the
+/// fault that is returned is the one that the tree has.
 pub fn one_fault()
     ensures { (bytes : List ℕ) (from : ℕ) (fault other : SgfFault)
         → IsFaultAt bytes from fault → IsFaultAt bytes from other → fault ≡ other }
 {}
 
-/// At most one of these holds from a given place on: a tree is next, the next tree has a fault, or
-/// no tree begins.
+/// States for proofs that at most one of these holds from a given byte offset on: a tree is next,
+/// the next tree has a fault, or no tree begins.
 pub fn one_answer()
     ensures tree_or_fault { (bytes : List ℕ) (from at end : ℕ) (tree : GameTree) (fault : SgfFault)
         → IsNextTree bytes from at end tree → IsFaultAt bytes from fault → ⊥ }
@@ -34,8 +34,8 @@ pub fn one_answer()
         → IsFaultAt bytes from fault → HasNoTree bytes from → ⊥ }
 {}
 
-/// A tree's main line has fewer values than the tree has bytes. So a count of values over the trees
-/// of a collection stays below the limit on the input's bytes.
+/// States for proofs that a tree's main line has fewer values than the tree has bytes. So a count
+/// of values over the trees of a collection stays below the limit on the input's bytes.
 pub fn few_values()
     ensures { (bytes : List ℕ) (from at end : ℕ) (tree : GameTree)
         → IsNextTree bytes from at end tree → at + value_count (main_line_of tree) < end }

@@ -1,4 +1,5 @@
-//! The main line of a tree, its nodes and their properties, each read from the tree's marks.
+//! The main line of a tree, its nodes and their properties, each read from the tree's marks: the
+//! list of its parentheses, semicolons and properties.
 ghost use Rattle.std.specs.Prelude.{◌≡◌, ◌+◌, ◌<◌, ◌∷◌, [], length, drop, MatchOption};
 ghost use Rattle.std.specs.Iterator.{YieldsFirst, YieldsFirstRef, item_count};
 ghost use Rattle.sgf_core.specs.Inner.Lines.{line_of, leading_properties};
@@ -8,7 +9,8 @@ use std::iter::FusedIterator;
 use std::marker::Model;
 
 /// An iterator over the nodes of a tree's main line: from the root, always by the first variation.
-/// It reads the tree's marks as it goes, and takes no memory.
+/// It reads the tree's marks (parentheses, semicolons and properties) as it goes, and takes no
+/// memory.
 #[derive(Debug, Drop)]
 pub struct MainLine<'t, 'a> {
     marks: &'t [Mark<'a>],
@@ -24,7 +26,8 @@ impl<'t, 'a> Model for MainLine<'t, 'a> {
     ghost view = { λ line. line_of line.marks.now };
 }
 
-/// The index of the first node's mark, or None if no node comes before the first end of a tree.
+/// Returns the index in `marks` of the first `Mark::Node`, or None if a `Mark::End` comes before it
+/// or there is none.
 fn node_place(marks: &[Mark<'_>]) -> Option<usize>
     ensures { MatchOption result (line_of marks.now ≡ []) (λ place. (place < length marks.now)
         × (line_of marks.now ≡ leading_properties (drop (place + 1) marks.now) ∷ line_of
@@ -41,7 +44,7 @@ fn node_place(marks: &[Mark<'_>]) -> Option<usize>
 }
 
 impl<'t, 'a> MainLine<'t, 'a> {
-    /// The main line of the tree with these marks.
+    /// Makes the iterator over the main line of the tree that has these `marks`.
     pub(crate) fn new(marks: &'t [Mark<'a>]) -> MainLine<'t, 'a>
         ensures { result ≡ line_of marks.now }
     {
@@ -92,8 +95,8 @@ impl<'t, 'a> Node<'t, 'a> {
     }
 }
 
-/// An iterator over the properties of a node, in order. It reads the tree's marks as it goes, and
-/// takes no memory.
+/// An iterator over the properties of a node, in order. It reads the tree's marks (parentheses,
+/// semicolons and properties) as it goes, and takes no memory.
 #[derive(Debug, Drop)]
 pub struct Props<'t, 'a> {
     marks: &'t [Mark<'a>],

@@ -1,4 +1,5 @@
-//! The parts of a tree: its marks, properties and values, and which mark may come next.
+//! The parts of a tree: its marks (parentheses, semicolons and properties), the properties' values,
+//! and which mark may come next.
 ghost use Rattle.std.specs.Prelude.{◌≡◌, ◌↔◌, IsTrue, map};
 ghost use Rattle.sgf_core.specs.Tree.{name_of};
 ghost use Rattle.sgf_core.specs.Values.{value_of};
@@ -11,8 +12,8 @@ use std::marker::Model;
 /// with their escapes.
 #[derive(Clone, Copy, Debug, Default, PartialEq, Eq)]
 pub struct Value<'a> {
-    /// The place of its first byte, the one after the opening bracket: a byte offset in the whole
-    /// input, from 0.
+    /// The byte index, in the whole input, of the value's first byte: the one after the opening
+    /// bracket.
     pub at: usize,
     /// Its bytes: a slice of the input.
     pub bytes: &'a [u8],

@@ -1,4 +1,5 @@
-//! Reads the tree that begins at a place, mark by mark, in one pass and with no recursion.
+//! Reads one tree, mark by mark (parenthesis, semicolon or property), in one pass and with no
+//! recursion.
 ghost use Rattle.std.specs.Prelude.{◌≡◌, ℕ, ◌<◌, ◌≤◌, ◌++◌, ◌∷◌, [], true, IfOk, IfErr, IsSomeAnd};
 ghost use Rattle.std.specs.Prelude.{length, drop, slice_range};
 ghost use Rattle.sgf_core.specs.Limit.{most_bytes};
@@ -19,8 +20,10 @@ use crate::scan::white_end;
 use crate::written::Tree;
 use std::alloc::Global;
 
-/// Reads the next mark, from `from` on, of the tree that begins at `at`, and returns it with the
-/// place after it. The mark is None if it is a property for whose values memory was refused.
+/// Reads the next mark (parenthesis, semicolon or property) from the byte index `from` on, in the
+/// tree that begins at `at`, and returns it with the byte index after it. `expects` says which
+/// marks may come. The mark is None if it is a property for whose values memory was refused. A
+/// fault is one of syntax: `Truncated`, `BadByte` or `NoValue`.
 fn read_mark<'a>(
     alloc: Global,
     bytes: &'a [u8],
@@ -55,18 +58,19 @@ fn read_mark<'a>(
     }
 }
 
-/// What a mark does to the number of trees that are open.
+/// What a mark does to the number of trees that are open: begun and not yet ended.
 #[derive(Clone, Copy)]
 enum Turn {
     /// Nothing: it is a node or a property.
     Stays,
     /// It begins a tree.
     Opens,
-    /// It ends one.
+    /// It ends a tree.
     Closes,
 }
 
-/// What a mark that was read does to the number of open trees. None stands for a property.
+/// Returns what a mark that was read does to the number of trees that are open (begun and not yet
+/// ended). None stands for a property that was not stored, since memory was refused.
 fn turn_of(mark: &Option<Mark<'_>>) -> Turn
     ensures { (read : Part) → IsKept mark.now read → IsTurn read result }
 {
@@ -81,7 +85,8 @@ fn turn_of(mark: &Option<Mark<'_>>) -> Turn
     }
 }
 
-/// Appends a mark if all marks before it were kept, and returns whether all are kept now.
+/// Appends `mark` to `marks` if `kept` says that all marks before it are there. Returns whether all
+/// are there now: false if `kept` is false, `mark` is None or memory was refused.
 fn keep_mark<'a>(marks: &mut Vec<Mark<'a>>, mark: Option<Mark<'a>>, kept: bool) -> bool
     ensures { result ≡ true → (kept ≡ true)
         × IsSomeAnd mark.entry (λ one. marks.new.items ≡ marks.old.items ++ one ∷ []) }
@@ -98,8 +103,9 @@ fn keep_mark<'a>(marks: &mut Vec<Mark<'a>>, mark: Option<Mark<'a>>, kept: bool) 
     }
 }
 
-/// Reads the tree whose first parenthesis is at `at`. If memory is refused, the rest is read all
-/// the same, but no longer kept: so `Memory` is answered only if a whole tree is there.
+/// Reads the tree whose first parenthesis is at the byte index `at`. If memory is refused, the rest
+/// is read all the same, but no longer stored: so `Memory` is returned only if a whole tree is
+/// there, and else the tree's fault of syntax.
 pub(crate) fn read_tree<'a>(alloc: Global, bytes: &'a [u8], at: usize) -> Result<Tree<'a>, SgfFault>
     requires small { length bytes.now ≤ most_bytes }
     requires begins { BeginsTree (drop at bytes.now) }

@@ -12,7 +12,8 @@ use crate::scan::{letters_end, value_end, white_end};
 use smallvec::SmallVec;
 use std::alloc::Global;
 
-/// Appends a value if all values before it were kept, and returns whether all are kept now.
+/// Appends `value` to `values` if `kept` says that all values before it are there. Returns whether
+/// all are there now: false if `kept` is false or memory was refused.
 fn keep_value<'a>(values: &mut SmallVec<Value<'a>, 1>, value: Value<'a>, kept: bool) -> bool
     ensures { result ≡ true → (kept ≡ true) × (map value_of values.new.items
         ≡ map value_of values.old.items ++ value_of value.entry ∷ []) }
@@ -26,10 +27,11 @@ fn keep_value<'a>(values: &mut SmallVec<Value<'a>, 1>, value: Value<'a>, kept: b
     }
 }
 
-/// Reads the property whose identifier begins at `from`, in the tree that begins at `at`. Returns
-/// it with the place after its values and the white bytes after them. The property is None if
-/// memory was refused for a value: the other values are read all the same, since any fault comes
-/// before out of memory.
+/// Reads the property whose identifier begins at `from`, in the tree that begins at `at`. Both are
+/// byte indices. Returns the property with the byte index after its values and the white space
+/// after them. The property is None if memory was refused for a value: the other values are read
+/// all the same, since a fault of syntax (`Truncated` or `NoValue`) is returned rather than out of
+/// memory.
 pub(crate) fn read_property<'a>(
     alloc: Global,
     bytes: &'a [u8],

@@ -49,7 +49,7 @@ impl<'a> Model for Trees<'a> {
     }) };
 }
 
-/// The first place from `from` on at which a tree begins, or None if none begins.
+/// Returns the first byte index from `from` on at which a tree begins, or None if none begins.
 fn next_tree_start(bytes: &[u8], from: usize) -> Option<usize>
     requires { from ≤ length bytes.now }
     ensures { MatchOption result (HasNoTree bytes.now from) (λ at. IsFirstBegin bytes.now from at) }
@@ -65,7 +65,8 @@ fn next_tree_start(bytes: &[u8], from: usize) -> Option<usize>
     None
 }
 
-/// The fault that each later call answers: None after out of memory, since memory may come free.
+/// Returns the fault that each later call is to return: `fault` itself, or None if it is out of
+/// memory, since memory may come free before that call.
 fn kept(fault: SgfFault) -> Option<SgfFault>
     ensures { result ≡ kept_fault fault }
 {
@@ -103,11 +104,11 @@ impl<'a> Trees<'a> {
     ///
     /// `Truncated` if the input ends within the next tree, `NoValue` if something else comes in
     /// place of an identifier's first value, and `BadByte` at any other byte that can't come where
-    /// it is. The reader keeps such a fault, and each later call answers the same.
+    /// it is. The reader keeps such a fault, and each later call returns it again.
     ///
     /// `Memory` if memory was refused for the tree's marks or for a property's values other than
-    /// its first: only if a tree is next, and never in place of a fault. The reader is then as it
-    /// was before the call, so the call may be tried again.
+    /// its first: only if a tree is next, and never in place of a fault of syntax. The reader is
+    /// then as it was before the call, so the call may be tried again.
     pub fn next_tree(&mut self, alloc: Global) -> Result<Option<Tree<'a>>, SgfFault>
         ensures tree { IfOk result (λ found. IfSome found (λ read. (tree : GameTree)
             × IsNextTree self.old.bytes self.old.from read.at read.end tree

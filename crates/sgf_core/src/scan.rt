@@ -7,7 +7,8 @@ ghost use Rattle.sgf_core.specs.Grammar.{is_value_text};
 
 use crate::bytes::{is_letter, is_white};
 
-/// The place from `from` on of the first byte that is not white, or the end.
+/// Returns the index of the first byte from `from` on that is not white space, or the length of
+/// `bytes` if there is none.
 pub(crate) fn white_end(bytes: &[u8], from: usize) -> usize
     requires { from ≤ length bytes.now }
     ensures within { (from ≤ result) × (result ≤ length bytes.now) }
@@ -21,7 +22,8 @@ pub(crate) fn white_end(bytes: &[u8], from: usize) -> usize
     place
 }
 
-/// The place from `from` on of the first byte that is no letter, or the end.
+/// Returns the index of the first byte from `from` on that is no letter, or the length of `bytes`
+/// if there is none.
 pub(crate) fn letters_end(bytes: &[u8], from: usize) -> usize
     requires { from ≤ length bytes.now }
     ensures within { (from ≤ result) × (result ≤ length bytes.now) }
@@ -35,7 +37,8 @@ pub(crate) fn letters_end(bytes: &[u8], from: usize) -> usize
     place
 }
 
-/// The place of the bracket that ends the value whose first byte is at `from`, if one ends it.
+/// Returns the index of the closing bracket that ends the value whose first byte is at `from`, or
+/// None if none ends it. A bracket that a backslash escapes does not.
 pub(crate) fn value_end(bytes: &[u8], from: usize) -> Option<usize>
     requires { from ≤ length bytes.now }
     ensures { MatchOption result

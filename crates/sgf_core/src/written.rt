@@ -8,9 +8,9 @@ use crate::lines::MainLine;
 use crate::marks::Mark;
 use std::marker::Model;
 
-/// A game tree, as SGF FF[4] has it: its bounds in the whole input, and its marks. It is read
-/// whole: a sequence of one or more nodes, then inner trees. Every `Tree` is some tree of the
-/// grammar, and its end comes after its beginning.
+/// A game tree, as SGF FF[4] has it: its bounds in the whole input, and its marks (parentheses,
+/// semicolons and properties). It is read whole: a sequence of one or more nodes, then inner trees.
+/// Every `Tree` is some tree of the grammar, and its end comes after its beginning.
 #[derive(Debug, Drop)]
 pub struct Tree<'a> {
     pub(crate) at: usize,
@@ -33,14 +33,14 @@ impl<'a> Model for Tree<'a> {
 }
 
 impl<'a> Tree<'a> {
-    /// The place of the tree's first parenthesis, a byte offset in the whole input, from 0.
+    /// The byte index, in the whole input, of the tree's first parenthesis.
     pub fn at(&self) -> usize
         ensures { result ≡ self.now.at }
     {
         self.at
     }
 
-    /// The place after the tree's last parenthesis, a byte offset in the whole input, from 0.
+    /// The byte index, in the whole input, after the tree's last parenthesis.
     pub fn end(&self) -> usize
         ensures { result ≡ self.now.end }
     {

@@ -24,7 +24,7 @@ impl Generator {
         Generator { state: 1 }
     }
 
-    /// Returns the next number: the last one times the constant, without what 64 bits don't hold.
+    /// Returns the next number: the last one times the constant, modulo 2^64.
     fn next(&mut self) -> u64
         ensures value { result ≡ next_of self.old.state }
         ensures kept { self.new.state ≡ result }
@@ -33,7 +33,7 @@ impl Generator {
         self.state
     }
 
-    /// Returns the word of the upper 51 bits of the next number: a square or a diamond.
+    /// Returns the word that is the upper 51 bits of the next number: a square or a diamond.
     pub fn word(&mut self) -> Word
         ensures value { result ≡ word_of (next_of self.old.state) }
         ensures kept { self.new.state ≡ next_of self.old.state }

@@ -33,8 +33,8 @@ fn times_asked(rt: &HostRuntime) -> Result<Option<u32>, BenchFault> {
     }
 }
 
-/// Looks at the results, so that none can be left out. It fails only if they have a value that
-/// results can't have.
+/// Uses the results, so that no computation can be optimized away. It fails only if they have a
+/// value that results can't have.
 fn look_at(made: &Made) -> Result<(), BenchFault>
     ensures passed { IsOk result → made.now.mixed ≢ 0 }
     ensures odd { made.now.mixed % 2 ≡ 1 → IsOk result }

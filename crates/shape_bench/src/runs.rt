@@ -12,8 +12,8 @@ use std::alloc::Global;
 pub struct Made {
     /// How many forms or plays the run made.
     pub count: u64,
-    /// All results mixed into one number, which is odd whatever they are. Since it is looked at, no
-    /// result can be left out.
+    /// All results mixed into one number, which is odd whatever they are. Since it is used, no
+    /// computation can be optimized away.
     pub mixed: u64,
 }
 
@@ -71,14 +71,14 @@ pub fn make_forms(count: u64) -> Made
     made
 }
 
-/// Plays this number of moves, of Black and White in turn, on a field of 19 columns and 19 rows
-/// that keeps squares and diamonds.
+/// Plays `count` moves, of Black and White in turn, on a field of 19 columns and 19 rows: a board
+/// that keeps the square and the diamond of each point.
 ///
 /// A move may go where a stone stands, and the board is never cleared. So it is soon as full as
 /// captures leave it, and if a move puts a stone in place of one of its own colour, no word
 /// changes.
 ///
-/// It takes memory for the field alone. `BoardFault::Memory` comes if memory is refused.
+/// It takes memory for the field alone. The error is `BoardFault::Memory` if memory is refused.
 pub fn make_plays(alloc: Global, count: u64) -> Result<Made, BoardFault>
     ensures count { IfOk result (λ made. made.count ≡ count) }
     ensures odd { IfOk result (λ made. made.mixed % 2 ≡ 1) }

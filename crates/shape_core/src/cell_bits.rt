@@ -6,7 +6,9 @@ use crate::diamond_bits::DIAMOND_BITS;
 use crate::square_bits::SQUARE_BITS;
 use crate::words::Kind;
 
-/// The bits of a cell in a word of this kind and its images: eight, in the order of `SQUARE_BITS`.
+/// Returns the two bits of a `cell` in each of the eight images of a word of this `kind`: in the
+/// word itself and in its image with rows for columns, in these two with left and right exchanged,
+/// with top and bottom exchanged, and with both.
 #[inline(always)]
 pub fn cell_bits(kind: Kind, cell: usize) -> &'static [u64; 8]
     requires { cell < 25 }

@@ -33,8 +33,8 @@ pub const DIAMOND_CELLS: [Away; 25] = [
                             (3, 6),
 ];
 
-/// How many cells a row of a pattern has to each side of the middle, and how many rows down it
-/// lies, with three added.
+/// A row of a pattern: how many cells it has to each side of the middle column, and how many rows
+/// below the middle it lies, with three added so that none is below 0.
 pub type AwayRow = (u8, u8);
 
 /// The rows of a square, from the top.
@@ -43,7 +43,8 @@ pub const SQUARE_ROWS: [AwayRow; 5] = [(2, 1), (2, 2), (2, 3), (2, 4), (2, 5)];
 /// The rows of a diamond, from the top.
 pub const DIAMOND_ROWS: [AwayRow; 7] = [(0, 0), (1, 1), (2, 2), (3, 3), (2, 4), (1, 5), (0, 6)];
 
-/// The point at this distance from a point, or None if that is off the board.
+/// Returns the point that lies `away` from `point`, or None if that is off the board. `away` has
+/// three added to its columns and rows, as `Away` says.
 pub fn reached(size: Size, point: Point, away: Away) -> Option<Point>
     requires on_board { IsOn size point }
     requires columns { away.0 ≤ 6 }
@@ -58,8 +59,8 @@ pub fn reached(size: Size, point: Point, away: Away) -> Option<Point>
     size.has(reached).then_some(reached)
 }
 
-/// The row of the points whose patterns have `point` in the row `down`, which has three added as in
-/// `AwayRow`. None if that is off the board.
+/// Returns the row of the board that has the points whose patterns have `point` in their row
+/// `down`: that many rows below the middle, with three added. None if that row is off the board.
 pub fn row_seeing(size: Size, point: Point, down: u8) -> Option<u8>
     requires on_board { IsOn size point }
     requires extent { IsExtent size }

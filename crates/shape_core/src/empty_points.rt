@@ -38,7 +38,8 @@ impl EmptyPoints {
         Ok(EmptyPoints { rows })
     }
 
-    /// Updates the empty points after a stone was set on a point, or the point was emptied.
+    /// Updates the set after `stone` was put on `point`, or after the point was emptied
+    /// (`Stone::Empty`).
     pub fn put(&mut self, point: Point, stone: Stone)
         requires { (size : Extent) × RowsOf size self.old.rows.items × IsOn size point }
         ensures follow { (size : Extent) → (position : Position) → IsExtent size →
@@ -54,7 +55,7 @@ impl EmptyPoints {
         }
     }
 
-    /// Updates the empty points after these points were emptied.
+    /// Updates the set after these `points` of the board were emptied.
     pub fn empty(&mut self, points: &[Point])
         requires { (size : Extent) × RowsOf size self.old.rows.items × All (IsOn size) points.now }
         ensures { (size : Extent) → (position : Position) → IsExtent size →

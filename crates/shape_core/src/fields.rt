@@ -8,8 +8,8 @@ use go_board::{Board, BoardFault, Colour, Played, Point, Replayable, Size, Stone
 use std::alloc::Global;
 use std::marker::Model;
 
-/// A board that keeps the pattern words of all its points, with marks on the points whose words
-/// have changed.
+/// A board that keeps the pattern words of all its points up to date. It marks the points whose
+/// words have changed since the last `move_changed`.
 ///
 /// All memory is taken by `new`, `with_kinds` and `copied`.
 #[derive(Drop)]
@@ -93,8 +93,8 @@ impl Field {
         })
     }
 
-    /// Another field with the same stones, words and marks, from which nothing was removed. It
-    /// takes memory for each point of the board.
+    /// Makes another field with the same stones, words and marked points, whose `removed` is empty.
+    /// It takes memory for each point of the board.
     ///
     /// # Errors
     ///
@@ -152,8 +152,8 @@ impl Field {
         self.empties.rows[usize::from(row)]
     }
 
-    /// The points that the last `play` emptied, each once; none before the first. `set` leaves
-    /// them.
+    /// The points that the last `play` emptied, each once; none before the first. `set` does not
+    /// change them.
     pub fn removed(&self) -> &[Point]
         ensures value { result.now ≡ self.now.board.removed }
         ensures board { IsBoard self.now.board }
@@ -181,9 +181,9 @@ impl Field {
         self.kept.diamonds[self.kept.size.index(point)].word()
     }
 
-    /// The canonical pattern of a point's square with this colour to move: the least of the eight
-    /// images that are kept, for White with the colours exchanged. The point is on the board. Takes
-    /// no memory.
+    /// Returns the canonical pattern of a point's square with `mover` to move: the least of its
+    /// word's eight images under the symmetries, for White after the colours are exchanged. The
+    /// point is on the board. Takes no memory.
     #[inline(always)]
     pub fn canonical(&self, point: Point, mover: Colour) -> Shape
         requires { IsOn self.now.board.size point }
@@ -194,8 +194,9 @@ impl Field {
         least_seen(self.kept.squares[self.kept.size.index(point)], mover)
     }
 
-    /// The canonical pattern of a point's diamond with this colour to move, as `canonical` for
-    /// squares. The point is on the board, and diamonds are kept. Takes no memory.
+    /// Returns the canonical pattern of a point's diamond with `mover` to move: the least of its
+    /// word's eight images under the symmetries, for White after the colours are exchanged. The
+    /// point is on the board, and diamonds are kept. Takes no memory.
     pub fn canonical_diamond(&self, point: Point, mover: Colour) -> Shape
         requires on_board { IsOn self.now.board.size point }
         requires kept { self.now.kinds ≡ Kinds.Both }
@@ -206,8 +207,9 @@ impl Field {
         least_seen(self.kept.diamonds[self.kept.size.index(point)], mover)
     }
 
-    /// Unmarks all points, and adds those that were marked to each of two sets. A set has a number
-    /// for each row, with a bit for each column, as the marks have.
+    /// Adds the marked points, whose words have changed since the last call, to both sets `first`
+    /// and `second`, and unmarks all points. A set has a number for each row of the board, with a
+    /// bit for each column.
     pub fn move_changed(&mut self, first: &mut [u64], second: &mut [u64])
         requires first { length first.old ≡ self.old.board.size.rows }
         requires second { length second.old ≡ self.old.board.size.rows }
@@ -222,9 +224,9 @@ impl Field {
     }
 
     /// Puts a stone on a point, or empties it, whatever stood there; nothing is captured. The point
-    /// is on the board. Each point of which a kept word changes is marked, and none that is more
-    /// than two columns or rows away, three if diamonds are kept; none at all if the stone was
-    /// there. Takes no memory.
+    /// is on the board. Each point of which a kept word changes is marked, and no point that is
+    /// more than two columns or rows away, three if diamonds are kept. No point is marked if
+    /// `stone` stood there already. Takes no memory.
     pub fn set(&mut self, point: Point, stone: Stone)
         requires { IsOn self.old.board.size point }
         ensures sets { SetsOn self.old.board point stone self.new.board }
@@ -243,9 +245,10 @@ impl Field {
 
     /// Plays a move, as the board does: the stone is placed, whatever stood there; then each group
     /// of the other colour that is next to it and has no liberty is removed; then its own group, if
-    /// that has none. The point is on the board. Each point of which a kept word changes is marked,
-    /// and none that is more than two columns or rows away, three if diamonds are kept, from the
-    /// move's point and all that it emptied. Takes no memory.
+    /// that has none. Returns how many stones were removed. The point is on the board. Each point
+    /// of which a kept word changes is marked, and no point that is more than two columns or rows
+    /// away, three if diamonds are kept, from the move's point and all that it emptied. Takes no
+    /// memory.
     pub fn play(&mut self, colour: Colour, point: Point) -> Played
         requires { IsOn self.old.board.size point }
         ensures plays { PlaysOn self.old.board colour point self.new.board result }

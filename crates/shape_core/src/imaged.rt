@@ -1,4 +1,4 @@
-//! Words kept beside their images, so that the least of them is at hand.
+//! Pattern words together with their images under the symmetries, so that the least is at hand.
 ghost use Rattle.std.specs.Prelude.{◌≡◌, ◌<◌, ℕ, [], ◌∷◌, bit_and, bit_xor};
 ghost use Rattle.shape_core.specs.Inner.Word.{with_change};
 ghost use Rattle.shape_core.specs.Symmetry.{least_image, exchange_of};
@@ -42,10 +42,12 @@ impl Model for ImagedWord {
     } };
 }
 
-/// The number with code 1 in each of the 25 cells. Times a code, it has that code in each.
+/// The number with code 1 in each of the 25 cells. Multiplied by a code, it has that code in each
+/// cell.
 const ONES: u64 = 0x1555555555555;
 
-/// In each lane, the word with its codes changed by exclusive or in the cells of these bits.
+/// Changes both words (one in each lane of the vector) by exclusive or with `changes`, but only in
+/// the bits that are set in `bits`.
 fn changed(words: u64x2, bits: u64x2, changes: u64x2) -> u64x2
     ensures { (a b m n p : ℕ) → words ≡ a ∷ b ∷ [] → bits ≡ m ∷ n ∷ [] → changes ≡ p ∷ p ∷ []
         → result ≡ bit_xor a (bit_and p m) ∷ bit_xor b (bit_and p n) ∷ [] }

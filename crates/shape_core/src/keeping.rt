@@ -1,5 +1,5 @@
-//! Updates kept words as a stone changes: one code in each word that has the point among its cells,
-//! and the marks.
+//! Updates the pattern words of a board as a stone changes: one code in each word that has the
+//! point among its cells, and the marks of the points whose words change.
 ghost use Rattle.std.specs.Prelude.{◌≡◌, ◌<◌, ◌≤◌, ◌+◌, ◌*◌, ◌^◌, ◌⊎◌, ℕ, length, map, slice_index};
 ghost use Rattle.std.specs.Prelude.{◌-◌, bit_xor, All, [], ◌∷◌, true};
 ghost use Rattle.std.specs.List.{list_all};
@@ -23,9 +23,9 @@ use crate::imaged::ImagedWord;
 use crate::marks::mark_run;
 use go_board::{Point, Size};
 
-/// Changes the code of one cell in each word of a row, from column `left` on and before column
-/// `end`. The cell is one earlier than in the column to the left: in column 0 it would be the cell
-/// `last`.
+/// Changes the code of one cell, by exclusive or with `change`, in the word of each point of a
+/// `row` of the board, from column `left` on and before column `end`. In column c it is the cell
+/// `last - c`, one cell earlier with each step to the right.
 fn recode_run(
     size: Size,
     words: &mut [ImagedWord],
@@ -58,9 +58,10 @@ fn recode_run(
     }
 }
 
-/// Changes the code of `point`, by exclusive or, in each word that has it in this row of cells, and
-/// marks the points of these words. `first` is the first cell of the row. The further right a point
-/// lies, the earlier the cell in which its word has `point`.
+/// Changes the code of `point`, by exclusive or with `change`, in each word that has `point` in
+/// this `row` of the pattern, and marks in `changed` the points of these words. `first` is the
+/// number of the first cell of the pattern's row. The further right a point lies, the earlier the
+/// cell in which its word has `point`.
 fn recode_row(
     size: Size,
     words: &mut [ImagedWord],
@@ -105,8 +106,10 @@ fn recode_row(
     }
 }
 
-/// Updates the words after a stone was placed at a point, which changed its code by `change`. Each
-/// point that has it in a cell of these rows has that cell's code changed, and is marked.
+/// Updates the `words` of all points after a stone was put on `point` or removed, which changed the
+/// point's code by exclusive or with `change`. `rows` are the rows of the pattern. In each word
+/// that has `point` among its cells that cell's code is changed, and the word's point is marked in
+/// `changed`.
 pub fn recode(
     size: Size,
     words: &mut [ImagedWord],

@@ -1,5 +1,5 @@
-//! The words of all points of a board, kept as stones change, and the marks of the points whose
-//! words have changed.
+//! The words of all points of a board, kept up to date as stones change, and the marks of the
+//! points whose words have changed.
 ghost use Rattle.std.specs.Prelude.{◌≡◌, ◌<◌, ◌*◌, ◌%◌, ◌/◌, ℕ, length, slice_index, IfOk, All};
 ghost use Rattle.std.specs.Prelude.{[], ◌∷◌};
 ghost use Rattle.go_board.specs.declared.points.Point.{Point};
@@ -21,7 +21,7 @@ use std::alloc::{AllocError, Global};
 /// The cell in the middle of a pattern, of either kind.
 const MIDDLE: usize = 12;
 
-/// The words of a board's points, and the marks of those that have changed.
+/// The words of a board's points, and the marks of the points whose words have changed.
 #[derive(Drop)]
 pub struct KeptWords {
     pub size: Size,
@@ -38,7 +38,8 @@ pub struct KeptWords {
 impl KeptWords {
     ghost use Rattle.shape_core.specs.Inner.Keeping.{HasRoom, Follows, Changes};
 
-    /// The words of a board as it is, with no mark. It takes memory for each point of the board.
+    /// Computes the words of these `kinds` of all points of `board` as it is, with no point marked.
+    /// It takes memory for each point of the board; `AllocError` if that is refused.
     pub fn new(alloc: Global, board: &Board, kinds: Kinds) -> Result<KeptWords, AllocError>
         ensures size { IfOk result (λ kept. kept.size ≡ board.now.size) }
         ensures kinds { IfOk result (λ kept. kept.kinds ≡ kinds) }
@@ -62,7 +63,8 @@ impl KeptWords {
         })
     }
 
-    /// A copy of the words and marks. It takes memory for each point of the board.
+    /// Makes a copy of the words and of the marks of changed points. It takes memory for each point
+    /// of the board.
     pub fn copied(&self, alloc: Global) -> Result<KeptWords, AllocError>
         requires room { HasRoom self.now }
         ensures size { IfOk result (λ kept. kept.size ≡ self.now.size) }
@@ -136,7 +138,7 @@ impl KeptWords {
     }
 }
 
-/// A list of these items.
+/// Copies these `items` into a new list. It takes memory for them; `AllocError` if that is refused.
 fn list_of<T: Copy>(alloc: Global, items: &[T]) -> Result<Vec<T>, AllocError>
     ensures { IfOk result (λ list. list.items ≡ items.now) }
 {

@@ -1,4 +1,5 @@
-//! The cells of two words of one kind moved at once, each word in a lane of a vector.
+//! Symmetries and the exchange of colours for two words of one kind at once. Each word is in one
+//! lane of a vector, that is, one of its two numbers.
 ghost use Rattle.std.specs.Prelude.{◌≡◌, ◌<◌, ◌*◌, ◌/◌, ◌%◌, ◌^◌, ℕ, [], ◌∷◌, bit_and, bit_or, bit_xor, min};
 ghost use Rattle.shape_core.specs.Word.{kind_of};
 ghost use Rattle.shape_core.specs.Symmetry.{image_of, exchange_of};
@@ -8,8 +9,8 @@ ghost use Rattle.shape_core.specs.declared.symmetries.Symmetry.TheVariants as sy
 use crate::words::Kind;
 use std::simd::prelude::*;
 
-/// In each lane, the bits of the mask exchanged with those `places` places above them, without any
-/// other bit.
+/// Exchanges, in each of the two words, the bits that are set in `mask` with the bits that are
+/// `places` positions above them. All other bits of the result are 0.
 fn swapped(words: u64x2, mask: u64, places: u64) -> u64x2
     requires { places < 64 }
     ensures { (a b : ℕ) → words ≡ a ∷ b ∷ [] → result
@@ -21,7 +22,7 @@ fn swapped(words: u64x2, mask: u64, places: u64) -> u64x2
     ((words & masks) << shifts) | ((words >> shifts) & masks)
 }
 
-/// Squares, with column c in column 4 - c.
+/// Mirrors two words of squares: column c moves to column 4 - c.
 fn square_left_right(words: u64x2) -> u64x2
     ensures { (a b : ℕ) → words ≡ a ∷ b ∷ [] → a < 2 ^ 51 → b < 2 ^ 51
         → kind_of a ≡ kind.Square → kind_of b ≡ kind.Square
@@ -32,7 +33,7 @@ fn square_left_right(words: u64x2) -> u64x2
         | swapped(words, 0x300c0300c03, 8)
 }
 
-/// Squares, with row r in row 4 - r.
+/// Mirrors two words of squares: row r moves to row 4 - r.
 fn square_top_bottom(words: u64x2) -> u64x2
     ensures { (a b : ℕ) → words ≡ a ∷ b ∷ [] → a < 2 ^ 51 → b < 2 ^ 51
         → kind_of a ≡ kind.Square → kind_of b ≡ kind.Square
@@ -41,7 +42,8 @@ fn square_top_bottom(words: u64x2) -> u64x2
     (words & u64x2::splat(0x3ff00000)) | swapped(words, 0xffc00, 20) | swapped(words, 0x3ff, 40)
 }
 
-/// Diamonds, with each cell left of the middle as far to its right.
+/// Mirrors two words of diamonds: each cell moves to the other side of the middle column, as far
+/// from it as before.
 fn diamond_left_right(words: u64x2) -> u64x2
     ensures { (a b : ℕ) → words ≡ a ∷ b ∷ [] → a < 2 ^ 51 → b < 2 ^ 51
         → kind_of a ≡ kind.Diamond → kind_of b ≡ kind.Diamond
@@ -53,7 +55,8 @@ fn diamond_left_right(words: u64x2) -> u64x2
         | swapped(words, 0xc0000, 12)
 }
 
-/// Diamonds, with each cell above the middle as far below it.
+/// Mirrors two words of diamonds: each cell moves to the other side of the middle row, as far from
+/// it as before.
 fn diamond_top_bottom(words: u64x2) -> u64x2
     ensures { (a b : ℕ) → words ≡ a ∷ b ∷ [] → a < 2 ^ 51 → b < 2 ^ 51
         → kind_of a ≡ kind.Diamond → kind_of b ≡ kind.Diamond
@@ -65,7 +68,7 @@ fn diamond_top_bottom(words: u64x2) -> u64x2
         | swapped(words, 0x3, 48)
 }
 
-/// Words of a kind, with left and right exchanged.
+/// Returns two words of this `kind` with left and right exchanged.
 pub fn left_right(words: u64x2, kind: Kind) -> u64x2
     ensures { (a b : ℕ) → words ≡ a ∷ b ∷ [] → a < 2 ^ 51 → b < 2 ^ 51
         → kind_of a ≡ kind → kind_of b ≡ kind
@@ -77,7 +80,7 @@ pub fn left_right(words: u64x2, kind: Kind) -> u64x2
     }
 }
 
-/// Words of a kind, with top and bottom exchanged.
+/// Returns two words of this `kind` with top and bottom exchanged.
 pub fn top_bottom(words: u64x2, kind: Kind) -> u64x2
     ensures { (a b : ℕ) → words ≡ a ∷ b ∷ [] → a < 2 ^ 51 → b < 2 ^ 51
         → kind_of a ≡ kind → kind_of b ≡ kind
@@ -89,7 +92,8 @@ pub fn top_bottom(words: u64x2, kind: Kind) -> u64x2
     }
 }
 
-/// The lower bit of each cell whose two bits differ.
+/// Returns, for each of the two words, the lower bit of each cell whose two bits differ. All other
+/// bits are 0.
 fn differing(words: u64x2) -> u64x2
     ensures { (a b : ℕ) → words ≡ a ∷ b ∷ [] → result
         ≡ bit_and (bit_xor a (a / 2 ^ 1)) 0x1555555555555
@@ -98,8 +102,8 @@ fn differing(words: u64x2) -> u64x2
     (words ^ (words >> u64x2::splat(1))) & u64x2::splat(0x1555555555555)
 }
 
-/// Words with black for white and white for black: the two bits of each cell exchanged, each
-/// changed if they differ.
+/// Returns two words with black for white and white for black. The two bits of a cell are
+/// exchanged: both are flipped if they differ.
 pub fn exchanged(words: u64x2) -> u64x2
     ensures { (a b : ℕ) → words ≡ a ∷ b ∷ [] → a < 2 ^ 51 → b < 2 ^ 51
         → result ≡ exchange_of a ∷ exchange_of b ∷ [] }
@@ -108,9 +112,9 @@ pub fn exchanged(words: u64x2) -> u64x2
     words ^ lower ^ (lower + lower)
 }
 
-/// In each lane, the lesser of two words below 2^51. If the first is less, the difference wraps and
-/// has the top bit set. One instruction selects by that bit alone, where comparing numbers without
-/// a sign takes several.
+/// Returns, for each of the two lanes, the lesser of the word in `words` and the word in `others`.
+/// All words are below 2^51. If the first is less, the difference wraps and has the top bit set.
+/// One instruction selects by that bit alone, where comparing numbers without a sign takes several.
 pub fn lesser(words: u64x2, others: u64x2) -> u64x2
     ensures { (a b c d : ℕ) → words ≡ a ∷ b ∷ [] → others ≡ c ∷ d ∷ []
         → a < 2 ^ 51 → b < 2 ^ 51 → c < 2 ^ 51 → d < 2 ^ 51

@@ -1,4 +1,5 @@
-//! Marks of points: for each row a number with a bit for each column.
+//! Marks of points whose words have changed: for each row of the board a number with a bit for each
+//! column.
 ghost use Rattle.std.specs.Prelude.{◌≡◌, ◌<◌, ◌≤◌, length, slice_index};
 ghost use Rattle.std.specs.Prelude.{◌⊎◌, EachIndex};
 ghost use Rattle.go_board.specs.declared.points.Point.{Point};
@@ -7,7 +8,7 @@ ghost use Rattle.shape_core.specs.Field.{IsMarked, AreJoined};
 ghost use Rattle.shape_core.specs.KeptLists.{AreMarks};
 ghost use Rattle.shape_core.specs.Inner.Table.{IsInRun};
 
-/// Marks the points of a row, from column `left` on and before column `end`.
+/// Marks in `changed` the points of a `row` from column `left` on and before column `end`.
 pub fn mark_run(changed: &mut [u64], row: u8, left: u8, end: u8)
     requires row { row < length changed.old }
     requires columns { left ≤ end }
@@ -22,7 +23,8 @@ pub fn mark_run(changed: &mut [u64], row: u8, left: u8, end: u8)
     changed[usize::from(row)] |= (1 << end) - (1 << left);
 }
 
-/// Adds all marks to each of two sets, and clears them.
+/// Adds the points that are marked in `changed` to both sets `first` and `second`, and unmarks
+/// them. All three have a number for each row of the board, with a bit for each column.
 pub fn move_marks(changed: &mut [u64], first: &mut [u64], second: &mut [u64])
     requires first { length first.old ≡ length changed.old }
     requires second { length second.old ≡ length changed.old }

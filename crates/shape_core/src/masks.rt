@@ -1,4 +1,4 @@
-//! The cells of words moved by masks and shifts, for both kinds of pattern.
+//! Symmetries and the exchange of colours for one word of either kind, by masks and shifts.
 ghost use Rattle.std.specs.Prelude.{◌≡◌, ◌<◌, ◌≤◌, ◌^◌, ◌*◌, ◌/◌, ◌%◌, bit_and, bit_or};
 ghost use Rattle.shape_core.specs.Symmetry.{image_of, exchange_of};
 ghost use Rattle.shape_core.specs.Word.{kind_of};
@@ -8,7 +8,8 @@ use crate::lanes;
 use crate::words::{DIAMOND, Kind};
 use std::simd::prelude::*;
 
-/// The bits of the mask exchanged with those `places` places above them, without any other bit.
+/// Exchanges the bits of `word` that are set in `mask` with the bits that are `places` positions
+/// above them. All other bits of the result are 0.
 fn swapped(word: u64, mask: u64, places: u32) -> u64
     requires { places < 64 }
     ensures { result
@@ -17,7 +18,7 @@ fn swapped(word: u64, mask: u64, places: u32) -> u64
     ((word & mask) << places) | ((word >> places) & mask)
 }
 
-/// A square, with rows for columns and columns for rows.
+/// Returns the word of a square with rows and columns exchanged.
 fn square_diagonal(word: u64) -> u64
     requires { word < 2 ^ 50 }
     ensures { result ≡ image_of symmetry.FallingDiagonal word }
@@ -29,7 +30,7 @@ fn square_diagonal(word: u64) -> u64
         | swapped(word, 0x300, 32)
 }
 
-/// A diamond, with rows for columns and columns for rows.
+/// Returns the word of a diamond with rows and columns exchanged.
 fn diamond_diagonal(word: u64) -> u64
     requires low { 2 ^ 50 ≤ word }
     requires high { word < 2 ^ 51 }

@@ -1,4 +1,5 @@
-//! Shapes: the words that are the least of their eight images.
+//! Shapes: canonical patterns, the words that are the least of their eight images under the
+//! symmetries.
 ghost use Rattle.std.specs.Prelude.{◌≡◌, ◌<◌, ◌^◌, SomeIff};
 ghost use Rattle.shape_core.specs.Symmetry.{least_image, canonical_of};
 
@@ -7,8 +8,9 @@ use crate::words::Word;
 use go_board::Colour;
 use std::marker::Model;
 
-/// A pattern, the same under all symmetries and for either mover: a word that is the least of its
-/// eight images.
+/// A canonical pattern: one word that stands for a pattern under all eight symmetries of the
+/// square, and for either colour to move (with White to move, the colours are exchanged first). It
+/// is the least of its eight images.
 #[derive(Clone, Copy, Debug, PartialEq, Eq, PartialOrd, Ord)]
 pub struct Shape {
     word: Word,
@@ -50,15 +52,16 @@ impl Shape {
     }
 }
 
-/// The shape of a word with this colour to move: the least of the eight images, for White of the
-/// word with the colours exchanged. Takes no memory.
+/// Returns the canonical pattern of a word with `mover` to move: the least of the word's eight
+/// images under the symmetries, for White after the colours are exchanged. Takes no memory.
 pub fn canonical(word: Word, mover: Colour) -> Shape
     ensures { result ≡ canonical_of word mover }
 {
     least_seen(ImagedWord::new(word), mover)
 }
 
-/// The shape of a word that is kept beside its images, with this colour to move.
+/// Returns the canonical pattern of a word that comes with its images, with `mover` to move: the
+/// least of the images, for White after the colours are exchanged.
 #[inline(always)]
 pub fn least_seen(word: ImagedWord, mover: Colour) -> Shape
     ensures { result ≡ canonical_of word mover }

@@ -12,7 +12,7 @@ pub enum GlyphFault {
     /// There are not 25 bytes.
     #[error("H2 bad length")]
     BadLength,
-    /// The byte at this place, from 0, is no glyph; all before it are.
+    /// The byte at this index, counted from 0, is no glyph; all bytes before it are glyphs.
     #[error("H1 bad glyph at {0}")]
     BadGlyph(usize),
 }
@@ -54,7 +54,9 @@ fn code(glyph: u8) -> Option<u8>
     }
 }
 
-/// The sum over 25 cells with these glyphs: each cell's code times 4 to the power of its number.
+/// Returns the sum over 25 cells with these glyphs: each cell's code times 4 to the power of the
+/// cell's number. `BadLength` if there are not 25 bytes, else `BadGlyph` at the first byte that is
+/// no glyph.
 fn sum_of_glyphs(bytes: &[u8]) -> Result<u64, GlyphFault>
     ensures ok { IfOk result (λ sum. (sum < 2 ^ 50) × (glyphs_of sum ≡ bytes.now)) }
     ensures found { (sum : ℕ) → sum < 2 ^ 50 → glyphs_of sum ≡ bytes.now → result ≡ Ok sum }

@@ -1,4 +1,4 @@
-//! The words of the points of a board.
+//! Computes the pattern words of the points of a board.
 ghost use Rattle.std.specs.Prelude.{◌≡◌, ◌<◌, ◌≤◌, ◌^◌, length, map, All};
 ghost use Rattle.go_board.specs.Point.{IsOn};
 ghost use Rattle.go_board.specs.Board.{position_of};
@@ -32,7 +32,8 @@ pub fn diamond(board: &Board, point: Point) -> Word
     Word::of_bits(DIAMOND + sum_around(board, point, &DIAMOND_CELLS))
 }
 
-/// The sum over these cells round a point: each cell's code times 4 to the power of its number.
+/// Returns the sum over these `cells` round `point`: each cell's code times 4 to the power of the
+/// cell's index.
 fn sum_around(board: &Board, point: Point, cells: &[Away; 25]) -> u64
     requires on_board { IsOn board.now.size point }
     requires columns { All (λ away. away.0 ≤ 6) cells.now }
@@ -51,7 +52,8 @@ fn sum_around(board: &Board, point: Point, cells: &[Away; 25]) -> u64
     sum
 }
 
-/// The code of the cell at this distance from a point.
+/// Returns the code of the cell that lies `away` from `point`, which is `OFF_BOARD` if no point of
+/// the board lies there.
 fn code_away(board: &Board, point: Point, away: Away) -> u8
     requires on_board { IsOn board.now.size point }
     requires columns { away.0 ≤ 6 }
@@ -64,7 +66,7 @@ fn code_away(board: &Board, point: Point, away: Away) -> u8
     }
 }
 
-/// The code of a stone.
+/// Returns the code of a stone in pattern words: 0 for empty, 1 for black, 2 for white.
 pub fn code_of(stone: Stone) -> u8
     ensures value { result ≡ stone_code stone }
     ensures small { result < 3 }

@@ -11,7 +11,7 @@ pub enum Kind {
     Diamond,
 }
 
-/// Which kinds are kept or counted.
+/// The kinds of pattern whose words a board keeps, or that are counted.
 #[derive(Clone, Copy, Debug, PartialEq, Eq)]
 pub enum Kinds {
     /// Squares alone.
@@ -20,7 +20,8 @@ pub enum Kinds {
     Both,
 }
 
-/// The word of a pattern: below 2^50 that of a square, from there to 2^51 that of a diamond.
+/// The word of a pattern: below 2^50 it is that of a square, from 2^50 on and below 2^51 that of a
+/// diamond.
 ///
 /// It is the sum over its 25 cells of the cell's code times 4 to the power of the cell's number,
 /// and 2^50 more for a diamond. Codes are 0 for empty, 1 for black, 2 for white and 3 for off the
@@ -42,7 +43,7 @@ impl Model for Word {
     ghost inverse = { λ n. record { bits = n } };
 }
 
-/// What the word of a diamond has added to the sum over its cells.
+/// The number that the word of a diamond has added to the sum over its cells.
 pub const DIAMOND: u64 = 1 << 50;
 
 impl Word {

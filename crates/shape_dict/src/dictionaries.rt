@@ -52,11 +52,11 @@ impl Dictionary {
     ghost use Rattle.shape_dict.specs.Contents.{IsDictionary, entry_of};
     ghost use Rattle.shape_dict.specs.Join.{IsJoin, IsOverflow, IsJoinFault};
 
-    /// A dictionary of these games, moves and entries. The words rise, each pattern was there once
-    /// or more and was played at most as often, and its first game, if that is known, is below
-    /// `games`. The plays of the squares add up to the moves, and so do those of the diamonds if
-    /// they are counted; if they are not, there is no diamond. With no games there are no moves. It
-    /// takes no memory.
+    /// Makes a dictionary from its numbers of games and of moves and its entries. The entries'
+    /// words must rise, each pattern must have been there once or more and played at most as often,
+    /// and its first game, if that is known, must be below `games`. The squares must have been
+    /// played `moves` times in all, and so must the diamonds if `counts_diamonds`; else no entry
+    /// may be a diamond. With no games there are no moves. It takes no memory.
     pub fn new(games: u64, moves: u64, entries: Vec<Entry>, counts_diamonds: bool) -> Dictionary
         requires { IsDictionary (record {
           games = games;
@@ -108,8 +108,9 @@ impl Dictionary {
         self.counts_diamonds
     }
 
-    /// Turns it into a `PieceDictionary` whose patterns are in one list. It takes memory for the
-    /// list of this one list, and moves no pattern.
+    /// Turns the dictionary into a `PieceDictionary`, which can have its entries in several lists:
+    /// here they are in one. It takes memory for the outer list of that one list, and copies no
+    /// entry.
     ///
     /// # Errors
     ///
@@ -129,14 +130,15 @@ impl Dictionary {
         find_entry(self.entries.as_slice(), shape)
     }
 
-    /// Joins two dictionaries into a new one: the games of the right one follow those of the left,
-    /// and all counts are sums. A pattern of the left keeps its first game there, known or not. A
-    /// pattern of the right alone keeps its own, numbered after the left's games.
+    /// Joins two dictionaries into a new one: the games of `right` follow those of `left`, and all
+    /// counts are sums. A pattern that `left` has keeps its first game from there, known or
+    /// unknown. A pattern that `right` alone has keeps its first game, with the number of `left`'s
+    /// games added to it.
     ///
     /// # Errors
     ///
     /// `MixedKinds` exactly if one counts diamonds and the other does not. Else `Overflow` if a sum
-    /// is over 2^64 - 1, and `Memory` if memory was refused, which is asked for only if the sum of
+    /// is over 2^64 - 1, and `Memory` if memory was refused. Memory is asked for only if the sum of
     /// the games and that of the moves are 2^64 - 1 at most. Both dictionaries stay as they are.
     pub fn join(
         alloc: Global,
@@ -157,12 +159,12 @@ impl Dictionary {
         Ok(Dictionary::new(games, moves, entries, left.counts_diamonds()))
     }
 
-    /// Appends one of the dictionary's three texts to `out`. Text 1 has the squares, text 2 has the
-    /// diamonds too, and text 3 has first games besides.
+    /// Appends the text of the dictionary that `text` names to `out`. Text 1 has the squares,
+    /// text 2 has the diamonds too, and text 3 has first games besides.
     ///
     /// # Errors
     ///
-    /// `Memory` if memory for the text was refused: the bytes are then as they were.
+    /// `Memory` if memory for the text was refused: `out` is then as it was.
     pub fn write(&self, text: Text, out: &mut Vec<u8>) -> Result<(), DictFault>
         ensures ok { OnOk result (out.new.items ≡ out.old.items ++ text_of text self.now) }
         ensures err { IfErr result (λ found. (found ≡ fault.Memory)
@@ -177,9 +179,9 @@ impl Dictionary {
     }
 }
 
-/// How many squares a dictionary has, and how many diamonds if they are counted. A dictionary that
-/// does not count them has squares alone, so its entries need no look; else one look at each is
-/// enough, as the diamonds are the rest.
+/// Returns how many squares a dictionary has, and how many diamonds, or None if it does not count
+/// them. If it does not, all entries are squares, and none is looked at. Else the squares are
+/// counted in one pass over the entries, and the rest are diamonds.
 fn counts_of(dictionary: &Dictionary) -> (u64, Option<u64>)
     ensures squares { result.0 ≡ length (squares_of dictionary.now.entries) }
     ensures diamonds { result.1

@@ -16,8 +16,9 @@ impl Entry {
     ghost use Rattle.std.specs.Prelude.{◌≡◌, ◌+◌, ◌^◌, ◌≤◌, ◌⊎◌, IfSome, IfNone, IsSomeAnd};
     ghost use Rattle.shape_dict.specs.Merging.{moved_entry, summed_entry};
 
-    /// The entry with its first game, if that is known, numbered after this many more games. None
-    /// if that number would pass 2^64 - 2. It takes no memory.
+    /// Returns the entry with `games` added to the number of its first game, as if so many games
+    /// came before. An unknown first game stays unknown. None if the number would pass 2^64 - 2. It
+    /// takes no memory.
     #[inline(always)]
     pub fn moved(self, games: u64) -> Option<Entry>
         ensures some { IfSome result (λ moved. moved ≡ moved_entry games self) }
@@ -27,8 +28,9 @@ impl Entry {
         Some(Entry { first, ..self })
     }
 
-    /// The entry with the counts of a later entry of the same pattern added. Its first game stays.
-    /// None if a count would pass 2^64 - 1. It takes no memory.
+    /// Returns the entry with the counts of `later`, an entry of the same pattern, added to its
+    /// own. The first game stays that of `self`. None if a count would pass 2^64 - 1. It takes no
+    /// memory.
     #[inline(always)]
     pub fn with(self, later: Entry) -> Option<Entry>
         ensures some { IfSome result (λ both. both ≡ summed_entry self later) }
@@ -45,7 +47,8 @@ impl Entry {
     }
 }
 
-/// The texts of a dictionary: of its squares, of squares and diamonds, and with first games.
+/// The three text formats of a dictionary: 1 lists the squares, 2 lists the diamonds too, and 3
+/// gives the first game of each pattern besides.
 #[derive(Clone, Copy, Debug, PartialEq, Eq)]
 pub enum Text {
     One,

@@ -1,4 +1,5 @@
-//! Reads the entry of a text's next line, and judges it by its place and by the shape before it.
+//! Reads the next entry of a text, and checks it by how many entries and which shape came before
+//! it.
 ghost use Rattle.std.specs.Prelude.{◌≡◌, ◌++◌, ◌<◌, ◌^◌, IfOk, IfErr, MatchBool};
 ghost use Rattle.shape_core.specs.Symmetry.{least_image};
 ghost use Rattle.shape_dict.specs.Text.{line_text};
@@ -12,7 +13,7 @@ use crate::lines::read_line;
 use crate::quick::quick_entry;
 use shape_core::{Shape, Word};
 
-/// Whether a word is above that of the last shape, if there is one.
+/// Whether `word` is above the word of `last`, or there is no last shape.
 fn is_above(last: Option<Shape>, word: Word) -> bool
     ensures { MatchBool result (IsAbove last word) (IsAbove last word → ⊥) }
 {
@@ -22,8 +23,9 @@ fn is_above(last: Option<Shape>, word: Word) -> bool
     }
 }
 
-/// Reads the line at the front of the bytes, whatever its form, and returns its entry and the bytes
-/// after it, or what is wrong with it.
+/// Reads the line at the front of the bytes, whose numbers may also have more than 18 digits.
+/// Returns its entry and the bytes after it, or what is wrong with it. `place` is how many entries
+/// came before it, and `last` the shape of the last of them.
 #[inline(never)]
 fn slow_entry<'a>(
     header: &Header,
@@ -62,10 +64,10 @@ fn slow_entry<'a>(
 ///
 /// # Errors
 ///
-/// `BadLine` if the bytes don't begin with a well-formed line, or if such a line can't stand at
-/// this place of a dictionary with this header; else `NotRising` if its word is not above `last`;
-/// else `NotCanonical` if its word is not the least of its images under symmetries and exchange of
-/// colours.
+/// `BadLine` if the bytes don't begin with a well-formed line, or if its kind, counts or first game
+/// can't come after `place` entries in a dictionary with this header; else `NotRising` if its word
+/// is not above `last`; else `NotCanonical` if its word is not the least of its images under
+/// symmetries and exchange of colours.
 #[inline(always)]
 pub fn read_entry<'a>(
     header: &Header,

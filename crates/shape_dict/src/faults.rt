@@ -11,16 +11,18 @@ pub enum DictFault {
     /// The input does not begin with a header.
     #[error("X1 bad header")]
     BadHeader,
-    /// A line is missing or is none that its place may have, or bytes follow the text.
+    /// The line of this number is missing, is not well-formed or can't come there, or bytes follow
+    /// the text.
     #[error("X2 bad line {0}")]
     BadLine(u64),
     /// A line's word is not above that of the line before.
     #[error("X3 not rising at line {0}")]
     NotRising(u64),
-    /// A line's word is not the least of its images.
+    /// A line's word is not the least of its images under symmetries and exchange of colours.
     #[error("X4 not canonical at line {0}")]
     NotCanonical(u64),
-    /// The plays do not add up to the moves, or there are moves and no games.
+    /// The patterns were not played as often, in all, as there are moves, or there are moves and no
+    /// games.
     #[error("X5 wrong totals")]
     WrongTotals,
     /// Memory was refused.

@@ -3,10 +3,11 @@ ghost use Rattle.std.specs.Prelude.{◌≡◌, ◌+◌, ◌^◌, ◌<◌, IfSome
 
 use std::marker::Model;
 
-/// The game that had a pattern first, if it is known: one more than the game, or 0. It takes half
-/// the memory of an `Option<u64>`, and a dictionary has one for each pattern.
+/// The game that had a pattern first, if it is known. It is stored as one more than the game's
+/// number, or 0 if it is unknown: that takes half the memory of an `Option<u64>`, and a dictionary
+/// has one for each pattern.
 ///
-/// Contracts see the game, or None.
+/// Contracts see the game's number, or None.
 #[derive(Clone, Copy, Debug, PartialEq, Eq)]
 pub struct FirstGame {
     above: u64,
@@ -27,7 +28,8 @@ impl FirstGame {
     ghost use Rattle.std.specs.Prelude.{◌≡◌, ◌+◌, ◌^◌, ◌<◌, ◌≤◌, IfSome, IfNone, IsSomeAnd};
     ghost use Rattle.std.specs.Option.{option_map};
 
-    /// The first game with this number, which must be below 2^64 - 1, or an unknown one for None.
+    /// Makes a first game from its number, which must be below 2^64 - 1, or an unknown one from
+    /// None.
     pub fn new(game: Option<u64>) -> FirstGame
         requires { IfSome game (λ game. game + 1 < 2 ^ 64) }
         ensures { result ≡ game }
@@ -49,8 +51,8 @@ impl FirstGame {
         }
     }
 
-    /// The game renumbered after this many more games, or None if its number would pass 2^64 - 2.
-    /// An unknown game stays unknown.
+    /// Returns the first game with `games` added to its number, or None if the sum would pass
+    /// 2^64 - 2. An unknown game stays unknown.
     pub fn moved(self, games: u64) -> Option<FirstGame>
         ensures some { IfSome result (λ first. first ≡ option_map (λ game. game + games) self) }
         ensures none { IfNone result (IsSomeAnd self (λ game. 2 ^ 64 ≤ game + games + 1)) }

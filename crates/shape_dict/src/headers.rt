@@ -22,7 +22,8 @@ pub struct Header {
     pub diamonds: Option<u64>,
 }
 
-/// Reads which of the three texts begins here, and returns it with the bytes after that.
+/// Reads the first words of a header, up to its number of games. Returns which of the three texts
+/// they begin, with the bytes after them, or None if they begin none.
 fn front(bytes: &[u8]) -> Option<(Text, &[u8])>
     ensures found { IfSome result (λ p. bytes.now ≡ front_text p.0 ++ p.1.now) }
     ensures only { (text : Kind) → (left : List ℕ) → bytes.now ≡ front_text text ++ left
@@ -38,7 +39,8 @@ fn front(bytes: &[u8]) -> Option<(Text, &[u8])>
     Some((Text::Three, rest))
 }
 
-/// Reads the numbers of games and of moves, and returns them with the bytes after them.
+/// Reads the numbers of games and of moves, and returns them with the bytes after them. None if the
+/// bytes begin otherwise, or a number is over 2^64 - 1.
 fn games_and_moves(bytes: &[u8]) -> Option<(u64, u64, &[u8])>
     ensures found { IfSome result (λ p. (bytes.now
         ≡ decimal p.0 ++ (codes " moves " ++ (decimal p.1 ++ p.2.now))) × (p.0 < 2 ^ 64)
@@ -53,7 +55,9 @@ fn games_and_moves(bytes: &[u8]) -> Option<(u64, u64, &[u8])>
     Some((games, moves, rest))
 }
 
-/// Reads how many squares and diamonds a text has, and returns these with the bytes after them.
+/// Reads how many squares and diamonds a header says there are, and returns these with the bytes
+/// after them. The diamonds are None in text 1, or if they are not counted. The result is None if
+/// the bytes begin otherwise, or a number is over 2^64 - 1.
 fn counts(bytes: &[u8], text: Text) -> Option<(u64, Option<u64>, &[u8])>
     ensures found { IfSome result (λ p. (bytes.now ≡ counts_text text p.0 p.1 ++ p.2.now)
         × (p.0 < 2 ^ 64) × IfSome p.1 (λ n. n < 2 ^ 64) × (text ≡ kind.One → p.1 ≡ None)) }

@@ -2,8 +2,8 @@
 ghost use Rattle.std.specs.Prelude.{◌≡◌, ◌++◌, ◌<◌, ◌≤◌, ◌^◌, ℕ, List, IfSome, IsSomeAnd};
 ghost use Rattle.shape_dict.specs.Text.{hexadecimal_digit, word_text};
 
-/// The value of each byte as a hexadecimal digit in lower case, and 16 if it is none. A table in
-/// place of tests, since no processor can foresee which digit comes.
+/// The value of each byte as a hexadecimal digit in lower case, and 16 if it is none. A table is
+/// used in place of branches, since no processor can predict which digit comes.
 static VALUES: [u8; 256] = [
     16, 16, 16, 16, 16, 16, 16, 16, 16, 16, 16, 16, 16, 16, 16, 16, 16, 16, 16, 16, 16, 16, 16, 16,
     16, 16, 16, 16, 16, 16, 16, 16, 16, 16, 16, 16, 16, 16, 16, 16, 16, 16, 16, 16, 16, 16, 16, 16,
@@ -39,8 +39,9 @@ fn greater(one: u8, other: u8) -> u8
 }
 
 /// Reads the number at the front of the bytes, in 13 hexadecimal digits of lower case, as the texts
-/// of a dictionary write words. Returns it with the bytes after it, or None if no such digits come
-/// first. The number is below 2^52, and need not be a word. It takes no memory. This project's own.
+/// of a dictionary write words. Returns it with the bytes after it, or None if fewer than 13 such
+/// digits come first. The number is below 2^52, and need not be a pattern's word. It takes no
+/// memory. This project's own.
 #[inline(always)]
 pub fn word_bits(bytes: &[u8]) -> Option<(u64, &[u8])>
     ensures found { IfSome result (λ p. (bytes.now ≡ word_text p.0 ++ p.1.now) × (p.0 < 2 ^ 52)) }

@@ -19,7 +19,8 @@ pub(crate) fn sum_of(left: u64, right: u64) -> Result<u64, DictFault>
     left.checked_add(right).ok_or(DictFault::Overflow)
 }
 
-/// The joined entry of a pattern of the right alone: its first game follows the left's games.
+/// Returns the joined entry of a pattern that the right dictionary alone has: `games`, the number
+/// of the left one's games, is added to its first game.
 fn moved(entry: Entry, games: u64) -> Entry
     requires { IfSome entry.first (λ game. game + games + 1 < 2 ^ 64) }
     ensures { result ≡ moved_entry games entry }
@@ -27,7 +28,8 @@ fn moved(entry: Entry, games: u64) -> Entry
     entry.moved(games).unwrap()
 }
 
-/// The joined entry of a pattern of both: the counts are sums, and the first game is the left's.
+/// Returns the joined entry of a pattern that both dictionaries have: the counts are sums, and the
+/// first game is that of `left`. `Overflow` if a sum is over 2^64 - 1.
 fn summed(left: Entry, right: Entry) -> Result<Entry, DictFault>
     requires left { left.played ≤ left.there }
     requires right { right.played ≤ right.there }
@@ -47,7 +49,7 @@ pub(crate) fn push(entries: &mut Vec<Entry>, entry: Entry) -> Result<(), AllocEr
     Ok(())
 }
 
-/// Appends entries of the left as they are.
+/// Appends the entries of `left` unchanged.
 fn push_kept(entries: &mut Vec<Entry>, left: &[Entry]) -> Result<(), AllocError>
     requires { All (λ entry. entry.there < 2 ^ 64) entries.old.items }
     ensures ok { OnOk result (entries.new.items ≡ entries.old.items ++ left.now) }
@@ -60,7 +62,8 @@ fn push_kept(entries: &mut Vec<Entry>, left: &[Entry]) -> Result<(), AllocError>
     Ok(())
 }
 
-/// Appends entries of the right alone, with their first games after the left's `games`.
+/// Appends entries that the right dictionary alone has, with `games`, the number of the left one's
+/// games, added to their first games.
 fn push_moved(entries: &mut Vec<Entry>, right: &[Entry], games: u64) -> Result<(), AllocError>
     requires small { All (λ entry. entry.there < 2 ^ 64) entries.old.items }
     requires first { All (λ entry. IfSome entry.first (λ game. game + games + 1 < 2 ^ 64)) right.now }
@@ -75,9 +78,11 @@ fn push_moved(entries: &mut Vec<Entry>, right: &[Entry], games: u64) -> Result<(
     Ok(())
 }
 
-/// Merges the entries of two dictionaries by their words. `games` is how many games the left has.
+/// Merges two dictionaries' entries by their words into a new list, and adds the counts of patterns
+/// that both have. `games` is how many games the left dictionary has.
 ///
-/// `DictFault::Overflow` comes if the counts of a pattern of both add up to more than 2^64 - 1.
+/// `DictFault::Overflow` if a pattern's counts add up to more than 2^64 - 1; `DictFault::Memory` if
+/// memory was refused.
 pub(crate) fn merge(
     alloc: Global,
     games: u64,

@@ -5,7 +5,8 @@ ghost use Rattle.shape_dict.specs.Reading.{IsTextOf, IsTextFault, IsFrontFault};
 ghost use Rattle.shape_dict.specs.declared.faults.DictFault.{DictFault};
 ghost use Rattle.shape_dict.specs.declared.faults.DictFault.TheVariants as fault;
 
-/// A text is of one dictionary, and no text is the beginning of another one.
+/// States, for proofs, that a text is of one dictionary alone, and that no text is the beginning of
+/// another one. It does nothing at run time.
 pub fn texts_are_distinct()
     ensures { (one : Contents) → (other : Contents) → (text : List ℕ) → (other_text : List ℕ)
         → (after : List ℕ) → (other_after : List ℕ)
@@ -13,8 +14,8 @@ pub fn texts_are_distinct()
         → (text ≡ other_text) × (one ≡ other) }
 {}
 
-/// Bytes that are read as a text have at most one first fault, out of memory aside, and so have
-/// bytes of which a text is read off the front.
+/// States, for proofs, that bytes read as a whole text have at most one first fault, out of memory
+/// aside, and so have bytes from whose front a text is read. It does nothing at run time.
 pub fn texts_have_one_fault()
     ensures text { (bytes : List ℕ) → (one : DictFault) → (other : DictFault)
         → IsTextFault bytes one → IsTextFault bytes other

@@ -1,4 +1,4 @@
-//! Dictionaries of patterns: read, written, asked and joined, in three texts.
+//! Dictionaries of patterns: read, written, searched and joined, in three text formats.
 #![tactic(auto)]
 
 mod dictionaries;

@@ -13,7 +13,8 @@ use crate::hexadecimals::word_bits;
 use crate::numbers::{after, number_after, optional_after};
 use shape_core::{Kind, Word};
 
-/// What a line says of its pattern.
+/// What a line says of its pattern: its word, how often it was there and was played, and its first
+/// game, or None if that is unknown or the text has none.
 #[derive(Clone, Copy)]
 pub(crate) struct Line {
     pub(crate) word: Word,
@@ -23,6 +24,7 @@ pub(crate) struct Line {
 }
 
 /// Reads how often a pattern was there and was played, and returns both with the bytes after them.
+/// None if the bytes begin otherwise, or a number is over 2^64 - 1.
 fn uses(bytes: &[u8]) -> Option<(u64, u64, &[u8])>
     ensures found { IfSome result (λ p. (bytes.now
         ≡ codes " " ++ (decimal p.0 ++ (codes " " ++ (decimal p.1 ++ p.2.now)))) × (p.0 < 2 ^ 64)
@@ -37,8 +39,9 @@ fn uses(bytes: &[u8]) -> Option<(u64, u64, &[u8])>
     Some((there, played, rest))
 }
 
-/// Reads a line's first game, if the text has these, and the line's end. Returns the game and the
-/// bytes after the line.
+/// Reads the end of a line: in text 3 the first game, or `-`, and a line feed, else the line feed
+/// alone. Returns the game, or None if there is none, and the bytes after the line. The result is
+/// None if the bytes begin otherwise.
 fn first_and_end(bytes: &[u8], text: Text) -> Option<(Option<u64>, &[u8])>
     ensures found { IfSome result (λ p. (bytes.now ≡ first_text text p.0 ++ (line_feed ++ p.1.now))
         × IsPlain text p.0 × IfSome p.0 (λ game. game < 2 ^ 64)) }
@@ -60,7 +63,8 @@ fn first_and_end(bytes: &[u8], text: Text) -> Option<(Option<u64>, &[u8])>
     }
 }
 
-/// Reads a line whatever its parts say, and returns it with the bytes after it.
+/// Reads a line by its form alone, without a check of what its numbers say, and returns it with the
+/// bytes after it. None if it is not well-formed.
 fn spelled_line(bytes: &[u8], text: Text) -> Option<(Line, &[u8])>
     ensures found { IfSome result (λ p. IsSpelled text (entry_of_line p.0)
         × (bytes.now ≡ line_text text (entry_of_line p.0) ++ p.1.now)) }
@@ -83,7 +87,8 @@ fn spelled_line(bytes: &[u8], text: Text) -> Option<(Line, &[u8])>
     ))
 }
 
-/// The kind of the pattern at a place among a text's lines: the squares come first.
+/// Returns the kind of the pattern that comes after `place` lines of a text: the squares come
+/// first.
 fn kind_at(header: &Header, place: u64) -> Kind
     ensures { result ≡ kind_at header.now place }
 {
@@ -94,7 +99,7 @@ fn kind_at(header: &Header, place: u64) -> Kind
     }
 }
 
-/// Whether a first game is unknown or one of the games counted.
+/// Whether a first game is unknown or below `games`, the number of games counted.
 fn is_counted(games: u64, first: Option<u64>) -> bool
     ensures { MatchBool result (IfSome first (λ game. game < games))
         (IfSome first (λ game. game < games) → ⊥) }
@@ -105,7 +110,9 @@ fn is_counted(games: u64, first: Option<u64>) -> bool
     }
 }
 
-/// Whether this place of a text may have what a line says.
+/// Whether a line may come after `place` others in a text with this header: its kind is right, its
+/// pattern was there once or more and was played at most as often, and its first game is unknown or
+/// one of the games counted.
 fn may_stand(header: &Header, place: u64, line: &Line) -> bool
     ensures { MatchBool result (MayStand header.now place line.now)
         (MayStand header.now place line.now → ⊥) }
@@ -116,8 +123,9 @@ fn may_stand(header: &Header, place: u64, line: &Line) -> bool
         && is_counted(header.games, line.first)
 }
 
-/// Reads the line at the front of the bytes, and returns it with the bytes after it. None if there
-/// is no line that this place may have.
+/// Reads the line at the front of the bytes, and returns it with the bytes after it. `place` is how
+/// many lines came before it. None if it is not well-formed, or can't come there in a text with
+/// this header.
 pub(crate) fn read_line<'a>(
     header: &Header,
     place: u64,

@@ -5,7 +5,7 @@ ghost use Rattle.std.specs.Fmt.{decimal};
 ghost use Rattle.shape_dict.specs.Text.{optional_number};
 ghost use Rattle.shape_dict.specs.Inner.Parsing.{IsEnded, AreDigits, read_on};
 
-/// The bytes after this literal, or None if the input does not begin with it.
+/// Returns the bytes after `literal`, or None if they do not begin with it.
 pub(crate) fn after<'a>(bytes: &'a [u8], literal: &[u8]) -> Option<&'a [u8]>
     ensures found { IfSome result (λ rest. bytes.now ≡ literal.now ++ rest.now) }
     ensures only { (left : List ℕ) → bytes.now ≡ literal.now ++ left
@@ -62,7 +62,8 @@ pub(crate) fn number(bytes: &[u8]) -> Option<(u64, &[u8])>
     Some((value, &bytes[count..]))
 }
 
-/// Reads the decimal number after this literal, and returns it with the bytes after it.
+/// Reads `literal` and a decimal number after it. Returns the number with the bytes after it, or
+/// None if one of them is missing, or the number has leading zeros or is over 2^64 - 1.
 pub(crate) fn number_after<'a>(bytes: &'a [u8], literal: &[u8]) -> Option<(u64, &'a [u8])>
     ensures found { IfSome result (λ p. (bytes.now ≡ literal.now ++ (decimal p.0 ++ p.1.now))
         × (p.0 < 2 ^ 64) × IsEnded p.1.now) }
@@ -74,7 +75,8 @@ pub(crate) fn number_after<'a>(bytes: &'a [u8], literal: &[u8]) -> Option<(u64, 
     number(rest)
 }
 
-/// Reads a decimal number, or `-` for None, after this literal. Returns it with the bytes after it.
+/// Reads `literal`, and after it a decimal number, or `-` for None. Returns the number with the
+/// bytes after it. The result is None if the bytes begin otherwise.
 pub(crate) fn optional_after<'a>(bytes: &'a [u8], literal: &[u8]) -> Option<(Option<u64>, &'a [u8])>
     ensures found { IfSome result (λ p. (bytes.now
         ≡ literal.now ++ (optional_number p.0 ++ p.1.now)) × IfSome p.0 (λ n. n < 2 ^ 64)) }

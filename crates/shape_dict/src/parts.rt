@@ -17,8 +17,8 @@ const LEAST: usize = 65_536;
 /// Most lines have at most this many bytes.
 const LINE: usize = 20;
 
-/// How many lists each part has the lines of, if this many threads make the parts of all lists. Few
-/// entries make one part.
+/// Returns how many of the `lists` lists of entries each part has the lines of, so that `threads`
+/// threads make about as many each. `LEAST` entries or fewer make one part.
 fn part_length(lists: usize, entries: usize, threads: usize) -> usize
     ensures { 0 < result }
 {
@@ -28,9 +28,9 @@ fn part_length(lists: usize, entries: usize, threads: usize) -> usize
     lists.div_ceil(threads.max(1)).max(1)
 }
 
-/// An empty list of bytes, with room for the lines of this many entries if they are many: bytes
-/// that grow are moved again and again, and many of them are slow to move. If so much room is
-/// refused there is none, and the bytes grow.
+/// Returns an empty vector, with capacity for the lines of `entries` entries if they are many: a
+/// large vector that grows is copied again and again, which is slow. If so much memory is refused,
+/// the vector has no capacity yet, and grows.
 fn room_for(alloc: Global, entries: usize) -> Vec<u8>
     ensures { result.items ≡ [] }
 {
@@ -43,7 +43,7 @@ fn room_for(alloc: Global, entries: usize) -> Vec<u8>
     }
 }
 
-/// How many entries the lists have together, if these are below 2^64.
+/// How many entries the lists have together, or 2^64 - 1 if they are more.
 fn entries_of(lists: &[Vec<Entry>]) -> usize {
     let mut entries: usize = 0;
     for list in lists {
@@ -52,7 +52,7 @@ fn entries_of(lists: &[Vec<Entry>]) -> usize {
     entries
 }
 
-/// The lines of a text for the entries of these lists, in bytes of their own.
+/// Makes the lines of a text for the entries of these lists, in a vector of their own.
 fn lines_part(alloc: Global, text: Text, lists: &[Vec<Entry>]) -> Result<Vec<u8>, AllocError>
     ensures { IfOk result (λ part. part.items ≡ lines_of text (entries_in lists.now)) }
 {
@@ -63,8 +63,9 @@ fn lines_part(alloc: Global, text: Text, lists: &[Vec<Entry>]) -> Result<Vec<u8>
     Ok(part)
 }
 
-/// Makes the lines of a text for the entries of these lists, in parts, in order. At most this many
-/// threads make them, and each part may be refused memory. `entries` is how many entries there are.
+/// Makes the lines of a text for the entries of these lists, and returns them in parts, in order.
+/// At most `threads` threads make them, and the call waits for them. `entries` is how many entries
+/// there are. A part is an error if memory for it was refused.
 pub(crate) fn made_parts<R: Threads + Sync>(
     rt: &R,
     alloc: Global,
@@ -84,7 +85,8 @@ pub(crate) fn made_parts<R: Threads + Sync>(
     )
 }
 
-/// Appends the parts that were made, up to the first that was refused memory.
+/// Appends the parts of `made` to `parts`, up to the first that was refused memory, which is the
+/// error.
 pub(crate) fn push_made(
     parts: &mut Vec<Vec<u8>>,
     made: Vec<Result<Vec<u8>, AllocError>>,

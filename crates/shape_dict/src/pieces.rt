@@ -49,9 +49,9 @@ fn append_pieces(entries: &mut Vec<Entry>, pieces: Vec<Vec<Entry>>) -> Result<()
     Ok(())
 }
 
-/// A dictionary whose patterns lie in several lists, one after another: threads that put them in
-/// order make a list each, and no pattern is moved for the text. Contracts see what they see of a
-/// `Dictionary`.
+/// A dictionary whose patterns lie in several lists, one after another: each thread that sorts
+/// patterns makes a list of its own, and the text is made without copying them into one list.
+/// Contracts see what they see of a `Dictionary`.
 #[derive(Debug, Drop)]
 pub struct PieceDictionary {
     games: u64,
@@ -89,8 +89,9 @@ impl PieceDictionary {
     ghost use Rattle.shape_dict.specs.Text.{text_of};
     ghost use Rattle.shape_dict.specs.declared.faults.DictFault.TheVariants as fault;
 
-    /// A dictionary of these games, moves and entries, as `Dictionary::new` makes it, with its
-    /// patterns in these lists. It takes no memory.
+    /// Makes a dictionary whose entries are those of the lists `pieces`, one list after another.
+    /// They must be what `Dictionary::new` asks for: words rise, and games, moves and counts fit
+    /// together. It takes no memory.
     pub fn new(
         games: u64,
         moves: u64,
@@ -160,12 +161,12 @@ impl PieceDictionary {
         Ok(Dictionary::new(self.games, self.moves, entries, self.counts_diamonds))
     }
 
-    /// A text of the dictionary in parts, to be read one after another: the same bytes as
-    /// `Dictionary::write` appends. The first part is the header; the others have the lines of the
-    /// patterns in their order, and are at most as many as `threads`, or one for 0. They are made
-    /// at the same time, each by a thread if one can be started, and else by this one; a text of
-    /// 65,536 patterns or fewer is made by this one. It takes memory for the text, and for each
-    /// thread.
+    /// Makes a text of the dictionary in parts, to be read one after another: the same bytes as
+    /// `Dictionary::write` appends. The first part is the header. The others have the lines of the
+    /// patterns in their order, and are at most `threads`, or one if that is 0. They are made at
+    /// the same time, each in a thread of its own if one can be started, else in the caller's; a
+    /// text of 65,536 patterns or fewer is made in the caller's. The call returns once all are
+    /// made. It takes memory for the text, and for each thread.
     ///
     /// # Errors
     ///
@@ -190,9 +191,9 @@ impl PieceDictionary {
     }
 }
 
-/// How many squares a dictionary has, and how many diamonds if they are counted. A dictionary that
-/// does not count them has squares alone, so its patterns need no look; else one look at each is
-/// enough, as the diamonds are the rest.
+/// Returns how many squares a dictionary has, and how many diamonds, or None if it does not count
+/// them. If it does not, all patterns are squares, and none is looked at. Else the squares are
+/// counted in one pass over the patterns, and the rest are diamonds.
 fn counts_of(dictionary: &PieceDictionary) -> (u64, Option<u64>)
     ensures squares { result.0 ≡ length (squares_of dictionary.now.entries) }
     ensures diamonds { result.1
@@ -207,7 +208,7 @@ fn counts_of(dictionary: &PieceDictionary) -> (u64, Option<u64>)
     (squares, Some(all - squares))
 }
 
-/// The header of a text, in bytes of its own.
+/// Makes the header of a text, in a vector of its own.
 fn header_part(
     alloc: Global,
     text: Text,

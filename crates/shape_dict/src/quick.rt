@@ -35,7 +35,8 @@ fn quick_digits(bytes: &[u8]) -> (u64, usize)
     (value, count)
 }
 
-/// Reads a decimal number without leading zeros, and returns it with the bytes after it.
+/// Reads at most `DIGITS` digits of a decimal number, and returns what they spell with the bytes
+/// after them. None if no digit comes first, or a leading zero does.
 #[inline(always)]
 fn quick_number(bytes: &[u8]) -> Option<(u64, &[u8])>
     ensures { IfSome result (λ p. (bytes.now ≡ decimal p.0 ++ p.1.now) × (p.0 < 2 ^ 64)) }
@@ -50,7 +51,7 @@ fn quick_number(bytes: &[u8]) -> Option<(u64, &[u8])>
     Some((value, &bytes[count..]))
 }
 
-/// The bytes after this byte, or None if it does not come first.
+/// Returns the bytes after `byte`, or None if they do not begin with it.
 #[inline(always)]
 fn after(bytes: &[u8], byte: u8) -> Option<&[u8]>
     ensures { IfSome result (λ rest. bytes.now ≡ byte ∷ rest.now) }
@@ -62,6 +63,7 @@ fn after(bytes: &[u8], byte: u8) -> Option<&[u8]>
 }
 
 /// Reads how often a pattern was there and was played, and returns both with the bytes after them.
+/// None if the bytes begin otherwise.
 #[inline(always)]
 fn quick_uses(bytes: &[u8]) -> Option<(u64, u64, &[u8])>
     ensures { IfSome result (λ p. (bytes.now
@@ -75,7 +77,8 @@ fn quick_uses(bytes: &[u8]) -> Option<(u64, u64, &[u8])>
     Some((there, played, rest))
 }
 
-/// Reads a first game, or `-` for None, and returns it with the bytes after it.
+/// Reads a first game, or `-` for None, and returns it with the bytes after it. The result is None
+/// if neither comes first.
 #[inline(always)]
 fn quick_game(bytes: &[u8]) -> Option<(Option<u64>, &[u8])>
     ensures { IfSome result (λ p. (bytes.now ≡ optional_number p.0 ++ p.1.now)
@@ -88,8 +91,9 @@ fn quick_game(bytes: &[u8]) -> Option<(Option<u64>, &[u8])>
     Some((Some(game), rest))
 }
 
-/// Reads a line's first game, if the text has these, and the line's end. Returns the game and the
-/// bytes after the line.
+/// Reads the end of a line: in text 3 the first game, or `-`, and a line feed, else the line feed
+/// alone. Returns the game, or None if there is none, and the bytes after the line. The result is
+/// None if the bytes begin otherwise, or the game is not below the header's number of games.
 #[inline(always)]
 fn quick_end<'a>(bytes: &'a [u8], header: &Header) -> Option<(Option<u64>, &'a [u8])>
     ensures { IfSome result (λ p. (bytes.now ≡ first_text header.now.text p.0 ++ (line_feed ++ p.1.now))
@@ -108,7 +112,8 @@ fn quick_end<'a>(bytes: &'a [u8], header: &Header) -> Option<(Option<u64>, &'a [
     Some((first, rest))
 }
 
-/// Whether a word may stand at this place: the squares come first, and words rise.
+/// Whether `word` may come after `place` lines, the last of which has the shape `last`: it is a
+/// square's exactly if fewer than all squares came before, and it is above the word of `last`.
 #[inline(always)]
 fn may_stand(header: &Header, place: u64, last: Option<Shape>, word: Word) -> bool
     ensures { result ≡ true → (kind_of word ≡ kind_at header.now place) × IsAbove last word }
@@ -121,10 +126,11 @@ fn may_stand(header: &Header, place: u64, last: Option<Shape>, word: Word) -> bo
     is_above && is_square == (place < header.squares)
 }
 
-/// Reads the line at the front of the bytes, and returns its entry and the bytes after it, as
-/// `read_entry` does. `place` is how many entries came before it, and `last` the shape of the last
-/// of them. None if this fast way can't tell: the line is none that this place may have, or one of
-/// its numbers has more than 18 digits. It takes no memory. This project's own.
+/// Reads the line at the front of the bytes, and returns its entry and the bytes after it: what
+/// `read_entry` returns, but faster. `place` is how many entries came before it, and `last` the
+/// shape of the last of them. None if this fast way can't tell: the line is not well-formed or
+/// can't come there, or one of its numbers has more than 18 digits. It takes no memory. This
+/// project's own.
 #[inline(always)]
 pub fn quick_entry<'a>(
     header: &Header,

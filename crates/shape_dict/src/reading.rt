@@ -29,7 +29,8 @@ fn last_shape(entries: &[Entry]) -> Option<Shape>
     Some(entries[entries.len() - 1].shape)
 }
 
-/// Reads the line after those of these entries, and returns its entry and the bytes after it.
+/// Reads the line that follows those of `entries`, and returns its entry and the bytes after it, or
+/// what is wrong with the line.
 fn next_entry<'a>(
     header: &Header,
     entries: &[Entry],
@@ -71,7 +72,8 @@ fn read_lines<'a>(
     Ok((entries, left))
 }
 
-/// Reads the text that the bytes begin with, and returns its dictionary and how many bytes it has.
+/// Reads the text that the bytes begin with, and returns its dictionary and how many bytes the text
+/// has.
 fn front_of(alloc: Global, bytes: &[u8]) -> Result<(Dictionary, usize), DictFault>
     ensures found { IfOk result (λ p. (p.1 ≤ length bytes.now) × IsTextOf p.0 (take p.1 bytes.now)
         × (length bytes.now ≤ most_bytes)) }
@@ -96,7 +98,7 @@ fn front_of(alloc: Global, bytes: &[u8]) -> Result<(Dictionary, usize), DictFaul
     Ok((dictionary, bytes.len() - left.len()))
 }
 
-/// Reads the dictionary whose text the bytes are, to their end.
+/// Reads all the bytes as the text of one dictionary. `BadLine` if bytes follow the text.
 fn read_whole(alloc: Global, bytes: &[u8]) -> Result<Dictionary, DictFault>
     ensures found { IfOk result (λ d. IsTextOf d bytes.now × (length bytes.now ≤ most_bytes)) }
     ensures fault { IfErr result (IsTextFault bytes.now) }
@@ -116,17 +118,18 @@ impl Dictionary {
     ghost use Rattle.shape_dict.specs.Contents.{Contents};
     ghost use Rattle.shape_dict.specs.Reading.{IsTextOf, IsTextFault, IsFrontFault};
 
-    /// Reads the dictionary whose text these bytes are, which may be any of the three texts. It
-    /// takes memory.
+    /// Reads a dictionary from bytes that are its whole text, which may be any of the three texts.
+    /// It takes memory.
     ///
     /// # Errors
     ///
     /// In this order: `TooLarge` if the input has more than 2^28 bytes, `BadHeader` if it does not
-    /// begin with a header, and for each line in turn `BadLine` if it is missing or is none that
-    /// its place may have, `NotRising` if its word is not above the one before, `NotCanonical` if
-    /// its word is not the least of its images; then `WrongTotals` if the plays do not add up to
-    /// the moves, and `BadLine` if bytes follow the text. `Memory` if memory was refused, which is
-    /// asked for only after a header and a first line without a fault.
+    /// begin with a header, and for each line in turn `BadLine` if it is missing, is not
+    /// well-formed or can't come there, `NotRising` if its word is not above the one before,
+    /// `NotCanonical` if its word is not the least of its images under symmetries and exchange of
+    /// colours; then `WrongTotals` if the patterns were not played as often, in all, as there are
+    /// moves, or there are moves and no games; and `BadLine` if bytes follow the text. `Memory` if
+    /// memory was refused, which is asked for only after a header and a first line without a fault.
     pub fn read(alloc: Global, bytes: &[u8]) -> Result<Dictionary, DictFault>
         ensures found { IfOk result (λ d. IsTextOf d bytes.now × (length bytes.now ≤ most_bytes)) }
         ensures only { (contents : Contents) → IsTextOf contents bytes.now
@@ -139,8 +142,8 @@ impl Dictionary {
         read_whole(alloc, bytes)
     }
 
-    /// Reads the text that these bytes begin with, and returns its dictionary and how many bytes it
-    /// has. It takes memory.
+    /// Reads the text that these bytes begin with, and returns its dictionary and how many bytes
+    /// the text has. It takes memory.
     ///
     /// # Errors
     ///

@@ -14,7 +14,8 @@ use crate::writing::{push_bytes, push_line, push_number, push_optional};
 use shape_core::Kind;
 use std::alloc::AllocError;
 
-/// Appends the front of a header, which says which of the three texts it is.
+/// Appends the first words of a header, up to its number of games: they say which of the three
+/// texts it begins.
 fn push_front(out: &mut Vec<u8>, text: Text) -> Result<(), AllocError>
     ensures ok { OnOk result (out.new.items ≡ out.old.items ++ front_text text) }
     ensures begins { Begins out.old.items out.new.items }
@@ -26,7 +27,8 @@ fn push_front(out: &mut Vec<u8>, text: Text) -> Result<(), AllocError>
     }
 }
 
-/// Appends how many patterns a header says there are.
+/// Appends how many patterns there are, for a header: in text 1 the squares, else the squares and
+/// the diamonds, or `-` for None.
 fn push_counts(
     out: &mut Vec<u8>,
     text: Text,
@@ -50,7 +52,7 @@ fn push_counts(
     }
 }
 
-/// Appends the front of a header, with its numbers of games and of moves.
+/// Appends the first words of a header, with its numbers of games and of moves.
 fn push_games(out: &mut Vec<u8>, text: Text, games: u64, moves: u64) -> Result<(), AllocError>
     ensures ok { OnOk result (out.new.items ≡ out.old.items ++ games_text text games moves) }
     ensures begins { Begins out.old.items out.new.items }
@@ -61,12 +63,13 @@ fn push_games(out: &mut Vec<u8>, text: Text, games: u64, moves: u64) -> Result<(
     push_number(out, moves)
 }
 
-/// Appends the header of a text: which it is, the games and moves, how many squares follow, and how
-/// many diamonds if they are counted.
+/// Appends the header of a text: which text it is, the games and moves, how many squares follow,
+/// and how many diamonds if they are counted.
 ///
 /// # Errors
 ///
-/// `AllocError` if memory was refused: the bytes still begin with what they held.
+/// `AllocError` if memory was refused: `out` still begins with what it held, and may have a part of
+/// the header after it.
 pub fn push_header(
     out: &mut Vec<u8>,
     text: Text,
@@ -116,7 +119,7 @@ fn push_squares(out: &mut Vec<u8>, entries: &[Entry]) -> Result<(), AllocError>
     Ok(())
 }
 
-/// Appends the lines of a text for these entries.
+/// Appends the lines of a text for these entries: in text 1 for the squares alone.
 pub(crate) fn push_entries(
     out: &mut Vec<u8>,
     text: Text,

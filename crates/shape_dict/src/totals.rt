@@ -8,7 +8,7 @@ use crate::headers::Header;
 use crate::kinds::played_in;
 use shape_core::Kind;
 
-/// Whether the patterns of the kind were played as often, in all, as there are moves.
+/// Whether the patterns of `kind` were played `moves` times in all.
 fn agree(kind: Kind, entries: &[Entry], moves: u64) -> bool
     ensures { MatchBool result (played_in (of_kind kind entries.now) ≡ moves)
         (played_in (of_kind kind entries.now) ≡ moves → ⊥) }
@@ -19,8 +19,8 @@ fn agree(kind: Kind, entries: &[Entry], moves: u64) -> bool
     }
 }
 
-/// Whether the plays add up to the moves: those of the squares, and those of the diamonds if they
-/// are counted. With no games there are no moves.
+/// Whether the entries fit the header's moves: the squares were played as often in all as there are
+/// moves, and so were the diamonds if they are counted. False if there are moves and no games.
 pub(crate) fn have_totals(header: &Header, entries: &[Entry]) -> bool
     ensures { MatchBool result (HasTotals header.now.games header.now.moves entries.now
         (counts_of header.now)) (HasTotals header.now.games header.now.moves entries.now

@@ -31,7 +31,7 @@ fn push_byte(out: &mut Vec<u8>, byte: u8) -> Result<(), AllocError>
 ///
 /// # Errors
 ///
-/// `AllocError` if memory was refused: the bytes still begin with what they held.
+/// `AllocError` if memory was refused: `out` still begins with what it held.
 #[tactic(auto, using(std::proofs::lemmas::Fmt::decimal_digit))]
 pub fn push_number(out: &mut Vec<u8>, number: u64) -> Result<(), AllocError>
     ensures ok { OnOk result (out.new.items ≡ out.old.items ++ decimal number) }
@@ -45,8 +45,8 @@ pub fn push_number(out: &mut Vec<u8>, number: u64) -> Result<(), AllocError>
     push_bytes(out, digits.as_bytes())
 }
 
-/// A hexadecimal digit in lower case. There is no branch on it, since no processor can foresee
-/// which digit comes.
+/// Returns the character of a hexadecimal digit in lower case. It has no branch, since no processor
+/// can predict which digit comes.
 fn hexadecimal_digit(digit: u8) -> u8
     requires { digit < 16 }
     ensures { result ≡ hexadecimal_digit digit }
@@ -55,11 +55,11 @@ fn hexadecimal_digit(digit: u8) -> u8
     b'0' + digit + (b'a' - b'9' - 1) * is_letter
 }
 
-/// Appends a word in 13 hexadecimal digits.
+/// Appends a pattern's word in 13 hexadecimal digits of lower case.
 ///
 /// # Errors
 ///
-/// `AllocError` if memory was refused: the bytes still begin with what they held.
+/// `AllocError` if memory was refused: `out` still begins with what it held.
 pub fn push_word(out: &mut Vec<u8>, shape: Shape) -> Result<(), AllocError>
     ensures ok { OnOk result (out.new.items ≡ out.old.items ++ word_text shape) }
     ensures begins { Begins out.old.items out.new.items }
@@ -90,7 +90,8 @@ pub(crate) fn push_optional(out: &mut Vec<u8>, number: Option<u64>) -> Result<()
     }
 }
 
-/// Appends the first game of a line, if the text has these.
+/// Appends a line's first game, or `-` if it is unknown, in text 3. In the other texts it appends
+/// nothing.
 fn push_first(out: &mut Vec<u8>, text: Text, first: Option<u64>) -> Result<(), AllocError>
     ensures ok { OnOk result (out.new.items ≡ out.old.items ++ first_text text first) }
     ensures begins { Begins out.old.items out.new.items }
@@ -104,8 +105,8 @@ fn push_first(out: &mut Vec<u8>, text: Text, first: Option<u64>) -> Result<(), A
     }
 }
 
-/// Appends how often a pattern was there, and how often it was played. Most numbers have one digit:
-/// they are appended at once.
+/// Appends how often a pattern was there, and how often it was played. If both numbers have one
+/// digit, as most have, one call appends them.
 #[tactic(auto, using(std::proofs::lemmas::Fmt::decimal_digit))]
 fn push_uses(out: &mut Vec<u8>, entry: &Entry) -> Result<(), AllocError>
     ensures ok { OnOk result (out.new.items ≡ out.old.items ++ uses_text entry.now) }
@@ -126,11 +127,12 @@ fn push_uses(out: &mut Vec<u8>, entry: &Entry) -> Result<(), AllocError>
     push_number(out, entry.played)
 }
 
-/// Appends a pattern's line in one of the texts.
+/// Appends a pattern's line in one of the three texts.
 ///
 /// # Errors
 ///
-/// `AllocError` if memory was refused: the bytes still begin with what they held.
+/// `AllocError` if memory was refused: `out` still begins with what it held, and may have a part of
+/// the line after it.
 pub fn push_line(out: &mut Vec<u8>, text: Text, entry: &Entry) -> Result<(), AllocError>
     ensures ok { OnOk result (out.new.items ≡ out.old.items ++ line_text text entry.now) }
     ensures begins { Begins out.old.items out.new.items }

@@ -18,7 +18,7 @@ use twins_core::{Twins, run_twins};
 #[derive(Drop)]
 struct Sum {
     report: Report,
-    /// The games that were met, if twins are asked for: games that an earlier one is like.
+    /// The first game of each record so far, if games that an earlier one is like are asked for.
     twins: Twins,
     /// Whether anything was written.
     is_written: bool,
@@ -33,7 +33,7 @@ fn first_status(before: u8, status: u8) -> u8
     if before == 0 { status } else { before }
 }
 
-/// The number of the next input's first game; None if no game may have that number.
+/// The number of the next input's first game, or None if that would be over 2^63.
 fn next_first(sum: &Sum) -> Option<u64>
     ensures { IfSome result (λ first. first ≤ most_first) }
 {
@@ -60,7 +60,8 @@ fn ends_run(fault: &RunFault) -> bool {
     }
 }
 
-/// Writes what is asked for of one input.
+/// Writes to standard output what is asked for of one input, and notes in `sum` whether anything
+/// was written. `name` is that of the input's file, None for standard input.
 fn write_of<R: Read>(
     rt: &HostRuntime,
     asked: &Asked<'_>,
@@ -92,13 +93,15 @@ fn write_of<R: Read>(
     result
 }
 
-/// Says what went wrong with an input. If standard error takes nothing, the status still says it.
+/// Prints to standard error what went wrong with an input. Its exit status becomes that of `sum`,
+/// unless `sum` has one of an earlier fault. A failure to print is ignored.
 fn tell(rt: &HostRuntime, sum: &mut Sum, name: Option<&str>, fault: &RunFault) {
     let _ = eprintln!(rt; "shape_games: {}{fault}", Named(name));
     sum.status = first_status(sum.status, status_of(fault));
 }
 
-/// Does what is asked for with one input.
+/// Writes what is asked for of one input, and adds its trees to `sum`. What goes wrong is printed
+/// to standard error; only a fault with which the run ends is returned.
 fn take_input<R: Read>(
     rt: &HostRuntime,
     asked: &Asked<'_>,
@@ -127,7 +130,8 @@ fn take_input<R: Read>(
     Ok(())
 }
 
-/// Does what is asked for with one input, or says what is wrong with a name.
+/// Writes what is asked for of one input, or prints to standard error what is wrong with a name.
+/// Only a fault with which the run ends is returned.
 fn take(
     rt: &HostRuntime,
     asked: &Asked<'_>,
@@ -152,8 +156,8 @@ fn take(
     }
 }
 
-/// Does what is asked for with these inputs, one after another. Returns the fault that ended the
-/// run, if one did.
+/// Writes what is asked for of these inputs, one after another. Returns the fault that ended the
+/// run before all were read, if one did.
 fn take_all(
     rt: &HostRuntime,
     asked: &Asked<'_>,
@@ -168,14 +172,16 @@ fn take_all(
     None
 }
 
-/// Whether games were to be chosen and none was, though some could be read or nothing was at fault.
+/// Whether conditions were given and nothing was written, although the inputs had games or no
+/// fault.
 fn is_in_vain(asked: &Asked<'_>, sum: &Sum) -> bool {
     let are_some = sum.report.games > 0 || sum.status == 0;
     !asked.conditions.is_empty() && !sum.is_written && are_some
 }
 
-/// Says how many trees of each sort there were. Before that it says if games were to be chosen and
-/// none was, which has the status 1 unless something was at fault.
+/// Prints to standard error how many trees of each sort there were. Before that it prints if
+/// conditions were given and no game was chosen; the exit status is 1 then unless there was an
+/// earlier fault.
 fn sum_up(rt: &HostRuntime, asked: &Asked<'_>, sum: &mut Sum) {
     if is_in_vain(asked, sum) {
         let _ = eprintln!(rt; "shape_games: no game is chosen");
@@ -188,7 +194,7 @@ fn sum_up(rt: &HostRuntime, asked: &Asked<'_>, sum: &mut Sum) {
     );
 }
 
-/// Does what is asked for with all inputs that the words name, and says on standard error what went
+/// Writes what is asked for of all inputs that the words name. Prints to standard error what went
 /// wrong and, at the end, how many trees of each sort there were. Returns the exit status.
 ///
 /// # Errors

@@ -1,4 +1,4 @@
-//! What is said on standard error of an input.
+//! What is printed to standard error about an input.
 use game_files::{Cause, Shown, Why};
 use std::{fmt, io};
 
@@ -15,7 +15,7 @@ impl fmt::Display for Named<'_> {
     }
 }
 
-/// Says that an input has no tree, and if it is a file, what it may be.
+/// Prints to standard error that an input has no tree, and if it is a file, what it may be.
 pub fn tell_no_tree(rt: &HostRuntime, name: Option<&str>, cause: Cause) {
     let _ = match name {
         Some(_) => eprintln!(rt; "shape_games: {}no tree: {cause}", Named(name)),
@@ -23,7 +23,7 @@ pub fn tell_no_tree(rt: &HostRuntime, name: Option<&str>, cause: Cause) {
     };
 }
 
-/// Says what is wrong with a name.
+/// Prints to standard error what is wrong with a name.
 pub fn tell_flaw(rt: &HostRuntime, name: &str, why: Why) {
     let _ = eprintln!(rt; "shape_games: {}{why}", Named(Some(name)));
 }

@@ -16,9 +16,9 @@ use std::alloc::{AllocError, Global};
 /// What is done with the collections.
 #[derive(Clone, Copy, Debug, PartialEq, Eq)]
 pub enum Work {
-    /// What is written of each tree that is chosen.
+    /// Each tree that is chosen is written, in this form.
     List(Form),
-    /// A line is written for each game that an earlier one is like.
+    /// A line is written for each game whose board, setup and moves an earlier game has.
     Twins,
 }
 
@@ -33,7 +33,7 @@ pub struct Asked<'a> {
     pub files: Vec<&'a str>,
 }
 
-/// The conditions that these texts spell.
+/// Returns the conditions that these texts spell; `Usage` if one of them spells none.
 fn conditions_of<'a>(alloc: Global, texts: &[&'a str]) -> Result<Vec<Condition<'a>>, RunFault>
     ensures conditions { IfOk result (λ found.
         AreConditions (map (λ text. text.now) texts.now) found.items) }
@@ -50,7 +50,8 @@ fn conditions_of<'a>(alloc: Global, texts: &[&'a str]) -> Result<Vec<Condition<'
     Ok(conditions)
 }
 
-/// What is done, by the flags and whether there is a condition; None if these don't go together.
+/// Returns what is done, by the flags and whether there is a condition. None if two of the flags
+/// are set, or `twice` and a condition.
 fn work_for(info: bool, cut: bool, twice: bool, has_condition: bool) -> Option<Work>
     ensures { result ≡ work_of info cut twice has_condition }
 {

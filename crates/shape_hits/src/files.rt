@@ -5,7 +5,7 @@ use hits_core::{Hit, Results, file_name, sgf_of};
 use std::fs::{self, File, OpenOptions};
 use std::io::{self, ErrorKind, Write};
 
-/// The fault with which a run ends that can't write a file.
+/// The fault that is returned if a file or folder can't be made or written.
 const UNWRITTEN: RunFault = RunFault::Write { written: 0 };
 
 /// Why a file was not made.
@@ -19,19 +19,20 @@ fn why_unmade(error: &io::Error) -> &'static str {
     }
 }
 
-/// Says that a file was not written, and why.
+/// Prints to standard error that a file was not written, and why.
 fn tell(rt: &HostRuntime, name: &str, why: &str) {
     let _ = eprintln!(rt; "shape_hits: I2 {}: {why}", Shown(name));
 }
 
-/// Makes a file that is not there yet.
+/// Creates the file of this name for writing; an error if there is one already.
 fn new_file(rt: &HostRuntime, name: &str) -> io::Result<File> {
     let mut options = OpenOptions::new();
     options.write(true).create_new(true);
     options.open(rt, name)
 }
 
-/// Writes a text to the file of this name, which must not be there.
+/// Creates the file of this name and writes `text` to it. If there is a file already, or it can't
+/// be made or written, prints that to standard error and returns `Write`.
 fn write_file(rt: &HostRuntime, name: &str, text: &[u8]) -> Result<(), RunFault> {
     let mut file = match new_file(rt, name) {
         Ok(file) => file,
@@ -71,7 +72,8 @@ fn is_again(last: &Option<Hit>, hit: &Hit) -> bool {
 ///
 /// # Errors
 ///
-/// `Write` if it is not there and can't be made, or is no folder: it was said.
+/// `Write` if it is not there and can't be made, or is no folder; this is printed to standard
+/// error.
 pub fn make_folder(rt: &HostRuntime, folder: &str) -> Result<(), RunFault> {
     if let Ok(found) = fs::metadata(rt, folder) {
         if found.is_dir() {
@@ -89,14 +91,14 @@ pub fn make_folder(rt: &HostRuntime, folder: &str) -> Result<(), RunFault> {
     }
 }
 
-/// Writes a file for each hit of an input, whose first game has this number, and at most the number
-/// of files that is given. Hits at the same point before the same move have one file. Returns how
-/// many files were written.
+/// Writes an SGF file into `folder` for each hit of an input, at most `most` files. `first` is the
+/// number of the input's first game. Hits at the same point before the same move have one file.
+/// Returns how many files were written.
 ///
 /// # Errors
 ///
 /// `Memory` if memory was refused; `Write` if a file is there already, or could not be made or
-/// written: it was said.
+/// written, which is printed to standard error. Files that were written before stay.
 pub fn write_files(
     rt: &HostRuntime,
     folder: &str,

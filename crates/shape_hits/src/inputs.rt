@@ -48,7 +48,7 @@ fn first_status(before: u8, status: u8) -> u8
     if before == 0 { status } else { before }
 }
 
-/// How many hits are still asked for after this number was listed.
+/// How many hits are still asked for (None for all) after `listed` of them were listed.
 fn left_after(left: Option<u64>, listed: u64) -> Option<u64>
     ensures { result ≡ left_after left listed }
 {
@@ -80,13 +80,15 @@ fn both_reports(one: Report, other: Report) -> Report {
     }
 }
 
-/// Says what went wrong with an input. If standard error takes nothing, the status still says it.
+/// Prints to standard error what went wrong with an input. Its exit status becomes that of `sum`,
+/// unless `sum` has one of an earlier fault. A failure to print is ignored.
 fn tell(rt: &HostRuntime, sum: &mut Sum, name: Option<&str>, fault: &RunFault) {
     let _ = eprintln!(rt; "shape_hits: {}{fault}", Named(name));
     sum.status = first_status(sum.status, status_of(fault));
 }
 
-/// Says what is wrong with a name, and takes note of the exit status.
+/// Prints to standard error what is wrong with a name. Its exit status becomes that of `sum`,
+/// unless `sum` has one of an earlier fault.
 fn tell_flaw(rt: &HostRuntime, sum: &mut Sum, name: &str, why: Why) {
     let _ = eprintln!(rt; "shape_hits: {}: {why}", Shown(name));
     sum.status = first_status(sum.status, flaw_status(why));
@@ -97,8 +99,8 @@ fn has_no_tree(report: Report) -> bool {
     report.games == 0 && report.others == 0 && report.refused == 0
 }
 
-/// Adds what was found in an input to the sums, and writes a file for each hit if that is asked
-/// for.
+/// Adds what was found in an input to `sum`, and writes a file for each hit if a folder for them is
+/// named.
 fn take_up<T>(given: &Given<'_, T>, sum: &mut Sum, results: &Results) -> Result<(), RunFault> {
     let listed = results.hits.len() as u64;
     if results.outcome == Outcome::Done {
@@ -113,8 +115,9 @@ fn take_up<T>(given: &Given<'_, T>, sum: &mut Sum, results: &Results) -> Result<
     Ok(())
 }
 
-/// Does what `take_up` does. A fault that was not said is said, and the status is that of the
-/// fault.
+/// Adds what was found in an input to `sum` and writes the files of its hits, by `take_up`. If that
+/// fails, the fault is printed unless it was already, its exit status becomes that of `sum` unless
+/// an earlier fault has set it, and the fault is returned.
 fn taken_up<T>(given: &Given<'_, T>, sum: &mut Sum, results: &Results) -> Result<(), RunFault> {
     let Err(fault) = take_up(given, sum, results) else {
         return Ok(());
@@ -126,8 +129,9 @@ fn taken_up<T>(given: &Given<'_, T>, sum: &mut Sum, results: &Results) -> Result
     Err(fault)
 }
 
-/// Lists the hits of an input, which has this name or is standard input. An error is a fault with
-/// which the run ends.
+/// Prints the hits of an input and adds it to `sum`. `name` is that of its file, None for standard
+/// input. What goes wrong is printed to standard error. Returned is only a fault with which the run
+/// ends: `Write` or `Memory`.
 fn list_one<T: Threads + Sync, R: Read>(
     given: &Given<'_, T>,
     sum: &mut Sum,
@@ -170,7 +174,8 @@ fn list_one<T: Threads + Sync, R: Read>(
     }
 }
 
-/// Lists the hits of one input, or says what is wrong with a name.
+/// Prints the hits of one input, or prints to standard error what is wrong with a name. Returned is
+/// only a fault with which the run ends.
 fn list_source<T: Threads + Sync>(
     given: &Given<'_, T>,
     sum: &mut Sum,
@@ -207,7 +212,8 @@ fn exit_status(sum: &Sum) -> u8 {
 ///
 /// # Errors
 ///
-/// `Memory` if memory for the names was refused; what else goes wrong was said.
+/// `Memory` if memory for the names was refused. What else goes wrong is printed to standard error,
+/// and is in the exit status.
 pub fn list_all<T: Threads + Sync>(
     rt: &HostRuntime,
     threads: &T,

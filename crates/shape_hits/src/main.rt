@@ -33,7 +33,8 @@ fn wanted_of(rt: &HostRuntime, asked: &Asked<'_>) -> Result<Wanted, WordsFault> 
     }
 }
 
-/// Says what is wrong with the list of words, and if it could not be read, its file and why.
+/// Prints to standard error what is wrong with the list of words, and if it could not be read, its
+/// file and why.
 fn tell(rt: &HostRuntime, asked: &Asked<'_>, fault: &WordsFault) {
     let _ = match (fault, asked.words) {
         (WordsFault::Unread, Some(name)) => {
@@ -44,8 +45,8 @@ fn tell(rt: &HostRuntime, asked: &Asked<'_>, fault: &WordsFault) {
     };
 }
 
-/// Writes the hits, and their files if a folder is named. The threads that find them are started
-/// through `threads`. Returns the exit status.
+/// Prints the hits, and writes their files if a folder is named. The threads that find them are
+/// started through `threads`. Returns the exit status.
 fn find<T: Threads + Sync>(
     rt: &HostRuntime,
     threads: &T,

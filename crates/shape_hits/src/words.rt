@@ -45,7 +45,7 @@ fn shown_for(shape: &Option<Shape>) -> Shown
     }
 }
 
-/// The pattern that glyphs and a colour spell, if no file of words is named.
+/// Returns the pattern that the glyphs and the colour spell; an error if they spell none.
 fn spelled(matches: &ArgMatches<'_>) -> Result<Option<Shape>, RunFault>
     requires { first_of (codes "words") (rows_in matches.now) ≡ None }
     ensures patterns { IfOk result (ArePatterns (rows_in matches.now)) }
@@ -68,7 +68,8 @@ fn is_given(matches: &ArgMatches<'_>, id: &str) -> bool
     }
 }
 
-/// Returns None for a file of words that is named; `Usage` if `--diamond` is given besides.
+/// Returns `Ok(None)`, as there is a file of words in place of a spelled pattern; `Usage` if
+/// `--diamond` is given as well.
 fn listed(matches: &ArgMatches<'_>) -> Result<Option<Shape>, RunFault>
     requires { first_of (codes "words") (rows_in matches.now) ≢ None }
     ensures patterns { IfOk result (ArePatterns (rows_in matches.now)) }
@@ -107,7 +108,8 @@ fn push_word<'a>(
     Ok(())
 }
 
-/// Returns the first word or two as names, if a file of words is named and they spell no pattern.
+/// If a file of words is named, returns the first two words at most as names of collections: `clap`
+/// has them as the glyphs and the colour, but no pattern is spelled. Else returns no name.
 fn first_names<'a>(alloc: Global, matches: &ArgMatches<'a>) -> Result<Vec<&'a str>, AllocError>
     ensures { IfOk result (λ names. map (λ name. name.now) names.items
         ≡ first_names (first_of (codes "words") (rows_in matches.now)) (rows_in matches.now)) }
@@ -179,8 +181,9 @@ impl<'a> FromArguments<'a> for Asked<'a> {
     }
 
     /// Returns the search that the values ask for. `Usage` if they name no file of words and the
-    /// colour or the glyphs are missing, or the colour is none; if they name one with `--diamond`;
-    /// and if a number is missing or too large. `Glyph` if the glyphs are not those of a pattern.
+    /// colour or the glyphs are missing, or the colour is neither black nor white; if they name one
+    /// with `--diamond`; and if a number is missing or too large. `Glyph` if the glyphs are not
+    /// those of a pattern.
     fn from_values(alloc: Global, matches: &ArgMatches<'a>) -> Result<Asked<'a>, RunFault> {
         let shape = shape_of(matches)?;
         let Some(most) = optional_number(matches, "most") else {

@@ -9,8 +9,8 @@ use crate::statuses::Status;
 /// The code of a cell that is off the board.
 const OFF_BOARD: u8 = 3;
 
-/// The place of the point at this column and row, from 0, in the list of a board's points, or None
-/// if there is no such point.
+/// Returns the index in `board`, the list of its points row by row, of the point at this column and
+/// row, both from 0. None if the board has no such point.
 fn place_on(board: &[u8], columns: usize, column: usize, row: usize) -> Option<usize>
     ensures { MatchOption result (IsPoint board.now columns column row → ⊥)
         (λ place. (place ≡ row * columns + column) × IsPoint board.now columns column row) }
@@ -27,7 +27,8 @@ fn place_on(board: &[u8], columns: usize, column: usize, row: usize) -> Option<u
     }
 }
 
-/// The code of the cell at column `x` and row `y`, both counted from two before the board's first.
+/// Returns the code of the cell at column `x` and row `y`, both counted from two before the board's
+/// first; `OFF_BOARD` if it is not on the board.
 fn code_at(board: &[u8], columns: usize, x: usize, y: usize) -> u8
     ensures { IsCodeAt board.now columns x y result }
 {
@@ -53,13 +54,13 @@ fn around(board: &[u8], columns: usize, column: usize, row: usize) -> [u8; 25]
     codes
 }
 
-/// Writes the codes of the square round a point of a board, row by row from the top, each row from
-/// the left: those of its points, and 3 off the board. The board is the list of its points' codes,
-/// row by row, each of `columns` codes; the point's column and row are counted from 0. Takes no
-/// memory.
+/// Writes to `codes` the codes of the square (5 by 5) round a point of a board, row by row from the
+/// top, each row from the left: those that `board` has for its points, and 3 off the board. `board`
+/// has a code for each point, row by row, each row of `columns` codes; the point's `column` and
+/// `row` are counted from 0. Takes no memory.
 ///
 /// Returns `Done` and writes the codes. Returns `BadPoint` exactly if the board has no such point;
-/// what was there stays then.
+/// `codes` stays as it was then.
 #[unsafe(no_mangle)]
 pub extern "C" fn shapes_around(
     board: &[u8],

@@ -10,12 +10,12 @@ use crate::colours::mover_of;
 use crate::statuses::Status;
 use shape_core::{Word, canonical};
 
-/// Writes the canonical word of a word with this mover, 1 Black or 2 White. It is the key of a
-/// pattern, the same however that is turned or mirrored, and with the colours exchanged for the
-/// other mover. Takes no memory.
+/// Writes to `shape` the canonical word of `word` for the player `mover`, 1 Black or 2 White. It is
+/// the key of a pattern, the same however that is turned or mirrored, and with the colours
+/// exchanged for the other mover. Takes no memory.
 ///
-/// Returns `Done` and writes the canonical word. Returns `BadWord` exactly if the number is 2^51 or
-/// more, and else `BadMover` exactly if the mover is neither 1 nor 2; what was there stays then.
+/// Returns `Done` and writes the canonical word. Returns `BadWord` exactly if `word` is 2^51 or
+/// more, and else `BadMover` exactly if `mover` is neither 1 nor 2; `shape` stays as it was then.
 #[unsafe(no_mangle)]
 pub extern "C" fn shapes_canonical(word: u64, mover: u32, shape: &mut u64) -> u32
     ensures done { (colour : Mover) → word < 2 ^ 51 → mover_of mover ≡ Some colour

@@ -8,14 +8,15 @@ ghost use Rattle.shape_keys.specs.declared.statuses.Status.TheVariants as status
 
 use crate::statuses::Status;
 
-/// What a diamond's word has more than the sum of its cells.
+/// The bit that a diamond's word has besides the 50 bits of its cells, and a square's word has not.
 const DIAMOND: u64 = 1 << 50;
 
 /// The greatest code: a cell off the board.
 const OFF_BOARD: u8 = 3;
 
-/// The sum over the cells with these codes, or None if one of them is no code. It goes from the
-/// last cell to the first: the sum from a cell on is its code and four times the sum after it.
+/// Returns the 50 bits of a word whose cells have these codes: two bits a cell, the first cell
+/// lowest. None if a code is over 3. It goes from the last cell to the first: the sum from a cell
+/// on is its code and four times the sum after it.
 fn sum_of_codes(codes: &[u8; 25]) -> Option<u64>
     ensures sum { SomeIff result (AreCodes codes.now) (sum_of codes.now) }
     ensures small { IfSome result (λ sum. sum < 2 ^ 50) }

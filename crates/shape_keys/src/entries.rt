@@ -35,7 +35,7 @@ fn or_unknown(number: Option<u64>) -> u64
     number.unwrap_or(u64::MAX)
 }
 
-/// Returns an entry as it crosses to other languages.
+/// Converts an entry to the struct that crosses to other languages.
 pub(crate) fn said(entry: &Entry) -> ShapesEntry
     ensures { result ≡ said entry.now }
 {
@@ -47,7 +47,7 @@ pub(crate) fn said(entry: &Entry) -> ShapesEntry
     }
 }
 
-/// Returns a header as it crosses to other languages.
+/// Converts a header to the struct that crosses to other languages.
 pub(crate) fn said_header(header: &Header) -> ShapesHeader
     ensures { result ≡ said_header header.now }
 {

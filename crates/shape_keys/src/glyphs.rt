@@ -67,8 +67,8 @@ pub extern "C" fn shapes_diamond_of_glyphs(glyphs: &[u8], word: &mut u64) -> u32
 
 /// Writes the 25 glyphs of a word, cell 0 first, with no byte after them. Takes no memory.
 ///
-/// Returns `Done` and writes the glyphs. Returns `BadWord` exactly if the number is 2^51 or more;
-/// what was there stays then.
+/// Returns `Done` and writes the glyphs. Returns `BadWord` exactly if `word` is 2^51 or more;
+/// `text` stays as it was then.
 #[unsafe(no_mangle)]
 pub extern "C" fn shapes_glyphs(word: u64, text: &mut [u8; 25]) -> u32
     ensures done { word < 2 ^ 51 → (result ≡ number_of status.Done)

@@ -14,7 +14,7 @@ use crate::statuses::Status;
 use shape_dict::{DictFault, Dictionary, Entry, read_header};
 use std::alloc::Global;
 
-/// The line that a fault names, from 1 at the header, or 0 if it names none.
+/// The number of the line that `fault` names, 1 for the header; 0 if it names none.
 fn line_of(fault: DictFault) -> u64
     ensures { result ≡ line_of fault }
 {
@@ -26,7 +26,8 @@ fn line_of(fault: DictFault) -> u64
     }
 }
 
-/// Writes entries, as they cross to other languages, to the front of a room that is large enough.
+/// Writes `entries`, as structs for other languages, to the front of `room`, which must be as long
+/// or longer.
 fn put_entries(entries: &[Entry], room: &mut [ShapesEntry])
     requires { length entries.now ≤ length room.old }
     ensures { room.new ≡ map said entries.now ++ drop (length entries.now) room.old }
@@ -36,11 +37,11 @@ fn put_entries(entries: &[Entry], room: &mut [ShapesEntry])
     }
 }
 
-/// Writes what the header of a dictionary's text says; the lines after it are not looked at. Takes
-/// no memory.
+/// Writes to `header` what the first line of a dictionary's text says; the lines after it are not
+/// looked at. Takes no memory.
 ///
-/// Returns `Done` and writes the header. Returns `BadText` of X1 exactly if the bytes do not begin
-/// with a header of one of the three texts; what was there stays then.
+/// Returns `Done` and writes the header. Returns `BadText` with X1 exactly if the bytes do not
+/// begin with a header of one of the three text formats; `header` stays as it was then.
 #[unsafe(no_mangle)]
 pub extern "C" fn shapes_header(text: &[u8], header: &mut ShapesHeader) -> u32
     ensures done { result ≡ number_of status.Done → IsHeaderSaid text.now header.new }
@@ -57,16 +58,16 @@ pub extern "C" fn shapes_header(text: &[u8], header: &mut ShapesHeader) -> u32
     }
 }
 
-/// Reads a dictionary's text, in any of its three texts, and writes its entries, whose shapes rise,
-/// to the front of a room of the caller's. It takes memory for the entries, and gives it back
-/// before it returns.
+/// Reads a dictionary's text, in any of its three formats, and writes its entries, in rising order
+/// of their words, to the front of `entries`. It takes memory for the entries, and frees it before
+/// it returns.
 ///
-/// Returns `Done` and writes the entries and how many they are. Returns `NoRoom` if there is not
-/// room for them all, and writes how many they are alone; a line has 18 bytes or more, so room for
-/// an entry for each 18 bytes of the text is always enough. Else returns `BadText` of the first
-/// fault of the text, X1 to X6 or X8, and writes alone the line that the fault names, from 1 at the
-/// header, or 0 if it names none. X6, out of memory, comes only after a header and a first line
-/// without a fault.
+/// Returns `Done`, and writes the entries, and to `number` how many they are. Returns `NoRoom` if
+/// `entries` is too short for them all, and writes only `number`; a line has 18 bytes or more, so a
+/// length of an entry for each 18 bytes of the text is always enough. Else returns `BadText` with
+/// the first fault of the text, X1 to X6 or X8, and writes only to `number` the line that the fault
+/// names, from 1 at the header, or 0 if it names none. X6, out of memory, comes only after a header
+/// and a first line without a fault.
 #[unsafe(no_mangle)]
 pub extern "C" fn shapes_read(
     alloc: Global,

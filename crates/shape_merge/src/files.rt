@@ -78,7 +78,7 @@ pub struct Target<M> {
 }
 
 /// Returns a file that `maker` makes when the first byte is written, and that isn't touched before:
-/// nothing is known here of what makes it, so nothing can be made.
+/// `M` can be any type here, not a `Maker` alone, so this call can't make the file.
 pub fn new_target<M>(maker: M) -> Target<M>
     ensures { result ≡ record { maker = maker; file = None } }
 {
@@ -104,26 +104,26 @@ impl<M: Maker> Write for Target<M> {
     }
 }
 
-/// Which file a name stands for, as the system tells it.
+/// Which file a name stands for, as far as the system knows.
 #[derive(Clone, Copy, PartialEq, Eq)]
 pub enum FileIdentity {
-    /// Nothing that can be looked at: to open it will say why.
+    /// The system has no data on the name: an attempt to open it will say why.
     Nothing,
-    /// A regular file: its device, and its number there.
+    /// A regular file: its device, and its inode number there.
     File { device: u64, number: u64 },
     /// No regular file, such as a pipe, which can't be read twice.
     Other,
 }
 
-/// What the names of a join stand for: the name of the file that is written, and those of the
-/// dictionaries in their order.
+/// Which files the names of a join stand for: the name of the file that is written, and those of
+/// the dictionaries in their order.
 #[derive(Drop)]
 pub struct Sights {
     pub target: FileIdentity,
     pub dictionaries: Vec<FileIdentity>,
 }
 
-/// Which file a name stands for, as the system tells it.
+/// Asks the system which file a name stands for, and does not open it.
 fn look(rt: &HostRuntime, name: &str) -> FileIdentity {
     match fs::metadata(rt, name) {
         Ok(metadata) if metadata.is_file() => FileIdentity::File {
@@ -135,7 +135,8 @@ fn look(rt: &HostRuntime, name: &str) -> FileIdentity {
     }
 }
 
-/// Which file each of these names stands for, in their order.
+/// Asks the system which file each of these names stands for, and returns that in their order.
+/// `AllocError` if memory was refused.
 fn look_at_all(rt: &HostRuntime, names: &[&str]) -> Result<Vec<FileIdentity>, AllocError>
     ensures { IfOk result (λ identities. vec_len identities ≡ length names.now) }
 {
@@ -146,7 +147,8 @@ fn look_at_all(rt: &HostRuntime, names: &[&str]) -> Result<Vec<FileIdentity>, Al
     Ok(identities)
 }
 
-/// Looks at what the names of a join stand for.
+/// Asks the system which files the names of a join stand for. If no output file is named, the file
+/// that is written is standard output.
 ///
 /// # Errors
 ///
@@ -163,7 +165,8 @@ pub fn look_at(rt: &HostRuntime, asked: &Asked<'_>) -> Result<Sights, AllocError
     })
 }
 
-/// Whether what a dictionary's name stands for can't be read twice, or is what is written.
+/// Whether a dictionary's name stands for no regular file, which can't be read twice, or for the
+/// file that is written, `target`. False if the system has no data on the name.
 fn is_refused(dictionary: FileIdentity, target: FileIdentity) -> bool
     ensures { IsTrue result ↔ IsRefused dictionary target }
 {
@@ -174,7 +177,7 @@ fn is_refused(dictionary: FileIdentity, target: FileIdentity) -> bool
     }
 }
 
-/// Whether a name is that of the file that is written.
+/// Whether `name` is also the name that was given for the file that is written.
 fn is_written(asked: &Asked<'_>, name: &str) -> bool
     ensures { IsTrue result ↔ IsWritten asked.now name.now }
 {
@@ -184,16 +187,17 @@ fn is_written(asked: &Asked<'_>, name: &str) -> bool
     }
 }
 
-/// Whether a dictionary of this name can't be joined.
+/// Whether the dictionary `name`, which stands for the file `dictionary`, can't be joined: it is
+/// the file that is written, by its name or by `target`, or it can't be read twice.
 fn is_barred(asked: &Asked<'_>, target: FileIdentity, name: &str, dictionary: FileIdentity) -> bool
     ensures { IsTrue result ↔ IsBarred asked.now target name.now dictionary }
 {
     is_written(asked, name) || is_refused(dictionary, target)
 }
 
-/// The first of the dictionaries' names that can't be joined: one that is there and is no regular
-/// file, such as a pipe, which can't be read twice; or one that is written, under this name or
-/// another.
+/// Returns the first of the dictionaries' names that can't be joined, or None if all can be: one
+/// that is there and is no regular file, such as a pipe, which can't be read twice; or one that is
+/// written, under this name or another.
 pub fn which_is_barred<'a>(asked: &Asked<'a>, sights: &Sights) -> Option<&'a str>
     requires { AreOf asked.now sights.now }
     ensures { MatchOption result (AreFree asked.now sights.now)

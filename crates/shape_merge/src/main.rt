@@ -21,8 +21,9 @@ use std::thread::Threads;
 use telling::{tell, tell_barred, tell_changed};
 use words::Asked;
 
-/// Writes the join of the files, to standard output or to a file that is made once all is judged.
-/// The threads that join are started through `threads`.
+/// Writes the join of the files, to standard output or to a file that is made only after all
+/// dictionaries were checked to be well-formed. The threads that join are started through
+/// `threads`.
 fn join<T: Threads + Sync>(
     threads: &T,
     rt: &HostRuntime,
@@ -42,8 +43,9 @@ fn join<T: Threads + Sync>(
     }
 }
 
-/// Looks at the files again after a join that ended well, and says which one changed meanwhile.
-/// Returns the exit status.
+/// Looks at the files again after a join that ended well, and says on standard error which one has
+/// another stamp (device, number, size, time) than in `before`. Returns the exit status: 0 if none
+/// has.
 fn look_again(rt: &HostRuntime, asked: &Asked<'_>, before: &[Stamp]) -> Result<u8, RunFault>
     requires { length before.now ≡ vec_len asked.now.names }
 {
@@ -54,7 +56,8 @@ fn look_again(rt: &HostRuntime, asked: &Asked<'_>, before: &[Stamp]) -> Result<u
     }
 }
 
-/// Judges the names, and joins the files. Returns the exit status.
+/// Checks that the named files can be joined, joins them, and says on standard error what went
+/// wrong. Returns the exit status.
 fn join_files<T: Threads + Sync>(
     threads: &T,
     rt: &HostRuntime,

@@ -1,4 +1,4 @@
-//! Whether a file changed while it was joined, as far as the system tells it.
+//! Whether a file changed while it was joined, as far as the system shows it.
 ghost use Rattle.std.specs.Prelude.{◌≡◌, ◌↔◌, IsTrue, IfOk, MatchOption, length, vec_len};
 ghost use Rattle.shape_merge.specs.Stamps.{AreAlike, IsFirstUnlike};
 
@@ -6,12 +6,12 @@ use std::alloc::AllocError;
 use std::fs;
 use std::os::unix::fs::MetadataExt;
 
-/// What the system tells of a file, by which a change of the file shows.
+/// What the system says of a file. If it says something else later, the file has changed.
 #[derive(Clone, Copy, PartialEq, Eq)]
 pub enum Stamp {
-    /// The system tells nothing of the file.
+    /// The system says nothing of the file.
     Unknown,
-    /// Its device, its number there, its size in bytes, and when it was written last.
+    /// Its device, its inode number there, its size in bytes, and when it was written last.
     Known {
         device: u64,
         number: u64,

@@ -7,7 +7,7 @@ use command_lines::why_unread;
 use merge_core::{MergeFault, status_of};
 use std::{fs, io};
 
-/// The name of a dictionary's file, by its number from 1.
+/// Returns the name of dictionary `n`, counted from 1, or an empty one if there is no such name.
 fn name_of<'a>(names: &[&'a str], n: usize) -> &'a str
     ensures { (k : ℕ) → n ≡ k + 1 → k < length names.now → slice_get names.now k ≡ Some result }
 {
@@ -17,7 +17,8 @@ fn name_of<'a>(names: &[&'a str], n: usize) -> &'a str
     names[n - 1]
 }
 
-/// Says that a write of the file of this name failed, and why, as far as the system tells it.
+/// Says on standard error that a write of the file `name` failed after `written` bytes, and why, if
+/// the system shows it.
 fn tell_unwritten(rt: &HostRuntime, name: &str, written: usize) {
     let why = match fs::metadata(rt, name) {
         Ok(metadata) if metadata.is_dir() => "it is a folder",
@@ -27,14 +28,15 @@ fn tell_unwritten(rt: &HostRuntime, name: &str, written: usize) {
     let _ = eprintln!(rt; "shape_merge: I2 write failed after {written} bytes: {name}: {why}");
 }
 
-/// Says that the file of this name was not read, and why, as far as the system tells it.
+/// Says on standard error that the file `name`, dictionary `n`, was not read, and why, if the
+/// system shows it. `written` is how many bytes of the join were written.
 fn tell_unread(rt: &HostRuntime, n: usize, name: &str, written: usize) {
     let why = why_unread(rt, name).unwrap_or("read failed or changed");
     let _ = eprintln!(rt; "shape_merge: dictionary {n}, {name}: I1 {why}, {written} bytes written");
 }
 
-/// Says that the dictionary of this name can't be joined, and why, as far as the system tells it: a
-/// regular file is one that is written too. Returns the exit status.
+/// Says on standard error that the dictionary `name` can't be joined, and why, as far as the system
+/// shows it: a regular file is one that is written too. Returns the exit status, 2.
 pub fn tell_barred(rt: &HostRuntime, name: &str) -> u8
     ensures { result ≡ 2 }
 {
@@ -47,8 +49,8 @@ pub fn tell_barred(rt: &HostRuntime, name: &str) -> u8
     2
 }
 
-/// Says that the file of this name and number, from 0, changed while it was joined. Returns the
-/// exit status.
+/// Says on standard error that the file `name`, number `k` from 0, changed while it was joined.
+/// Returns the exit status, 6.
 pub fn tell_changed(rt: &HostRuntime, k: usize, name: &str) -> u8
     ensures { result ≡ 6 }
 {
@@ -57,8 +59,8 @@ pub fn tell_changed(rt: &HostRuntime, k: usize, name: &str) -> u8
     6
 }
 
-/// Says in one line what is wrong, with the file that it is about, and returns the exit status. If
-/// standard error takes nothing, the status still says it.
+/// Says on standard error, in one line, what is wrong and with which file, and returns the exit
+/// status. If standard error takes nothing, the status still says what went wrong.
 pub fn tell(rt: &HostRuntime, asked: &Asked<'_>, fault: &MergeFault) -> u8
     ensures { result ≡ status_of fault.now }
 {

@@ -12,8 +12,8 @@ use std::io;
 use std::process::ExitCode;
 use words::Drawing;
 
-/// Returns the bytes of the file of lines of hits. If they could not be read, that is said, and the
-/// answer is the exit status.
+/// Returns the bytes of the file `name`, which has lines of hits. If it can't be read, prints that
+/// to standard error and returns the exit status in place of the bytes.
 fn hits_of(rt: &HostRuntime, name: &str) -> Result<Result<Vec<u8>, u8>, RunFault> {
     let read = match File::open(rt, name) {
         Ok(mut file) => read_input(rt.alloc(), &mut file),
@@ -30,8 +30,8 @@ fn hits_of(rt: &HostRuntime, name: &str) -> Result<Result<Vec<u8>, u8>, RunFault
     }
 }
 
-/// Whether a page shows a place below any pattern. Text from files can't look like one: it is
-/// escaped.
+/// Whether a page shows a line of hits below any pattern. Text from files can't look like such a
+/// list: it is escaped.
 fn has_places(page: &[u8]) -> bool {
     for start in 0..page.len() {
         if page[start..].starts_with(b"<ul>") {
@@ -41,8 +41,8 @@ fn has_places(page: &[u8]) -> bool {
     false
 }
 
-/// The lines of hits in this file, none if no file is named; or the exit status if they could not
-/// be read, which was said.
+/// Returns the lines of hits in the file `name`, none if no file is named. If it can't be read,
+/// prints that to standard error and returns the exit status in place of the lines.
 fn lines_of(rt: &HostRuntime, name: Option<&str>) -> Result<Result<Vec<u8>, u8>, RunFault> {
     match name {
         None => Ok(Ok(Vec::new(rt.alloc()))),
@@ -50,7 +50,8 @@ fn lines_of(rt: &HostRuntime, name: Option<&str>) -> Result<Result<Vec<u8>, u8>,
     }
 }
 
-/// The sheet of the dictionary on standard input, with places that these lines of hits have.
+/// Returns the sheet of the dictionary on standard input. On a page each pattern has the first of
+/// its lines in `hits` below it.
 fn sheet_of(rt: &HostRuntime, asked: Asked, hits: &[u8]) -> Result<Vec<u8>, RunFault> {
     let mut sheet = Vec::new(rt.alloc());
     match run_sheet(rt.alloc(), asked, hits, &mut rt.stdin(), &mut sheet) {
@@ -60,8 +61,8 @@ fn sheet_of(rt: &HostRuntime, asked: Asked, hits: &[u8]) -> Result<Vec<u8>, RunF
     }
 }
 
-/// Draws the sheet, and says if a file of hits was named and gave a page no place. Returns the exit
-/// status.
+/// Prints the sheet. If a file of hits is named and no pattern of a page has a line in it, that is
+/// printed to standard error. Returns the exit status.
 fn draw(rt: &HostRuntime, asked: Asked, name: Option<&str>) -> Result<u8, RunFault> {
     let hits = match lines_of(rt, name)? {
         Ok(hits) => hits,

@@ -4,7 +4,7 @@ use game_files::Source;
 use std::fs;
 use std::os::unix::fs::MetadataExt;
 
-/// What else the run uses a file for that is to be written.
+/// Why a file can't be written: the same run also uses it for something else.
 #[derive(Clone, Copy, Debug, PartialEq, Eq)]
 pub enum Clash<'a> {
     /// The file of this name is an input too.
@@ -13,14 +13,15 @@ pub enum Clash<'a> {
     Report(&'a str),
 }
 
-/// The identity of a regular file: its device, and its number there.
+/// The identity of a regular file: its device number and its inode number there.
 #[derive(Clone, Copy, PartialEq, Eq)]
 struct Identity {
     device: u64,
     number: u64,
 }
 
-/// The identity of the regular file that a name stands for, links followed, if it stands for one.
+/// Returns the identity of the regular file at the path `name`; symbolic links are followed. None
+/// if no regular file is there, or its metadata can't be read.
 fn identity_of(rt: &HostRuntime, name: &str) -> Option<Identity> {
     let found = fs::metadata(rt, name).ok()?;
     found.is_file().then_some(Identity {
@@ -29,7 +30,8 @@ fn identity_of(rt: &HostRuntime, name: &str) -> Option<Identity> {
     })
 }
 
-/// Whether the file of this name is one of the inputs, perhaps under another name.
+/// Whether the regular file at the path `name` is one of the inputs `sources`, perhaps under
+/// another path. False if no such file is there. Standard input is not compared.
 fn is_input(rt: &HostRuntime, sources: &[Source], name: &str) -> bool {
     let Some(file) = identity_of(rt, name) else {
         return false;
@@ -44,7 +46,8 @@ fn is_input(rt: &HostRuntime, sources: &[Source], name: &str) -> bool {
     false
 }
 
-/// Whether two names stand for one file, or would if it were made.
+/// Whether the paths `one` and `other` lead to one regular file. If `one` leads to none, whether
+/// the two paths are equal as texts.
 fn are_one(rt: &HostRuntime, one: &str, other: &str) -> bool {
     match identity_of(rt, one) {
         Some(file) => identity_of(rt, other) == Some(file),
@@ -52,9 +55,9 @@ fn are_one(rt: &HostRuntime, one: &str, other: &str) -> bool {
     }
 }
 
-/// Returns the first clash between the files that are asked for and the inputs: that of the
-/// dictionary with an input, then that of the report with an input, then that of dictionary and
-/// report. Standard output is not looked at.
+/// Returns the first clash between the files that are to be written and the inputs `sources`, or
+/// None if there is none: that of the dictionary with an input, then that of the report with an
+/// input, then that of dictionary and report. Standard output is not looked at.
 pub fn clash_of<'a>(rt: &HostRuntime, asked: &Asked<'a>, sources: &[Source]) -> Option<Clash<'a>> {
     for name in [asked.out, asked.report].into_iter().flatten() {
         if is_input(rt, sources, name) {

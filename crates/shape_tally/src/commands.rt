@@ -58,7 +58,8 @@ fn out_argument<'a>(alloc: Global) -> Arg<'a>
     .short('o')
 }
 
-/// The program with the options that say how to count and where to write the dictionary.
+/// Returns the program's definition for `clap` with its first options: those that say how to count
+/// and where the dictionary is written. `AllocError` if memory was refused.
 fn program_of_counting<'a>(alloc: Global) -> Result<Command<'a>, AllocError>
     ensures { IfOk result (λ command. app_of command ≡ counting_app) }
 {

@@ -5,7 +5,7 @@ use std::io::{self, ErrorKind, Write};
 use std::os::unix::fs::MetadataExt;
 use std::process;
 
-/// How many names are tried for a draft.
+/// How many file names are tried for one draft (a file that is to replace its target).
 const MOST_TRIES: u64 = 1000;
 
 /// A file that is written beside its target, to take the target's name once it is whole. A draft
@@ -18,16 +18,18 @@ pub struct Draft<'a> {
     is_done: bool,
 }
 
-/// Locks a draft, so that no other run takes it for one that was left. Returns whether it is still
-/// there: another run may have removed it before it was locked.
+/// Locks the file of a draft, so that no other run removes it as the draft of a run that was
+/// killed. Returns false if another run had removed `file` before it was locked, else true. It
+/// waits while another run has the lock. If the system has no locks, the file isn't locked.
 fn hold(file: &File) -> io::Result<bool> {
-    // If the system has no locks, no run can take one, and none removes a draft.
+    // If the system has no locks, no run can lock a draft, and so none removes a draft.
     let _ = file.lock();
     Ok(file.metadata()?.nlink() > 0)
 }
 
-/// Makes a draft of this target, under a name that no file has. Drafts that earlier runs left are
-/// removed first.
+/// Makes and locks an empty draft of the file `target`, beside it, under a name that no file has.
+/// Drafts of `target` that killed runs left are removed first. `AlreadyExists` if `MOST_TRIES`
+/// names gave none; else an error of the system.
 fn new_draft<'a>(rt: &'a HostRuntime, target: String) -> io::Result<Draft<'a>> {
     remove_left_drafts(rt, target.as_str());
     let own = process::id(rt.process());
@@ -54,7 +56,8 @@ fn new_draft<'a>(rt: &'a HostRuntime, target: String) -> io::Result<Draft<'a>> {
 }
 
 impl Draft<'_> {
-    /// Gives the draft the name of its target, in place of what was there.
+    /// Waits until the draft's bytes are on the disk, and renames it to its target. A file of that
+    /// name is replaced.
     fn finish(&mut self) -> io::Result<()> {
         self.file.flush()?;
         self.file.sync_all()?;
@@ -74,13 +77,13 @@ impl Drop for Draft<'_> {
             is_done,
         } = self;
         if !is_done {
-            // If it can't be removed, the run still says its own fault.
+            // If the draft can't be removed, the run still reports the fault that ended it.
             let _ = fs::remove_file(rt, name.as_str());
         }
     }
 }
 
-/// What the bytes for a file name are written to.
+/// Where the bytes of a named output are written.
 #[derive(Drop)]
 enum Target<'a> {
     /// Something that is no regular file, such as a pipe: it is written directly.
@@ -89,8 +92,9 @@ enum Target<'a> {
     Draft(Draft<'a>),
 }
 
-/// Opens what the bytes for this file name are written to. A draft has the mode of the file whose
-/// name it is to take, and stands beside the file to which links lead.
+/// Opens the output `name`: directly if something is there that is no regular file, such as a pipe,
+/// else as a draft. If a regular file is there, the draft gets its mode (the permission bits), and
+/// is made beside the file to which symbolic links lead.
 fn open_target<'a>(rt: &'a HostRuntime, name: &str) -> io::Result<Target<'a>> {
     match fs::metadata(rt, name) {
         Ok(found) if found.is_file() => {
@@ -169,7 +173,8 @@ impl<'a> Output<'a> {
         Ok(())
     }
 
-    /// Does one write, and returns how many of the bytes were written.
+    /// Writes some of `bytes` in one write, and returns how many; they may be fewer than all. The
+    /// file is opened if it isn't open.
     fn write_some(&mut self, bytes: &[u8]) -> io::Result<usize>
         ensures { WritesAtMost result bytes.now }
     {

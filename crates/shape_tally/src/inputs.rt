@@ -10,23 +10,23 @@ use std::fs::File;
 use std::io::{ErrorKind, Read};
 use tally_parts::Texts;
 
-/// How many of an input's first bytes are looked at to say what it may be.
+/// How many of an input's first bytes are looked at to guess what an input without a tree is.
 const FRONT: usize = 8;
 
-/// What has become of the inputs so far.
+/// What came of the inputs that were read so far.
 #[derive(Drop)]
 struct Taken<'a> {
-    /// What has become of each.
+    /// What came of each input, in their order; `Fate::Waiting` if it was not read yet.
     fates: Vec<Fate>,
-    /// What has become of all together.
+    /// What came of all inputs together.
     sum: Sum,
     /// What the input that was read last may be, if it has no tree.
     cause: Cause,
-    /// The line by which a terminal shows how far the count is, if one does.
+    /// The progress line on the terminal; None if no terminal shows one.
     progress: Option<Progress<'a>>,
 }
 
-/// The inputs of a count, and what has become of them.
+/// The inputs of a count, and what came of each.
 #[derive(Drop)]
 pub struct Inputs<'a> {
     rt: &'a HostRuntime,
@@ -35,8 +35,9 @@ pub struct Inputs<'a> {
     is_strict: bool,
 }
 
-/// Reads all that a reader gives, up to `MOST_BYTES` bytes, as many as no input may have. Returns
-/// what becomes of the input if a read failed, else None.
+/// Reads all bytes of `reader` into `room`, but at most `MOST_BYTES`; an input with that many bytes
+/// is too large. Returns None if they were read, and `Fate::Unread` if a read failed. `AllocError`
+/// if memory was refused.
 fn read_whole<R: Read + Drop>(reader: R, room: &mut Vec<u8>) -> Result<Option<Fate>, AllocError> {
     match reader.take(MOST_BYTES as u64).read_to_end(room) {
         Ok(_) => Ok(None),
@@ -45,8 +46,9 @@ fn read_whole<R: Read + Drop>(reader: R, room: &mut Vec<u8>) -> Result<Option<Fa
     }
 }
 
-/// Reads an open file whole. A file that is too large is not read. Returns what becomes of the
-/// input if it can't be read, else None.
+/// Reads an open file whole into `room`. Returns None if it was read. Else it returns the input's
+/// fate: `Faulty` if the file is too large, which is not read then, or `Unread` if a read failed.
+/// `AllocError` if memory was refused.
 fn read_opened(file: File, room: &mut Vec<u8>) -> Result<Option<Fate>, AllocError> {
     if let Ok(found) = file.metadata() {
         if found.len() >= MOST_BYTES as u64 {
@@ -57,7 +59,8 @@ fn read_opened(file: File, room: &mut Vec<u8>) -> Result<Option<Fate>, AllocErro
     read_whole(file, room)
 }
 
-/// Reads an input. Returns what becomes of it if it can't be read, else None.
+/// Reads the input `source` whole into `room`. Returns None if it was read, else the fate that says
+/// why it can't be read. `AllocError` if memory was refused.
 fn read_source(
     rt: &HostRuntime,
     source: &Source,
@@ -73,13 +76,14 @@ fn read_source(
     }
 }
 
-/// The first bytes of a text.
+/// Returns the first `FRONT` bytes of `text`, or all if there are fewer.
 fn front_of(text: &[u8]) -> &[u8] {
     &text[..text.len().min(FRONT)]
 }
 
 impl Taken<'_> {
-    /// Takes note that an input with this text was read; it is not judged yet.
+    /// Notes that an input was read, whose bytes are `text`, and updates the progress line. The
+    /// text is not checked for faults of syntax yet.
     fn read(&mut self, text: &[u8]) {
         self.cause = cause_of(front_of(text));
         if let Some(progress) = &mut self.progress {
@@ -94,7 +98,8 @@ impl Taken<'_> {
         }
     }
 
-    /// Notes what has become of input `n`, and says it on standard error if it is to be said.
+    /// Notes the fate of input `n`, from 0, and adds it to the sum. If `is_told` says that the fate
+    /// needs a line on standard error, that line is written.
     fn take(&mut self, rt: &HostRuntime, sources: &[Source], n: usize, fate: Fate) {
         if is_told(fate) {
             self.clear_progress();
@@ -110,8 +115,9 @@ impl Taken<'_> {
 }
 
 impl<'a> Inputs<'a> {
-    /// The inputs of a count, of which none was read yet. If `is_strict`, no dictionary is wanted
-    /// once an input was left out or gave nothing.
+    /// Makes the inputs of a count from `sources`, of which none was read yet. If `is_strict`, no
+    /// dictionary is wanted once an input was left out or has no tree, or a folder has no file of
+    /// games.
     ///
     /// # Errors
     ///
@@ -140,12 +146,12 @@ impl<'a> Inputs<'a> {
         self.taken.clear_progress();
     }
 
-    /// What has become of each input, in their order.
+    /// What came of each input, in their order.
     pub fn fates(&self) -> &[Fate] {
         self.taken.fates.as_slice()
     }
 
-    /// What has become of all inputs together.
+    /// What came of all inputs together.
     pub fn sum(&self) -> &Sum {
         &self.taken.sum
     }

@@ -4,7 +4,7 @@ use std::fs::{self, File};
 /// What a draft's name ends in.
 const ENDING: &str = ".draft";
 
-/// Whether a word is a number: one digit or more, and nothing else.
+/// Whether `word` is a decimal number: one digit or more, and nothing else.
 fn is_number(word: &str) -> bool {
     !word.is_empty() && word.as_bytes().iter().all(|byte| byte.is_ascii_digit())
 }
@@ -27,7 +27,8 @@ fn is_draft_of(name: &str, target: &str) -> bool {
     }
 }
 
-/// Splits a file's path into its folder and its name there.
+/// Splits a file's path into its folder and its name there. The folder is `.` if the path has no
+/// slash.
 fn parts_of(path: &str) -> (&str, &str) {
     match path.rsplit_once('/') {
         Some(("", name)) => ("/", name),
@@ -36,7 +37,8 @@ fn parts_of(path: &str) -> (&str, &str) {
     }
 }
 
-/// Removes a draft, unless a run holds its lock. If that can't be done, the draft stays.
+/// Removes the draft at `path`, unless a run has it locked. If it can't be opened, locked or
+/// removed, it stays, and no error is reported.
 fn remove_left(rt: &HostRuntime, path: &str) {
     let Ok(file) = File::open(rt, path) else {
         return;
@@ -46,8 +48,8 @@ fn remove_left(rt: &HostRuntime, path: &str) {
     }
 }
 
-/// Removes the drafts of this target that no run holds any more. A draft that can't be looked at or
-/// removed stays as it is.
+/// Removes the drafts of the file `target` that no run has locked any more. A draft that can't be
+/// opened or removed stays as it is, and no error is reported.
 pub fn remove_left_drafts(rt: &HostRuntime, target: &str) {
     let (folder, own) = parts_of(target);
     let Ok(entries) = fs::read_dir(rt, folder) else {

@@ -13,7 +13,8 @@ struct Names<'a> {
     passed_over: u64,
 }
 
-/// Reads all that a reader gives.
+/// Reads `reader` to its end, and returns its bytes. `Memory` if memory was refused; `Read` if a
+/// read failed.
 fn read_whole<R: Read>(alloc: Global, reader: &mut R) -> Result<Vec<u8>, RunFault> {
     let mut bytes = Vec::new(alloc);
     match reader.read_to_end(&mut bytes) {
@@ -34,7 +35,7 @@ fn read_list(rt: &HostRuntime, file: &str) -> Result<Vec<u8>, RunFault> {
     }
 }
 
-/// The byte that ends a name.
+/// Returns the byte that ends each name of a list.
 fn byte_after(end: NameEnd) -> u8 {
     match end {
         NameEnd::LineFeed => b'\n',
@@ -47,7 +48,8 @@ fn word_for(name: &str) -> &str {
     if name == "-" { "./-" } else { name }
 }
 
-/// Splits the bytes of a list into its names, which end in `end`. An empty piece is no name.
+/// Splits the bytes of a list at each byte `end` into names. Empty names are dropped, and names
+/// that are not UTF-8 are counted only.
 fn names_in(alloc: Global, bytes: &[u8], end: u8) -> Result<Names<'_>, AllocError> {
     let mut names = Vec::new(alloc);
     let mut passed_over = 0u64;
@@ -61,7 +63,8 @@ fn names_in(alloc: Global, bytes: &[u8], end: u8) -> Result<Names<'_>, AllocErro
     Ok(Names { names, passed_over })
 }
 
-/// Returns the inputs that names stand for; no names stand for no input.
+/// Returns the inputs that `names` stand for: files, and the files of games in folders. If there
+/// are no names, there is no input.
 fn meant(rt: &HostRuntime, names: &[&str]) -> Result<Vec<Source>, AllocError> {
     if names.is_empty() {
         return Ok(Vec::new(rt.alloc()));
@@ -69,9 +72,10 @@ fn meant(rt: &HostRuntime, names: &[&str]) -> Result<Vec<Source>, AllocError> {
     sources(rt, names)
 }
 
-/// Returns the inputs that the names in a file stand for, each as a word of the command line does.
-/// If the file is `-`, the names in standard input are read. If some names are not UTF-8, a last
-/// `Flaw` says how many.
+/// Reads a list of names, and returns the inputs that they stand for. Each name stands for what it
+/// stands for on the command line, but `-` for a file of that name. The names are read from the
+/// file `file`, or from standard input if it is `-`; each ends in the byte that `end` says. If some
+/// names are not UTF-8, a last `Flaw` says how many.
 ///
 /// # Errors
 ///

@@ -31,11 +31,12 @@ use tally_parts::{PartsFault, run_tally};
 use telling::{tell_clash, tell_fault, tell_sum, tell_unlisted, tell_unmade};
 use words::{Asked, Named};
 
-/// The folder of temporary files, if the system tells none.
+/// The folder for temporary files if the system names none.
 const TEMPORARY: &str = "/tmp";
 
-/// The folder in which dictionaries of parts wait: the one that is asked for, else that of the
-/// system.
+/// Returns the folder of the file in which the dictionaries of parts wait until they are joined
+/// (inputs are counted in parts): the folder that is asked for, else the system's for temporary
+/// files.
 fn folder_of(rt: &HostRuntime, asked: &Asked<'_>) -> Result<String, AllocError> {
     if let Some(folder) = asked.spill {
         return String::from_str(rt.alloc(), folder);
@@ -46,7 +47,8 @@ fn folder_of(rt: &HostRuntime, asked: &Asked<'_>) -> Result<String, AllocError> 
     }
 }
 
-/// The inputs that the words name.
+/// Returns the inputs that the command line names, directly or by a list. `Read` if the list can't
+/// be read, which is then reported on standard error.
 fn sources_of(rt: &HostRuntime, asked: &Asked<'_>) -> Result<Vec<Source>, RunFault> {
     match &asked.named {
         Named::Words(files) => Ok(sources(rt, files)?),
@@ -60,8 +62,8 @@ fn sources_of(rt: &HostRuntime, asked: &Asked<'_>) -> Result<Vec<Source>, RunFau
     }
 }
 
-/// Whether a file that is asked for could be written. This is tested first, so that no count is in
-/// vain. If the file could not be written, standard error says so.
+/// Tests whether the file `name` could be written, before the count, so that no count is in vain.
+/// Returns true if it could, or if `name` is None. If not, standard error says so.
 fn can_be_written(rt: &HostRuntime, name: Option<&str>) -> bool {
     let Some(name) = name else {
         return true;
@@ -75,7 +77,8 @@ fn can_be_written(rt: &HostRuntime, name: Option<&str>) -> bool {
     }
 }
 
-/// Writes the report, if one is asked for. Returns whether it was written, or none is asked for.
+/// Writes the report, if one is asked for. Returns false if it could not be written, which standard
+/// error says then; else true.
 fn write_report(
     rt: &HostRuntime,
     asked: &Asked<'_>,
@@ -99,8 +102,9 @@ fn write_report(
     }
 }
 
-/// Counts inputs, and writes their dictionary. Returns the exit status: 0 if it is written, 1 if
-/// none is wanted.
+/// Counts the games of `inputs`, and writes their dictionary. `folder` is where the dictionaries of
+/// parts wait until they are joined. Returns the exit status: 0 if the dictionary is written, 1 if
+/// none is wanted, and a greater one after a fault, which standard error says.
 fn write_dictionary<T: Threads + Wait + Sync>(
     rt: &HostRuntime,
     threads: &T,
@@ -131,7 +135,8 @@ fn write_dictionary<T: Threads + Wait + Sync>(
     }
 }
 
-/// Counts inputs, writes their dictionary and the report, and sums up. Returns the exit status.
+/// Does the count that is asked for: it writes the dictionary and the report, and the sum on
+/// standard error. Returns the exit status. If that is above 1, neither report nor sum is written.
 fn tally<T: Threads + Wait + Sync>(
     rt: &HostRuntime,
     threads: &T,

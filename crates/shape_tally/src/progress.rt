@@ -7,8 +7,8 @@ use std::{env, fs};
 /// The least time between two lines, in milliseconds.
 const PAUSE: u64 = 500;
 
-/// The environment variable by which the launcher says that a terminal shows at once what comes on
-/// standard error, which is a pipe to the launcher then.
+/// The environment variable that the launcher sets if a terminal shows at once what this program
+/// writes on standard error. Standard error is then a pipe to the launcher.
 const SHOWN: &str = "SHAPES_SHOWN";
 
 /// What a terminal shows of a count that takes a while: one line, written over and over.
@@ -16,7 +16,7 @@ const SHOWN: &str = "SHAPES_SHOWN";
 pub struct Progress<'a> {
     rt: &'a HostRuntime,
     start: Instant,
-    /// How many bytes all inputs have, as far as the system tells it.
+    /// How many bytes all named files have together. A file whose size can't be read counts as 0.
     all: u64,
     /// How many of these bytes were read.
     read: u64,
@@ -26,12 +26,14 @@ pub struct Progress<'a> {
     is_shown: bool,
 }
 
-/// Whether a terminal shows at once what comes on standard error.
+/// Whether a terminal shows at once what is written on standard error: it is a terminal, or the
+/// launcher has set `SHOWN`.
 fn is_seen(rt: &HostRuntime) -> bool {
     rt.stderr().is_terminal() || env::var(rt, SHOWN).is_ok()
 }
 
-/// How many bytes these inputs have together, as far as the system tells it.
+/// Returns how many bytes the named files have together. Standard input, and a file whose size
+/// can't be read, count as 0.
 fn bytes_of(rt: &HostRuntime, sources: &[Source]) -> u64 {
     let mut all = 0u64;
     for source in sources {
@@ -51,8 +53,8 @@ fn seconds_left(gone: u64, read: u64, all: u64) -> u64 {
 }
 
 impl<'a> Progress<'a> {
-    /// Begins to time a count of these inputs. Returns None, and nothing is shown, if standard
-    /// error is no terminal, nor shown on one at once, or if the system has no clock.
+    /// Begins to time a count of the inputs `sources`. Returns None if no terminal shows at once
+    /// what is written on standard error, or if the system has no clock.
     pub fn begin(rt: &'a HostRuntime, sources: &[Source]) -> Option<Progress<'a>> {
         if !is_seen(rt) {
             return None;
@@ -67,9 +69,9 @@ impl<'a> Progress<'a> {
         })
     }
 
-    /// Takes note that an input of this many bytes was read; `games` games are counted or being
-    /// counted. If a line is due, it shows the share of the bytes, and the seconds until all are
-    /// read at this pace.
+    /// Notes that an input of `bytes` bytes was read; `games` games are counted or being counted.
+    /// If `PAUSE` milliseconds have passed since the last line, it shows a new one: the percentage
+    /// of all bytes that was read, the games, and the seconds until all is read at this pace.
     pub fn show(&mut self, bytes: usize, games: u64) {
         self.read = self.read.saturating_add(bytes as u64);
         let Ok(elapsed) = self.start.elapsed(self.rt) else {
@@ -89,7 +91,7 @@ impl<'a> Progress<'a> {
         );
     }
 
-    /// Clears the line, so that another one can be written.
+    /// Clears the progress line, if one is shown, so that another line can be written.
     pub fn clear(&mut self) {
         if self.is_shown {
             self.is_shown = false;

@@ -14,7 +14,7 @@ use std::{fmt, io};
 /// How many bytes of a report are written at once.
 const BLOCK: usize = 1 << 16;
 
-/// What has become of an input.
+/// What came of one input.
 #[derive(Clone, Copy, Debug, PartialEq, Eq)]
 pub enum Fate {
     /// It was not read.
@@ -25,18 +25,20 @@ pub enum Fate {
     Unread,
     /// It has this fault, for which it is left out.
     Faulty(SgfFault),
-    /// It has no tree, and may be this, by its first bytes.
+    /// It has no game tree. Its first bytes suggest this cause.
     Treeless(Cause),
-    /// It has trees, and the first of its games has this number.
+    /// It has game trees, which are counted in `report`. Its first game has the number `first` in
+    /// the dictionary, from 0.
     Counted { report: Report, first: u64 },
 }
 
-/// What has become of all inputs so far.
+/// What came of all inputs so far, in numbers. All numbers saturate.
 #[derive(Clone, Copy, Debug, PartialEq, Eq)]
 pub struct Sum {
     /// How many inputs there are, including those that are left out.
     pub files: u64,
-    /// How many trees are games, of other games, and refused, in the inputs that are not left out.
+    /// How many trees are games of Go, how many are other games, and how many are refused, in the
+    /// inputs that are not left out.
     pub report: Report,
     /// How many inputs are left out.
     pub left_out: u64,
@@ -64,7 +66,7 @@ pub fn fate_of(found: Result<Report, GamesFault>, cause: Cause, games: u64) -> F
     }
 }
 
-/// Adds the reports on two inputs.
+/// Adds the numbers of two reports, saturating.
 fn both_reports(one: Report, other: Report) -> Report {
     Report {
         games: one.games.saturating_add(other.games),
@@ -103,7 +105,8 @@ impl Sum {
         }
     }
 
-    /// This sum with one more name that has this flaw.
+    /// Returns this sum with one more name that gives no input, for the reason `why`; `PassedOver`
+    /// stands for several names.
     fn with_flaw(self, why: Why) -> Sum
         ensures { IsWhole result ↔ (IsWhole self × IsGood (fate.Flawed why)) }
     {
@@ -149,7 +152,9 @@ impl Sum {
     }
 }
 
-/// The exit status of a count that was done, or was not wanted: 0 if all is whole, else 1.
+/// Returns the exit status of a count that ended without a fault, though no dictionary may have
+/// been wanted: 0 if no input was left out, each has a tree and each folder a file of games; else
+/// 1.
 pub fn status_of(sum: &Sum) -> u8
     ensures { result ≡ status_of sum.now }
 {
@@ -194,7 +199,7 @@ impl fmt::Display for Columns {
     }
 }
 
-/// Appends an input's line of the report.
+/// Appends an input's line of the report to `block`. `AllocError` if memory was refused.
 fn push_line(
     alloc: Global,
     block: &mut Vec<u8>,

@@ -11,35 +11,35 @@ use tally_parts::Spills;
 /// How many names are tried for the file.
 const MOST_TRIES: u64 = 1000;
 
-/// Where a text is in the file.
+/// Where one dictionary's text is in the file: its first byte's index, and its length in bytes.
 #[derive(Clone, Copy, Debug, PartialEq, Eq)]
 struct Place {
     start: u64,
     length: u64,
 }
 
-/// Dictionaries in one file of a folder. The file's name is taken away as soon as the file is made.
-/// So nobody else can open it, and it is gone when the process ends, however that comes. The file
-/// is made when the first text is begun.
+/// Stores texts of dictionaries one after another in a temporary file in `folder`. The file's name
+/// is removed as soon as the file is made. So nobody else can open it, and it is gone when the
+/// process ends, however that comes. The file is made when the first text is begun.
 #[derive(Drop)]
 pub struct Spilled<'a> {
     rt: &'a HostRuntime,
     folder: &'a str,
     file: Option<Arc<File, Global>>,
     places: Vec<Place>,
-    /// The place after the last text.
+    /// The byte index after the last text that was kept.
     end: u64,
 }
 
-/// A text that is being written after those that are kept. Only one is written at a time: a second
-/// one would take its place.
+/// Writes one more text into the file, after all texts that `keep` has added. Only one may be
+/// written at a time: a second one would overwrite it.
 #[derive(Drop)]
 pub struct Spilling {
     file: Arc<File, Global>,
     place: Place,
 }
 
-/// A reader of one text, with a position of its own: no other reader moves it.
+/// Reads one text of the file, at a byte index of its own, which no other reader moves.
 #[derive(Drop)]
 pub struct Piece {
     file: Arc<File, Global>,
@@ -47,7 +47,8 @@ pub struct Piece {
     end: u64,
 }
 
-/// Makes a file of this name, which must not be there, and takes the name away at once.
+/// Makes a file at the path `name`, where none may be, and removes the name at once; the file stays
+/// open. `AlreadyExists` if a file is there; else an error of the system.
 fn new_unnamed(rt: &HostRuntime, name: &str) -> io::Result<File> {
     let file = File::options()
         .read(true)
@@ -59,7 +60,8 @@ fn new_unnamed(rt: &HostRuntime, name: &str) -> io::Result<File> {
     Ok(file)
 }
 
-/// Makes a file without a name in a folder.
+/// Makes and opens a file without a name in `folder`. `AlreadyExists` if `MOST_TRIES` names for it
+/// were all taken; else an error of the system.
 fn unnamed_in(rt: &HostRuntime, folder: &str) -> io::Result<File> {
     let own = process::id(rt.process());
     for n in 0..MOST_TRIES {
@@ -76,7 +78,7 @@ fn unnamed_in(rt: &HostRuntime, folder: &str) -> io::Result<File> {
 impl<'a> Spilled<'a> {
     ghost use Rattle.std.specs.Prelude.{◌≡◌, vec_len};
 
-    /// A store in this folder, with no text yet, and no file.
+    /// Makes a store for texts in `folder`. It has no text and no file yet.
     pub fn new(rt: &'a HostRuntime, folder: &'a str) -> Spilled<'a>
         ensures { vec_len result.places ≡ 0 }
     {
@@ -89,7 +91,7 @@ impl<'a> Spilled<'a> {
         }
     }
 
-    /// Returns the file, which is made if there is none.
+    /// Returns a shared handle of the file; the file is made first if there is none.
     fn file(&mut self) -> io::Result<Arc<File, Global>>
         ensures { self.new.places ≡ self.old.places }
     {
@@ -101,7 +103,8 @@ impl<'a> Spilled<'a> {
         Ok(file)
     }
 
-    /// Returns a reader of the file's bytes from `next` to `end`.
+    /// Returns a reader of the file's bytes from the index `next` to before the index `end`.
+    /// `NotFound` if there is no file yet.
     fn piece(&self, next: u64, end: u64) -> io::Result<Piece> {
         let Some(file) = &self.file else {
             return Err(ErrorKind::NotFound.into());

@@ -1,4 +1,4 @@
-//! What is said on standard error of inputs, of faults, and at the end.
+//! Lines on standard error about inputs and faults, and the sum at the end.
 ghost use Rattle.std.specs.Prelude.{◌≡◌};
 ghost use Rattle.tally_parts.specs.Status.{status_of};
 
@@ -13,7 +13,7 @@ use std::io::ErrorKind;
 use std::{fmt, fs, io};
 use tally_parts::{PartsFault, status_of};
 
-/// The name of an input, shown with a colon before what is said of it; nothing for standard input.
+/// The beginning of a line about an input: its name and a colon; nothing for standard input (None).
 #[derive(Clone, Copy)]
 struct Named<'a>(Option<&'a str>);
 
@@ -26,9 +26,9 @@ impl fmt::Display for Named<'_> {
     }
 }
 
-/// Whether standard error says something of an input: not if all is as it should be. Of an input
-/// that was counted, the numbers of its trees are said if a game is refused, or if all are of other
-/// games.
+/// Whether standard error has a line about an input with this fate: not if all is as it should be.
+/// An input that was counted has one, with the numbers of its trees, if a game is refused, or if
+/// all its trees are other games than Go.
 pub fn is_told(fate: Fate) -> bool {
     match fate {
         Fate::Waiting => false,
@@ -37,8 +37,8 @@ pub fn is_told(fate: Fate) -> bool {
     }
 }
 
-/// Says what has become of an input, if something is to be said. If standard error takes nothing,
-/// the exit status still says it.
+/// Writes a line about an input's fate on standard error, if `is_told` is true of the fate. If the
+/// line can't be written, the exit status still shows the fate.
 pub fn tell_fate(rt: &HostRuntime, name: Option<&str>, fate: Fate) {
     let name = Named(name);
     if !is_told(fate) {
@@ -57,7 +57,7 @@ pub fn tell_fate(rt: &HostRuntime, name: Option<&str>, fate: Fate) {
     };
 }
 
-/// Says what has become of all inputs together.
+/// Writes a line on standard error with the numbers of all inputs together.
 pub fn tell_sum(rt: &HostRuntime, sum: &Sum) {
     let Report {
         games,
@@ -70,7 +70,8 @@ pub fn tell_sum(rt: &HostRuntime, sum: &Sum) {
     );
 }
 
-/// Says that a list of names was not read, and why, as far as the system tells it.
+/// Writes on standard error that the list of names `list` was not read, and why, as far as a look
+/// at the file shows it.
 pub fn tell_unlisted(rt: &HostRuntime, list: &str) {
     let why = match list {
         "-" => None,
@@ -125,7 +126,7 @@ fn tell_unwritten(rt: &HostRuntime, output: &Output<'_>, written: usize) {
     };
 }
 
-/// Why no dictionary can be kept in a folder, as far as the system tells it.
+/// Returns why a part's dictionary could not be stored in `folder`, judged by what is there now.
 fn why_unkept(rt: &HostRuntime, folder: &str) -> &'static str {
     match fs::metadata(rt, folder) {
         Ok(found) if found.is_dir() => "a file there could not be made or written",
@@ -134,8 +135,9 @@ fn why_unkept(rt: &HostRuntime, folder: &str) -> &'static str {
     }
 }
 
-/// Says in one line why a count ended, and what that is about: the output, or the folder in which
-/// dictionaries wait. Returns the exit status.
+/// Writes a line on standard error that says why a count ended, with the name of the output if a
+/// write failed, or of `folder`, where the dictionaries of parts wait to be joined. Returns the
+/// exit status.
 pub fn tell_fault(rt: &HostRuntime, fault: &PartsFault, output: &Output<'_>, folder: &str) -> u8
     ensures { result ≡ status_of fault.now }
 {

@@ -55,9 +55,9 @@ pub struct Asked<'a> {
     pub is_strict: bool,
 }
 
-/// How many bytes of memory are taken for each byte of text that is counted at a time. This is what
-/// a count was seen to need at most, for its text, its patterns and the text of its dictionary.
-/// Diamonds double the patterns. No answer depends on it.
+/// Returns how many bytes of memory are planned for each byte of game text that is counted at a
+/// time. It is the most that counts were seen to need for the game text, its patterns and the text
+/// of its dictionary. Diamonds double the patterns. No dictionary depends on this number.
 fn need_of(text: Text) -> usize
     ensures { result ≡ need_of text }
 {
@@ -67,7 +67,8 @@ fn need_of(text: Text) -> usize
     }
 }
 
-/// How many bytes of text are counted at a time with this number of megabytes of memory.
+/// Returns how many bytes of game text are counted at a time, if `memory` megabytes of memory may
+/// be taken, so that the dictionary's text `text` can be made.
 fn most_for(text: Text, memory: u64) -> usize
     requires { memory ≤ most_memory }
     ensures { result ≡ most_for text memory }
@@ -75,7 +76,8 @@ fn most_for(text: Text, memory: u64) -> usize
     memory as usize * MEGABYTE / need_of(text)
 }
 
-/// Reads which text of the dictionary is written, and how the inputs are counted.
+/// Reads from the command line which text of the dictionary is written, and how the inputs are
+/// counted. `Usage` if a number is missing or too large.
 fn plan_of(matches: &ArgMatches<'_>) -> Result<Plan, RunFault>
     ensures plan { IfOk result (IsPlanOf (rows_in matches.now)) }
     ensures fault { IfErr result (λ found. (found ≡ fault.Usage)
@@ -100,7 +102,8 @@ fn plan_of(matches: &ArgMatches<'_>) -> Result<Plan, RunFault>
     })
 }
 
-/// Reads how the inputs are named: by words, or else by a list.
+/// Reads from the command line how the inputs are named: by words, or by a list. `Usage` if by
+/// both; `Memory` if memory was refused.
 fn named_of<'a>(alloc: Global, matches: &ArgMatches<'a>) -> Result<Named<'a>, RunFault>
     ensures named { IfOk result (AreNamed (rows_in matches.now)) }
     ensures fault { IfErr result (λ found. (found ≡ fault.Memory) ⊎ ((found ≡ fault.Usage)
@@ -132,8 +135,9 @@ impl<'a> FromArguments<'a> for Asked<'a> {
         program(alloc)
     }
 
-    /// Returns the count that the values ask for; no values at all ask for text 1 of standard
-    /// input. `Usage` if a number is missing or too large, or if a list is named beside words.
+    /// Returns the count that the command line's values ask for; no values at all ask for text 1 of
+    /// standard input. `Usage` if a number is missing or too large, or if both a list and files are
+    /// named; `Memory` if memory was refused.
     fn from_values(alloc: Global, matches: &ArgMatches<'a>) -> Result<Asked<'a>, RunFault> {
         let plan = plan_of(matches)?;
         let named = named_of(alloc, matches)?;

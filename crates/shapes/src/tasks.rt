@@ -1,4 +1,4 @@
-//! Does each task by its engine, and gives the exit status of the run.
+//! Does each task by the function `run_` of that name, and gives the exit status of the run.
 ghost use Rattle.std.specs.Prelude.{◌≡◌, IfOk, IfErr};
 ghost use Rattle.shapes.specs.Tasks.{Reads, Does, IsTaskFault, status_after};
 
@@ -34,15 +34,15 @@ impl Answer {
     }
 }
 
-/// Does a task. `board`, `count`, `find` and `join` are done by their engines, with the reader and
-/// the writer; of the input they read what their engines read. For help the text is written, and
-/// nothing is read. The threads that count are started through `threads`. That a count ends rests
-/// on the calls that wait for another thread keeping their promise.
+/// Does a task. `board`, `count`, `find` and `join` are done by the function `run_` of that name,
+/// with the reader and the writer; it says how much of the input is read. For help the text is
+/// written, and nothing is read. The threads that count are started through `threads`. A count ends
+/// only if the calls of `threads` that wait for another thread keep their promise.
 ///
 /// # Errors
 ///
-/// Those of the engine, and what is out then is what the engine says. `Write` if a text of help was
-/// not written whole.
+/// Those of the function that does the task, which says what was written by then. `Write` if a text
+/// of help was not written whole.
 pub fn do_task<T: Threads + Wait + Sync, R: Read, W: Write>(
     threads: &T,
     alloc: Global,

@@ -95,7 +95,7 @@ fn count_command<'a>(alloc: Global) -> Result<Command<'a>, AllocError>
     Ok(command)
 }
 
-/// Defines the word GLYPHS, which has to be given.
+/// Defines the positional argument GLYPHS, which is required.
 fn needed_glyphs<'a>(alloc: Global) -> Arg<'a>
     ensures rule { rule_of result ≡ required_word (codes "glyphs") }
     ensures local { result.global ≡ false }
@@ -103,7 +103,7 @@ fn needed_glyphs<'a>(alloc: Global) -> Arg<'a>
     glyphs_argument(alloc).required(true)
 }
 
-/// Defines the word COLOUR, which has to be given.
+/// Defines the positional argument COLOUR, which is required.
 fn needed_colour<'a>(alloc: Global) -> Arg<'a>
     ensures rule { rule_of result ≡ required_word (codes "colour") }
     ensures local { result.global ≡ false }

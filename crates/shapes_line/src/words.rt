@@ -22,17 +22,17 @@ use tally_core::Settings;
 pub enum Task {
     /// Print the final position of the first game.
     Board,
-    /// Print the dictionary of a collection, in this text.
+    /// Print the dictionary of a collection, in this text format.
     Count(Settings, Text),
     /// Print the line of this pattern by a dictionary.
     Find(Shape),
-    /// Print the join of dictionaries, in this text.
+    /// Print the join of dictionaries, in this text format.
     Join(Text),
     /// Print this text of help or version, which was asked for.
     Help(String),
 }
 
-/// Returns the kinds of pattern that a text has lines for.
+/// Returns the kinds of pattern that a text format has lines for.
 fn kinds_for(text: Text) -> Kinds
     ensures { result ≡ kinds_for text }
 {
@@ -99,8 +99,9 @@ fn task_of(matches: &ArgMatches<'_>) -> Result<Task, RunFault>
 ///
 /// # Errors
 ///
-/// `Usage` if the program does not know the words, also if a mover is no colour; else `Glyph` if
-/// the glyphs of `find` are not those of a pattern; `Memory` if memory was refused.
+/// `Usage` if the words are none that the program takes, also if a colour is neither black nor
+/// white; else `Glyph` if the glyphs of `find` are not those of a pattern; `Memory` if memory was
+/// refused.
 pub fn read_arguments(alloc: Global, words: &[String]) -> Result<Task, RunFault>
     ensures task { IfOk result (IsAnswered (map string_bytes words.now)
         (asked_by (map string_bytes words.now))) }

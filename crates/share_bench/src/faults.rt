@@ -22,7 +22,8 @@ pub enum BenchFault {
     Input(RunFault),
     /// The collection was not counted.
     Count(HarvestFault),
-    /// The count by a map and the share have different numbers of moves.
+    /// The count by a map and the share (what one worker counts over a table) have different
+    /// numbers of moves.
     Different,
     /// The arguments, the clock or standard output failed.
     System(io::Error),

@@ -1,5 +1,6 @@
-//! Measures how long the parts of a count take on one thread: reading, replaying, walking, counting
-//! into one share over a table of 2^22 slots, and counting by a map.
+//! Measures how long the parts of a count take on one thread: reading, replaying, walking (listing
+//! each game's patterns), counting into one share over a table of 2^22 slots, and counting by a
+//! map.
 //!
 //! It reads a collection on standard input, counts squares, and prints how many games, actions,
 //! moves and patterns there are. With `--clock` it also prints how many nanoseconds each part took

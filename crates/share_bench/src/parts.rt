@@ -78,10 +78,11 @@ pub fn walk_all(alloc: Global, kinds: Kinds, jobs: &[Job<'_>]) -> Result<u64, Be
     Ok(moves)
 }
 
-/// Counts all games into one share. It takes memory for the share.
+/// Counts all games into one share: the counts of one worker, by the slots that patterns have in
+/// `table`. It takes memory for the share.
 ///
-/// `BenchFault::Count` comes with the fault of adding: F1, F4, F8, or out of memory. The pass must
-/// be of the table.
+/// The error is `BenchFault::Count` with the fault of adding: F1, F4, F8, or out of memory. `pass`,
+/// which stands in proofs for what a caller has seen of the table, must be of `table`.
 pub fn share_all<O: ProbeOrder>(
     alloc: Global,
     kinds: Kinds,
@@ -101,8 +102,8 @@ pub fn share_all<O: ProbeOrder>(
     Ok(share)
 }
 
-/// Makes a new table with this order, and its pass, which has seen nothing. It takes 16 bytes a
-/// slot.
+/// Makes a new table that tries slots in this order, and its pass: what a caller has seen of the
+/// table's calls, for proofs. It takes 16 bytes a slot.
 ///
 /// `BenchFault::Count` comes with `Memory` if memory was refused.
 pub fn new_table<O: ProbeOrder>(

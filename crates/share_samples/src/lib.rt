@@ -39,8 +39,8 @@ pub const EMPTY: u64 = 0x3fff3fcffffff;
 /// The word of the pattern of `TWO_POINTS` that the game meets second.
 pub const TAKEN: u64 = 0x3fffbfcffffff;
 
-/// Returns the record of the first game, if no fault of syntax comes before it and memory was found
-/// for it.
+/// Returns the record of the first game in the collection `bytes`. None if there is no game, or a
+/// fault of syntax before its end, or if memory was refused.
 pub fn record_of(alloc: Global, bytes: &[u8]) -> Option<Record>
     ensures { IfSome result (IsFirstGame bytes.now) }
 {
@@ -49,8 +49,8 @@ pub fn record_of(alloc: Global, bytes: &[u8]) -> Option<Record>
     Some(job.into_record())
 }
 
-/// Makes a table of 2^k numbers with its first pass, if k is at most 22 and memory was found for
-/// it.
+/// Makes a table of 2^k numbers (slots) with its first pass (the right to call it). None if k is
+/// above 22 or memory was refused.
 pub fn table_of(alloc: Global, k: u32) -> Option<(SlotTable<OddStep>, Pass<OddStep>)>
     ensures pass { IfSome result (λ r. IsPassOf r.0 r.1) }
     ensures slots { IfSome result (λ r. r.0.slots ≡ 2 ^ k) }
@@ -59,15 +59,16 @@ pub fn table_of(alloc: Global, k: u32) -> Option<(SlotTable<OddStep>, Pass<OddSt
     SlotTable::new(alloc, OddStep { capacity }).ok()
 }
 
-/// Returns the pattern whose word has these bits, if the word is the least of its images.
+/// Returns the pattern whose word has these bits. None if they are no canonical pattern word (the
+/// least of its images under the symmetries and the exchange of colours).
 pub fn shape_of(bits: u64) -> Option<Shape>
     ensures { SomeIff result (IsPattern bits) bits }
 {
     Shape::of_word(Word::new(bits)?)
 }
 
-/// Returns an entry with these counts for the pattern whose word has these bits, if there is such a
-/// pattern.
+/// Returns a dictionary's entry with these counts, and the least game `first`, for the pattern
+/// whose word has these bits. None if they are no canonical pattern word.
 pub fn entry_of(bits: u64, there: u64, played: u64, first: u32) -> Option<Entry>
     ensures { SomeIff result (IsPattern bits) (record {
       shape = bits;
@@ -84,7 +85,8 @@ pub fn entry_of(bits: u64, there: u64, played: u64, first: u32) -> Option<Entry>
     })
 }
 
-/// Returns a share of this game alone, of worker 0, or why the game was refused.
+/// Returns a share (what one worker has counted) of this game alone, with the number `game`, of
+/// worker 0, which counts squares alone; or why the game was refused.
 pub fn share_of<O: ProbeOrder>(
     alloc: Global,
     table: &SlotTable<O>,
@@ -106,8 +108,9 @@ pub fn share_of<O: ProbeOrder>(
     Ok(share)
 }
 
-/// Returns a share of the first game of a collection's bytes, under the number 0, if nothing
-/// refused it.
+/// Returns a share (what one worker has counted) of the first game in the collection `bytes`, which
+/// gets the number 0, of worker 0 and squares alone. None if there is no such game, memory was
+/// refused, or the game could not be added.
 pub fn first_share<O: ProbeOrder>(
     alloc: Global,
     table: &SlotTable<O>,
@@ -125,8 +128,9 @@ pub fn first_share<O: ProbeOrder>(
     share_of(alloc, table, pass, 0, &game_record).ok()
 }
 
-/// Adds the first game of these bytes to a share, and returns what came of it. None if there is no
-/// such game or no memory for its record, so that nothing was added.
+/// Adds the first game in the collection `bytes` to a share (what one worker has counted), with the
+/// number `game`. Returns what `Share::add` returned. None if there is no such game or memory for
+/// its record was refused; then nothing was added.
 pub fn add_written<O: ProbeOrder>(
     alloc: Global,
     share: &mut Share,
@@ -149,8 +153,8 @@ pub fn add_written<O: ProbeOrder>(
     Some(share.add(table, pass, game, &game_record))
 }
 
-/// Returns a `WordShare` of these two games, counted by worker 2 under the numbers 0 and 1, or why
-/// one was refused.
+/// Returns a `WordShare` (what one worker has counted, by pattern words) of these two games, with
+/// the numbers 0 and 1, of worker 2 and squares alone; or why a game was refused.
 pub fn words_of(alloc: Global, first: &Record, second: &Record) -> Result<WordShare, HarvestFault>
     ensures share { IfOk result IsShare }
     ensures kinds { IfOk result (λ words. words.kinds ≡ kinds.Squares) }

@@ -1,5 +1,6 @@
-//! Games that are added to shares. The tests need of each call its pass alone, so no other clause
-//! of `share_samples` is passed on: the less is known, the less a proof has to look through.
+//! Adds games to shares (what one worker has counted). The functions are those of `share_samples`
+//! with shorter contracts: the tests need only that the pass (the right to call the table) is still
+//! the table's. With fewer facts a proof has less to look through.
 ghost use Rattle.std.specs.Prelude.{◌<◌};
 ghost use Rattle.sgf_core.specs.Limit.{most_bytes};
 ghost use Rattle.slot_table.specs.Passes.{IsPassOf};
@@ -11,7 +12,8 @@ use slot_table::{Pass, SlotTable};
 use std::alloc::Global;
 use table_shares::Share;
 
-/// What comes of a game that is added to a share; None where there was no memory for its record.
+/// Adds the first game in `bytes` to a share, with the number `game`, and returns what `Share::add`
+/// returned. None if there is no such game, or memory for its record was refused.
 pub(crate) fn add<O: ProbeOrder>(
     alloc: Global,
     share: &mut Share,
@@ -27,7 +29,8 @@ pub(crate) fn add<O: ProbeOrder>(
     add_written(alloc, share, table, pass, game, bytes)
 }
 
-/// A share of this game alone, as game 0.
+/// Returns a share of the first game in `bytes` alone, as game 0. None if there is no such game or
+/// it was refused.
 pub(crate) fn first<O: ProbeOrder>(
     alloc: Global,
     table: &SlotTable<O>,

@@ -1,4 +1,4 @@
-//! The shares of workers, tried from outside.
+//! Tests of shares (what one worker has counted) by their public functions.
 #![tactic(auto)]
 
 #[cfg(test)]

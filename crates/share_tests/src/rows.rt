@@ -1,4 +1,4 @@
-//! The rows of a share, one after another.
+//! Tests of the iterator over the rows of a share (one pattern's counts each).
 ghost use Rattle.slot_table.specs.Passes.{IsPassOf};
 
 use crate::games::{add, first};
@@ -9,7 +9,8 @@ use slot_table::{Pass, SlotTable};
 use std::alloc::Global;
 use table_shares::Share;
 
-/// Whether a share has a row that counts so the pattern whose word has these bits.
+/// Whether a share has a row (one pattern's counts) of the pattern whose word has these bits, and
+/// its counts are `there` and `played` and its least game is `first`.
 fn has_row(share: &Share, bits: u64, there: u64, played: u64, first: u64) -> bool {
     for row in share.rows() {
         if row.shape.word().bits() == bits {
@@ -20,7 +21,7 @@ fn has_row(share: &Share, bits: u64, there: u64, played: u64, first: u64) -> boo
     false
 }
 
-/// How many rows a share has, where their numbers rise.
+/// Returns how many rows a share has. None if their numbers (slots of the table) do not rise.
 fn rising_rows(share: &Share) -> Option<usize> {
     let mut before = None;
     let mut many = 0usize;
@@ -34,7 +35,7 @@ fn rising_rows(share: &Share) -> Option<usize> {
     Some(many)
 }
 
-/// Whether each row of a share is found by its number.
+/// Whether `Share::row_at` finds each row of a share by its number.
 fn finds_its_rows(share: &Share) -> bool {
     for row in share.rows() {
         if share.row_at(row.number) != Some(row) {
@@ -44,7 +45,8 @@ fn finds_its_rows(share: &Share) -> bool {
     true
 }
 
-/// Whether a share has both games, the second one first, and their rows.
+/// Whether a share has game 1 (`TWO_POINTS`) and then game 0 (`ONE_POINT`), with their moves and
+/// rows.
 fn has_both(share: &Share) -> bool {
     share.games() == [1, 0].as_slice()
         && share.moves() == 3
@@ -55,7 +57,8 @@ fn has_both(share: &Share) -> bool {
         && finds_its_rows(share)
 }
 
-/// Adds both games to a share, the second one first: whether it takes them.
+/// Adds `TWO_POINTS` as game 1 and then `ONE_POINT` as game 0 to a share. Returns whether both were
+/// added.
 fn add_both<O: ProbeOrder>(
     alloc: Global,
     share: &mut Share,
@@ -68,7 +71,8 @@ fn add_both<O: ProbeOrder>(
     second == Some(Ok(())) && add(alloc, share, table, pass, 0, ONE_POINT) == Some(Ok(()))
 }
 
-/// Whether a share of both games over a table of 2^k numbers has them and their rows.
+/// Whether both games can be added to a share over a table of 2^k slots, and it then has them and
+/// their rows. None if k is above 22 or memory was refused.
 fn counts_both(alloc: Global, k: u32) -> Option<bool> {
     let (table, mut pass) = table_of(alloc, k)?;
     let mut share = Share::begin(alloc, 0, Kinds::Squares);
@@ -83,7 +87,7 @@ fn rows_come_by_rising_numbers_and_are_found(rt: HostRuntime) {
     assert!(rt; counts_both(rt.alloc(), 7) == Some(true));
 }
 
-/// Whether a share has this many rows, after which none comes, asked twice.
+/// Whether the iterator over a share's rows returns exactly `many` rows, and then None twice.
 fn ends_after(share: &Share, many: usize) -> bool {
     let mut rows = share.rows();
     for _ in 0..many {
@@ -94,7 +98,8 @@ fn ends_after(share: &Share, many: usize) -> bool {
     rows.next().is_none() && rows.next().is_none()
 }
 
-/// Whether a share of the game of one point has one row.
+/// Whether a share of `ONE_POINT` alone has one row, as `ends_after` finds. None if it could not be
+/// made.
 fn ends_after_one(alloc: Global) -> Option<bool> {
     let (table, mut pass) = table_of(alloc, 4)?;
     let share = first(alloc, &table, &mut pass, ONE_POINT)?;

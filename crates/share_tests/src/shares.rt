@@ -1,4 +1,4 @@
-//! Shares seen from outside: small tables, and games of other tables.
+//! Tests of `Share::add` with tables that are too small, and with another table than before.
 ghost use Rattle.std.specs.Prelude.{◌<◌};
 ghost use Rattle.sgf_core.specs.Limit.{most_bytes};
 ghost use Rattle.slot_table.specs.Passes.{IsPassOf};
@@ -12,18 +12,20 @@ use slot_table::{Pass, SlotTable};
 use std::alloc::Global;
 use table_shares::{Row, Share};
 
-/// Whether a share has the game 0 alone, of this many moves.
+/// Whether a share has game 0 alone, and that game has this number of moves.
 fn has_first_alone(share: &Share, moves: u64) -> bool {
     share.games() == [0].as_slice() && share.moves() == moves
 }
 
-/// Adds the game of two points by a table of its own, and answers what came of it.
+/// Adds `TWO_POINTS` as game 1 to a share, with a new table, and returns what came of it. None if
+/// memory was refused.
 fn add_elsewhere(alloc: Global, share: &mut Share) -> Option<Result<(), HarvestFault>> {
     let (table, mut pass) = table_of(alloc, 0)?;
     add(alloc, share, &table, &mut pass, 1, TWO_POINTS)
 }
 
-/// The fault of a game of another table, and whether the share is as before.
+/// Adds a game to a share with another table than its first game's. Returns what came of it, and
+/// whether the share still has its first game alone.
 fn refused_elsewhere(alloc: Global) -> Option<(Result<(), HarvestFault>, bool)> {
     let (table, mut pass) = table_of(alloc, 0)?;
     let mut share = first(alloc, &table, &mut pass, ONE_POINT)?;
@@ -41,7 +43,8 @@ fn a_share_takes_no_game_of_another_table(rt: HostRuntime) {
     assert!(rt; refused_elsewhere(rt.alloc()) == Some((Err(stranger), true)));
 }
 
-/// Whether the table has no number for the pattern of this word, where a game is added to a share.
+/// Adds the first game in `bytes` to a share, with the number `game`. Returns whether it was
+/// refused since the table had no number (free slot) for the pattern with this word.
 fn wants_a_number<O: ProbeOrder>(
     alloc: Global,
     share: &mut Share,
@@ -58,7 +61,8 @@ fn wants_a_number<O: ProbeOrder>(
     add(alloc, share, table, pass, game, bytes) == Some(Err(full))
 }
 
-/// Whether a table of two numbers is too small for both games, and the share is as before.
+/// Whether a table of two slots is too small for both games, and the share has its first game alone
+/// after the second was refused.
 fn is_too_small(alloc: Global) -> Option<bool> {
     let alone = Word::new(ALONE)?;
     let (table, mut pass) = table_of(alloc, 1)?;
@@ -72,8 +76,8 @@ fn a_table_too_small_by_one_pattern(rt: HostRuntime) {
     assert!(rt; is_too_small(rt.alloc()) == Some(true));
 }
 
-/// Whether this is the row of the empty board of two points at the first number, and counts
-/// nothing.
+/// Whether a row (one pattern's counts) is of the pattern `EMPTY`, under the number 0, with counts
+/// of 0 and no game.
 fn is_blank(row: Row) -> bool {
     row.number == 0
         && row.shape.word().bits() == EMPTY
@@ -82,14 +86,16 @@ fn is_blank(row: Row) -> bool {
         && row.first.get().is_none()
 }
 
-/// Whether a share of the worker 3 has no game, and that row alone.
+/// Whether a share is of worker 3 and has no game, and only the row that `is_blank` describes under
+/// the numbers 0 and 1.
 fn has_blank_alone(share: &Share) -> bool {
     let is_empty = share.games().is_empty() && share.moves() == 0;
     let has_blank = share.row_at(0).is_some_and(is_blank) && share.row_at(1).is_none();
     share.worker() == 3 && is_empty && has_blank
 }
 
-/// Whether a game that finds one number and wants another leaves a row that counts nothing.
+/// Whether a game with two patterns, added over a table of one slot, is refused and leaves one row,
+/// with counts of 0.
 fn leaves_a_blank(alloc: Global) -> Option<bool> {
     let taken = Word::new(TAKEN)?;
     let (table, mut pass) = table_of(alloc, 0)?;

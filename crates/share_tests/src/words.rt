@@ -1,4 +1,4 @@
-//! The numbers that patterns of entries get.
+//! Tests of `number_entries`: the numbers (slots of the table) that the patterns of entries get.
 ghost use Rattle.std.specs.Prelude.{◌+◌, ◌^◌, ◌<◌};
 
 use gather_core::number_entries;
@@ -8,7 +8,8 @@ use shape_dict::{Entry, FirstGame};
 use share_samples::{ALONE, EMPTY, TAKEN, shape_of, table_of};
 use std::alloc::Global;
 
-/// An entry of the pattern whose word has these bits, with this first game.
+/// Returns an entry, with counts of 2 and 1, of the pattern whose word has these bits; `game` is
+/// its least game. None if they are no canonical pattern word.
 fn entry_of(bits: u64, game: u64) -> Option<Entry>
     requires { game + 1 < 2 ^ 64 }
 {
@@ -20,8 +21,8 @@ fn entry_of(bits: u64, game: u64) -> Option<Entry>
     })
 }
 
-/// What comes of numbers for three patterns in a table of 2^bits, and the least game that is marked
-/// at the number of the last of them.
+/// Enters three patterns into a table of 2^`bits` slots. Returns what `number_entries` returned,
+/// and the least game that is marked at the number (slot) of the last pattern; None if it has none.
 fn numbered(alloc: Global, bits: u32) -> Option<(Result<(), HarvestFault>, Option<u64>)> {
     let entries = [
         entry_of(EMPTY, 4)?,

@@ -4,17 +4,20 @@ ghost use Rattle.sheet_core.specs.Bounds.{is_enough, is_reached, stepped, bound_
 
 use shape_dict::Entry;
 
-/// How many parts a ratio of 1 has.
+/// How many parts a ratio of 1 has: bounds are whole numbers of parts.
 const PARTS: u64 = 1 << 20;
 
-/// How many steps lead to a bound: the first is half of 1, and each one half of that before.
+/// How many steps of bisection find a bound: the first step is half of 1, and each later one half
+/// of the step before.
 const STEPS: u64 = 20;
 
-/// An excess that is great enough for any ratio.
+/// An excess with which `is_enough` is true whatever the bound; the square of a lesser one can't
+/// overflow.
 const GREAT: u128 = 1 << 57;
 
-/// Whether an excess over `bound` parts, by its square, is great enough for a pattern that was
-/// there `times` times.
+/// Whether `excess` is great enough for Wilson's interval (95 %) to begin at `bound` parts or
+/// later, for a pattern that was there `times` times. `excess` is the plays times `PARTS` less
+/// `times` times `bound`; its square is compared.
 fn is_enough(excess: u128, times: u64, bound: u64) -> bool
     requires bound { bound < 2 ^ 20 }
     ensures { result ≡ is_enough times bound excess }
@@ -27,7 +30,8 @@ fn is_enough(excess: u128, times: u64, bound: u64) -> bool
     2401 * needed <= 625 * (excess * excess)
 }
 
-/// Whether Wilson's interval for `plays` of `times` times begins at `bound` parts or later.
+/// Whether Wilson's interval (95 %) for the ratio `plays` / `times` begins at `bound` parts or
+/// later. False if `bound` is a ratio of 1 or more.
 #[tactic(auto, unfolding(crate::specs::Bounds::is_reached))]
 fn is_reached(times: u64, plays: u64, bound: u64) -> bool
     ensures value { result ≡ is_reached times plays bound }
@@ -44,7 +48,8 @@ fn is_reached(times: u64, plays: u64, bound: u64) -> bool
     is_enough(most - least, times, bound)
 }
 
-/// Returns `step` parts more than `bound` if the interval begins there or later, else `bound`.
+/// Returns `bound + step` if the interval for `plays` / `times` begins there or later, else
+/// `bound`.
 fn stepped(times: u64, plays: u64, step: u64, bound: u64) -> u64
     requires step { step ≤ 2 ^ 19 }
     requires bound { bound < 2 ^ 20 }
@@ -59,7 +64,7 @@ fn stepped(times: u64, plays: u64, step: u64, bound: u64) -> u64
     }
 }
 
-/// The lower bound for `plays` of `times` times, in parts, rounded down.
+/// Returns the lower bound of the ratio `plays` / `times`, in parts, rounded down, by bisection.
 fn bound_for(times: u64, plays: u64) -> u64
     ensures { result ≡ bound_from 20 times plays (2 ^ 19) 0 }
 {

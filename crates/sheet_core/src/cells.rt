@@ -11,7 +11,7 @@ pub(crate) struct Place {
     pub(crate) row: u8,
 }
 
-/// A cell as it is drawn: its place and its glyph.
+/// A cell as it is drawn: the column and row at which it is drawn, and its glyph.
 #[derive(Clone, Copy)]
 pub(crate) struct Cell {
     pub(crate) column: u8,
@@ -19,7 +19,7 @@ pub(crate) struct Cell {
     pub(crate) glyph: u8,
 }
 
-/// The places of a square's cells.
+/// Where the 25 cells of a square are drawn, in the order of the cells.
 const SQUARE_PLACES: [Place; 25] = [
     Place { column: 1, row: 1 },
     Place { column: 2, row: 1 },
@@ -48,7 +48,7 @@ const SQUARE_PLACES: [Place; 25] = [
     Place { column: 5, row: 5 },
 ];
 
-/// The places of a diamond's cells.
+/// Where the 25 cells of a diamond are drawn, in the order of the cells.
 const DIAMOND_PLACES: [Place; 25] = [
     Place { column: 3, row: 0 },
     Place { column: 2, row: 1 },
@@ -77,7 +77,7 @@ const DIAMOND_PLACES: [Place; 25] = [
     Place { column: 3, row: 6 },
 ];
 
-/// The places of the 25 cells of a kind.
+/// Where the 25 cells of a pattern of this `kind` are drawn.
 fn cell_places(kind: Kind) -> [Place; 25]
     ensures { result ≡ cell_places kind }
 {

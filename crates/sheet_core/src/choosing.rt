@@ -11,15 +11,15 @@ use shape_core::Kind;
 use shape_dict::{Dictionary, Entry};
 use std::alloc::{AllocError, Global};
 
-/// Whether a pattern is of the kind and was there at least this often.
+/// Whether a pattern is of this `kind` and was there at least `least` times.
 fn qualifies(kind: Kind, least: u64, entry: &Entry) -> bool
     ensures { result ≡ qualifies kind least entry.now }
 {
     entry.shape.word().kind() == kind && least <= entry.there
 }
 
-/// Returns the patterns of the kind that were there at least this often, in the order of the
-/// entries.
+/// Returns the patterns of this `kind` that were there at least `least` times, in the order of
+/// `entries`.
 fn qualified(
     alloc: Global,
     kind: Kind,
@@ -45,8 +45,9 @@ fn sort(order: Order, entries: &mut Vec<Entry>)
     entries.sort_unstable_by(|left, right| compare(order, left, right));
 }
 
-/// Returns the first patterns of a dictionary in an order, at most `most` of them. Those of the
-/// kind that were there at least this often qualify. It takes memory for all patterns that qualify.
+/// Returns the first patterns of `dictionary` in `order`, at most `most` of them: only those of
+/// this `kind` that were there at least `least` times. It takes memory for all such patterns, also
+/// for those after the first `most`.
 ///
 /// # Errors
 ///

@@ -29,7 +29,8 @@ fn push_view(text: &mut Vec<u8>, kind: Kind) -> Result<(), AllocError>
     }
 }
 
-/// Appends what is read out in place of the picture: the 25 glyphs, as `find` takes them.
+/// Appends the title, which is read out in place of the picture: the 25 glyphs, as `shapes find`
+/// takes them.
 fn push_title(text: &mut Vec<u8>, word: Word) -> Result<(), AllocError>
     ensures { OnOk result (text.new.items ≡ text.old.items ++ title_text word) }
 {
@@ -39,7 +40,7 @@ fn push_title(text: &mut Vec<u8>, word: Word) -> Result<(), AllocError>
     Ok(())
 }
 
-/// Appends the pen's move to a cell, without a line.
+/// Appends the SVG command that moves the pen to `cell` without drawing a line.
 fn push_move(text: &mut Vec<u8>, cell: Cell) -> Result<(), AllocError>
     ensures { OnOk result (text.new.items ≡ text.old.items ++ move_text cell) }
 {
@@ -71,7 +72,7 @@ fn push_tiles(text: &mut Vec<u8>, cells: &[Cell]) -> Result<(), AllocError>
     text.extend_from_slice(b"'/>")
 }
 
-/// The pen's way of half a cell to a side.
+/// The SVG command that draws a line of half a cell towards `side`.
 fn way(side: Side) -> &'static [u8]
     ensures { result.now ≡ way_text side }
 {
@@ -174,7 +175,7 @@ fn push_edges(text: &mut Vec<u8>, cells: &[Cell]) -> Result<(), AllocError>
     text.extend_from_slice(b"'/>")
 }
 
-/// Appends the place of a circle's middle.
+/// Appends the attributes of a circle's centre, which is at `cell`.
 fn push_middle(text: &mut Vec<u8>, cell: Cell) -> Result<(), AllocError>
     ensures { OnOk result (text.new.items ≡ text.old.items ++ middle_text cell) }
 {
@@ -185,7 +186,7 @@ fn push_middle(text: &mut Vec<u8>, cell: Cell) -> Result<(), AllocError>
     text.extend_from_slice(b"'")
 }
 
-/// Appends a circle at a cell; `begun` is the beginning of its text.
+/// Appends a circle at `cell`; `begun` is the beginning of its element, with its class and radius.
 fn push_circle(text: &mut Vec<u8>, begun: &[u8], cell: Cell) -> Result<(), AllocError>
     ensures { OnOk result (text.new.items ≡ text.old.items ++ circle_text begun.now cell) }
 {

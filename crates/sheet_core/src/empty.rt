@@ -17,7 +17,8 @@ fn is_of(kind: Kind, entry: &Entry) -> bool
     entry.shape.word().kind() == kind
 }
 
-/// The greatest number of times that any pattern of the kind was there, with one entry more.
+/// Returns the greater of `most` and the times that the pattern of `entry` was there; `most` alone
+/// if that pattern is not of this `kind`. `most` is None as long as no pattern of the kind was met.
 #[tactic(auto, using(crate::proofs::Greatest::most_stays, crate::proofs::Greatest::most_grows))]
 fn most_with(kind: Kind, most: Option<u64>, entry: &Entry) -> Option<u64>
     ensures { (rest : List One) → most_after most (of_kind kind (entry.now ∷ rest))
@@ -85,7 +86,8 @@ fn push_most(text: &mut Vec<u8>, most: u64) -> Result<(), AllocError>
     Ok(())
 }
 
-/// Appends that there is no pattern of the kind, or none that was there as often as is asked for.
+/// Appends that there is no pattern of this `kind`, or that none was there as often as `least`
+/// times. `most` is the greatest number of times that one was there; None if there is none.
 fn push_none(
     text: &mut Vec<u8>,
     kind: Kind,
@@ -103,7 +105,8 @@ fn push_none(
     }
 }
 
-/// Appends why no pattern of these entries is chosen.
+/// Appends why no pattern of `entries` was chosen for what is `asked`: there is none of the kind,
+/// or none that was there often enough.
 #[tactic(auto, unfolding(crate::specs::Empty::empty_text))]
 pub(crate) fn push_empty(
     text: &mut Vec<u8>,

@@ -30,7 +30,8 @@ fn push_share(text: &mut Vec<u8>, entry: &Entry) -> Result<(), AllocError>
     Ok(())
 }
 
-/// Appends what `push_share` does, and how often the pattern was played.
+/// Appends how many times of a hundred the pattern was played and how often it was there, and then
+/// how often it was played.
 #[tactic(auto, unfolding(crate::specs::Page::uses_text))]
 fn push_uses(text: &mut Vec<u8>, entry: &Entry) -> Result<(), AllocError>
     ensures { OnOk result (text.new.items ≡ text.old.items ++ uses_text entry.now) }
@@ -80,8 +81,8 @@ fn push_caption(text: &mut Vec<u8>, rank: u64, entry: &Entry) -> Result<(), Allo
     Ok(())
 }
 
-/// Appends the figure of a pattern: its drawing, its caption, and its places in these lines of
-/// hits.
+/// Appends the figure of a pattern: its drawing, its caption with its rank, and the first three
+/// times at most that it has in `lines`, lines of hits as `shape_hits --words` prints them.
 #[tactic(auto, unfolding(crate::specs::Page::figure_text))]
 fn push_figure(
     alloc: Global,
@@ -101,7 +102,8 @@ fn push_figure(
     Ok(())
 }
 
-/// Appends the figures of patterns, the first with rank 1.
+/// Appends the figures of the `chosen` patterns, the first with rank 1, with the hits that `lines`
+/// has of each.
 fn push_figures(
     alloc: Global,
     text: &mut Vec<u8>,
@@ -171,7 +173,7 @@ fn push_shown(text: &mut Vec<u8>, kind: Kind, count: u64) -> Result<(), AllocErr
     push_number(text, count)
 }
 
-/// Appends what comes first, and which patterns are left out.
+/// Appends by which `order` patterns come first, and how often each was there at `least`.
 #[tactic(auto, unfolding(crate::specs::Page::terms_text))]
 fn push_terms(text: &mut Vec<u8>, order: Order, least: u64) -> Result<(), AllocError>
     ensures { OnOk result (text.new.items ≡ text.old.items ++ terms_text order least) }
@@ -194,7 +196,8 @@ fn push_legend(text: &mut Vec<u8>) -> Result<(), AllocError>
     )
 }
 
-/// Appends what is above the figures.
+/// Appends what is above the figures: what was counted, that `count` patterns are shown, which come
+/// first, and how a figure is read.
 #[tactic(auto, unfolding(crate::specs::Page::heading_text))]
 fn push_heading(
     text: &mut Vec<u8>,
@@ -211,7 +214,8 @@ fn push_heading(
     push_legend(text)
 }
 
-/// Appends the figures of the chosen patterns, or why there is none.
+/// Appends the figures of the `chosen` patterns, with the hits that `lines` has of each; or why
+/// none was chosen, if there is none.
 #[tactic(auto, unfolding(crate::specs::Page::body_text))]
 fn push_body(
     alloc: Global,
@@ -242,9 +246,10 @@ fn push_end(text: &mut Vec<u8>) -> Result<(), AllocError>
     text.extend_from_slice(b"</main>\n</body>\n</html>\n")
 }
 
-/// Returns the page of chosen patterns of a dictionary. Below each stand its first places, three at
-/// most, in the lines of hits: those that begin with its word and a space. The page is one file: it
-/// holds its style sheet, has no script, and loads nothing. It takes memory for the text.
+/// Returns the page of the `chosen` patterns of `dictionary`. `hits` is text of `shape_hits
+/// --words`. Below each pattern stand the first three at most of the lines that begin with its word
+/// and a space, without these. The page is one file: it holds its style sheet, has no script, and
+/// loads nothing. It takes memory for the text.
 ///
 /// # Errors
 ///

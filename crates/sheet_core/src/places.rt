@@ -1,4 +1,4 @@
-//! The places of patterns in games, as lines of hits tell them.
+//! Where patterns were in games, as the lines of hits say.
 ghost use Rattle.std.specs.Prelude.{◌≡◌, ◌++◌, ◌∷◌, [], ℕ, List, OnOk, IfOk, map};
 ghost use Rattle.std.specs.List.{flat_map};
 ghost use Rattle.sheet_core.specs.Places.{lines_after, is_of, place_in, escaped, place_text, places_of};
@@ -8,10 +8,10 @@ use shape_core::Shape;
 use shape_dict::push_word;
 use std::alloc::{AllocError, Global};
 
-/// How many places of a pattern are shown at most.
+/// How many lines of hits are shown for a pattern at most.
 const MOST: usize = 3;
 
-/// How many bytes of a line are a word and a space.
+/// How many bytes a word and the space after it have in a line of hits.
 const FRONT: usize = 14;
 
 /// Splits bytes into lines; the last one may be without a line feed.
@@ -31,7 +31,8 @@ pub(crate) fn lines_of<'a>(alloc: Global, bytes: &'a [u8]) -> Result<Vec<&'a [u8
     Ok(lines)
 }
 
-/// Whether a line of hits is of a pattern: its word stands first, and a space follows.
+/// Whether a line of hits is for the pattern `word`: its word stands first, and a space follows. It
+/// takes memory for the word's digits.
 fn is_of(alloc: Global, word: Shape, line: &[u8]) -> Result<bool, AllocError>
     ensures { IfOk result (λ is. is ≡ is_of word line.now) }
 {
@@ -41,7 +42,8 @@ fn is_of(alloc: Global, word: Shape, line: &[u8]) -> Result<bool, AllocError>
     Ok(line.starts_with(&front))
 }
 
-/// The place in a line of hits: what follows the word and the space.
+/// Returns what follows the word and the space in a line of hits: the game, the move, the point,
+/// and so on. Nothing if the line is too short.
 fn place_in(line: &[u8]) -> &[u8]
     ensures { result.now ≡ place_in line.now }
 {
@@ -70,7 +72,7 @@ fn push_all_escaped(text: &mut Vec<u8>, bytes: &[u8]) -> Result<(), AllocError>
     Ok(())
 }
 
-/// Appends a place as an item of a list.
+/// Appends `place`, a line of hits without its word, as an item of a list in HTML.
 fn push_place(text: &mut Vec<u8>, place: &[u8]) -> Result<(), AllocError>
     ensures { OnOk result (text.new.items ≡ text.old.items ++ place_text place.now) }
 {
@@ -79,7 +81,8 @@ fn push_place(text: &mut Vec<u8>, place: &[u8]) -> Result<(), AllocError>
     text.extend_from_slice(b"</li>")
 }
 
-/// Appends the place in a line, if the line is of the pattern, unless there are three.
+/// Adds what follows the word in `line` to `places`, if the line is for the pattern `word` and
+/// `places` has fewer than three.
 fn push_found<'a>(
     alloc: Global,
     places: &mut Vec<&'a [u8]>,
@@ -100,7 +103,8 @@ fn push_found<'a>(
     Ok(())
 }
 
-/// Returns the first places of a pattern, three at most, in the lines of hits.
+/// Returns the first three at most of the lines of hits that are for the pattern `word`, each
+/// without the word and the space after it.
 fn places_of<'a>(
     alloc: Global,
     lines: &[&'a [u8]],
@@ -116,7 +120,7 @@ fn places_of<'a>(
     Ok(places)
 }
 
-/// Appends places as items of a list.
+/// Appends `places`, lines of hits without their words, as items of a list in HTML.
 fn push_items(text: &mut Vec<u8>, places: &[&[u8]]) -> Result<(), AllocError>
     ensures { OnOk result (text.new.items
         ≡ text.old.items ++ items_text (map (λ place. place.now) places.now)) }
@@ -127,7 +131,8 @@ fn push_items(text: &mut Vec<u8>, places: &[&[u8]]) -> Result<(), AllocError>
     Ok(())
 }
 
-/// Appends the list of these places, if there are any.
+/// Appends `places`, lines of hits without their words, as a list in HTML; nothing if there are
+/// none.
 #[tactic(auto, unfolding(crate::specs::Places::places_text))]
 fn push_list(text: &mut Vec<u8>, places: &[&[u8]]) -> Result<(), AllocError>
     ensures { OnOk result (text.new.items
@@ -141,7 +146,8 @@ fn push_list(text: &mut Vec<u8>, places: &[&[u8]]) -> Result<(), AllocError>
     text.extend_from_slice(b"</ul>")
 }
 
-/// Appends the first places of a pattern, three at most, in the lines of hits.
+/// Appends a list in HTML of the first three at most of the lines of hits that are for the pattern
+/// `word`; nothing if there are none.
 pub(crate) fn push_places(
     alloc: Global,
     text: &mut Vec<u8>,

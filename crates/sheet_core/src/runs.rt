@@ -11,7 +11,8 @@ use shape_dict::Dictionary;
 use std::alloc::Global;
 use std::io::{Read, Write};
 
-/// Returns the sheet of the dictionary whose text the input is.
+/// Returns the sheet of the dictionary whose text `input` is. `hits` is text of `shape_hits
+/// --words`.
 fn sheet_of(alloc: Global, asked: Asked, hits: &[u8], input: &[u8]) -> Result<Vec<u8>, RunFault>
     ensures text { IfOk result (λ text. IsSheetText asked hits.now input.now text.items) }
     ensures fault { IfErr result (IsFindFault input.now) }
@@ -20,18 +21,18 @@ fn sheet_of(alloc: Global, asked: Asked, hits: &[u8], input: &[u8]) -> Result<Ve
     Ok(sheet_text(alloc, asked, hits, &dictionary)?)
 }
 
-/// Reads one dictionary, in any of the three texts, and writes its sheet: the patterns that are
-/// asked for, drawn on a page of HTML or as text for a terminal. `hits` has the lines that
-/// `shape_hits --words` prints, each with a pattern's word and a place in a game. On a page the
-/// first places of a pattern stand below it. Of the reader it takes the bytes up to its end, or
-/// 2^28 + 1 of them, and no more, unless the reader fails or memory is refused. It takes memory for
-/// the input, the dictionary, the patterns that qualify, and the sheet.
+/// Reads one dictionary, in any of its three text formats, and writes its sheet: the patterns that
+/// are asked for, drawn on a page of HTML or as text for a terminal. `hits` is text that
+/// `shape_hits --words` prints: lines with a pattern's word and where in a game it was. On a page
+/// the first three at most of a pattern's lines stand below it. It reads up to the reader's end, or
+/// 2^28 + 1 bytes and no more, unless the reader fails or memory is refused. It takes memory for
+/// the input, the dictionary, the patterns of the kind that were there often enough, and the sheet.
 ///
 /// # Errors
 ///
 /// `Dict` with 1 and the first fault of the text (X1 to X6, X8); `Read` if the reader failed;
 /// `Memory` if memory for the input or the sheet was refused. Nothing is written then. `Write` if
-/// the writer failed: exactly that number of bytes of the sheet is out.
+/// the writer failed: it has the exact number of bytes of the sheet that were written.
 pub fn run_sheet<R: Read, W: Write>(
     alloc: Global,
     asked: Asked,

@@ -9,7 +9,8 @@ use crate::plain::plain_text;
 use shape_dict::{Dictionary, Entry};
 use std::alloc::{AllocError, Global};
 
-/// Returns the text of chosen patterns, in the form that is asked for.
+/// Returns the text of the `chosen` patterns, a page or plain text as `asked.form` says. `hits` is
+/// text of `shape_hits --words`, which is used on a page alone.
 fn written_text(
     alloc: Global,
     asked: Asked,
@@ -26,9 +27,10 @@ fn written_text(
     }
 }
 
-/// Returns the sheet of a dictionary: the patterns that are asked for, as a page or as text. On a
-/// page the first places of a pattern in these lines of hits stand below it. It takes memory for
-/// the patterns that qualify, and for the text.
+/// Returns the sheet of `dictionary`: the patterns that are asked for, as a page or as text. On a
+/// page the first three at most of a pattern's lines in `hits` (text of `shape_hits --words`) stand
+/// below it. It takes memory for the patterns of the kind that were there often enough, and for the
+/// text.
 ///
 /// # Errors
 ///

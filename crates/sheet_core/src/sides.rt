@@ -13,7 +13,7 @@ pub(crate) enum Side {
     Above,
 }
 
-/// Whether a number is one more than another.
+/// Whether `next` is `number` plus one.
 fn is_next(number: u8, next: u8) -> bool
     ensures { result ≡ (next == number + 1) }
 {
@@ -39,8 +39,9 @@ fn is_end(side: Side, cell: Cell, other: Cell) -> bool
     is_beside(side, cell, other) && !is_on(other)
 }
 
-/// Whether the board ends at a cell on this side, as the pattern has it: the pattern's next cell
-/// there is off the board. Of what is outside of the pattern nothing is known.
+/// Whether the board is known to end on this `side` of `cell`: the next one of the pattern's
+/// `cells` there is off the board. False if the pattern has no cell there, since the pattern does
+/// not say what is outside of it.
 pub(crate) fn ends_at(side: Side, cells: &[Cell], cell: Cell) -> bool
     ensures { result ≡ ends_at side cells.now cell }
 {

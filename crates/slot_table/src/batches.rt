@@ -11,25 +11,25 @@ use crate::passes::Pass;
 use crate::tables::SlotTable;
 use probe_core::{Answer, Key, ProbeOrder};
 
-/// How many keys are looked at together: few enough that their cache lines stay in the nearest
-/// caches until their calls end.
+/// How many keys are entered together: few enough that the cache lines of their slots stay in the
+/// nearest caches until their calls end.
 const BLOCK: usize = 128;
 
-/// How many places of a key are looked at, at most, before any free place is taken. In a table that
-/// is nearly full some keys come to their own place only later: their calls then go on one by one.
+/// How many slots of a key are loaded, at most, before any free slot is taken. In a table that is
+/// nearly full some keys find their slot only later: their calls then go on one by one.
 const ROUNDS: usize = 64;
 
-/// The last look of a key's call: the index, in the key's order, of the place that was loaded, and
-/// the word found there.
+/// The last load of a slot for a key: the slot's index in the order in which slots are probed for
+/// the key, and the word found there.
 #[derive(Clone, Copy)]
 pub(crate) struct Look {
-    /// The index of the place in the key's order.
+    /// The index of the slot in the key's probe order, from 0.
     pub(crate) index: usize,
     /// The word that was found there.
     pub(crate) word: u64,
 }
 
-/// Whether a look met another key, and a further place of the key is left to look at.
+/// Whether the load `look` found another key than `key`, and there is a further slot to probe.
 fn is_passed(key: Key, look: Look, slots: usize) -> bool
     requires { look.index < slots }
     ensures { result ≡ true → IsPassed slots key look }
@@ -37,7 +37,7 @@ fn is_passed(key: Key, look: Look, slots: usize) -> bool
     look.word != 0 && look.word != key.bits() + 1 && look.index + 1 != slots
 }
 
-/// Whether the answer says that no number was free.
+/// Whether the answer is `Full`: no slot was free for the key.
 fn is_full(found: Answer) -> bool
     ensures { result ≡ true → found ≡ answer.Full }
 {
@@ -47,7 +47,7 @@ fn is_full(found: Answer) -> bool
     }
 }
 
-/// Puts `Absent` at this place of the answers and at all places after it.
+/// Sets the answers from the index `start` on to `Absent`.
 fn leave_from(answers: &mut [Answer], start: usize)
     ensures length { length answers.new ≡ length answers.old }
     ensures before { (i : ℕ) → i < start → answer_at answers.new i ≡ answer_at answers.old i }
@@ -58,7 +58,7 @@ fn leave_from(answers: &mut [Answer], start: usize)
     }
 }
 
-/// Returns all places of a block, in order.
+/// Returns the indices 0 to `BLOCK` - 1, in order: those of all keys of a block.
 fn all_places() -> [usize; BLOCK]
     ensures length { length result ≡ BLOCK }
     ensures chosen { (count : ℕ) → count ≤ BLOCK → AreChosen count result count }
@@ -70,8 +70,9 @@ fn all_places() -> [usize; BLOCK]
     places
 }
 
-/// Keeps, of the first `count` places, those whose looks met another key, and returns how many they
-/// are. It has no branch that depends on a slot.
+/// Keeps, of the first `count` indices in `left`, those of keys whose last load found another key
+/// and that have a further slot to probe. Moves them to the front of `left`, and returns how many
+/// they are. It has no branch that depends on a slot's word. `slots` is the number of slots.
 fn keep_passed(
     keys: &[Key],
     looks: &[Look],
@@ -98,8 +99,8 @@ fn keep_passed(
 }
 
 impl<O: ProbeOrder> SlotTable<O> {
-    /// Loads the first place of each key. No step waits for what an earlier one found, so the loads
-    /// overlap.
+    /// Loads the first slot of each key's probe order into `looks`, at the key's index. No load
+    /// depends on what an earlier one found, so the loads overlap.
     fn look_first(&self, pass: &mut Pass<O>, keys: &[Key], looks: &mut [Look])
         requires pass { IsPassOf self.now pass.old }
         requires slots { 0 < self.now.slots }
@@ -118,8 +119,8 @@ impl<O: ProbeOrder> SlotTable<O> {
         }
     }
 
-    /// Loads the next place of each key whose place is among the first `count` of `left`. Here too
-    /// the loads overlap.
+    /// Loads the next slot of each key whose index is among the first `count` of `left`, and sets
+    /// its entry of `looks`. The loads overlap, since none depends on another one.
     fn look_again(
         &self,
         pass: &mut Pass<O>,
@@ -153,8 +154,9 @@ impl<O: ProbeOrder> SlotTable<O> {
         }
     }
 
-    /// Loads the first places of all keys of a block, then the second places of those that met
-    /// another key, and so on. No free place is taken in between.
+    /// Loads the first slots of all keys of a block, then the second slots of those that found
+    /// another key there, and so on, up to `ROUNDS` slots. `looks` gets each key's last load. No
+    /// free slot is taken.
     fn look_at_all(&self, pass: &mut Pass<O>, keys: &[Key], looks: &mut [Look])
         requires pass { IsPassOf self.now pass.old }
         requires block { length keys.now ≤ BLOCK }
@@ -181,9 +183,10 @@ impl<O: ProbeOrder> SlotTable<O> {
         }
     }
 
-    /// Brings the calls to their ends, in the order of the keys, each from its last look. Returns
-    /// whether no number was free for some key. After the first such key, only those calls end that
-    /// have ended by their looks.
+    /// Finishes the entering of the keys, in their order, each from its last load in `looks`, and
+    /// sets `answers`. Returns whether no slot was free for some key. After the first such key,
+    /// only keys whose last load gave an answer get one; the others get `Absent` and are not
+    /// entered.
     fn end_all(
         &self,
         pass: &mut Pass<O>,
@@ -216,8 +219,8 @@ impl<O: ProbeOrder> SlotTable<O> {
         full
     }
 
-    /// Enters the keys of a block, up to the first for which no number is free, and a few after it.
-    /// Returns whether there is such a key.
+    /// Enters the keys of a block, at most `BLOCK`, up to the first for which no slot is free, and
+    /// a few after it, and sets `answers`. Returns whether there is such a key.
     fn enter_block(&self, pass: &mut Pass<O>, keys: &[Key], answers: &mut [Answer]) -> bool
         requires pass { IsPassOf self.now pass.old }
         requires block { length keys.now ≤ BLOCK }
@@ -236,22 +239,22 @@ impl<O: ProbeOrder> SlotTable<O> {
         self.end_all(pass, keys, &looks, answers)
     }
 
-    /// Enters these keys, each by a call of its own, as `enter` does, and puts the answer at the
-    /// place of its key: the key's number, or `Full` if none was free. It takes no memory and waits
-    /// for no other thread.
+    /// Enters these keys, each by a call of its own, as `enter` does: a key that has no number (the
+    /// index of its slot) gets a free one. `answers[i]` becomes the number of `keys[i]`, or `Full`
+    /// if none was free. It takes no memory and waits for no other thread.
     ///
     /// After the first `Full` most keys are not entered any more, since each new one would be
-    /// looked for in all slots. At their places stands `Absent`, which no call of `enter` answers.
-    /// Keys of the same block of 128 that were found by their first looks have their numbers.
+    /// looked for in all slots. Their answers are `Absent`, which no call of `enter` answers. Keys
+    /// of the same block of 128 that were found by the block's first loads have their numbers.
     ///
-    /// The first places of all keys are loaded, then the second places of those that met another
-    /// key, and so on, and so the cache lines of the slots are fetched together. A key that is
-    /// found has its number by that load. The others take a free place or go on after all looks of
-    /// their block, in the order of the keys. So the calls end in another order than the keys have.
-    /// A key may stand at several places.
+    /// In each block, the first slots of all keys are loaded, then the second slots of those that
+    /// found another key there, and so on; so the cache lines of the slots are fetched together. A
+    /// key that is found has its number by that load. The others take a free slot or go on after
+    /// all loads of their block, in the order of the keys. So the calls end in another order than
+    /// the keys have. A key may be in `keys` several times.
     ///
-    /// The pass must be of this table, and there must be as many answers as keys. What the answers
-    /// hold before is not read.
+    /// `pass` (the right to call the table) must be of this table, and there must be as many
+    /// answers as keys. What the answers hold before is not read.
     pub fn enter_all(&self, pass: &mut Pass<O>, keys: &[Key], answers: &mut [Answer])
         requires pass { IsPassOf self.now pass.old }
         requires length { length keys.now ≡ length answers.old }

@@ -1,5 +1,5 @@
-//! A table that gives numbers to keys and is shared by threads: it only grows, takes no lock and
-//! never retries a step.
+//! A hash table that gives numbers (indices of slots) to keys and is shared by threads: keys are
+//! never removed, it takes no lock and never retries a step.
 #![tactic(auto)]
 
 mod batches;

@@ -1,4 +1,4 @@
-//! The steps that calls take on the words of a shared table.
+//! The steps (atomic operations) that calls take on the words of a shared table.
 ghost use Rattle.std.specs.Prelude.{◌≡◌, ◌-◌, ◌^◌, ◌<◌, [], None, slice_index_or};
 ghost use Rattle.probe_core.specs.Machine.{key_of, left_of};
 ghost use Rattle.probe_core.specs.Turn.{HasFewer};
@@ -14,7 +14,8 @@ use crate::views::{Ask, Cut, First, Glue, Looked, Marked, Place, Shown, Told};
 use probe_core::{Answer, Call, Key, Probe, ProbeOrder, Turn, Want};
 use std::marker::Brand;
 
-/// Takes the step that the probe wants, and returns what follows.
+/// Takes the next step of a probe (a call under way) on the shared words, and returns the probe
+/// after it, or the call's answer. `seat` is the thread's right to step on the words.
 fn turn<A: Ask, O: ProbeOrder>(shared: &Shown<O>, seat: &mut Place<O>, probe: Probe<O>) -> Turn<O>
     requires seat { IsSeatAt O.exponent shared.now seat.old }
     requires probe { (probe.order ≡ shared.now.key) × (probe.machine ≡ A.machine) }
@@ -35,7 +36,8 @@ fn turn<A: Ask, O: ProbeOrder>(shared: &Shown<O>, seat: &mut Place<O>, probe: Pr
     probe.told(found)
 }
 
-/// Takes the steps of a probe until its call ends, and returns the answer.
+/// Takes the steps of a probe (a call under way) until the call ends, and returns the answer.
+/// `seat` is the thread's right to step on the words.
 pub(crate) fn run<O: ProbeOrder>(shared: &Shown<O>, seat: &mut Place<O>, probe: Probe<O>) -> Answer
     requires seat { IsSeatAt O.exponent shared.now seat.old }
     requires order { probe.order ≡ shared.now.key }
@@ -56,7 +58,8 @@ pub(crate) fn run<O: ProbeOrder>(shared: &Shown<O>, seat: &mut Place<O>, probe: 
     }
 }
 
-/// Makes a call: takes all its steps and returns the answer.
+/// Makes a call (enters or looks up a key), takes all its steps and returns the answer. `seat` is
+/// the thread's right to step on the words.
 pub(crate) fn asked<O: ProbeOrder>(
     shared: &Shown<O>,
     seat: &mut Place<O>,
@@ -74,7 +77,8 @@ pub(crate) fn asked<O: ProbeOrder>(
     run(shared, seat, Probe::begin(order, call))
 }
 
-/// Loads the slot that a key probes at this index, as a step of the key's `Enter`.
+/// Returns the word of the slot at this index of the key's probe order. For proofs that load is a
+/// step of the key's `Enter`. `seat` is the thread's right to step on the words.
 pub(crate) fn look<A: Ask, O: ProbeOrder>(
     shared: &Shown<O>,
     seat: &mut Place<O>,
@@ -94,7 +98,8 @@ pub(crate) fn look<A: Ask, O: ProbeOrder>(
     shared.load::<Told<A>>(seat, 2 * order.place(key, index))
 }
 
-/// Loads the word of a slot, as part of no call, and returns its key, or None if it is free.
+/// Loads the word of the slot `number`, as part of no call, and returns its key, or None if the
+/// slot is free. `seat` is the thread's right to step on the words.
 pub(crate) fn word_at<O: ProbeOrder>(
     shared: &Shown<O>,
     seat: &mut Place<O>,
@@ -116,8 +121,9 @@ pub(crate) fn word_at<O: ProbeOrder>(
     }
 }
 
-/// Splits a thread's seat (its right to step on the words): the new seat has seen as much, and
-/// takes half of the first piece of the stake.
+/// Splits a thread's seat (its right to step on the words), and returns the new one. For proofs it
+/// has seen the same calls, and gets half of the first piece of the stake (the seat's part of the
+/// right to call the table).
 pub(crate) fn split<O: ProbeOrder>(shared: &Shown<O>, seat: &mut Place<O>) -> Place<O>
     requires { IsSeatAt O.exponent shared.now seat.old }
     ensures same { (seat.new.table_id ≡ seat.old.table_id)
@@ -129,7 +135,8 @@ pub(crate) fn split<O: ProbeOrder>(shared: &Shown<O>, seat: &mut Place<O>) -> Pl
     shared.split_seat::<Cut>(seat)
 }
 
-/// Merges another seat, with what it has seen, its calls and its stake, into this one.
+/// Merges the seat `other` (a right to step on the words) into `seat`: for proofs, also the calls
+/// that it has seen or made, and its stake (its part of the right to call the table).
 pub(crate) fn meet<O: ProbeOrder>(shared: &Shown<O>, seat: &mut Place<O>, other: Place<O>)
     requires seat { IsSeatAt O.exponent shared.now seat.old }
     requires other { IsSeatAt O.exponent shared.now other }
@@ -140,7 +147,8 @@ pub(crate) fn meet<O: ProbeOrder>(shared: &Shown<O>, seat: &mut Place<O>, other:
     shared.load::<Looked>(seat, 0);
 }
 
-/// Marks a game at a number: lowers the number's mark word to it, if it is less.
+/// Notes a game in the slot `number`: the slot's mark word becomes `game` if that is less. `seat`
+/// is the thread's right to step on the words.
 pub(crate) fn mark<O: ProbeOrder>(shared: &Shown<O>, seat: &mut Place<O>, number: usize, game: u64)
     requires seat { IsSeatAt O.exponent shared.now seat.old }
     requires number { number < 2 ^ O.exponent shared.now.key }
@@ -153,7 +161,8 @@ pub(crate) fn mark<O: ProbeOrder>(shared: &Shown<O>, seat: &mut Place<O>, number
     shared.fetch_min::<Marked>(seat, 2 * number + 1, game);
 }
 
-/// Returns the least game marked at a number, from its mark word, or None if none was marked.
+/// Returns the least game that was marked in the slot `number`, or None if none was. `seat` is the
+/// thread's right to step on the words.
 pub(crate) fn first<O: ProbeOrder>(
     shared: &Shown<O>,
     seat: &mut Place<O>,

@@ -1,4 +1,4 @@
-//! Tables that give numbers to keys, as threads call them.
+//! The table that gives numbers (indices of slots) to keys, with its calls for threads.
 ghost use Rattle.std.specs.Prelude.{◌≡◌, ◌-◌, ◌*◌, ◌^◌, ◌<◌, [], ◌∷◌, IfOk, None, true, length};
 ghost use Rattle.std.specs.Prelude.{slice_index_or};
 ghost use Rattle.std.specs.List.{repeat};
@@ -23,7 +23,8 @@ use probe_core::{Answer, Call, Capacity, Key, Probe, ProbeOrder, Turn};
 use std::alloc::{AllocError, Global};
 use std::marker::{Brand, Model};
 
-/// A table that gives numbers to keys, shared by threads. This is the project's own.
+/// A hash table, shared by threads, that gives a number (the index of a slot) to each key that is
+/// entered, and keeps the least game that was marked at each number. This is the project's own.
 ///
 /// Each key gets a number when it is first entered, and keeps it for ever. The word of a number's
 /// key and that of its least game lie side by side, so mostly in one cache line. Contracts see
@@ -51,8 +52,9 @@ impl<O: ProbeOrder> Model for SlotTable<O> {
         × (2 ^ O.exponent t.order ≤ 2 ^ 22) };
 }
 
-/// Returns the words of a table in which no number is taken and none is marked. The two words of a
-/// number lie side by side: that of its slot, and then that of its mark.
+/// Returns the words of a table with `slots` slots in which no slot is taken and no game is marked.
+/// The two words of a slot lie side by side: that of its key, and then that of its least game.
+/// `AllocError` if memory was refused.
 fn free_words(alloc: Global, slots: usize) -> Result<Vec<u64>, AllocError>
     ensures length { IfOk result (λ v. length v.items ≡ 2 * slots) }
     ensures items { IfOk result (λ v. v.items ≡ repeat slots (0 ∷ 0xFFFF_FFFF_FFFF_FFFF ∷ [])) }
@@ -61,8 +63,8 @@ fn free_words(alloc: Global, slots: usize) -> Result<Vec<u64>, AllocError>
 }
 
 impl<O: ProbeOrder> SlotTable<O> {
-    /// Makes a table in this order in which no number is taken, and its first pass, which has the
-    /// whole stake.
+    /// Makes a table in which no number is taken, and its first pass, which is the whole right to
+    /// call the table. `order` says how many slots it has, and in which order they are probed.
     ///
     /// It takes 16 bytes a number, and for a moment twice as much.
     ///
@@ -84,7 +86,7 @@ impl<O: ProbeOrder> SlotTable<O> {
         Ok((SlotTable { words, order }, Pass { seat }))
     }
 
-    /// The number of slots, and so of numbers. It takes no pass and no memory.
+    /// Returns the number of slots, and so of numbers. It takes no pass and no memory.
     pub fn capacity(&self) -> Capacity
         ensures order { result ≡ O.exponent self.now.order }
         ensures slots { 2 ^ result ≡ self.now.slots }
@@ -92,12 +94,13 @@ impl<O: ProbeOrder> SlotTable<O> {
         self.order.capacity()
     }
 
-    /// Splits a new pass off this one: it has seen what this one has, and has made no call. It
-    /// takes no memory.
+    /// Splits a new pass off `pass` (a caller's right to call the table), for another thread. For
+    /// proofs the new pass has seen the calls that `pass` has seen, and has made no call. It takes
+    /// no memory.
     ///
-    /// The new pass has a half of the first piece of this one's stake, and this one keeps the rest.
-    /// The half comes back by `meet` and `absorb` alone, and with it the calls that were made with
-    /// it.
+    /// The new pass has a half of the first piece of the stake of `pass` (how much of the whole
+    /// right it is), and `pass` keeps the rest. Only `meet` and `absorb` give the half back, with
+    /// the calls that were made by the new pass.
     ///
     /// The pass must be of this table.
     pub fn split(&self, pass: &mut Pass<O>) -> Pass<O>
@@ -115,7 +118,7 @@ impl<O: ProbeOrder> SlotTable<O> {
         }
     }
 
-    /// Makes a call: takes all its steps and returns the answer.
+    /// Makes a call (enters or looks up a key), takes all its steps and returns the answer.
     fn ask(&self, pass: &mut Pass<O>, call: Call) -> Answer
         requires pass { IsPassOf self.now pass.old }
         requires small { key_of call < 2 ^ 51 }
@@ -128,8 +131,9 @@ impl<O: ProbeOrder> SlotTable<O> {
         steps::asked(&self.words.shared, &mut pass.seat, &self.order, call)
     }
 
-    /// Returns the key's number. If the key has none, a free number becomes the key's from then on;
-    /// `Full` if none is free. It takes no memory and waits for no other thread.
+    /// Returns the key's number (the index of its slot). If the key has none, it gets a free number
+    /// and keeps it; if none is free, the answer is `Full`. It takes no memory and waits for no
+    /// other thread.
     ///
     /// The pass must be of this table.
     pub fn enter(&self, pass: &mut Pass<O>, key: Key) -> Answer
@@ -144,8 +148,9 @@ impl<O: ProbeOrder> SlotTable<O> {
         self.ask(pass, Call::Enter(key))
     }
 
-    /// Returns the key's number. If the key has none, the answer is `Absent` if some number is
-    /// free, else `Full`. It takes no memory and waits for no other thread.
+    /// Returns the key's number (the index of its slot), and changes nothing. If the key has none,
+    /// the answer is `Absent` if some number is free, else `Full`. It takes no memory and waits for
+    /// no other thread.
     ///
     /// The pass must be of this table.
     pub fn look_up(&self, pass: &mut Pass<O>, key: Key) -> Answer
@@ -161,7 +166,8 @@ impl<O: ProbeOrder> SlotTable<O> {
         self.ask(pass, Call::LookUp(key))
     }
 
-    /// Loads the slot that a key probes at this index, as a step of the key's `enter`.
+    /// Loads the slot at this index of the key's probe order, as a step of the key's `enter`, and
+    /// returns the index with the word found there.
     pub(crate) fn look(&self, pass: &mut Pass<O>, key: Key, index: usize) -> Look
         requires pass { IsPassOf self.now pass.old }
         requires index { index < self.now.slots }
@@ -185,9 +191,9 @@ impl<O: ProbeOrder> SlotTable<O> {
         Look { index, word }
     }
 
-    /// Brings the key's `enter` to its end from this last look, and returns its answer. If the look
-    /// has not ended the call and no number was free for an earlier key (`full`), the call does not
-    /// go on: the answer is then `Absent`, and nothing is entered.
+    /// Finishes the key's `enter` from `look`, its last load, and returns its answer. If that load
+    /// gives no answer, and `full` says that no number was free for an earlier key, the answer is
+    /// `Absent`, and nothing is entered.
     pub(crate) fn go_on(&self, pass: &mut Pass<O>, key: Key, look: Look, full: bool) -> Answer
         requires pass { IsPassOf self.now pass.old }
         requires looked { IsLooked self.now.slots (O.place_of self.now.order)
@@ -227,8 +233,9 @@ impl<O: ProbeOrder> SlotTable<O> {
         steps::word_at(&self.words.shared, &mut pass.seat, number)
     }
 
-    /// Makes one pass of two: it has seen what both have, its own calls are those of both, and its
-    /// stake is both stakes. It takes no memory and waits for no other thread.
+    /// Merges two passes (rights to call the table) into one. For proofs it has seen the calls that
+    /// both have seen, its own calls are those of both, and its stake (how much of the whole right
+    /// it is) is both stakes. It takes no memory and waits for no other thread.
     ///
     /// The passes must be of this table.
     pub fn meet(&self, one: Pass<O>, other: Pass<O>) -> Pass<O>
@@ -243,9 +250,9 @@ impl<O: ProbeOrder> SlotTable<O> {
         both
     }
 
-    /// Merges another pass into this one, which then has seen what both have. Its own calls are
-    /// those of both, and its stake is both stakes. It takes no memory and waits for no other
-    /// thread.
+    /// Merges the pass `other` (a right to call the table) into `pass`. For proofs `pass` then has
+    /// seen the calls that both have seen, its own calls are those of both, and its stake (how much
+    /// of the whole right it is) is both stakes. It takes no memory and waits for no other thread.
     ///
     /// The passes must be of this table.
     pub fn absorb(&self, pass: &mut Pass<O>, other: Pass<O>)
@@ -259,8 +266,8 @@ impl<O: ProbeOrder> SlotTable<O> {
         steps::meet(&self.words.shared, &mut pass.seat, other);
     }
 
-    /// Marks a game at a number, by one step: the number's least game becomes the lesser of the one
-    /// that it had and this one. It takes no memory and waits for no other thread.
+    /// Marks a game at a number (a slot), by one atomic step: the number's least game becomes
+    /// `game` if it had none or a greater one. It takes no memory and waits for no other thread.
     ///
     /// The pass must be of this table, the number below the number of slots, and the game not
     /// 2^64 - 1. The number need not be taken.
@@ -277,8 +284,8 @@ impl<O: ProbeOrder> SlotTable<O> {
         steps::mark(&self.words.shared, &mut pass.seat, number, game);
     }
 
-    /// Returns the least game that was marked at the number, or None if none was, by one load. It
-    /// takes no memory and waits for no other thread.
+    /// Returns the least game that was marked at the number (a slot) by `mark`, or None if none
+    /// was, by one load. It takes no memory and waits for no other thread.
     ///
     /// The pass must be of this table, and the number below the number of slots. The number need
     /// not be taken.

@@ -1,5 +1,5 @@
-//! What each seat at the table (a thread's right to step on its words) knows, the rule that ties it
-//! to the words, and what each step tells.
+//! For proofs: what each seat at the table (a thread's right to step on its words) has seen, the
+//! rule that ties that to the words, and what each step adds to it.
 use crate::entries::Happened;
 use atomic_table::{Join, Play, Seat, Shared, Split, Table, TableRule};
 use probe_core::ProbeOrder;
@@ -7,21 +7,24 @@ use std::alloc::Global;
 use std::collections::LinkedList;
 use std::marker::{Brand, PhantomData};
 
-/// What a seat knows, for proofs alone. No value of it is made.
+/// What a seat (a thread's right to step on the table's words) has seen of the table. Used in
+/// contracts only; no code makes one.
 pub struct View<O> {
-    /// The table's order; None once this view was joined to another.
+    /// The order in which slots are probed; None once this view was merged into another.
     pub order: Option<O>,
     /// A history of the table, as far as the seat has seen it.
     pub seen: LinkedList<Happened>,
-    /// The places, in that history, of the seat's own calls.
+    /// The indices, in `seen`, of the seat's own calls.
     pub mine: LinkedList<usize>,
-    /// The history that another seat had seen which was joined to this one, until the next step.
+    /// The history that another seat had seen, if it was merged into this one since this one's last
+    /// step; else empty.
     pub met: LinkedList<Happened>,
-    /// The seat's stake: pieces of the whole right to call the table, e for 1/2^e of it.
+    /// The seat's stake: pieces of the whole right to call the table, e for the part 1/2^e.
     pub stake: LinkedList<usize>,
 }
 
-/// The rule of a table: its words and what all seats know agree with one history of calls.
+/// The invariant of a table, for proofs: there is one history of calls that agrees with its words
+/// and with what all seats (threads' rights to step on them) have seen.
 pub(crate) struct OneHistory;
 
 impl<O: ProbeOrder> TableRule<(), View<O>, O> for OneHistory {
@@ -40,10 +43,10 @@ pub(crate) type Words<O> = Table<(), View<O>, O, OneHistory, Global>;
 /// The words as threads share them.
 pub(crate) type Shown<O> = Shared<(), View<O>, O, OneHistory>;
 
-/// A thread's seat at a table: its right to step on the words, with what it knows.
+/// A thread's seat at a table: its right to step on the words, with what it has seen, for proofs.
 pub(crate) type Place<O> = Seat<(), View<O>>;
 
-/// The step of a call that is taken; it is for the proof alone.
+/// The step of a call that is taken. Used in contracts only.
 pub(crate) trait Ask {
     ghost use Rattle.probe_core.specs.Machine.{Machine};
 
@@ -57,7 +60,8 @@ impl Ask for Brand {
     ghost machine = { begun (LookUp 0) };
 }
 
-/// A step of a call: it tells what the word was, and either ends the call or not.
+/// In proofs, a step of an `enter` or `look_up`: from the word that it found, the call ends
+/// or goes on. `A` is the step.
 pub(crate) struct Told<A> {
     asked: PhantomData<A>,
 }
@@ -68,7 +72,7 @@ impl<O: ProbeOrder, A: Ask> Play<(), View<O>> for Told<A> {
     ghost then = { told O.exponent A.machine };
 }
 
-/// A load of a slot's word that belongs to no call of a history.
+/// In proofs, a load that is part of no call in the table's history.
 pub(crate) struct Looked;
 
 impl<O: ProbeOrder> Play<(), View<O>> for Looked {
@@ -77,7 +81,7 @@ impl<O: ProbeOrder> Play<(), View<O>> for Looked {
     ghost then = { looked O.exponent };
 }
 
-/// A step that lowers the mark word of a number to a game.
+/// In proofs, a step that lowers a slot's least game.
 pub(crate) struct Marked;
 
 impl<O: ProbeOrder> Play<(), View<O>> for Marked {
@@ -86,7 +90,7 @@ impl<O: ProbeOrder> Play<(), View<O>> for Marked {
     ghost then = { marked O.exponent };
 }
 
-/// A load of the mark word of a number.
+/// In proofs, a load of a slot's least game.
 pub(crate) struct First;
 
 impl<O: ProbeOrder> Play<(), View<O>> for First {
@@ -95,8 +99,9 @@ impl<O: ProbeOrder> Play<(), View<O>> for First {
     ghost then = { first_told O.exponent };
 }
 
-/// How a view is split: the old seat keeps it but for a half of its stake's first piece, and a new
-/// seat has seen as much and has that half.
+/// How a seat's view is split, for proofs: the old seat keeps it, except for a half of the first
+/// piece of its stake (its part of the right to call the table). The new seat has seen the same
+/// calls, has made none, and has that half.
 pub(crate) struct Cut;
 
 impl<O> Split<View<O>> for Cut {
@@ -107,7 +112,8 @@ impl<O> Split<View<O>> for Cut {
     ghost right = { cut_off };
 }
 
-/// How two views are joined: the first gets what both have, and the second has nothing left.
+/// How the views of two seats are merged, for proofs: the first gets what both have, and the second
+/// has nothing left.
 pub(crate) struct Glue;
 
 impl<O> Join<View<O>> for Glue {

@@ -40,7 +40,8 @@ impl<R: Read> Model for Block<R> {
     ghost invariant = { λ b. IsBlock b.bytes.items b.start b.end b.ended (R.remaining b.reader) };
 }
 
-/// Reads once, and returns how many bytes it read. 0 means the end, unless the buffer is empty.
+/// Reads once into `room`, and returns how many bytes were read. 0 means the reader's end, unless
+/// `room` is empty.
 fn read_some<R: Read>(reader: &mut R, room: &mut [u8]) -> Result<usize, StreamFault>
     ensures within { IfOk result (λ count. count ≤ length room.new) }
     ensures taken { IfOk result (λ count. Consumes (R.remaining reader.old)
@@ -53,7 +54,8 @@ fn read_some<R: Read>(reader: &mut R, room: &mut [u8]) -> Result<usize, StreamFa
     reader.read(room).map_err(|_| StreamFault::Read)
 }
 
-/// Reads once into the bytes from `end` on, and returns how many bytes it read.
+/// Reads once into `bytes`, from index `end` on, and returns how many bytes were read. 0 means the
+/// reader's end.
 fn read_behind<R: Read>(
     reader: &mut R,
     bytes: &mut Vec<u8>,
@@ -85,7 +87,7 @@ impl<R: Read> Block<R> {
         &self.bytes[self.start..self.end]
     }
 
-    /// Passes over this number of unread bytes.
+    /// Passes over `count` unread bytes.
     pub(crate) fn skip(&mut self, count: usize)
         requires { count ≤ length self.old.unread }
         ensures unread { self.new.unread ≡ drop count self.old.unread }
@@ -94,7 +96,8 @@ impl<R: Read> Block<R> {
         self.start += count;
     }
 
-    /// Reads until there are as many unread bytes as the longest line has, or the reader ends.
+    /// Reads until there are `LONGEST` unread bytes, as many as the longest line has, or the reader
+    /// ends. `Read` if a read failed; the bytes that were read by then stay.
     pub(crate) fn fill(&mut self) -> Result<(), StreamFault>
         ensures same { Keeps (bytes_of self.old) (bytes_of self.new) }
         ensures enough { OnOk result (HasEnough self.new) }
@@ -107,7 +110,8 @@ impl<R: Read> Block<R> {
         self.refill()
     }
 
-    /// Does what `fill` does if more has to be read: first moves the unread bytes to the front.
+    /// Moves the unread bytes to the front of the block, and reads until there are `LONGEST` of
+    /// them, or the reader ends.
     fn refill(&mut self) -> Result<(), StreamFault>
         ensures same { Keeps (bytes_of self.old) (bytes_of self.new) }
         ensures enough { OnOk result (HasEnough self.new) }
@@ -126,7 +130,7 @@ impl<R: Read> Block<R> {
     }
 }
 
-/// A block before the first read. It takes memory for its bytes.
+/// Makes a block for `reader`, and reads nothing yet. It takes memory for the block's bytes.
 pub(crate) fn new_block<R: Read + Drop>(alloc: Global, reader: R) -> Result<Block<R>, AllocError>
     ensures { IfOk result (λ block. (block.unread ≡ [])
         × (block.remaining ≡ R.remaining reader)) }

@@ -9,8 +9,8 @@ use std::alloc::Global;
 use std::io::Read;
 use std::marker::Model;
 
-/// A dictionary's text, read from a reader: its header is read at first, and its entries come one
-/// after another. A block of its bytes is in memory, 65,536.
+/// A dictionary's text, read from a reader: first its header, and then its entries, one after
+/// another. A block of 65,536 of its bytes is in memory.
 #[derive(Drop)]
 pub struct Lines<R: Read> {
     block: Block<R>,
@@ -86,13 +86,14 @@ impl<R: Read + Drop> Lines<R> {
         self.header
     }
 
-    /// The next entry, or None after the last one, if the bytes are a text. It takes no memory.
+    /// Reads and returns the next entry, or None after the last one, if the text is well-formed to
+    /// its end. It takes no memory.
     ///
     /// # Errors
     ///
-    /// `Dict` with the first fault of the bytes as one text, as `Dictionary::read` answers it,
-    /// except that the bytes may be any number, and `Read` if a read failed. After an error, and
-    /// after None, each later call answers the same.
+    /// `Dict` with the first fault of the text, the one that `Dictionary::read` would return,
+    /// except that the text may have any size; `Read` if a read failed. After an error, and after
+    /// None, each later call returns the same.
     pub fn next_entry(&mut self) -> Result<Option<Entry>, StreamFault>
         ensures given { (whole : List ℕ) → (entries : List Item) → HasGiven self.old whole entries
             → HasGiven self.new whole (given_after entries result) }

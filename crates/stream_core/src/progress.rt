@@ -1,5 +1,5 @@
-//! What is kept of the entries that were given: how many they are, the last shape, and the sums of
-//! plays.
+//! What is remembered of the entries that were read: how many they are, the last shape, and how
+//! often they were played.
 ghost use Rattle.std.specs.Prelude.{◌≡◌, []};
 ghost use Rattle.stream_core.specs.Progress.{IsProgress};
 ghost use Rattle.stream_core.specs.Inner.Counting.{CountedTo, added};
@@ -7,8 +7,8 @@ ghost use Rattle.stream_core.specs.Inner.Counting.{CountedTo, added};
 use shape_core::{Kind, Shape};
 use shape_dict::{Entry, Header};
 
-/// How many entries there were, the last one's shape, and the plays of the squares and of the
-/// diamonds; None if the plays are over 2^64 - 1.
+/// What is remembered of the entries that were read: how many they are, the last one's shape, and
+/// how often the squares and the diamonds were played in all, or None if that is over 2^64 - 1.
 #[derive(Clone, Copy, Debug)]
 pub struct Progress {
     pub given: u64,
@@ -30,7 +30,7 @@ pub(crate) fn start() -> Progress
     }
 }
 
-/// The sum with one more number, or None if it is over 2^64 - 1.
+/// Adds `played` to a sum. None if the sum would pass 2^64 - 1, or is None already.
 fn added(sum: Option<u64>, played: u64) -> Option<u64>
     ensures { result ≡ added sum played }
 {
@@ -73,8 +73,9 @@ impl Progress {
         }
     }
 
-    /// Whether the plays add up to the header's moves: those of the squares, and those of the
-    /// diamonds if they are counted. With no games there are no moves.
+    /// Whether the entries fit the header's moves: the squares were played as often in all as there
+    /// are moves, and so were the diamonds if they are counted. False if there are moves and no
+    /// games.
     pub(crate) fn has_totals(&self, header: &Header) -> bool
         ensures { (entries : List Item) → IsProgress self.now entries
             → MatchBool result (HasTotals header.now.games header.now.moves entries

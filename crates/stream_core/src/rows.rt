@@ -1,4 +1,4 @@
-//! Reads the lines of a piece of a text, whose words lie between two numbers.
+//! Reads some lines out of a text, whose words lie in a range.
 ghost use Rattle.std.specs.Prelude.{◌≡◌, ◌++◌, ◌≤◌, IfOk, IfSome};
 ghost use Rattle.std.specs.List.{flat_map};
 ghost use Rattle.shape_dict.specs.Text.{line_text};
@@ -23,7 +23,8 @@ fn of_one_kind(header: &Header, low: u64) -> Header
 }
 
 /// Reads the line at the front of the bytes, and returns its entry and the bytes after it. None if
-/// its word is below `least`, or if `quick_entry` can't tell.
+/// its word is below `least`, or if `quick_entry` returns None: the line is not well-formed or not
+/// of the kind that `kinds` says, or one of its numbers has more than 18 digits.
 #[inline(always)]
 fn next_row<'a>(kinds: &Header, least: u64, bytes: &'a [u8]) -> Option<(Entry, &'a [u8])>
     ensures row { IfSome result (λ p. IsRow kinds.now p.0) }
@@ -39,10 +40,10 @@ fn next_row<'a>(kinds: &Header, least: u64, bytes: &'a [u8]) -> Option<(Entry, &
     Some((entry, rest))
 }
 
-/// Reads a piece of a text that is lines alone, and returns its entries, whose words rise from
-/// `low` on, stay below `high` and are all of one kind. None says nothing of the bytes: there is a
-/// line that is none that this piece may have, or one with a number of more than 18 digits. It
-/// takes memory for the entries.
+/// Reads bytes out of a text that are whole lines, and returns their entries, whose words rise from
+/// `low` on, stay below `high` and are all of the kind of `low`. `header` is the text's. None if a
+/// line is not well-formed, is not such a line, or has a number of more than 18 digits: the text
+/// may be well-formed all the same. It takes memory for the entries.
 ///
 /// # Errors
 ///

@@ -13,7 +13,8 @@ pub enum Standing {
     Failed(StreamFault),
 }
 
-/// Whether more entries may come after this answer, all have come, or a fault ended the reading.
+/// Returns whether more entries may come after `answer`, all have come, or a fault ended the
+/// reading.
 pub(crate) fn standing_of(answer: &Result<Option<Entry>, StreamFault>) -> Standing
     ensures { result ≡ standing_of answer.now }
 {

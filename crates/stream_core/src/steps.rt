@@ -20,7 +20,8 @@ use crate::progress::Progress;
 use shape_dict::{DictFault, Entry, Header, count_lines, read_entry, read_header};
 use std::io::Read;
 
-/// Reads the header at the front of a block, and passes over it.
+/// Reads the header at the front of a block, passes over it, and returns it. `Dict` with
+/// `BadHeader` if there is none, `Read` if a read failed.
 pub(crate) fn take_header<R: Read>(block: &mut Block<R>) -> Result<Header, StreamFault>
     ensures is_header { IfOk result IsHeader }
     ensures taken { IfOk result (λ header. Consumes (bytes_of block.old) (bytes_of block.new)
@@ -38,7 +39,8 @@ pub(crate) fn take_header<R: Read>(block: &mut Block<R>) -> Result<Header, Strea
     Ok(header)
 }
 
-/// Reads the line at the front of a block, passes over it, and returns its entry.
+/// Reads the line at the front of a block, passes over it, and returns its entry. If the line has a
+/// fault, the block stays as it is.
 fn take_line<R: Read>(
     block: &mut Block<R>,
     header: &Header,
@@ -67,8 +69,8 @@ fn take_line<R: Read>(
     Ok(entry)
 }
 
-/// Checks that the bytes are a text, after all its lines: the totals must be right, and no bytes
-/// may follow.
+/// Checks the end of a text after its last line: `WrongTotals` if the entries were not played as
+/// often in all as the header has moves, `BadLine` if bytes follow the text.
 fn end<R: Read>(block: &Block<R>, header: &Header, progress: &Progress) -> Result<(), DictFault>
     requires counted { CountedTo progress.now.given progress.now.last }
     requires enough { HasEnough block.now }
@@ -90,7 +92,8 @@ fn end<R: Read>(block: &Block<R>, header: &Header, progress: &Progress) -> Resul
     Ok(())
 }
 
-/// The next entry while more may come, or None at the end of the text.
+/// Reads and returns the next entry while more may come, or None at the end of a well-formed text.
+/// `progress` then has that entry too.
 pub(crate) fn next<R: Read>(
     block: &mut Block<R>,
     header: &Header,

@@ -41,8 +41,9 @@ use std::thread::Threads;
 use table_shares::{Share, confirm_full, gather};
 use tally_core::{Counted, Report, Settings};
 
-/// Returns why a game was not added to a share. If no number was free for one of its patterns, the
-/// rows of all shares tell whether that is so.
+/// Returns the fault to report for a game that a worker could not count. If `refused` is `Full` (no
+/// free slot in the table for a pattern), it is checked against the rows of all shares, and what
+/// `confirm_full` finds is returned; else `refused` itself.
 fn explain<O: ProbeOrder>(
     table: &SlotTable<O>,
     pass: &mut Pass<O>,
@@ -65,7 +66,8 @@ fn explain<O: ProbeOrder>(
     }
 }
 
-/// Makes the dictionary of all shares, once the input was read.
+/// Merges all shares (what each worker has counted) into the dictionary, once the input was read
+/// to its end; `report` is the report on its trees. The errors are those of `gather`, and `Memory`.
 fn count_of<R: Threads + Sync, O: ProbeOrder>(
     rt: &R,
     alloc: Global,
@@ -95,9 +97,10 @@ fn count_of<R: Threads + Sync, O: ProbeOrder>(
     Ok(Counted { dictionary, report })
 }
 
-/// Makes the dictionary of all shares, or returns the fault to report, in this order: out of
-/// memory, that of the input, the first one of the games that were refused, and that of the shares
-/// together. The pass gets the calls of all threads.
+/// Makes the dictionary from what all threads have counted, or returns the fault to report, in this
+/// order: out of memory, that of the input, that of the games that were refused (`worst` chooses
+/// it), and that of merging the shares. `pass` (the right to call the table) takes over the calls
+/// of all threads. `bytes`, the input, is used in contracts only.
 fn conclude<R: Threads + Sync, O: ProbeOrder>(
     rt: &R,
     alloc: Global,
@@ -144,8 +147,8 @@ fn conclude<R: Threads + Sync, O: ProbeOrder>(
     }
 }
 
-/// Returns how many places the queue for this number of workers has: 16 for each, but at least 16
-/// and at most 128.
+/// Returns the capacity of the job queue for this number of workers: 16 jobs for each, but at least
+/// 16 and at most 128.
 fn places_for(workers: u8) -> usize
     ensures places { result ≡ min 128 (16 * max 1 workers) }
     ensures least { 16 ≤ result }
@@ -154,8 +157,9 @@ fn places_for(workers: u8) -> usize
     (16 * usize::from(workers).max(1)).min(128)
 }
 
-/// A half of a stake and what is left of it make up the whole stake again, and whatever is as much
-/// as the whole right to call the table is the whole.
+/// Shows the prover: if a stake (a caller's part of the right to call the table) is split in two,
+/// both halves together are the whole stake again, and what is as much as the whole right is the
+/// whole right. It does nothing.
 fn stakes_come_together()
     ensures halves { (stake back : List ℕ) → IsAsMuch back (half_of stake)
         → IsAsMuch (halved stake ++ back) stake }
@@ -167,30 +171,32 @@ fn stakes_come_together()
     laws::as_much_as_the_whole_is_the_whole();
 }
 
-/// Counts a whole collection by several workers over a table. It answers the dictionary of its
-/// games, which are numbered from 0 in their order, and the report on its trees. That is what
-/// `count_plain` answers, whatever the table, the gate, the number of workers and their turns. This
-/// is the project's own.
+/// Counts a whole collection, `bytes`, by several workers that number patterns in a shared table.
+/// Returns the dictionary of its games, which are numbered from 0 in their order, and the report on
+/// its trees. `count_plain`, which counts in one thread, returns the same, whatever the table, the
+/// gate (what is called before each game), the number of workers and the order in which their steps
+/// happen. This is the project's own.
 ///
-/// This thread reads, and counts what the queue has no room for; as many workers as the settings
-/// say count what they draw from it. The slots of the settings are not looked at: those of the
-/// table count. The pass must be of the table, which may have numbers already. Afterwards the pass
-/// has made the calls of all threads: they entered patterns of the input alone, and marked games of
-/// it at numbers of their own patterns alone. It has as much stake as before, unless `Memory` was
-/// told. It takes memory for a queue of at most 128 games, for each thread for the largest tree and
-/// its record, the board and the patterns of its games, and for the dictionary.
+/// The calling thread reads, and counts the games for which the job queue has no room; as many
+/// workers as the settings say count the games that they take from the queue. The number of slots
+/// in the settings is ignored: the table has its own. `pass` (the right to call the table) must be
+/// of the table, which may have numbers already. Afterwards `pass` has made the calls of all
+/// threads: they entered patterns of the input alone, and marked games of the input (noted them as
+/// the least) at numbers of their own patterns alone. It has as much stake (its part of that right)
+/// as before, unless `Memory` was returned. It takes memory for a queue of at most 128 games, for
+/// each thread for the largest tree and its record, the board and the patterns of its games, and
+/// for the dictionary.
 ///
 /// # Errors
 ///
 /// `Sgf` with S4 if the input has more than 2^28 bytes, and then nothing was done to the table;
 /// else `Memory` if memory was refused or a worker was not started; else `Sgf` with the first fault
-/// of syntax; else `Full` with a game and one of its patterns for which no number was free, if the
-/// input has as many other patterns as the table has numbers. In a table that nobody else uses no
-/// other fault comes. Else `Stranger` comes if the table is full, and names the least number whose
-/// key is no pattern that was counted: somebody else made it, and no share has a row of it. `Marks`
-/// comes if all games were counted, and names a number with a mark that somebody else made, and the
-/// shares' least game there, which is another. After each the table keeps the numbers and marks
-/// that it got.
+/// of syntax; else `Full` with a game and one of its patterns for which no number (slot) was free,
+/// if the input has as many other patterns as the table has numbers. If nobody else uses the table,
+/// there is no other fault. Else `Stranger` if the table is full: it names the least number whose
+/// key is no pattern that was counted, so that somebody else entered it and no share has a row of
+/// it. `Marks` if all games were counted: it names a number with a least game that somebody else
+/// marked, and the shares' least game there, which is another. After each the table keeps the
 /// numbers and marks that it got.
 pub fn harvest_on<R: Threads + Wait + Sync, O: ProbeOrder, G: Gate>(
     rt: &R,

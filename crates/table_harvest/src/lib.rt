@@ -2,8 +2,8 @@
 //!
 //! Faults are reported in this order: out of memory, of the thread that reads or of any worker;
 //! faults of the input; among the games that were refused `Full` of the least game, then
-//! `Stranger`; and last those of all shares together. `Overflow` never comes: no count of an input
-//! is too large.
+//! `Stranger`; and last those of merging all shares (what each worker has counted). `Overflow` is
+//! never reported: no count of an input is too large.
 #![tactic(auto)]
 
 mod harvesting;

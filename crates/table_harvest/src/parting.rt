@@ -1,4 +1,4 @@
-//! The workers' results, split into shares and refusals.
+//! Splits the workers' results into shares (what each has counted) and faults of refused games.
 ghost use Rattle.std.specs.Prelude.{◌≡◌, ◌⊎◌, ◌↔◌, [], Contains, IsTrue, MatchOption, IfOk};
 ghost use Rattle.harvest_faults.specs.declared.faults.HarvestFault.TheVariants as fault;
 ghost use Rattle.table_harvest.specs.Inner.Parted.{shares_of, refusals_of};
@@ -9,7 +9,8 @@ use harvest_faults::HarvestFault;
 use std::alloc::{AllocError, Global};
 use table_shares::Share;
 
-/// All shares, and the faults of those games that were not added.
+/// The shares of all workers (what each has counted), and for each worker that refused a game the
+/// fault of the first one.
 #[derive(Drop)]
 pub(crate) struct Parted {
     pub shares: Vec<Share>,
@@ -20,7 +21,8 @@ impl Parted {
     ghost use Rattle.std.specs.Prelude.{◌≡◌, ◌++◌, ◌∷◌, [], OnOk};
     ghost use Rattle.table_harvest.specs.Inner.Parted.{refusals_of};
 
-    /// Adds what one worker hands back.
+    /// Adds the share and the fault, if any, that one worker hands back. `AllocError` if memory was
+    /// refused.
     fn take(&mut self, worked: Worked) -> Result<(), AllocError>
         ensures shares { OnOk result
             (self.new.shares.items ≡ self.old.shares.items ++ worked.share ∷ []) }
@@ -36,7 +38,8 @@ impl Parted {
     }
 }
 
-/// Splits what all workers hand back, in their order.
+/// Splits what all workers hand back into their shares and the faults of refused games, in the
+/// order of the workers. `AllocError` if memory was refused.
 pub(crate) fn part(alloc: Global, worked: Vec<Worked>) -> Result<Parted, AllocError>
     ensures shares { IfOk result (λ parted. parted.shares.items ≡ shares_of worked.items) }
     ensures refusals { IfOk result (λ parted. parted.refusals.items ≡ refusals_of worked.items) }
@@ -58,8 +61,8 @@ pub(crate) fn want_memory(refusals: &[HarvestFault]) -> bool
     refusals.contains(&HarvestFault::Memory)
 }
 
-/// Returns the place of a fault in the order in which faults of games are reported: out of memory,
-/// lack of a number, strangers, and then a count that is too large.
+/// Returns the rank of a fault in the order in which faults of games are reported, 0 for the first:
+/// `Memory`, `Full`, `Stranger`, `Overflow`, then all others.
 fn place(fault: &HarvestFault) -> u32
     ensures { result ≡ rank fault.now }
 {
@@ -82,8 +85,8 @@ fn game_of(fault: &HarvestFault) -> u64
     }
 }
 
-/// Whether a fault is reported rather than another one: it has the lesser place in that order, or
-/// the same place and the lesser game.
+/// Whether the fault `one` is reported rather than `other`: its rank by `place` is less, or both
+/// have one rank and the game that `one` names is less.
 fn goes_first(one: &HarvestFault, other: &HarvestFault) -> bool
     ensures { IsTrue result ↔ GoesFirst one.now other.now }
 {
@@ -91,8 +94,8 @@ fn goes_first(one: &HarvestFault, other: &HarvestFault) -> bool
     first < second || (first == second && game_of(one) < game_of(other))
 }
 
-/// Returns which of two faults is to be reported: the one found so far, unless the other goes
-/// first.
+/// Returns which of two faults is to be reported: `found`, the one chosen so far, unless it is None
+/// or `goes_first` is true of `one`; then `one`.
 fn told(found: Option<HarvestFault>, one: HarvestFault) -> HarvestFault
     ensures { MatchOption found (result ≡ one) (λ so_far.
         ((result ≡ one) × GoesFirst one so_far)
@@ -110,7 +113,8 @@ fn told(found: Option<HarvestFault>, one: HarvestFault) -> HarvestFault
     }
 }
 
-/// Returns the fault to report, the first in that order, or None if no game was refused.
+/// Returns the fault to report, of least rank by `place` (of these the one with the least game), or
+/// None if `refusals` is empty.
 pub(crate) fn worst(refusals: &[HarvestFault]) -> Option<HarvestFault>
     ensures { MatchOption result (refusals.now ≡ []) (IsWorst refusals.now) }
 {

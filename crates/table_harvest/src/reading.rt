@@ -1,5 +1,5 @@
-//! The thread that reads: it makes a job for each game and puts it into the queue, and counts those
-//! that the queue hands back.
+//! The thread that reads: it makes a job for each game and adds it to the job queue. If the queue
+//! is full, it counts the game itself.
 ghost use Rattle.std.specs.Prelude.{◌≡◌, ◌+◌, ◌≤◌, ◌⊎◌, ◌↔◌, [], true, None};
 ghost use Rattle.std.specs.Prelude.{IsTrue, IfErr, OnOk};
 ghost use Rattle.job_core.specs.declared.items.Item.TheVariants as item;
@@ -28,7 +28,8 @@ use std::sync::Wait;
 use std::thread;
 use tally_core::Report;
 
-/// Puts a job into the queue, or counts its game in this thread if the queue is full.
+/// Adds a job to the queue, or counts its game in this thread, into `worked`, if the queue is full.
+/// `own` is this thread's end of the queue, with the table.
 fn offer<'a, R: Wait, O: ProbeOrder, G: Gate>(
     rt: &R,
     own: &mut Worker<'_, 'a, '_, O, G>,
@@ -62,15 +63,16 @@ fn offer<'a, R: Wait, O: ProbeOrder, G: Gate>(
     }
 }
 
-/// Whether memory was refused to a worker.
+/// Whether the worker refused a game because memory was refused.
 fn wants_memory(worked: &Worked) -> bool
     ensures { IsTrue result ↔ (worked.now.refused ≡ Some fault.Memory) }
 {
     matches!(worked.refused, Some(HarvestFault::Memory))
 }
 
-/// Reads all games of an input, from the first, and deals them out. A lack of memory ends it, also
-/// if it came while a game was counted here.
+/// Reads all games of an input, from the first. Each is added to the queue for the workers, or
+/// counted here, into `worked`, if the queue is full. `Memory` if memory was refused, also for a
+/// game that was counted here; else `Sgf` with the first fault of syntax. Reading ends at either.
 fn read_all<'a, R: Wait, O: ProbeOrder, G: Gate>(
     rt: &R,
     alloc: Global,
@@ -110,7 +112,8 @@ fn read_all<'a, R: Wait, O: ProbeOrder, G: Gate>(
     }
 }
 
-/// Puts an end into the queue, and tries again while the queue is full.
+/// Adds an end (the item at which one worker stops) to the queue. It waits while the queue is full,
+/// and lets other threads run.
 fn put_end<R: Wait>(rt: &R, endpoint: &mut Endpoint<'_, '_>)
     requires { endpoint.old.writes ≡ true }
     ensures { endpoint.new ≡ putting endpoint.old item.End }
@@ -123,7 +126,8 @@ fn put_end<R: Wait>(rt: &R, endpoint: &mut Endpoint<'_, '_>)
     }
 }
 
-/// Puts an end into the queue for each worker, and no other item.
+/// Adds one end for each of the workers to the queue (the item at which a worker stops), and waits
+/// while the queue is full.
 pub(crate) fn close<R: Wait>(rt: &R, endpoint: &mut Endpoint<'_, '_>, workers: usize)
     requires { endpoint.old.writes ≡ true }
     ensures { endpoint.new ≡ record endpoint.old { ends_put = endpoint.old.ends_put + workers } }
@@ -133,7 +137,9 @@ pub(crate) fn close<R: Wait>(rt: &R, endpoint: &mut Endpoint<'_, '_>, workers: u
     }
 }
 
-/// The result of the thread that reads, with its endpoint and pass.
+/// The result of the thread that reads: what it has counted, the report on the input's trees, the
+/// fault that ended it, if any, and its end of the queue with its pass (its right to call the
+/// table).
 #[derive(Drop)]
 pub(crate) struct Reading<'q, 'a, 't, O: ProbeOrder, G: Gate> {
     pub worked: Worked,
@@ -142,7 +148,9 @@ pub(crate) struct Reading<'q, 'a, 't, O: ProbeOrder, G: Gate> {
     pub own: Worker<'q, 'a, 't, O, G>,
 }
 
-/// Reads all games and puts an end for each worker that was started. It waits for the workers.
+/// Reads all games, each of which is added to the queue or counted here, and then adds an end for
+/// each of the `workers` workers that were started. It waits for the workers to take items while
+/// the queue has no room for an end.
 pub(crate) fn read_games<'q, 'a, 't, R: Wait, O: ProbeOrder, G: Gate>(
     rt: &R,
     alloc: Global,

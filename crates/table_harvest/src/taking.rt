@@ -1,5 +1,5 @@
-//! Takes over the workers' results: what they counted, what their endpoints of the queue drew, and
-//! the calls of their passes.
+//! Takes over the workers' results: what they counted, which jobs they took from the queue, and,
+//! for proofs, the calls that they made to the table.
 ghost use Rattle.std.specs.Prelude.{[], OnOk};
 ghost use Rattle.table_harvest.specs.Inner.Threads.{HasTaken};
 
@@ -12,7 +12,9 @@ use slot_table::Pass;
 use std::alloc::AllocError;
 use tally_core::Report;
 
-/// The workers' results, and one pass that has the calls of all of them.
+/// What all threads have counted, the report on the input's trees, the fault of the thread that
+/// read them, if any, and one pass (the right to call the table) that has noted the calls of all
+/// threads.
 #[derive(Drop)]
 pub(crate) struct Results<O> {
     pub worked: Vec<Worked>,
@@ -21,7 +23,9 @@ pub(crate) struct Results<O> {
     pub pass: Pass<O>,
 }
 
-/// Takes over what each worker hands back, in their order.
+/// Appends what each worker has counted to `worked`, in the order of `all`. The workers' ends of
+/// the queue and their passes (parts of the right to call the table) become parts of those of
+/// `own`. `AllocError` if memory was refused.
 pub(crate) fn take_up<'q, 'a, O: ProbeOrder, G: Gate>(
     own: &mut Worker<'q, 'a, '_, O, G>,
     worked: &mut Vec<Worked>,

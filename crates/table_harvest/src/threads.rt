@@ -1,4 +1,4 @@
-//! The thread that reads and the workers beside it.
+//! Runs the thread that reads together with the workers that count.
 ghost use Rattle.std.specs.Prelude.{◌≡◌, ◌≢◌, ◌+◌, ◌++◌, ◌∷◌, [], ℕ, List, All, length};
 ghost use Rattle.std.specs.Prelude.{IfOk, Some};
 ghost use Rattle.std.specs.List.{AllByRecursion};
@@ -28,7 +28,8 @@ use std::thread;
 use std::thread::{Promise, PromisedHandle, Threads};
 
 /// What the thread that reads works with: the games of the input, what it counts with itself, and,
-/// for the proof alone, the pass as it was before parts of it went to workers.
+/// for the proof alone, its pass (its right to call the table) before parts of it were given to
+/// workers.
 #[derive(Drop)]
 pub(crate) struct Caller<'q, 'a, 't, O: ProbeOrder, G: Gate> {
     pub games: Games<'a>,
@@ -36,7 +37,8 @@ pub(crate) struct Caller<'q, 'a, 't, O: ProbeOrder, G: Gate> {
     pub begun: Snapshot<Pass<O>>,
 }
 
-/// What a worker was before it began: a promise that it hands back what `work` does.
+/// The state of a worker before it began. The contracts derive from it what the worker's thread
+/// hands back when it is joined, namely what `work` promises.
 #[derive(Drop)]
 pub(crate) struct BackTo<'q, 'a, 't, O: ProbeOrder> {
     table: &'t SlotTable<O>,
@@ -52,7 +54,7 @@ impl<'q, 'a, 't, O: ProbeOrder> Promise<Returned<'q, 'a, O>> for BackTo<'q, 'a, 
     ghost kept_by = { λ p r. IsReturned p.table.now p.kinds p.number p.endpoint.value p.pass.value r };
 }
 
-/// Returns what a worker promises to hand back.
+/// Returns the state of `worker`, for the contract on what its thread hands back.
 fn back_to<'q, 'a, 't, O: ProbeOrder, G: Gate>(
     worker: &Worker<'q, 'a, 't, O, G>,
 ) -> BackTo<'q, 'a, 't, O>
@@ -71,8 +73,8 @@ fn back_to<'q, 'a, 't, O: ProbeOrder, G: Gate>(
     }
 }
 
-/// Splitting a pass loses nothing of its stake (its part of the right to call the table): what was
-/// given away and what is left still make up the whole.
+/// Shows the prover that splitting a pass loses nothing of its stake (its part of the right to call
+/// the table): what was given away and what is left still make up the whole. It does nothing.
 fn splits_lose_no_stake()
     ensures { (stake given whole : List ℕ) → IsAsMuch (stake ++ given) whole
         → IsAsMuch (halved stake ++ (given ++ half_of stake)) whole }
@@ -87,7 +89,7 @@ impl<'q, 'a, 't, O: ProbeOrder, G: Gate> Caller<'q, 'a, 't, O, G> {
     ghost use Rattle.slot_table.specs.Stakes.{halved, half_of};
     ghost use Rattle.table_harvest.specs.Inner.Threads.{IsFresh};
 
-    /// Makes the caller before anything is read or any worker is started.
+    /// Makes what the thread that reads works with, before anything is read or a worker is started.
     pub(crate) fn begin(games: Games<'a>, own: Worker<'q, 'a, 't, O, G>) -> Caller<'q, 'a, 't, O, G>
         ensures games { result.games ≡ games.entry }
         ensures own { result.own ≡ own.entry }
@@ -97,8 +99,8 @@ impl<'q, 'a, 't, O: ProbeOrder, G: Gate> Caller<'q, 'a, 't, O, G> {
         Caller { games, own, begun }
     }
 
-    /// Makes a worker with this number, with a part of this thread's endpoint of the queue and of
-    /// its pass.
+    /// Makes the worker with this number. It gets an end of the job queue, and a half of this
+    /// thread's pass (its right to call the table).
     fn another(&mut self, number: usize) -> Worker<'q, 'a, 't, O, G>
         requires pass { IsPassOf self.old.own.table.now self.old.own.pass }
         requires parts { 1 < self.old.own.endpoint.parts }
@@ -128,8 +130,9 @@ impl<'q, 'a, 't, O: ProbeOrder, G: Gate> Caller<'q, 'a, 't, O, G> {
     }
 }
 
-/// Reads all games, beside the workers that were started. If fewer were started than were asked
-/// for, the fault is out of memory and nothing is read: each worker gets an end.
+/// Reads all games while `started` workers count. If fewer were started than `own.workers`, nothing
+/// is read: an end, at which a worker stops, is added to the queue for each, and the fault is
+/// `Memory`.
 fn finish<'q, 'a, 't, R: Wait, O: ProbeOrder, G: Gate>(
     rt: &R,
     alloc: Global,
@@ -157,7 +160,8 @@ fn finish<'q, 'a, 't, R: Wait, O: ProbeOrder, G: Gate>(
     }
 }
 
-/// Waits for all workers, and returns what they hand back, in their order.
+/// Waits for the threads of all workers, and returns what they hand back, in the order of
+/// `handles`. `AllocError` if memory was refused. `own` is used in contracts only.
 fn theirs<'q, 'a, 't, R: Threads, O: ProbeOrder, G: Gate>(
     rt: &R,
     own: &Worker<'q, 'a, 't, O, G>,
@@ -179,7 +183,8 @@ fn theirs<'q, 'a, 't, R: Threads, O: ProbeOrder, G: Gate>(
     }
 }
 
-/// Waits for all workers, takes over their results, and adds those of the thread that reads.
+/// Waits for all workers, and returns their results, followed by `reading`, that of the thread that
+/// reads. `AllocError` if memory was refused. `begun` is used in contracts only.
 fn joined<'q, 'a, 't, R: Threads, O: ProbeOrder, G: Gate>(
     rt: &R,
     alloc: Global,
@@ -228,8 +233,10 @@ impl<'q, 'a, 't, O: ProbeOrder, G: Gate> Caller<'q, 'a, 't, O, G> {
     ghost use Rattle.table_harvest.specs.Working.{IsReturned};
     ghost use Rattle.table_harvest.specs.Inner.Threads.{IsCaller, AreResults, AreAsked};
 
-    /// Starts workers, reads all games, and waits for the workers. In the end either all that were
-    /// asked for have counted, in the order of their numbers, or the fault is out of memory.
+    /// Starts the workers, reads all games, and waits for the workers. Returns the results of the
+    /// workers in the order of their numbers, and then that of this thread. If fewer workers than
+    /// were asked for could be started, the results' fault is `Memory`. `AllocError` if memory was
+    /// refused for the results.
     pub(crate) fn run<R: Threads + Wait + Sync>(
         self,
         rt: &R,

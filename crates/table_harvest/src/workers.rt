@@ -1,4 +1,4 @@
-//! A worker: it draws jobs from the queue and counts their games until it draws an end.
+//! A worker: it takes jobs from the queue and counts their games until it takes an end.
 ghost use Rattle.slot_table.specs.Passes.{IsPassOf};
 ghost use Rattle.table_harvest.specs.Working.{IsReturned};
 
@@ -12,15 +12,16 @@ use std::alloc::Global;
 use std::sync::Wait;
 use std::thread;
 
-/// What one thread works with: its endpoint of the queue, the table with a pass (the right to call
-/// it), and the gate.
+/// What one thread works with: its end of the job queue, the table with a pass (the right to call
+/// it), and the gate (what is called before each game).
 #[derive(Drop)]
 pub struct Worker<'q, 'a, 't, O: ProbeOrder, G: Gate> {
-    /// Where the worker draws its jobs; the thread that reads puts them there.
+    /// The end of the job queue from which the worker takes jobs, or to which the thread that reads
+    /// adds them.
     pub endpoint: Endpoint<'q, 'a>,
     /// The table that numbers the patterns.
     pub table: &'t SlotTable<O>,
-    /// The worker's pass of that table.
+    /// The worker's right to call the table. For proofs it notes the table's calls.
     pub pass: Pass<O>,
     /// What is called before each game.
     pub gate: &'t G,
@@ -32,7 +33,8 @@ pub struct Worker<'q, 'a, 't, O: ProbeOrder, G: Gate> {
     pub kinds: Kinds,
 }
 
-/// What a worker hands back: what it has counted, its endpoint and its pass.
+/// What a worker hands back: what it has counted, its end of the job queue, and its pass (its right
+/// to call the table).
 #[derive(Drop)]
 pub struct Returned<'q, 'a, O> {
     pub worked: Worked,
@@ -40,12 +42,14 @@ pub struct Returned<'q, 'a, O> {
     pub pass: Pass<O>,
 }
 
-/// Runs a worker: it draws jobs from the queue and counts their games, until it draws an end, and
-/// then hands back its endpoint and pass. It puts nothing into the queue, and its pass enters and
-/// marks nothing except for the games that it drew. While the queue is empty it lets other threads
-/// run. Once a game was refused it still draws, and drops what it draws. It waits for the reader.
+/// Runs a worker: it takes jobs from the queue and counts their games, until it takes an end, and
+/// then returns what it has counted, with its end of the queue and its pass. It adds nothing to the
+/// queue, and enters into the table and marks there nothing except for the games that it took. It
+/// waits while the queue is empty, and lets other threads run. Once a game was refused it still
+/// takes jobs, and drops them.
 ///
-/// The pass must be of the table. It takes memory for the share, and for a game's board and walk.
+/// The worker's pass (its right to call the table) must be of its table. It takes memory for what
+/// it counts, and for the board and the patterns of one game.
 pub fn work<'q, 'a, R: Wait, O: ProbeOrder, G: Gate>(
     rt: &R,
     alloc: Global,

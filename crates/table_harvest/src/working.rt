@@ -1,4 +1,4 @@
-//! What a worker has counted, game by game.
+//! Counts games into a worker's share (what one worker has counted).
 ghost use Rattle.std.specs.Prelude.{◌≡◌, ◌≤◌, [], ℕ, List, Some, None};
 ghost use Rattle.shape_core.specs.declared.words.Kinds.{Kinds};
 ghost use Rattle.slot_table.specs.Passes.{IsPassOf};
@@ -19,7 +19,8 @@ use slot_table::{Pass, SlotTable};
 use std::alloc::Global;
 use table_shares::Share;
 
-/// What one worker has counted, and the fault of the first game that it could not count, if any.
+/// A worker's share (what it has counted), and the fault of the first game that it could not count,
+/// if any.
 #[derive(Drop)]
 pub struct Worked {
     pub share: Share,
@@ -27,7 +28,8 @@ pub struct Worked {
 }
 
 impl Worked {
-    /// Makes an empty share for this worker. It takes no memory.
+    /// Makes the empty share of the worker with the number `worker`, for these kinds of pattern. No
+    /// game is refused yet. It takes no memory.
     pub fn begin(alloc: Global, worker: usize, kinds: Kinds) -> Worked
         ensures worker { result.share.worker ≡ worker }
         ensures kinds { result.share.kinds ≡ kinds }
@@ -42,10 +44,11 @@ impl Worked {
         }
     }
 
-    /// Counts the game of a job. The pass enters patterns of this game alone, and marks this game
-    /// alone, at numbers of its own patterns. Once a game was refused nothing changes: jobs are
-    /// dropped, and the first refusal stays. Jobs must come with rising numbers, so that the share
-    /// has each game once.
+    /// Counts the game of a job, after a call of the gate. By `pass` it enters patterns of this
+    /// game alone into the table, and marks this game alone, at numbers of its own patterns. If the
+    /// game can't be counted, `refused` gets the fault. Once a game was refused nothing changes:
+    /// the job is ignored. The jobs' games must have rising numbers, so that the share has each
+    /// once.
     pub fn count<O: ProbeOrder, G: Gate>(
         &mut self,
         table: &SlotTable<O>,

@@ -1,4 +1,4 @@
-//! Makes the dictionary of all that shares have counted.
+//! Makes the dictionary of all that shares have counted (a share is what one worker has counted).
 ghost use Rattle.std.specs.Prelude.{◌≡◌, ◌≤◌, ◌^◌, All, IfOk, IfErr, OnOk};
 ghost use Rattle.harvest_faults.specs.declared.faults.HarvestFault.TheVariants as fault;
 ghost use Rattle.gather_core.specs.Shares.{IsShare};
@@ -32,8 +32,10 @@ fn moves_of(shares: &[Share]) -> Result<u64, HarvestFault>
     Ok(moves)
 }
 
-/// Makes the dictionary of the games of all shares from the entries listed of their rows. The
-/// shares must be of these kinds, and have the games below `games`, each once. It takes no memory.
+/// Makes the dictionary of all shares (a share is what one worker has counted). `listed` are its
+/// entries, in any order: the sums of the shares' counts by pattern. Threads put them in order.
+/// The shares must be of these kinds, and have the games below `games`, each once. It takes no
+/// memory.
 ///
 /// # Errors
 ///

@@ -1,4 +1,4 @@
-//! Whether the least games that are marked in the table are the least games that shares counted.
+//! Whether the least game that the table has for each pattern is the least that workers counted.
 ghost use Rattle.std.specs.Prelude.{◌≡◌, ◌+◌, ◌<◌, List};
 ghost use Rattle.slot_table.specs.Passes.{Known, IsPassOf};
 ghost use Rattle.gather_core.specs.declared.rows.Row.{Row};
@@ -11,7 +11,9 @@ use harvest_faults::HarvestFault;
 use probe_core::ProbeOrder;
 use slot_table::{Pass, SlotTable};
 
-/// A number whose least marked game is not the least game that shares counted at it.
+/// A slot of the table (a pattern's number) for which the least game that the table has,
+/// `of_table`, is not the least one in which a worker counted the pattern, `of_shares`. None
+/// stands for no game.
 #[derive(Clone, Copy)]
 pub(crate) struct Differs {
     pub number: usize,
@@ -19,7 +21,7 @@ pub(crate) struct Differs {
     pub of_table: Option<u64>,
 }
 
-/// Returns the fault for such a number.
+/// Returns the fault that reports a pattern's number with its two least games that differ.
 pub(crate) fn marks_fault(differs: Differs) -> HarvestFault
     ensures { result ≡ fault.Marks differs.number differs.of_shares differs.of_table }
 {
@@ -30,8 +32,9 @@ pub(crate) fn marks_fault(differs: Differs) -> HarvestFault
     }
 }
 
-/// Asks the table for the least game marked at a number, and compares it with that of the shares'
-/// rows. If they differ, that is noted. If a lesser number differs already, nothing is asked.
+/// Compares the least game that the table has for the pattern in slot `number` with `of_shares`,
+/// the least one that workers counted. If they differ, `differs` is set to this number and both
+/// games. If `differs` is set already, by a lesser number, nothing is done.
 #[tactic(auto, using(gather_core::proofs::Calls::calls_self))]
 pub(crate) fn compare<O: ProbeOrder>(
     table: &SlotTable<O>,

@@ -17,14 +17,16 @@ use probe_core::ProbeOrder;
 use shape_core::Word;
 use slot_table::{Pass, SlotTable};
 
-/// Returns the least number that a row of the pattern with these bits has, among all shares' rows.
+/// Returns the least number (slot of the table) under which a share has a row (one pattern's
+/// counts) of the pattern whose word has these bits; None if no share has one.
 fn least_with(shares: &[Share], bits: u64) -> Option<usize>
     ensures { IsLeastOf bits (all_rows shares.now) result }
 {
     least_of(shares, Sought::Pattern(bits)).map(|row| row.number)
 }
 
-/// Whether the share has a row of this number whose pattern has these bits.
+/// Whether the share has a row (one pattern's counts) under the table's slot `number`, and the word
+/// of that pattern has these bits.
 fn has_there(share: &Share, number: usize, bits: u64) -> bool
     ensures { OnTrue result (HasShape share.now.rows bits) }
 {
@@ -34,7 +36,8 @@ fn has_there(share: &Share, number: usize, bits: u64) -> bool
     }
 }
 
-/// Whether some share has a row of this number whose pattern has these bits.
+/// Whether some share has a row (one pattern's counts) under the table's slot `number` whose
+/// pattern's word has these bits.
 fn any_there(shares: &[Share], number: usize, bits: u64) -> bool
     ensures { OnTrue result (HasShape (all_rows shares.now) bits) }
 {
@@ -46,9 +49,10 @@ fn any_there(shares: &[Share], number: usize, bits: u64) -> bool
     false
 }
 
-/// Whether a number's key in the table is the pattern of some row. The rows of the number are
-/// looked at first, since one of them has the key if the shares are of this table; a look at all
-/// rows takes much longer.
+/// Whether `found`, the key in the table's slot `number`, is the word of a pattern of which some
+/// share has a row; false if it is None, as the slot is free. The shares' rows under that number
+/// are looked at first: one of them has the pattern if the shares were counted over this table. A
+/// look at all rows takes much longer.
 fn is_known(shares: &[Share], number: usize, found: Option<u64>) -> bool
     ensures known { OnTrue result (IsOfRow (all_rows shares.now) found) }
     ensures unknown { OnFalse result (IsOfRow (all_rows shares.now) found → ⊥) }
@@ -59,8 +63,9 @@ fn is_known(shares: &[Share], number: usize, found: Option<u64>) -> bool
     any_there(shares, number, bits) || least_with(shares, bits).is_some()
 }
 
-/// Whether a number's key is the pattern of some row, and the number is not the least one that a
-/// row has for the refused pattern.
+/// Whether the table's slot `number` is taken by a pattern of which some share has a row (`found`
+/// is the slot's key), and is not `least`, the least number under which a share has the pattern
+/// that got no number.
 fn agrees(shares: &[Share], number: usize, found: Option<u64>, least: Option<usize>) -> bool
     ensures yes { OnTrue result (IsOfRow (all_rows shares.now) found × (least ≡ Some number → ⊥)) }
     ensures no { OnFalse result
@@ -69,7 +74,8 @@ fn agrees(shares: &[Share], number: usize, found: Option<u64>, least: Option<usi
     least != Some(number) && is_known(shares, number, found)
 }
 
-/// Returns the fault of a number, with the pattern of its first row.
+/// Returns the fault `Stranger` at this number, with the pattern of the shares' first row under it,
+/// if there is one, and with `of_table`, the pattern that the table has in that slot.
 fn stranger_at(shares: &[Share], number: usize, of_table: Option<Word>) -> HarvestFault
     ensures { result ≡ fault.Stranger number (first_shape (all_rows shares.now) number) of_table }
 {
@@ -80,19 +86,19 @@ fn stranger_at(shares: &[Share], number: usize, of_table: Option<Word>) -> Harve
     }
 }
 
-/// Returns why the table had no number for a pattern of a game, after `Share::add` has answered so.
-/// The pattern is given by its word. It takes no memory.
+/// Returns the fault that says why the table had no number (no free slot) for a pattern of a game,
+/// after `Share::add` has answered `Full`. `word` is that pattern's word. It takes no memory.
 ///
 /// The answer is `HarvestFault::Full` with the game and the word if each number of the table has a
 /// key, each of these keys is the pattern of some row of the shares, and the word is the pattern of
 /// no row: then there are more patterns than numbers. Else it is `HarvestFault::Stranger` at the
 /// least number that is free, or whose key is the pattern of no row, or of which some row has the
-/// word as its pattern; a row of a larger table may have a number that this table does not have. It
-/// has the pattern of the first row of that number, in the order of the shares, and the number's
-/// key in the table.
+/// word as its pattern; a row of a larger table may have a number that this table does not have.
+/// `Stranger` has the pattern of the first row of that number, in the order of the shares, and the
+/// number's key in the table. A row is one pattern's counts in a share (what one worker counted).
 ///
-/// Each number up to that one is looked at once, in rising order, and nothing is marked. The pass
-/// must be of the table.
+/// Each number up to that one is looked at once, in rising order, and the table isn't changed.
+/// `pass` (the right to call the table, which notes its answers for proofs) must be of the table.
 pub fn confirm_full<O: ProbeOrder>(
     table: &SlotTable<O>,
     pass: &mut Pass<O>,

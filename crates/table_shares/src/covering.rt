@@ -1,4 +1,4 @@
-//! Whether each game is in one share, and in no more than one.
+//! Checks that each game is in exactly one share (what one worker has counted).
 ghost use Rattle.std.specs.Prelude.{◌≡◌, ◌<◌, ℕ, List, ◌++◌, ◌∷◌, [], All, length, OnOk, IfOk};
 ghost use Rattle.std.specs.Prelude.{IfErr};
 ghost use Rattle.gather_core.specs.Covering.{all_games, Covers};
@@ -9,14 +9,15 @@ use crate::shares::Share;
 use harvest_faults::HarvestFault;
 use std::alloc::Global;
 
-/// Which games were seen, and the least one that was seen twice.
+/// For each game's number, whether the game was seen in a share, and the least game that was seen
+/// twice.
 #[derive(Drop)]
 struct Seen {
     games: Vec<bool>,
     twice: Option<u64>,
 }
 
-/// Notes a game as seen.
+/// Notes a game as seen. If it was seen before, `seen.twice` becomes `game`, unless it is less.
 fn note(seen: &mut Seen, game: u64)
     requires { game < length seen.old.games.items }
     ensures long { length seen.new.games.items ≡ length seen.old.games.items }
@@ -46,7 +47,8 @@ fn note_all(seen: &mut Seen, games: &[u64])
     }
 }
 
-/// Notes the games of all shares as seen. Each must be below `games`.
+/// Returns which games the shares have, each of which must be below `games`. It takes memory for
+/// `games` flags; `Memory` if that was refused.
 fn seen_of(alloc: Global, games: u64, shares: &[Share]) -> Result<Seen, HarvestFault>
     requires { All (λ share. All (λ game. game < games) share.games) shares.now }
     ensures long { IfOk result (λ seen. length seen.games.items ≡ games) }
@@ -61,7 +63,8 @@ fn seen_of(alloc: Global, games: u64, shares: &[Share]) -> Result<Seen, HarvestF
     Ok(seen)
 }
 
-/// Checks that each number below `games` was seen once as a game, and that no other was seen.
+/// Checks that each game below `games` was seen once. `Twice` with the least game that was seen
+/// more often; else `Missing` with the least one that was not seen.
 fn judge(seen: &Seen, games: u64) -> Result<(), HarvestFault>
     requires { length seen.now.games.items ≡ games }
     ensures ok { OnOk result ((list : List ℕ) → AreNoted list seen.now → Covers games list) }
@@ -79,7 +82,9 @@ fn judge(seen: &Seen, games: u64) -> Result<(), HarvestFault>
     Ok(())
 }
 
-/// Checks that each number below `games` is the game of one share, and of one only.
+/// Checks that each game below `games` is in one share, once. `Twice` with the least game that the
+/// shares have more often; else `Missing` with the least one that they don't have. `Memory` if
+/// memory was refused.
 pub(crate) fn check_games(alloc: Global, games: u64, shares: &[Share]) -> Result<(), HarvestFault>
     requires { All (λ share. All (λ game. game < games) share.games) shares.now }
     ensures ok { OnOk result (Covers games (all_games shares.now)) }

@@ -1,4 +1,4 @@
-//! Enters a game's patterns into the table, and marks the game at their numbers in the end.
+//! Enters a game's patterns into the table, and at last notes the game at each pattern's number.
 ghost use Rattle.std.specs.Prelude.{◌≡◌, ◌-◌, ◌^◌, ◌<◌, length, IfSome, IfNone, IfErr, OnOk, OnErr};
 ghost use Rattle.slot_table.specs.Batches.{entered, AreMade, AreTold, AreEnteredUntil};
 ghost use Rattle.slot_table.specs.Passes.{IsPassOf};
@@ -16,7 +16,8 @@ use shape_dict::FirstGame;
 use slot_table::{Pass, SlotTable};
 use tally_core::Meeting;
 
-/// Lists the keys of a game's patterns, in place of those of the game before it.
+/// Replaces `keys` by the keys of a game's patterns, in the order of `meetings` (the patterns with
+/// their counts). `Memory` if memory was refused.
 pub(crate) fn list_keys(keys: &mut Vec<Key>, meetings: &[Meeting]) -> Result<(), HarvestFault>
     ensures keys { OnOk result (keys.new.items ≡ shapes_of meetings.now) }
     ensures fault { IfErr result (λ found. found ≡ fault.Memory) }
@@ -28,8 +29,9 @@ pub(crate) fn list_keys(keys: &mut Vec<Key>, meetings: &[Meeting]) -> Result<(),
     Ok(())
 }
 
-/// Enters these keys into the table, and puts the answer for each in place of the earlier answers.
-/// After the first key for which no number is free, most keys are left out.
+/// Enters these keys into the table, each if it isn't there, and replaces `answers` by the answer
+/// for each key: the number (slot) that it has, or that no slot is free. After the first key for
+/// which none is free, most keys are not entered.
 ///
 /// # Errors
 ///
@@ -56,7 +58,7 @@ pub(crate) fn enter_keys<O: ProbeOrder>(
     Ok(())
 }
 
-/// Returns the place of the first answer that is no number, if there is one.
+/// Returns the index of the first answer that is not `Answer::Number`, or None if all are numbers.
 pub(crate) fn refused(answers: &[Answer]) -> Option<usize>
     ensures some { IfSome result (IsFirstRefusal answers.now) }
     ensures none { IfNone result (AreNumbers answers.now (length answers.now)) }
@@ -69,7 +71,8 @@ pub(crate) fn refused(answers: &[Answer]) -> Option<usize>
     None
 }
 
-/// Marks a game at each of these numbers at which no game is marked that is no later.
+/// Notes `game` in the table at each number among `answers`, unless the table has a game there that
+/// is no later. Answers that are no number are skipped.
 pub(crate) fn mark_all<O: ProbeOrder>(
     table: &SlotTable<O>,
     pass: &mut Pass<O>,

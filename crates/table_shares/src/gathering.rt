@@ -1,4 +1,4 @@
-//! Puts shares together to make a dictionary.
+//! Merges shares (what each worker has counted) into a dictionary.
 ghost use Rattle.std.specs.Prelude.{◌≡◌, ◌<◌, All, OnOk, IfOk, IfErr};
 ghost use Rattle.slot_table.specs.Passes.{IsPassOf};
 ghost use Rattle.table_shares.specs.Agreeing.{AskedAll};
@@ -24,24 +24,27 @@ use slot_table::{Pass, SlotTable};
 use std::alloc::Global;
 use std::thread::Threads;
 
-/// Makes the dictionary of shares that together have each number below `games` as a game once: for
-/// each pattern the sums of all rows, and the least game. A pattern that was never there is left
-/// out.
+/// Merges shares into one dictionary (a share is what one worker has counted, with a row of counts
+/// for each pattern). Each pattern has the sums of its rows in all shares, and its least game. A
+/// pattern that was never there is left out. The shares must together have each game below `games`
+/// once.
 ///
-/// The table is asked about each number once, in rising order, until one differs; what is marked
-/// after that is not judged. Nothing is entered or marked here. This thread adds up and asks. Then
-/// threads sort the dictionary: as many as there are shares, rounded up to a power of two, but at
-/// most 64. However many there are, the answer is the same.
+/// The table is asked for the pattern at each number (slot) once, in rising order, and for its
+/// least game until one differs from the shares' least; those after it are not checked. The table
+/// isn't changed. The calling thread asks and adds up. Then threads sort the dictionary: as many as
+/// there are shares, rounded up to a power of two, but at most 64. The answer is the same for any
+/// number.
 ///
-/// The pass must be of the table, each share of these kinds, and each of its games below `games`.
+/// `pass` (the right to call the table) must be of the table, each share of these kinds, and each
+/// of its games below `games`.
 ///
 /// # Errors
 ///
 /// In this order: `Twice` with the least game that is in the shares twice; `Missing` with the least
 /// game that is in none; `Stranger` with the least number at which a share has a row and the table
-/// another pattern than the row's, or none; `Marks` with the least number whose least marked game
-/// is not the least of its rows; `Overflow` if a sum passes 2^64 - 1. `Memory` if memory was
-/// refused. After each the table's numbers and marks are as they were.
+/// another pattern than the row's, or none; `Marks` with the least number whose least game in the
+/// table is not the least of its rows; `Overflow` if a sum passes 2^64 - 1. `Memory` if memory was
+/// refused. After each the table's numbers and least games are as they were.
 #[tactic(auto, using(gather_core::proofs::Calls::calls_self))]
 pub fn gather<R: Threads + Sync, O: ProbeOrder>(
     rt: &R,

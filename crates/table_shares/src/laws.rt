@@ -11,8 +11,9 @@ ghost use Rattle.table_shares.specs.Checking.{Stand};
 ghost use Rattle.table_shares.specs.Confirming.{HasShape, IsConfirmation};
 ghost use Rattle.gather_core.specs.Shares.{Held};
 
-/// If it is confirmed that a table of n numbers was full, there are more patterns than numbers: the
-/// rows have n different ones, and the refused word is none of these. It takes no memory.
+/// Law: if `confirm_full` answers `Full` for a table of n numbers (slots), there are more patterns
+/// than numbers. The shares' rows have n different patterns, and `word`, the one that got no
+/// number, is none of these. It takes no memory.
 pub fn full_means_more_patterns_than_numbers()
     ensures { (n : ℕ) (seen : List Happened) (rows : List Row) (game word : ℕ) → IsLegal n seen →
         IsConfirmation n seen rows game word (fault.Full game word) →
@@ -20,8 +21,8 @@ pub fn full_means_more_patterns_than_numbers()
         × All (HasShape rows) keys × (Contains keys word → ⊥) }
 {}
 
-/// If each row of a share is of the pattern that the table has at the row's number, so is each row
-/// after a game was added, and after a game was refused. It takes no memory.
+/// Law: if each row of a share (one pattern's counts) is of the pattern that the table has in the
+/// row's slot, that stays so after `Share::add` has added or refused a game. It takes no memory.
 pub fn rows_still_stand()
     ensures added { (n : ℕ) (seen history : List Happened) (actions : Actions) (old new : Held) →
         Keeps n seen history → HasGrown n history actions old new → Stand n seen old.rows →
@@ -31,8 +32,8 @@ pub fn rows_still_stand()
         Stand n history new.rows }
 {}
 
-/// If each row of a share is of the pattern that the table has at the row's number, no game is
-/// refused with `Stranger`. It takes no memory.
+/// Law: if each row of a share (one pattern's counts) is of the pattern that the table has in the
+/// row's slot, `Share::add` does not refuse a game with `Stranger`. It takes no memory.
 pub fn rows_that_stand_are_no_strangers()
     ensures { (n : ℕ) (seen : List Happened) (game : ℕ) (actions : Actions) (old new : Held)
         (number : ℕ) (of_share of_table : Option ℕ) → Stand n seen new.rows →

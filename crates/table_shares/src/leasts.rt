@@ -1,4 +1,4 @@
-//! Finds, among the rows that are looked for, the one of the least number.
+//! Finds the row of the least number (slot of the table) among the rows that meet a condition.
 ghost use Rattle.std.specs.Prelude.{◌++◌, ◌∷◌, [], List};
 ghost use Rattle.std.specs.Bool.{OnTrue, OnFalse};
 ghost use Rattle.gather_core.specs.declared.rows.Row.{Row};
@@ -8,7 +8,8 @@ ghost use Rattle.table_shares.specs.Inner.Leasts.{IsSought, IsLeastSought};
 use crate::shares::Share;
 use gather_core::Row;
 
-/// Which rows are looked for.
+/// Which rows of shares are looked for (a row is one pattern's counts, under its number in the
+/// table).
 #[derive(Clone, Copy)]
 pub(crate) enum Sought {
     /// The rows of the pattern with these bits.
@@ -17,7 +18,7 @@ pub(crate) enum Sought {
     From(usize),
 }
 
-/// Whether a row of this number and of the pattern with these bits is looked for.
+/// Whether a row is looked for that has this number and a pattern whose word has these bits.
 fn is_sought(sought: Sought, number: usize, bits: u64) -> bool
     ensures yes { OnTrue result (IsSought sought number bits) }
     ensures no { OnFalse result (IsSought sought number bits → ⊥) }
@@ -28,8 +29,8 @@ fn is_sought(sought: Sought, number: usize, bits: u64) -> bool
     }
 }
 
-/// Returns the row of the lesser number, the first one if both have the same number. A row that is
-/// not looked for does not count.
+/// Returns `row` if it is looked for and its number is below that of `least`, or `least` is None.
+/// Else it returns `least`, which was found before.
 fn lesser(least: Option<Row>, row: Row, sought: Sought) -> Option<Row>
     ensures { (rows : List Row) → IsLeastSought sought rows least
         → IsLeastSought sought (rows ++ row ∷ []) result }
@@ -49,7 +50,8 @@ fn lesser(least: Option<Row>, row: Row, sought: Sought) -> Option<Row>
     }
 }
 
-/// Returns the row of the least number, of the one found so far and the rows of one more share.
+/// Returns the row of the least number among `least`, the one found so far, and the rows of `more`
+/// that are looked for. If several have that number, it is the first.
 fn least_in(least: Option<Row>, more: &[Row], sought: Sought) -> Option<Row>
     ensures { (rows : List Row) → IsLeastSought sought rows least
         → IsLeastSought sought (rows ++ more.now) result }
@@ -61,7 +63,8 @@ fn least_in(least: Option<Row>, more: &[Row], sought: Sought) -> Option<Row>
     found
 }
 
-/// Returns the first row of the least number that is looked for, among the rows of all shares.
+/// Returns, of the rows of all shares that are looked for, the one of the least number, and the
+/// first one if several have it. None if no row is looked for.
 pub(crate) fn least_of(shares: &[Share], sought: Sought) -> Option<Row>
     ensures { IsLeastSought sought (all_rows shares.now) result }
 {

@@ -1,4 +1,5 @@
-//! Ledgers: what a share has counted, its games, their moves, and the rows of their patterns.
+//! Ledgers: the counts of a share (what one worker has counted): its games, how many moves they
+//! have, and a row of counts for each pattern.
 ghost use Rattle.std.specs.Prelude.{◌≡◌, ◌+◌, ◌^◌, ◌<◌, ◌≤◌, IfSome, IfNone};
 ghost use Rattle.sgf_core.specs.Limit.{most_bytes};
 ghost use Rattle.table_shares.specs.Raising.{weight_of, weight_among};
@@ -9,7 +10,8 @@ use harvest_faults::HarvestFault;
 use probe_core::Answer;
 use tally_core::Meeting;
 
-/// Games in the order in which they were added, their moves, and rows.
+/// The games that a worker has counted, in the order in which they were added; how many moves they
+/// have; and their patterns' rows (one pattern's counts each).
 #[derive(Drop)]
 pub(crate) struct Ledger {
     pub games: Vec<u64>,
@@ -30,7 +32,8 @@ fn weight(meetings: &[Meeting]) -> Option<u64>
     Some(total)
 }
 
-/// Adds each meeting of a game to the row of the number that was answered for it.
+/// Adds the counts of each meeting (a pattern that the game has, with its counts) to the row of
+/// that pattern. `answers[i]` is the table's answer for `meetings[i]`: the number of its row.
 fn raise_all(rows: &mut Rows, meetings: &[Meeting], answers: &[Answer], game: u64)
     requires rows { AreRowed meetings.now answers.now rows.old }
     requires game { game < most_bytes }
@@ -48,7 +51,8 @@ impl Ledger {
     ghost use Rattle.table_shares.specs.Inner.Ledgers.{totals_of, CountsIn, IsCountFault};
     ghost use Rattle.table_shares.specs.Inner.Raising.{AreRowed};
 
-    /// Counts a game, whose number is below 2^28, from its meetings and their numbers in the table.
+    /// Adds a game, whose number is below 2^28, with its moves and `meetings` (its patterns with
+    /// their counts). `answers[i]` is the table's answer for `meetings[i]`: the pattern's number.
     /// Each of these numbers must have a row.
     ///
     /// # Errors

@@ -19,7 +19,7 @@ mod numbers;
 mod standing;
 mod visiting;
 
-// the dictionary of their rows
+// the dictionary of all shares' rows
 mod adding_up;
 mod gathering;
 pub mod laws;

@@ -1,4 +1,5 @@
-//! Sums up all shares' rows of one number: their least game, and a pattern that differs, if any.
+//! Sums up all shares' rows under one number (slot of the table): their least game, and a pattern
+//! that differs, if any.
 ghost use Rattle.std.specs.Prelude.{◌≡◌, ◌++◌, ℕ, List, Some};
 ghost use Rattle.gather_core.specs.declared.rows.Row.{Row};
 ghost use Rattle.gather_core.specs.Rows.{earlier};
@@ -11,15 +12,17 @@ use crate::shares::Share;
 use gather_core::Row;
 use shape_core::{Shape, Word};
 
-/// What the rows of a number are together: `first` is the least of their games, and `stranger` the
-/// pattern of the first row that is not of the pattern asked for.
+/// What all shares have under one number (slot of the table): `first` is the least game of their
+/// rows, and `stranger` the pattern of the first row that is not of the pattern asked for. None
+/// stands for no game, and for no such row.
 #[derive(Clone, Copy)]
 pub(crate) struct NumberSums {
     pub first: Option<u64>,
     pub stranger: Option<Word>,
 }
 
-/// Returns the pattern's word, if it is not the one with these bits.
+/// Returns the word of `shape` if its bits are not `found`, else None. If `found` is None, it
+/// returns the word.
 fn unlike(shape: Shape, found: Option<u64>) -> Option<Word>
     ensures { result ≡ unlike_of shape found }
 {
@@ -42,7 +45,8 @@ pub(crate) fn earlier(one: Option<u64>, other: Option<u64>) -> Option<u64>
     }
 }
 
-/// Adds one more row of the number to the sums.
+/// Adds one more row of the number to `sums`. `found` are the bits of the pattern that the row
+/// should have; None if the number has no pattern.
 fn add(sums: NumberSums, row: Row, found: Option<u64>) -> NumberSums
     ensures { (rows more : List Row) → (number : ℕ) → AreOfNumbers more
         → row_of more number ≡ Some row → AreSums rows number found sums
@@ -54,8 +58,9 @@ fn add(sums: NumberSums, row: Row, found: Option<u64>) -> NumberSums
     }
 }
 
-/// Sums up the rows that shares have of a number: their least game, and the first pattern among
-/// them that is not this one. It takes no memory.
+/// Sums up the rows that the shares have under the table's slot `number`: their least game, and the
+/// first pattern among them whose word's bits are not `found`. If `found` is None, that is the
+/// first row's pattern. It takes no memory.
 pub(crate) fn sums_at(shares: &[Share], number: usize, found: Option<u64>) -> NumberSums
     ensures { AreSums (all_rows shares.now) number found result }
 {

@@ -1,4 +1,4 @@
-//! The rows of a share, each found by its number in the table.
+//! The rows of a share (one pattern's counts each), found by the pattern's number in the table.
 ghost use Rattle.std.specs.Prelude.{◌≡◌, ◌+◌, ◌^◌, ◌<◌, ◌≤◌, IfSome, IfNone};
 ghost use Rattle.sgf_core.specs.Limit.{most_bytes};
 ghost use Rattle.table_shares.specs.Rows.{blank};
@@ -27,7 +27,8 @@ fn blank_row(number: usize, shape: Shape) -> Row
     }
 }
 
-/// Adds what a game has met of the row's pattern to the row.
+/// Adds the counts of a game's `meeting` with the row's pattern to the row, whose least game
+/// becomes `game` if that is less.
 fn raise_row(row: &mut Row, meeting: Meeting, game: u64)
     requires there { row.old.there + meeting.there < 2 ^ 64 }
     requires played { row.old.played + meeting.played < 2 ^ 64 }
@@ -40,7 +41,8 @@ fn raise_row(row: &mut Row, meeting: Meeting, game: u64)
     row.first = FirstGame::new(Some(first));
 }
 
-/// Adds the two counts of one more pattern to a sum of counts; None if that passes 2^64 - 1.
+/// Adds the counts `there` and `played` of one more pattern to `weight`, a sum of counts. Returns
+/// None if the new sum would pass 2^64 - 1.
 pub(crate) fn with_counts(weight: u64, there: u64, played: u64) -> Option<u64>
     ensures some { IfSome result (λ total. total ≡ weight + (there + played)) }
     ensures none { IfNone result (2 ^ 64 ≤ weight + (there + played)) }
@@ -48,9 +50,10 @@ pub(crate) fn with_counts(weight: u64, there: u64, played: u64) -> Option<u64>
     weight.checked_add(there)?.checked_add(played)
 }
 
-/// Rows in the order in which they were made, with a map from each row's number to its place. The
-/// weight is the sum of all counts of the rows: while it is not too large, none of them is.
-/// Contracts see the rows.
+/// Rows (one pattern's counts each) in the order in which they were made, with a map from each
+/// row's number (the pattern's slot in the table) to its index in the list. `weight` is the sum of
+/// all counts of the rows: no count is greater, so none overflows while `weight` doesn't. Contracts
+/// see the rows.
 #[derive(Drop)]
 pub(crate) struct Rows {
     places: BTreeMap<usize, usize>,
@@ -110,7 +113,7 @@ impl Rows {
         self.weight
     }
 
-    /// Returns the place of a number's row, if it has one.
+    /// Returns the index in the list of the row that has this number; None if there is no such row.
     pub fn place(&self, number: usize) -> Option<usize>
         ensures some { IfSome result (λ place. (place < length self.now)
             × ((row_at self.now place).number ≡ number)) }
@@ -119,7 +122,7 @@ impl Rows {
         self.places.get(&number).copied()
     }
 
-    /// Returns the row of the least number that has a row, of this number and greater ones.
+    /// Returns the row of the least number that is `from` or greater; None if there is no such row.
     pub fn first_from(&self, from: usize) -> Option<Row>
         ensures least { IsLeastFrom from self.now result }
         ensures small { IfSome result (λ row. row.number < 2 ^ 22) }
@@ -128,13 +131,13 @@ impl Rows {
         Some(self.rows[*place])
     }
 
-    /// Makes a row that counts nothing for the number that a pattern got, unless the number has
-    /// one. If the answer is no number, nothing is done.
+    /// Makes a row with counts of 0 for the pattern `shape`, under the number in the table's answer
+    /// `found`, unless that number has a row. If the answer is no number, nothing is done.
     ///
     /// # Errors
     ///
-    /// `Stranger` if the row is of another pattern; `Memory` if memory was refused. After either
-    /// the rows are as they were.
+    /// `Stranger` if the number's row is of another pattern; `Memory` if memory was refused. After
+    /// either the rows are as they were.
     pub fn make(&mut self, found: Answer, shape: Shape) -> Result<(), HarvestFault>
         requires { IsBelow (2 ^ 22) found }
         ensures rowed { OnOk result (IsRowed self.new shape found) }
@@ -154,7 +157,7 @@ impl Rows {
         Err(HarvestFault::stranger(number, held.word(), Some(shape.word())))
     }
 
-    /// Puts a row after the others. Its number must have no row yet.
+    /// Appends a row to the list. Its number must have no row yet.
     ///
     /// # Errors
     ///
@@ -171,7 +174,8 @@ impl Rows {
             return Err(HarvestFault::Overflow);
         };
         let place = self.rows.as_slice().len();
-        // What may be refused comes before the row, so that the map has no place without one.
+        // All memory is taken before the row is appended, so that the map has no index without a
+        // row.
         self.rows.reserve(1)?;
         self.places.insert(row.number, place)?;
         self.rows.push_reserved(row);
@@ -179,7 +183,8 @@ impl Rows {
         Ok(())
     }
 
-    /// Adds what a game has met of a pattern to the row of the number that the pattern got.
+    /// Adds a game's `meeting` (a pattern with its counts) to the row of the number in `found`, the
+    /// table's answer for that pattern. If the answer is no number, nothing is done.
     pub fn raise(&mut self, found: Answer, meeting: Meeting, game: u64)
         requires row { HasRowFor self.old found meeting.shape }
         requires fits { weight_of self.old + (meeting.there + meeting.played) < 2 ^ 64 }

@@ -1,4 +1,4 @@
-//! An iterator over the rows of a share, by rising numbers.
+//! An iterator over the rows of a share (one pattern's counts each), by rising numbers.
 ghost use Rattle.std.specs.Prelude.{◌≡◌};
 ghost use Rattle.table_shares.specs.ShareRows.{IsNextRow, rows_left};
 
@@ -7,10 +7,12 @@ use gather_core::Row;
 use std::iter::FusedIterator;
 use std::marker::Model;
 
-/// The rows of a share, each once, by rising numbers. It takes no memory, and searches the share's
-/// map of numbers once for each row.
+/// Iterates over the rows of a share (one pattern's counts each), by rising numbers (the patterns'
+/// slots in the table). It takes no memory, and searches the share's map of numbers once for each
+/// row.
 ///
-/// Contracts see the rows, and the number from which on they are still to come.
+/// Contracts see the rows, and the number `from`: the rows of that number and of greater ones are
+/// still to come.
 #[derive(Drop)]
 pub struct ShareRows<'a> {
     rows: &'a Rows,
@@ -41,8 +43,8 @@ impl<'a> Iterator for ShareRows<'a> {
 
     ghost remaining = { rows_left };
 
-    /// Returns the next row, that of the least number still to come. If no row is left, it is None,
-    /// now and from then on.
+    /// Returns the next row, that of the least number still to come. If no row is left, it returns
+    /// None, now and at all later calls.
     fn next(&mut self) -> Option<Row> {
         let row = self.rows.first_from(self.from)?;
         self.from = row.number + 1;

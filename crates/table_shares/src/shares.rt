@@ -16,8 +16,8 @@ use slot_table::{Pass, SlotTable};
 use std::alloc::Global;
 use std::marker::Model;
 
-/// What one worker has counted: games, each with all its patterns, under the numbers that the
-/// patterns have in a table.
+/// What one worker has counted: which games, how many moves, and a row of counts for each pattern,
+/// under the number (slot) that the pattern has in the shared table.
 ///
 /// Contracts see the worker, the kinds of pattern, the games in the order in which they were added,
 /// their moves, and the rows in the order in which they were made. The type says that the sums of a
@@ -61,7 +61,8 @@ impl Share {
     ghost use Rattle.table_shares.specs.Adding.{IsEntryOf, IsRowed, IsRowedAfter, IsMarkOf};
     ghost use Rattle.gather_core.specs.Entering.{CallsOnly, EntersOnly};
 
-    /// Makes a share without games, for the worker with this number. It takes no memory.
+    /// Makes a share without games, for the worker with the number `worker`, which counts patterns
+    /// of these kinds. It takes no memory.
     pub fn begin(alloc: Global, worker: usize, kinds: Kinds) -> Share
         ensures { result ≡ record {
           worker = worker;
@@ -104,7 +105,8 @@ impl Share {
         self.ledger.moves
     }
 
-    /// Returns the row of a number of the table, if the share has one. It takes no memory.
+    /// Returns the row (one pattern's counts) of the pattern in the table's slot `number`, or None
+    /// if the share has none. It takes no memory.
     pub fn row_at(&self, number: usize) -> Option<Row>
         ensures row { result ≡ row_of self.now.rows number }
         ensures numbers { AreOfNumbers self.now.rows }
@@ -114,7 +116,8 @@ impl Share {
         Some(made[place])
     }
 
-    /// Returns the rows, in the order in which they were made. It takes no memory.
+    /// Returns the rows (one pattern's counts each), in the order in which they were made. It takes
+    /// no memory.
     pub fn made_rows(&self) -> &[Row]
         ensures rows { result.now ≡ self.now.rows }
         ensures numbers { AreOfNumbers self.now.rows }
@@ -122,29 +125,32 @@ impl Share {
         self.ledger.rows.as_slice()
     }
 
-    /// Returns an iterator over the rows, by rising numbers. It takes no memory.
+    /// Returns an iterator over the rows (one pattern's counts each), by rising numbers. It takes
+    /// no memory.
     pub fn rows(&self) -> ShareRows<'_>
         ensures rows { result ≡ record { rows = self.now.rows; from = 0 } }
         ensures numbers { AreOfNumbers self.now.rows }
     {
-        // Its contract says that no two rows are of one number.
+        // The contract of `made_rows` says that no two rows are of one number.
         let _ = self.made_rows();
         ShareRows::new(&self.ledger.rows)
     }
 
-    /// Adds a game to the share: each of its patterns is entered into the table, and what the game
-    /// counts of it goes into the row of its number. At last the game is marked at each of these
-    /// numbers, unless a game that is no later is marked there.
+    /// Adds a game to the share. Each of the game's patterns is entered into the table, and its
+    /// counts are added to the share's row under the pattern's number (its slot in the table). At
+    /// last the game is marked (noted as the least) at each of these numbers, unless a game that is
+    /// no later is marked there.
     ///
     /// No other pattern is entered, and each that got a number has a row of that number. No other
-    /// game is marked, and this one only at numbers of rows of its patterns. The pass must be of
-    /// the table, and the game below 2^28.
+    /// game is marked, and this one only at numbers of rows of its patterns. `pass` (the right to
+    /// call the table) must be of the table, and `game`, the game's number, below 2^28.
     ///
     /// # Errors
     ///
     /// `Full` if no number is free for a pattern of the game: it names the first such pattern in
-    /// the order of the walk, and each pattern before it has a number and its row; `Stranger` if
-    /// the share's row of a pattern's number is of another pattern, as one from another table;
+    /// the order in which the game is replayed, and each pattern before it has a number and its
+    /// row; `Stranger` if the share's row of a pattern's number is of another pattern, as if the
+    /// share was counted over another table;
     /// `Overflow` if the share's moves or all its counts together would pass 2^64 - 1, or if the
     /// game has more actions than any input; `Memory` if memory was refused. After each the share's
     /// games, moves and sums are as they were and the game is nowhere marked. Patterns of the game

@@ -11,7 +11,7 @@ use harvest_faults::HarvestFault;
 use probe_core::Key;
 use shape_core::Word;
 
-/// Returns the bits of a key: the number that it is.
+/// Returns the key as a whole number; None if `key` is None.
 pub(crate) fn bits_of(key: Option<Key>) -> Option<u64>
     ensures bits { result ≡ key }
     ensures small { IfSome result (λ bits. bits < 2 ^ 51) }
@@ -19,7 +19,7 @@ pub(crate) fn bits_of(key: Option<Key>) -> Option<u64>
     key.map(|key| key.bits())
 }
 
-/// Returns the pattern's word with these bits.
+/// Returns the pattern's word with these bits, which are below 2^51; None if `bits` is None.
 pub(crate) fn word_of(bits: Option<u64>) -> Option<Word>
     requires { IfSome bits (λ bits. bits < 2 ^ 51) }
     ensures { result ≡ bits }
@@ -27,8 +27,8 @@ pub(crate) fn word_of(bits: Option<u64>) -> Option<Word>
     bits.and_then(|bits| Word::new(bits))
 }
 
-/// Checks that all rows have numbers of the table, below `slots`. Else it is `Stranger` at the
-/// least number that is not below.
+/// Checks that the numbers of all shares' rows are below `slots`, the number of the table's slots.
+/// If some are not, it returns `Stranger` with the least of these.
 pub(crate) fn check_beyond(shares: &[Share], slots: usize) -> Result<(), HarvestFault>
     ensures ok { OnOk result (AreBelow slots (all_rows shares.now)) }
     ensures fault { IfErr result (IsBeyondFault slots (all_rows shares.now)) }

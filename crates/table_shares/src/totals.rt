@@ -1,4 +1,4 @@
-//! Adds up each number's rows in all shares, and lists the totals of all numbers.
+//! Adds up each pattern's rows in all shares, and lists the totals of all patterns.
 ghost use Rattle.std.specs.Prelude.{◌≡◌, ◌^◌, ◌<◌, ◌≤◌, ◌++◌, ℕ, List, None, Some, IfSome, IfNone};
 ghost use Rattle.std.specs.Prelude.{IfOk, IfErr};
 ghost use Rattle.range_core.specs.Entries.{IsShape};
@@ -18,7 +18,7 @@ use harvest_faults::HarvestFault;
 use shape_dict::{Entry, FirstGame};
 use std::alloc::Global;
 
-/// Makes an entry of a row. Its word is the least of its images, by the type of shapes.
+/// Makes a dictionary's entry of a row. The entry's word is canonical: the type `Shape` says so.
 fn entry(row: Row) -> Entry
     ensures value { result ≡ with_row None row }
     ensures shape { IsShape result }
@@ -32,8 +32,8 @@ fn entry(row: Row) -> Entry
     }
 }
 
-/// Adds the counts of another entry of the same pattern to an entry. Returns None if it is of
-/// another pattern or a sum passes 2^64 - 1.
+/// Adds the counts of `more` to those of `total`, an entry of the same pattern, and returns the sum
+/// with the lesser of both least games. None if the patterns differ, or a sum would pass 2^64 - 1.
 pub(crate) fn with(total: Entry, more: Entry) -> Option<Entry>
     ensures some { IfSome result (λ both. (both ≡ with_row (Some total) (unnumbered more))
         × (total.shape ≡ more.shape)) }
@@ -50,8 +50,8 @@ pub(crate) fn with(total: Entry, more: Entry) -> Option<Entry>
     })
 }
 
-/// Adds one share's row of a number to the total of the rows before it, if there is one. Returns
-/// the new total.
+/// Adds one share's row to `total`, the sum of the rows that earlier shares have under the same
+/// number (None if they have none). Returns the new total.
 ///
 /// # Errors
 ///
@@ -74,8 +74,8 @@ fn add(total: Option<Entry>, row: Row) -> Result<Entry, HarvestFault>
     }
 }
 
-/// Adds up what all shares have counted of the pattern with this number. Returns None if no share
-/// has counted it. It takes no memory.
+/// Adds up what all shares have counted of the pattern in the table's slot `number`. Returns None
+/// if no share has a row of that number. It takes no memory.
 ///
 /// # Errors
 ///
@@ -94,8 +94,9 @@ fn total_at(shares: &[Share], number: usize) -> Result<Option<Entry>, HarvestFau
     Ok(total)
 }
 
-/// Adds up the rows of each number below `slots`, and returns an entry for each number whose
-/// pattern was there. The rows of one number must be of one pattern, and of no other number's.
+/// Adds up all shares' rows of each number below `slots`, and returns an entry for each number
+/// whose pattern was there at least once. All rows must have numbers below `slots`. The rows of one
+/// number must be of one pattern, and no two numbers' rows may be of the same pattern.
 ///
 /// # Errors
 ///

@@ -1,5 +1,5 @@
-//! Visits each number of a table once, in rising order, and compares the table's pattern and least
-//! game with those of the shares' rows.
+//! Visits each number (slot) of a table once, in rising order, and compares the table's pattern and
+//! least game with those of the shares' rows (one pattern's counts each).
 ghost use Rattle.std.specs.Prelude.{◌+◌, ◌<◌, IfErr, IfOk, OnOk};
 ghost use Rattle.slot_table.specs.Passes.{Known, IsPassOf};
 ghost use Rattle.table_shares.specs.Asking.{AsksOnly};
@@ -16,7 +16,9 @@ use harvest_faults::HarvestFault;
 use probe_core::ProbeOrder;
 use slot_table::{Pass, SlotTable};
 
-/// Compares the patterns and the least games of a number's rows with the table's.
+/// Compares the pattern and the least game that the table has in slot `number` with those of the
+/// shares' rows of that number. `Stranger` if a row is of another pattern. If the least games
+/// differ, `differs` is set, unless a lesser number has set it.
 fn visit<O: ProbeOrder>(
     table: &SlotTable<O>,
     pass: &mut Pass<O>,
@@ -45,8 +47,9 @@ fn visit<O: ProbeOrder>(
     Ok(())
 }
 
-/// Looks at each number of the table once, in rising order, and asks for its least game until one
-/// differs from that of the shares' rows. Returns that number with both games, if there is one.
+/// Compares the pattern in each slot of the table with the shares' rows of that number, in rising
+/// order, and its least game too, until one differs. Returns that number with both games, or None
+/// if none differs. `Stranger` at the first number of which a row is of another pattern.
 #[tactic(auto, using(gather_core::proofs::Calls::calls_self))]
 pub(crate) fn visit_all<O: ProbeOrder>(
     table: &SlotTable<O>,

@@ -1,4 +1,4 @@
-//! What a share needs to count a game, kept from game to game.
+//! Buffers that a share needs to count a game, used again for each game.
 ghost use Rattle.std.specs.Prelude.{◌≡◌, ◌^◌, length, OnOk, IfErr};
 ghost use Rattle.table_shares.specs.Inner.Making.{AreBelow, HaveRows, Gained, IsMakingFault};
 
@@ -12,8 +12,9 @@ use slot_table::{Pass, SlotTable};
 use std::alloc::Global;
 use tally_core::{Meeting, Walk};
 
-/// Makes a row without counts for each of a game's meetings that got a number, unless the number
-/// has a row.
+/// Makes a row with counts of 0 for each of a game's patterns that got a number in the table,
+/// unless the number has a row. `answers[i]` is the table's answer for `meetings[i]`. `Stranger` if
+/// a number's row is of another pattern; `Memory` if memory was refused. Rows made before stay.
 fn make_all(rows: &mut Rows, meetings: &[Meeting], answers: &[Answer]) -> Result<(), HarvestFault>
     requires length { length answers.now ≡ length meetings.now }
     requires numbers { AreBelow (2 ^ 22) answers.now }
@@ -56,8 +57,9 @@ impl Workings {
         }
     }
 
-    /// Walks a game, enters its patterns into the table, and makes rows for their numbers. Returns
-    /// how many moves onto empty points the game has.
+    /// Replays a game to list its patterns with their counts, enters them into the table, and makes
+    /// a row in `rows` for each number that they got and that has none. Returns how many moves onto
+    /// empty points the game has.
     ///
     /// # Errors
     ///

@@ -1,4 +1,5 @@
-//! Probes, worlds of many callers, and the shared table, tried from outside.
+//! Probes (calls on a table, step by step), worlds (models in which many callers take such steps),
+//! and the shared table, tried from outside.
 #![tactic(auto)]
 
 #[cfg(test)]

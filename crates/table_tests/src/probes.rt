@@ -12,7 +12,7 @@ fn key_of_bits(rt: &impl Abort, bits: u64) -> Key {
     Key::new(bits).expect(rt, "a key below 2^51")
 }
 
-/// The places of the order are these, from the first to the last.
+/// Asserts that `order` tries the slots of a table for `key` in this order.
 fn assert_places<O: ProbeOrder>(rt: &impl Abort, order: &O, key: u64, wanted: &[usize]) {
     let key = key_of_bits(rt, key);
     let slots = order.capacity().slots();
@@ -92,7 +92,8 @@ fn linear_goes_on_from_these_starts(rt: HostRuntime) {
     assert_places(&rt, &one, 6, &[0]);
 }
 
-/// The places of the order are runs of 16 that begin at these, one after another.
+/// Asserts that `order` tries the slots of a table of 64 for `key` in runs of 16 neighbours, which
+/// begin at these slots.
 fn assert_runs<O: ProbeOrder>(rt: &impl Abort, order: &O, key: u64, firsts: &[usize]) {
     let key = key_of_bits(rt, key);
     let slots = order.capacity().slots();
@@ -128,7 +129,8 @@ fn odd_runs_go_through_these_places(rt: HostRuntime) {
     assert_places(&rt, &one, 6, &[0]);
 }
 
-/// What a call wants after its steps found these words, or what it answered.
+/// What a call wants to do next after its steps found these words in the slots, or its answer if it
+/// has ended.
 fn wants_after<O: ProbeOrder>(order: &O, call: Call, words: &[u64]) -> Result<Want, Answer> {
     let mut probe = Probe::begin(order, call);
     for word in words {
@@ -140,7 +142,7 @@ fn wants_after<O: ProbeOrder>(order: &O, call: Call, words: &[u64]) -> Result<Wa
     Ok(probe.wants())
 }
 
-/// After these words the call wants this.
+/// Asserts that a call wants to do this next, after its steps found these words in the slots.
 fn assert_wants<O: ProbeOrder>(
     rt: &impl Abort,
     order: &O,
@@ -152,7 +154,7 @@ fn assert_wants<O: ProbeOrder>(
     assert!(rt; found == Ok(wanted));
 }
 
-/// After these words the call has answered this.
+/// Asserts that a call has ended with this answer, after its steps found these words in the slots.
 fn assert_answers<O: ProbeOrder>(
     rt: &impl Abort,
     order: &O,
@@ -164,7 +166,8 @@ fn assert_answers<O: ProbeOrder>(
     assert!(rt; found == Err(wanted));
 }
 
-/// Key 5 has the places 0 and 1 of two, and its word is 6.
+/// Asserts what calls with key 5 do in a table of two slots: `order` tries slot 0 and then slot 1,
+/// and the key is stored as the word 6.
 fn assert_decisions<O: ProbeOrder>(rt: &impl Abort, order: &O) {
     let key = key_of_bits(rt, 5);
     assert_wants(rt, order, Call::Enter(key), &[], Want::Load(0));

@@ -1,4 +1,4 @@
-//! The table seen from outside: rows worked by hand, and threads that number the same keys.
+//! The table seen from outside: calls worked out by hand, and threads that enter the same keys.
 ghost use Rattle.std.specs.Prelude.{All, IfOk};
 ghost use Rattle.slot_table.specs.Passes.{IsPassOf};
 
@@ -10,7 +10,7 @@ use std::test::Fail;
 use std::thread;
 use std::thread::Threads;
 
-/// How many keys each thread enters: a prime, so that any stride below it comes to every key.
+/// How many keys each thread enters: a prime, so that any stride below it reaches every key.
 const KEYS: usize = 199;
 
 fn capacity_of(rt: &impl Abort, k: u32) -> Capacity {
@@ -28,7 +28,8 @@ fn number_of(rt: &impl Abort, answer: Answer) -> usize {
     }
 }
 
-/// Two numbers, of which the keys 5 and 6 get the first and the second.
+/// Asserts that in an empty table of two slots the keys 5 and 6 get slot 0 and slot 1, and key 7
+/// none.
 fn assert_two_numbers<O: ProbeOrder>(rt: &impl Abort, table: &SlotTable<O>, pass: &mut Pass<O>)
     requires { IsPassOf table.now pass.old }
 {
@@ -67,7 +68,7 @@ fn an_absent_key_takes_no_number(rt: HostRuntime) -> Result<(), Fail> {
     Ok(())
 }
 
-/// What four keys get that are entered together.
+/// Returns the answers for four keys that are entered by one call.
 fn enter_four<O: ProbeOrder>(
     table: &SlotTable<O>,
     pass: &mut Pass<O>,
@@ -139,7 +140,7 @@ fn a_mark_is_at_its_number_alone(rt: HostRuntime) -> Result<(), Fail> {
     Ok(())
 }
 
-/// A mark changes no key, and a new key no mark.
+/// A game that is noted at a slot changes no key, and a new key changes no game that is noted.
 #[test]
 fn marks_and_keys_leave_each_other(rt: HostRuntime) -> Result<(), Fail> {
     let capacity = capacity_of(&rt, 1);
@@ -189,21 +190,23 @@ fn the_largest_table_is_made(rt: HostRuntime) -> Result<(), Fail> {
     Ok(())
 }
 
-/// What one thread does: its pass, and where it begins among the keys.
+/// What one thread does its work with: its pass (what a caller has seen of the table's calls, for
+/// proofs), and where it begins among the keys.
 #[derive(Drop)]
 struct Job<O> {
     pass: Pass<O>,
     first: u8,
 }
 
-/// The pass of a thread that ended, and the number of each key.
+/// The pass of a thread that ended, and the slot of each key.
 #[derive(Drop)]
 struct Done<O> {
     pass: Pass<O>,
     numbers: [usize; KEYS],
 }
 
-/// `count` jobs, each with a pass of its own.
+/// Returns `count` jobs, each with a pass that is split off `pass`, and the first keys 0, 1, 2 and
+/// so on.
 fn jobs_of<O: ProbeOrder>(
     alloc: Global,
     table: &SlotTable<O>,
@@ -222,8 +225,8 @@ fn jobs_of<O: ProbeOrder>(
     Ok(jobs)
 }
 
-/// Enters all keys, from the job's first one on in strides of its own: every key, every second one,
-/// and so on.
+/// Enters all keys, from the job's first one on in strides of its own (every key, every second one,
+/// and so on), and returns their slots.
 fn enter_all<O: ProbeOrder>(rt: &impl Abort, table: &SlotTable<O>, job: Job<O>) -> Done<O>
     requires { IsPassOf table.now job.pass }
     ensures { IsPassOf table.now result.pass }
@@ -237,7 +240,7 @@ fn enter_all<O: ProbeOrder>(rt: &impl Abort, table: &SlotTable<O>, job: Job<O>) 
     Done { pass, numbers }
 }
 
-/// Each job in a thread of its own, to their ends.
+/// Runs `enter_all` for each job in a thread of its own, and waits for all of them.
 fn run_all<O: ProbeOrder + Send + Sync, R: Threads + Abort + Sync>(
     rt: &R,
     table: &SlotTable<O>,
@@ -256,7 +259,7 @@ fn run_all<O: ProbeOrder + Send + Sync, R: Threads + Abort + Sync>(
     )
 }
 
-/// The pass finds each key at the number that it got, without asking any other pass.
+/// Asserts that by `pass` alone each key is found at the slot that it got.
 fn assert_found<O: ProbeOrder>(
     rt: &impl Abort,
     table: &SlotTable<O>,
@@ -275,7 +278,7 @@ fn assert_found<O: ProbeOrder>(
     }
 }
 
-/// How many numbers are free.
+/// How many slots have no key.
 fn free_of<O: ProbeOrder>(table: &SlotTable<O>, pass: &mut Pass<O>) -> usize
     requires { IsPassOf table.now pass.old }
 {
@@ -288,7 +291,8 @@ fn free_of<O: ProbeOrder>(table: &SlotTable<O>, pass: &mut Pass<O>) -> usize
     free
 }
 
-/// Each thread's pass alone answers as the others did, and so does the one pass of all.
+/// Asserts that each thread's pass finds the keys at the slots of `agreed`, and so does the pass
+/// into which all are joined.
 fn assert_read_back<O: ProbeOrder>(
     rt: &impl Abort,
     table: &SlotTable<O>,
@@ -310,7 +314,8 @@ fn assert_read_back<O: ProbeOrder>(
     assert!(rt; free_of(table, &mut all) == 57);
 }
 
-/// Eight threads enter the same keys, each in an order of its own.
+/// Lets eight threads enter the same keys, each in an order of its own, and asserts that all got
+/// the same slots.
 fn read_back<O: ProbeOrder + Send + Sync, R: Threads + Abort + Sync>(
     rt: &R,
     alloc: Global,
@@ -338,7 +343,7 @@ fn all_threads_get_the_same_numbers(rt: HostRuntime) -> Result<(), Fail> {
     Ok(())
 }
 
-/// Each job enters a key of its own, in a thread of its own.
+/// Enters a key of its own for each job, in a thread of its own, and returns the answers.
 fn enter_each<O: ProbeOrder + Send + Sync, R: Threads + Abort + Sync>(
     rt: &R,
     table: &SlotTable<O>,
@@ -376,7 +381,7 @@ fn one_slot_has_one_key(rt: HostRuntime) -> Result<(), Fail> {
     Ok(())
 }
 
-/// Each job marks number 0 with a game of its own, in a thread of its own.
+/// Notes at slot 0 a game of its own for each job (the least is kept), in a thread of its own.
 fn mark_each<O: ProbeOrder + Send + Sync, R: Threads + Sync>(
     rt: &R,
     table: &SlotTable<O>,
@@ -395,7 +400,7 @@ fn mark_each<O: ProbeOrder + Send + Sync, R: Threads + Sync>(
     )
 }
 
-/// Marks number 0 with a game from 41 on.
+/// Notes at slot 0 the game 41 plus the number of the job, if the table has a slot.
 fn mark_one<O: ProbeOrder>(table: &SlotTable<O>, job: Job<O>) -> Done<O>
     requires { IsPassOf table.now job.pass }
     ensures { IsPassOf table.now result.pass }
@@ -410,7 +415,7 @@ fn mark_one<O: ProbeOrder>(table: &SlotTable<O>, job: Job<O>) -> Done<O>
     }
 }
 
-/// Each pass reads that 41 is the least game at number 0.
+/// Asserts that by each pass the least game noted at slot 0 is 41.
 fn assert_least<O: ProbeOrder>(rt: &impl Abort, table: &SlotTable<O>, mut done: Vec<Done<O>>)
     requires { All (λ done. IsPassOf table.now done.pass) done.items }
 {
@@ -436,7 +441,8 @@ fn all_passes_read_the_least_mark(rt: HostRuntime) -> Result<(), Fail> {
     Ok(())
 }
 
-/// With memory refused at any request the table is made, or out of memory is answered.
+/// With memory refused at any request, the table is made or the fault for out of memory is
+/// returned.
 #[test]
 fn memory_is_found_or_named(rt: HostRuntime) -> Result<(), Fail> {
     let order = Linear {

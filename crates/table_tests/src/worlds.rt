@@ -1,4 +1,5 @@
-//! Tables of one user and worlds run from outside, with answers worked out by hand.
+//! Tables of one user, and worlds (models in which several callers of a table take steps in turn),
+//! run from outside, with answers worked out by hand.
 use probe_core::{
     Answer, Call, Capacity, Event, Finished, Key, Linear, OddStep, ProbeFault, ProbeOrder,
     SoloTable, World,
@@ -41,7 +42,8 @@ fn ended(caller: usize, call: Call, answer: Answer, begun: usize, ended: usize) 
     }
 }
 
-/// The world has run these calls, and its words are these.
+/// Asserts that these calls have ended in the world, and that its table has these words in its
+/// slots.
 fn assert_shows<O: ProbeOrder>(
     rt: &impl Abort,
     world: &World<O>,
@@ -52,7 +54,8 @@ fn assert_shows<O: ProbeOrder>(
     assert!(rt; world.words() == words);
 }
 
-/// Two callers enter one key: the second learns its number from the lost exchange.
+/// Asserts what happens if two callers enter one key: the second one's exchange fails, by which it
+/// learns the slot of the key.
 fn assert_one_key<O: ProbeOrder>(rt: &impl Abort, alloc: Global, order: O) -> Result<(), Fail> {
     let mut world = World::new(alloc, order, 2)?;
     assert_shows(rt, &world, &[], &[0, 0]);
@@ -74,7 +77,8 @@ fn assert_one_key<O: ProbeOrder>(rt: &impl Abort, alloc: Global, order: O) -> Re
     Ok(())
 }
 
-/// Two callers enter two keys at one slot: one of them is too late.
+/// Asserts what happens if two callers enter two keys into a table of one slot: one of them is too
+/// late, and the table is full for it.
 fn assert_one_slot<O: ProbeOrder>(rt: &impl Abort, alloc: Global, order: O) -> Result<(), Fail> {
     let mut world = World::new(alloc, order, 2)?;
     world.run(&[
@@ -97,7 +101,7 @@ fn assert_one_slot<O: ProbeOrder>(rt: &impl Abort, alloc: Global, order: O) -> R
     Ok(())
 }
 
-/// A look-up before the key is entered.
+/// Asserts that a look-up that takes its step before the key is entered does not find it.
 fn assert_early<O: ProbeOrder>(rt: &impl Abort, alloc: Global, order: O) -> Result<(), Fail> {
     let mut world = World::new(alloc, order, 2)?;
     world.run(&[
@@ -119,7 +123,8 @@ fn assert_early<O: ProbeOrder>(rt: &impl Abort, alloc: Global, order: O) -> Resu
     Ok(())
 }
 
-/// A look-up after the key is entered, a step of the idle caller, and a look-up more.
+/// Asserts that a look-up that takes its step after the key is entered finds it, that a step of an
+/// idle caller changes nothing, and that a further look-up finds the key too.
 fn assert_late<O: ProbeOrder>(rt: &impl Abort, alloc: Global, order: O) -> Result<(), Fail> {
     let wanted = [
         ended(1, enter(rt, 7), Answer::Number(0), 1, 3),
@@ -158,7 +163,8 @@ fn callers_share_a_table_of_odd_steps(rt: HostRuntime) -> Result<(), Fail> {
     assert_late(&rt, rt.alloc(), odd(&rt, 0))
 }
 
-/// Two keys with one first place: the second number is that of the order's next place.
+/// Asserts that of two keys whose first slot is the same the second gets slot `number`, the next
+/// that `order` tries.
 fn assert_two_keys<O: ProbeOrder>(
     rt: &impl Abort,
     alloc: Global,
@@ -217,7 +223,8 @@ fn other_events_are_counted_alone(rt: HostRuntime) -> Result<(), Fail> {
     Ok(())
 }
 
-/// A world in which nobody calls counts its events, and nothing else happens.
+/// Asserts that a world without callers counts its events, and that these change neither the table
+/// nor the list of calls.
 fn assert_nobody<O: ProbeOrder>(rt: &impl Abort, alloc: Global, order: O) -> Result<(), Fail> {
     let mut world = World::new(alloc, order, 0)?;
     world.run(&[Event::Begin(0, enter(rt, 5)), Event::Step(0)])?;
@@ -231,7 +238,8 @@ fn a_world_of_no_callers_stays_empty(rt: HostRuntime) -> Result<(), Fail> {
     assert_nobody(&rt, rt.alloc(), odd(&rt, 1))
 }
 
-/// Five and six get the two numbers, and seven finds the table full.
+/// Asserts that in a table of two slots the keys 5 and 6 get a slot each, and key 7 finds the table
+/// full.
 fn assert_solo<O: ProbeOrder>(rt: &impl Abort, alloc: Global, order: O) -> Result<(), Fail> {
     let five = Key::new(5).ok_or("a key below 2^51")?;
     let six = Key::new(6).ok_or("a key below 2^51")?;
@@ -262,7 +270,8 @@ fn faults_have_texts(rt: HostRuntime) -> Result<(), Fail> {
     Ok(())
 }
 
-/// A run answers, or names the refusal and leaves the world as it was.
+/// Asserts that a run ends as it should, or is refused memory and leaves the world as it was; it is
+/// repeated then.
 fn assert_runs_or_stays<O: ProbeOrder>(
     rt: &impl Abort,
     world: &mut World<O>,

@@ -1,4 +1,4 @@
-//! The empty field that a game begins with, kept for the games after it.
+//! An empty field (a board that keeps its points' pattern words), kept to be copied for each game.
 ghost use Rattle.std.specs.Prelude.{◌≡◌, IfOk, IfErr};
 ghost use Rattle.tally_core.specs.Inner.Blank.{IsBlank};
 ghost use Rattle.shape_core.specs.declared.words.Kinds.{Kinds};
@@ -10,8 +10,9 @@ use shape_core::{Field, Kinds};
 use std::alloc::Global;
 use std::marker::Model;
 
-/// A source of empty fields, which keeps one of the size that was asked for last: to copy it is
-/// quicker than to find the words of each point again.
+/// Makes empty fields, which are boards that keep the pattern words of their points. It keeps one
+/// field of the size that was asked for last, since copying that is quicker than computing the
+/// words of all points again.
 #[derive(Drop)]
 pub(crate) struct Blank {
     alloc: Global,
@@ -32,7 +33,8 @@ impl Model for Blank {
 }
 
 impl Blank {
-    /// A source of fields that keep the words of these kinds of pattern. It takes no memory.
+    /// Makes a source of empty fields, which keep the words of these `kinds` of pattern. It has no
+    /// field yet, and takes no memory.
     pub fn new(alloc: Global, kinds: Kinds) -> Blank
         ensures { result ≡ kinds }
     {
@@ -50,8 +52,9 @@ impl Blank {
         self.kinds
     }
 
-    /// An empty field of this size. It takes memory for each point of the board, twice if the size
-    /// is another than before.
+    /// Returns an empty field of this `size`. It takes memory for each point of the board, and
+    /// twice that if the last field had another size or there was none: then it also makes a new
+    /// one to copy. `TallyFault::Memory` if memory was refused.
     pub fn field(&mut self, size: Size) -> Result<Field, TallyFault>
         ensures kinds { self.new ≡ self.old }
         ensures blank { IfOk result (IsBlank self.old) }

@@ -28,14 +28,17 @@ pub struct Counted {
     pub report: Report,
 }
 
-/// The most patterns that an input of this many bytes is likely to have. A move takes six bytes,
-/// and brings some eight patterns that the collection has not had yet.
+/// Returns for how many patterns to make room: the most that an input of this many `bytes` is
+/// likely to have, but at most 2^22. A move takes six bytes, and brings some eight patterns that
+/// the collection has not had yet.
 fn likely_patterns(bytes: usize) -> usize {
     (bytes / 2).saturating_mul(3).min(1 << 22)
 }
 
-/// What counting a collection gives, after all its trees were counted: it has these moves and this
-/// report, and its patterns have these entries. It takes memory for a list of one list.
+/// Makes the result of counting a collection from what was counted: how many `moves` onto empty
+/// points its games have, the `report` on its trees, and the `entries` of its patterns in the order
+/// of their words. It takes memory for a list whose one item is that list of entries; `AllocError`
+/// if that is refused.
 fn counted_of(
     alloc: Global,
     kinds: Kinds,
@@ -63,8 +66,8 @@ fn counted_of(
 /// # Errors
 ///
 /// `TallyFault::Sgf` with S4 if there are more than 2^28 bytes, else with the first fault of syntax
-/// in the input; `TallyFault::Memory` if memory was refused. `TallyFault::Overflow` does not come:
-/// no count of an input that is not too large passes 2^64 - 1.
+/// in the input; `TallyFault::Memory` if memory was refused. `TallyFault::Overflow` is never
+/// returned: no count of an input that is not too large passes 2^64 - 1.
 pub fn count_plain(alloc: Global, kinds: Kinds, bytes: &[u8]) -> Result<Counted, TallyFault>
     ensures counted { IfOk result (IsCounted kinds bytes.now) }
     ensures fault { IfErr result (IsCountFault bytes.now) }

@@ -27,7 +27,8 @@ impl Counter {
     ghost use Rattle.shape_core.specs.declared.words.Kinds.{Kinds};
     ghost use Rattle.tally_core.specs.Inner.Counting.{CountsUpTo, IsWithin};
 
-    /// A counter of no games yet, with places for this many patterns if memory suffices.
+    /// Makes a counter of no games yet, with room for about this many `patterns`. If memory for
+    /// these is refused, it has no room yet, and takes memory as patterns come.
     pub fn new(alloc: Global, patterns: usize) -> Counter
         ensures counted { (kinds : Kinds) (bytes : List ℕ) → CountsUpTo kinds bytes 0 result }
         ensures within { IsWithin 0 result }
@@ -39,7 +40,9 @@ impl Counter {
     }
 }
 
-/// Counts a game that was walked.
+/// Adds a game that was walked (replayed, and its patterns listed) to `counter`: the counts of its
+/// patterns, and its moves onto empty points. `TallyFault::Memory` if memory was refused; some of
+/// its patterns may be counted then.
 fn count_walked(counter: &mut Counter, walked: &WalkedGame<'_>) -> Result<(), TallyFault>
     requires small { length walked.now.job.bytes ≤ most_bytes }
     requires walked { (kinds : Kinds) × IsWalked kinds walked.now }
@@ -56,7 +59,8 @@ fn count_walked(counter: &mut Counter, walked: &WalkedGame<'_>) -> Result<(), Ta
     Ok(())
 }
 
-/// Counts all games of an input. A fault that the reader met is answered unchanged.
+/// Reads all games of the walker's input, of which none may have been read yet, and adds them to
+/// `counter`. A fault that the reader met is returned unchanged.
 pub(crate) fn count_games(walker: &mut Walker<'_>, counter: &mut Counter) -> Result<(), TallyFault>
     requires small { length walker.old.games.bytes ≤ most_bytes }
     requires begins { walker.old.games.report.games ≡ 0 }

@@ -1,4 +1,4 @@
-//! Counts of patterns: a row for each pattern, found by open addressing.
+//! Counts of patterns in a hash table by open addressing: a row with counts for each pattern.
 ghost use Rattle.std.specs.Prelude.{◌≡◌, ◌+◌, ◌^◌, ◌<◌, ◌≤◌, length, IfSome, IfNone};
 ghost use Rattle.tally_core.specs.Inner.Rows.{counted_row};
 
@@ -10,17 +10,18 @@ use shape_dict::Entry;
 use std::alloc::{AllocError, Global};
 use std::marker::Model;
 
-/// How many places there are at first.
+/// How many slots the hash table has when it first gets memory.
 const FIRST_PLACES: usize = 4096;
 
 /// How many meetings (patterns of one game, each with its counts) are looked at together: few
 /// enough that their rows stay in the nearest caches until they are counted.
 const BLOCK: usize = 128;
 
-/// The likely places of the rows of the first meetings' patterns, a block of them or all if they
-/// are fewer, and how many these are. A row is likely at its pattern's first place, or at the one
-/// after it if the first is another pattern's. No look waits for the one before it. A row may begin
-/// in one line of memory and end in the next, so both its ends are looked at.
+/// Returns the slots in which the rows of the first `meetings` are likely to be, and for how many
+/// meetings that is: `BLOCK` of them, or all if they are fewer. A row is likely in the first slot
+/// that its pattern hashes to, or in the one after it if another pattern has the first. No look-up
+/// waits for the one before it. A row may begin in one cache line and end in the next, so both its
+/// ends are looked at.
 fn likely_places(rows: &[Entry], meetings: &[Meeting]) -> ([usize; BLOCK], usize)
     requires { 0 < length rows.now }
     ensures block { result.1 ≤ BLOCK }
@@ -38,9 +39,9 @@ fn likely_places(rows: &[Entry], meetings: &[Meeting]) -> ([usize; BLOCK], usize
     (places, looked)
 }
 
-/// How many of the first meetings, a block of them, seem to have no row, as far as the first two
-/// places of their patterns tell. The lines of memory of all these places come together, and
-/// `find` finds them in a cache.
+/// Returns how many of the first `meetings`, at most `BLOCK`, seem to have no row, judging by the
+/// first two slots of each pattern; `BLOCK` if there are no slots. The cache lines of all these
+/// slots are loaded together, so `find` finds them in a cache.
 #[inline(never)]
 fn count_new(rows: &[Entry], meetings: &[Meeting]) -> usize
     ensures { result ≤ BLOCK }
@@ -57,8 +58,9 @@ fn count_new(rows: &[Entry], meetings: &[Meeting]) -> usize
     count
 }
 
-/// The row with the entry's counts added to it. It is the row of the entry's pattern, or a free
-/// one, which gets the entry's first game. None if a count passes 2^64 - 1.
+/// Returns a copy of `row` with the counts of `entry` added. `row` is that of the entry's pattern,
+/// or a free one: then the copy gets the entry's pattern and first game. None if a count passes
+/// 2^64 - 1.
 fn counted(row: &Entry, entry: &Entry) -> Option<Entry>
     ensures some { IfSome result (λ more. more ≡ counted_row row.now entry.now) }
     ensures none { IfNone result
@@ -72,16 +74,17 @@ fn counted(row: &Entry, entry: &Entry) -> Option<Entry>
     })
 }
 
-/// Counts of patterns, each found by its word. Contracts see the patterns with their counts, in
-/// the order of their places, which changes as they get more; no pattern is there twice.
+/// Counts of patterns, each found by its word. Contracts see the patterns with their counts, in the
+/// order of their slots in the hash table, which changes when the table grows. No pattern is there
+/// twice.
 #[derive(Drop)]
 pub struct Counts {
     alloc: Global,
-    /// The rows that count something, and free rows at all other places.
+    /// The slots of the hash table: rows that count something, and free rows in all other slots.
     rows: Vec<Entry>,
-    /// How many places are taken.
+    /// How many slots are taken, which is how many patterns have counts.
     taken: usize,
-    /// How many new patterns the next meetings are likely to have.
+    /// How many new patterns the next `BLOCK` meetings are likely to have.
     expected: usize,
 }
 
@@ -110,7 +113,7 @@ impl Counts {
     ghost use Rattle.range_core.specs.Rows.{AreRows};
     ghost use Rattle.range_core.specs.Entries.{IsShape};
 
-    /// Counts of nothing yet. It takes no memory.
+    /// Makes an empty table of counts. It takes no memory.
     pub fn new(alloc: Global) -> Counts
         ensures { result ≡ [] }
     {
@@ -122,7 +125,8 @@ impl Counts {
         }
     }
 
-    /// Counts of nothing yet, with this many places. It takes memory for them.
+    /// Makes an empty table of counts with `places` slots. It takes memory for them; `AllocError`
+    /// if that is refused.
     fn with_places(alloc: Global, places: usize) -> Result<Counts, AllocError>
         ensures { IfOk result (λ counts. counts ≡ []) }
     {
@@ -136,7 +140,8 @@ impl Counts {
         })
     }
 
-    /// The same as `new`, with places for about this many rows, if there is memory for them.
+    /// Makes an empty table of counts with room for about `rows` patterns. If memory for them is
+    /// refused, it has no slots yet, like one from `new`.
     pub fn with_room(alloc: Global, rows: usize) -> Counts
         ensures { result ≡ [] }
     {
@@ -156,7 +161,8 @@ impl Counts {
         self.taken
     }
 
-    /// The patterns' entries in a dictionary, in the order of their places. It takes no memory.
+    /// Turns the counts into entries of a dictionary, in the order of the slots of the hash table,
+    /// which is not that of the patterns' words. It takes no memory.
     pub fn into_entries(self) -> Vec<Entry>
         ensures entries { result.items ≡ map entry_of_pair self }
         ensures shapes { All IsShape result.items }
@@ -168,8 +174,9 @@ impl Counts {
         rows
     }
 
-    /// If a block of meetings begins at index `at`, notes how many new rows they seem to need. This
-    /// loads into the cache the rows in which they will be counted. It takes no memory.
+    /// If `at` is a multiple of `BLOCK`, notes for `add` how many new rows the next `BLOCK`
+    /// meetings, from index `at` on, seem to need. Looking them up loads into the cache the rows in
+    /// which they will be counted. It takes no memory.
     #[inline(always)]
     pub fn expect(&mut self, meetings: &[Meeting], at: usize)
         requires { at ≤ length meetings.now }
@@ -180,9 +187,10 @@ impl Counts {
         }
     }
 
-    /// Adds an entry to the counts of its pattern, if that has a row or a place is free. If the
-    /// pattern has no count yet, the entry's game is its first. `TallyFault::Memory` comes if no
-    /// place is free. It takes no memory.
+    /// Adds an entry to the counts of its pattern, if that has a row or a slot is free. If the
+    /// pattern has no count yet, the entry's game is its first. `TallyFault::Memory` if no slot is
+    /// free, `TallyFault::Overflow` if a count would pass 2^64 - 1; nothing changes then. It takes
+    /// no memory.
     #[inline(always)]
     fn enter(&mut self, entry: &Entry) -> Result<(), TallyFault>
         ensures ok { OnOk result
@@ -207,9 +215,9 @@ impl Counts {
         Ok(())
     }
 
-    /// Adds the counts of rows to these, which must be empty. It takes no memory. `AllocError` means
-    /// that a row was not added, by whichever fault: no place is free for its pattern, or a count
-    /// would pass 2^64 - 1. The rows before it stay added.
+    /// Adds the counts of `rows` to `self`, which must be empty. It takes no memory. `AllocError`
+    /// means that a row was not added, for either reason: no slot is free for its pattern, or a
+    /// count would pass 2^64 - 1. The rows before it stay added.
     fn enter_all(&mut self, rows: &[Entry]) -> Result<(), AllocError>
         requires none { self.old ≡ [] }
         requires rows { (factor : ℕ) × AreRows factor rows.now }
@@ -224,8 +232,8 @@ impl Counts {
         Ok(())
     }
 
-    /// Doubles the places, or makes the first ones, and puts each row at one of its new places. It
-    /// takes memory. If that is refused, nothing changes.
+    /// Doubles the slots, or makes the first `FIRST_PLACES`, and enters each row again. It takes
+    /// memory. If that is refused, nothing changes.
     fn grow(&mut self) -> Result<(), AllocError>
         ensures { AreCounts (count_in self.old) (count_in self.new) }
     {
@@ -237,8 +245,9 @@ impl Counts {
     }
 
     /// Adds an entry to the counts of its pattern. If the pattern has no count yet, the entry's
-    /// game is its first. It takes memory if a quarter of the places would not stay free for what
-    /// is expected.
+    /// game is its first. It first doubles the table, which takes memory, if with the new rows that
+    /// `expect` noted a quarter of the slots would not stay free. `TallyFault::Memory` if that is
+    /// refused, `TallyFault::Overflow` if a count would pass 2^64 - 1; nothing is added then.
     pub fn add(&mut self, entry: Entry) -> Result<(), TallyFault>
         ensures ok { OnOk result
             (AreCounts (counted_with entry (count_in self.old)) (count_in self.new)) }

@@ -1,4 +1,4 @@
-//! The walk of one game, action by action.
+//! The walk of one game: it is replayed action by action, and its patterns are counted.
 ghost use Rattle.std.specs.Prelude.{◌≡◌, ℕ, IfErr, IfOk, OnOk};
 ghost use Rattle.go_board.specs.Board.{position_of};
 ghost use Rattle.go_record.specs.Actions.{IsActionOn};
@@ -17,11 +17,12 @@ use go_record::{Action, apply};
 use shape_core::Field;
 use std::alloc::Global;
 
-/// A game that is being walked: the board as it is, the patterns met so far, and for each colour
-/// the patterns that stay at points, whose last occasions are not counted yet.
+/// A game that is being walked: the board as it is, the patterns met so far with their counts
+/// (`meetings`), and for each colour to move the pattern that each empty point has, and since when.
+/// How often such a pattern has been there since then is not in `meetings` yet: it is added when
+/// the point changes, or by `finish`.
 ///
-/// Contracts speak of what would be counted if all that stays were settled, which is to count these
-/// occasions, now.
+/// Contracts speak of the counts that `meetings` would have if all this were added now (settled).
 #[derive(Drop)]
 pub struct GameWalk {
     pub field: Field,
@@ -31,7 +32,8 @@ pub struct GameWalk {
 }
 
 impl GameWalk {
-    /// The walk before the first action. It takes memory for each point.
+    /// Begins a walk before the first action: `field` is the board then, and the patterns that the
+    /// game meets are added to `meetings`. It takes memory for each point of the board.
     ///
     /// # Errors
     ///
@@ -53,12 +55,14 @@ impl GameWalk {
         })
     }
 
-    /// Counts the occasion that an action is, if it is one, and returns how many occasions it is: 1
-    /// for a move onto an empty point, else 0.
+    /// If `action` is a move onto an empty point, counts the patterns of all empty points before it
+    /// as there, those of its own point as played too, and returns 1. Else returns 0. The board
+    /// does not change: `act` is called after this.
     ///
     /// # Errors
     ///
-    /// `Memory` if memory was refused; the walk has no meaning then.
+    /// `Memory` if memory was refused; the counts are wrong then, so the walk must not be used
+    /// again.
     pub fn count(&mut self, action: Action) -> Result<u64, TallyFault>
         requires on_board { IsActionOn self.old.field.board.size action }
         requires sides { AreSides self.old }
@@ -85,8 +89,8 @@ impl GameWalk {
         Ok(1)
     }
 
-    /// Does an action on the board, and adds the points whose words change to the sets of both
-    /// colours.
+    /// Does an action on the board, and adds the points whose pattern words change to the points
+    /// that each colour's next move onto an empty point looks at again. It counts nothing.
     pub fn act(&mut self, action: Action)
         requires on_board { IsActionOn self.old.field.board.size action }
         requires sides { AreSides self.old }
@@ -102,7 +106,8 @@ impl GameWalk {
             .move_changed(&mut self.black.changed, &mut self.white.changed);
     }
 
-    /// Counts the occasions of all patterns that still stay, and returns the meetings of the game.
+    /// Ends the walk: adds how often the patterns that empty points have at the end were there
+    /// since they came. Returns all patterns of the game with their counts.
     pub fn finish(self) -> Meetings
         requires sides { AreSides self }
         requires few { Fit (there_both self) }

@@ -21,8 +21,8 @@ pub fn has_diamonds(kinds: Kinds) -> bool
     }
 }
 
-/// The dictionary of this many games with this many moves, whose counts have these entries. It
-/// takes no memory.
+/// Makes the dictionary of this many `games` with this many `moves` onto empty points. `entries`
+/// are those of the patterns, in ascending order of their words. It takes no memory.
 pub(crate) fn dictionary_of(kinds: Kinds, games: u64, moves: u64, entries: Vec<Entry>) -> Dictionary
     requires counted { (counts : ℕ → Option Count) × AreEntered counts entries.items
         × ((replayed : List Replayed) × (length replayed ≡ games)
@@ -34,7 +34,7 @@ pub(crate) fn dictionary_of(kinds: Kinds, games: u64, moves: u64, entries: Vec<E
         → CountsGames kinds replayed counts moves → IsDictionaryOf kinds replayed result }
     ensures entries { result.entries ≡ entries.items }
 {
-    // A canonical word is of the kind that was looked at.
+    // For the proof: a canonical word is of the kind (square or diamond) of the word it is made of.
     kinds_stay();
     Dictionary::new(games, moves, entries, has_diamonds(kinds))
 }

@@ -11,8 +11,9 @@ ghost use Rattle.tally_core.specs.Games.{IsDictionaryOf};
 use go_record::replays_have_one_result;
 use shape_core::kinds_stay;
 
-/// The dictionary of two lists of games together is the join of their dictionaries, and the join is
-/// the dictionary of both lists.
+/// States for proofs that dictionaries may be joined (merged). The dictionary of two lists of
+/// games, one after the other, is the join of the dictionaries of each, and that join is the
+/// dictionary of both lists. A call does nothing.
 pub fn dictionaries_join()
     ensures join { (kinds : Kinds) → (left : List Replayed) → (right : List Replayed)
         → (of_left : Contents) → (of_right : Contents) → (both : Contents)
@@ -23,13 +24,14 @@ pub fn dictionaries_join()
         → IsDictionaryOf kinds left of_left → IsDictionaryOf kinds right of_right
         → IsJoin of_left of_right both → IsDictionaryOf kinds (left ++ right) both }
 {
-    // A canonical word is of the kind that was looked at.
+    // A canonical word is of the kind (square or diamond) of the word it is made of.
     kinds_stay();
 }
 
-/// There is at most one pattern with which the patterns of a collection first become more than some
-/// number, and one first game that has it, whichever of the collection's first trees say so. If all
-/// its games have no more patterns than that, there is none, and none of its games have more.
+/// States for proofs that at most one pattern is the first to bring a collection to more than
+/// `most` patterns, and that one game is the first that has it. This holds however many of the
+/// collection's first trees are looked at. If all its games together have at most `most` patterns,
+/// there is no such pattern, and no first part of its games has more. A call does nothing.
 pub fn one_first_beyond()
     ensures one { (kinds : Kinds) → (bytes : List ℕ) → (most game word other second : ℕ)
         → IsFirstBeyond kinds bytes most game word → IsFirstBeyond kinds bytes most other second

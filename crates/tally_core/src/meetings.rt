@@ -12,25 +12,27 @@ use shape_core::Shape;
 use std::alloc::{AllocError, Global};
 use std::marker::Model;
 
-/// A pattern that a walk of a game met, with how often it was there and was played since. A pattern
-/// may have several meetings.
+/// A pattern that a game has, with how often it was there and was played. A list may have several
+/// meetings of one pattern, whose counts add up.
 #[derive(Clone, Copy, Debug, PartialEq, Eq)]
 pub struct Meeting {
     /// The pattern.
     pub shape: Shape,
-    /// How often it was there: once for each point that has it at an occasion.
+    /// How often it was there: before each move onto an empty point, once for each point that has
+    /// it.
     pub there: u64,
-    /// How many moves played it.
+    /// How many moves were played onto a point that had it.
     pub played: u64,
 }
 
-/// The meetings of a game, in the order in which they came, and an index of their shapes.
+/// The meetings of a game (its patterns with their counts), in the order in which they were first
+/// met, and a hash table of their shapes.
 #[derive(Drop)]
 pub struct Meetings {
     list: Vec<Meeting>,
-    /// A table by open addressing, in which a shape is looked up from a place made of it on. A
-    /// place has one more than the index of a meeting, or 0 if it is free. Nothing that it says is
-    /// believed without the meeting itself, so the index needs no invariant: were it wrong, a shape
+    /// A hash table by open addressing: a shape is looked up from the slot on that its hash gives.
+    /// A slot has one more than an index in `list`, or 0 if it is free. What it says is always
+    /// checked against the meeting in `list`, so it needs no invariant: if it were wrong, a shape
     /// would have two meetings.
     index: Vec<u32>,
 }
@@ -44,15 +46,15 @@ impl Model for Meetings {
     ghost view = { λ m. m.list.items };
 }
 
-/// How many places an index has at first.
+/// How many slots the hash table has at first.
 const FIRST_PLACES: usize = 4096;
 
-/// What looking a shape up finds.
+/// The result of looking a shape up in the hash table.
 #[derive(Clone, Copy)]
 enum Place {
-    /// The shape's meeting has this index.
+    /// The shape has a meeting, at this index of the list.
     Met(usize),
-    /// The shape has no meeting, and this place of the index is free.
+    /// The shape has no meeting, and this slot of the hash table is free.
     Free(usize),
 }
 
@@ -73,8 +75,10 @@ impl Meetings {
         }
     }
 
-    /// Removes all meetings. The index is made half as long if few of its places were taken, so
-    /// that one long game does not burden all that follow. It takes memory for the first index.
+    /// Removes all meetings. The hash table is made half as long, but not below `FIRST_PLACES`, if
+    /// less than an eighth of it was taken, so that one long game does not slow down all that
+    /// follow. The first call takes memory for the table. `TallyFault::Memory` if that is refused;
+    /// the meetings are removed all the same.
     pub fn clear(&mut self) -> Result<(), TallyFault>
         ensures empty { self.new ≡ [] }
         ensures fault { IfErr result (λ found. found ≡ fault.Memory) }
@@ -98,13 +102,14 @@ impl Meetings {
         self.list.as_slice()
     }
 
-    /// What a place of the index has for this shape: its meeting, or that the place is free. None
-    /// if the meeting there is of another shape.
+    /// Looks at the slot `place` of the hash table: returns the meeting there if it is of this
+    /// `shape`, or that the slot is free. None if the meeting there is of another shape, or there
+    /// is no such slot.
     #[inline(always)]
     fn look(&self, place: usize, shape: Shape) -> Option<Place>
         ensures { IfSome result (IsPlaceOf (shapes_of self.now) shape) }
     {
-        // No meeting has the index that 0 stands for.
+        // A free slot has 0, which becomes `usize::MAX`: no meeting has that index.
         let at = (*self.index.get(place)? as usize).wrapping_sub(1);
         match self.list.get(at) {
             Some(meeting) => (meeting.shape == shape).then_some(Place::Met(at)),
@@ -112,8 +117,9 @@ impl Meetings {
         }
     }
 
-    /// The first place after this one that is free or has a meeting of this shape. If there is
-    /// none, this one. It is out of line, since it is rarely reached.
+    /// Returns the first slot after `own` that is free or has a meeting of this `shape`; after the
+    /// last slot comes the first. If there is none, returns `own`. It is out of line, since it is
+    /// rarely reached.
     #[inline(never)]
     fn place_after(&self, own: usize, shape: Shape) -> usize {
         let last = self.index.len().wrapping_sub(1);
@@ -127,8 +133,8 @@ impl Meetings {
         own
     }
 
-    /// Looks a shape up: from its own place on, up to its meeting or to the first free place. None
-    /// if there is neither.
+    /// Looks a shape up in the hash table: from the slot that its hash gives on, up to its meeting
+    /// or to the first free slot. None if there is neither.
     #[inline(always)]
     fn find(&self, shape: Shape) -> Option<Place>
         ensures { IfSome result (IsPlaceOf (shapes_of self.now) shape) }
@@ -140,7 +146,8 @@ impl Meetings {
         }
     }
 
-    /// Makes the index twice as long, and enters all meetings again. It takes memory.
+    /// Makes the hash table twice as long, and enters all meetings again. It takes memory;
+    /// `AllocError` if that is refused. The list of meetings stays as it is in any case.
     #[inline(never)]
     fn grow(&mut self) -> Result<(), AllocError>
         ensures same { self.new ≡ self.old }
@@ -154,7 +161,8 @@ impl Meetings {
         Ok(())
     }
 
-    /// Enters a meeting into the index, in which it has no place yet.
+    /// Enters the meeting at index `at` of the list into the hash table, in which it has no slot
+    /// yet. Does nothing if there is no such meeting, or if no slot is free for it.
     fn enter(&mut self, at: usize)
         ensures { self.new ≡ self.old }
     {
@@ -166,7 +174,8 @@ impl Meetings {
         }
     }
 
-    /// Notes at a place of the index that this meeting is there.
+    /// Writes the index `at` of a meeting into the slot `place` of the hash table. Does nothing if
+    /// there is no such slot.
     fn take(&mut self, place: usize, at: usize)
         ensures { self.new ≡ self.old }
     {
@@ -175,8 +184,9 @@ impl Meetings {
         }
     }
 
-    /// Returns the index of a meeting of this shape: one that is there, or a new one. It is
-    /// inlined, since it runs for every point that changed.
+    /// Returns the index in the list of a meeting of this `shape`: one that is there, or a new one
+    /// with both counts 0, which takes memory. `AllocError` if that is refused. It is inlined,
+    /// since it runs for every point that changed.
     #[inline(always)]
     pub fn meet(&mut self, shape: Shape) -> Result<usize, AllocError>
         ensures met { IfOk result (IsMet (shapes_of self.new) shape) }
@@ -203,7 +213,7 @@ impl Meetings {
         Ok(at)
     }
 
-    /// Counts a meeting's shape as there `times` times more.
+    /// Adds `times` to how often the pattern of the meeting at index `at` was there.
     pub fn add_there(&mut self, at: usize, times: u64)
         requires inside { at < length (shapes_of self.old) }
         requires few { there_among self.old (slice_index (shapes_of self.old) at) + times < 2 ^ 64 }
@@ -217,7 +227,7 @@ impl Meetings {
         meeting.there += times;
     }
 
-    /// Counts a meeting's shape as played once more.
+    /// Adds 1 to how often the pattern of the meeting at index `at` was played.
     pub fn add_played(&mut self, at: usize)
         requires inside { at < length (shapes_of self.old) }
         requires few { played_among self.old (slice_index (shapes_of self.old) at) + 1 < 2 ^ 64 }

@@ -1,22 +1,24 @@
-//! The patterns that stay at a point, in three words: both began to stay at one occasion.
+//! The square and the diamond that a point has, in three words: it has had both since one move.
 ghost use Rattle.std.specs.Prelude.{◌≡◌, None};
 ghost use Rattle.tally_core.specs.Inner.Packing.{stay_of, BeginsAt};
 
 use crate::stays::{Stay, Stays};
 use std::marker::Model;
 
-/// Stands for no meeting: no list is that long.
+/// Stands for no pattern, in place of an index in the list of the game's patterns: no list is that
+/// long.
 const NOTHING: usize = usize::MAX;
 
-/// The patterns that stay at a point, as a walk keeps them for each point: small enough that those
-/// of both colours fit a processor's first cache.
+/// The square and the diamond that a point has for one colour to move, and since when, as a walk of
+/// a game stores them for each point. They are small enough that those of both colours fit a
+/// processor's first cache.
 #[derive(Drop, Clone)]
 pub struct PackedStays {
-    /// The index of the square's meeting.
+    /// The index of the square in the list of the game's patterns, or `NOTHING`.
     square: usize,
-    /// The index of the diamond's meeting.
+    /// The index of the diamond in the list of the game's patterns, or `NOTHING`.
     diamond: usize,
-    /// How many occasions of the mover there had been when they began to stay.
+    /// How many moves onto empty points the colour to move had made when the point got both.
     since: u64,
 }
 
@@ -29,7 +31,8 @@ impl Model for PackedStays {
     ghost view = { λ p. stays_of p.square p.diamond p.since };
 }
 
-/// The stay of the meeting of this index, from this occasion on, or None for `NOTHING`.
+/// Makes the stay of a point that has had the pattern at index `at` of the list of the game's
+/// patterns since its colour had made `since` moves onto empty points. None if `at` is `NOTHING`.
 fn stay_at(at: usize, since: u64) -> Option<Stay>
     ensures { result ≡ stay_of at since }
 {
@@ -39,7 +42,8 @@ fn stay_at(at: usize, since: u64) -> Option<Stay>
     Some(Stay { meeting: at, since })
 }
 
-/// The index of the meeting of a stay from this occasion on, or `NOTHING` if there is no stay.
+/// Returns the index of the stay's pattern in the list of the game's patterns, or `NOTHING` if
+/// `stay` is None. `since` is for the contract alone: the stay must have begun then.
 fn index_of(stay: Option<Stay>, since: u64) -> usize
     requires { BeginsAt since stay }
     ensures { stay_of result since ≡ stay }
@@ -52,7 +56,7 @@ fn index_of(stay: Option<Stay>, since: u64) -> usize
 }
 
 impl PackedStays {
-    /// The stays of a point at which nothing stays.
+    /// Makes the value for a point that has no pattern.
     pub fn none() -> PackedStays
         ensures { result ≡ record { square = None; diamond = None } }
     {
@@ -63,7 +67,8 @@ impl PackedStays {
         }
     }
 
-    /// The stays of a square and a diamond, each of which begins at this occasion.
+    /// Packs the `square` and the `diamond` of a point. Each that is not None must have begun at
+    /// `since`: when its colour had made that many moves onto empty points.
     pub fn new(square: Option<Stay>, diamond: Option<Stay>, since: u64) -> PackedStays
         requires square { BeginsAt since square }
         requires diamond { BeginsAt since diamond }
@@ -76,7 +81,7 @@ impl PackedStays {
         }
     }
 
-    /// The stays of the point's square and diamond.
+    /// Unpacks the point's square and diamond, each with since when the point has had it.
     pub fn get(&self) -> Stays
         ensures { result ≡ self.now }
     {

@@ -10,7 +10,10 @@ use crate::walks::Walk;
 use go_record::Record;
 use shape_dict::{Entry, FirstGame};
 
-/// Adds the meetings of one game, each a pattern with its counts, to the counts of all games.
+/// Adds the meetings of one game, each a pattern with its counts, to the counts of all games. A
+/// pattern without counts gets `game` as its first game. `TallyFault::Memory` if memory was
+/// refused, `TallyFault::Overflow` if a count would pass 2^64 - 1; the meetings before the one that
+/// failed stay added.
 pub(crate) fn count_meetings(
     counts: &mut Counts,
     meetings: &[Meeting],
@@ -32,7 +35,10 @@ pub(crate) fn count_meetings(
     Ok(())
 }
 
-/// Walks a game, counts the patterns that it met, and returns how many occasions it has.
+/// Walks a game (replays it and lists its patterns), adds its patterns to `counts`, and returns how
+/// many moves onto empty points it has. A pattern without counts gets `game` as its first game.
+/// `TallyFault::Memory` if memory was refused, `TallyFault::Overflow` if a count would pass
+/// 2^64 - 1 or the game has more actions than any input.
 pub(crate) fn count_game(
     counts: &mut Counts,
     walk: &mut Walk,

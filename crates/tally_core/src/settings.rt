@@ -35,7 +35,8 @@ impl Settings {
     ghost use Rattle.tally_core.specs.Limits.{AreLimits};
     ghost use Rattle.tally_core.specs.declared.faults.TallyFault.TheVariants as fault;
 
-    /// Settings that count squares.
+    /// Makes settings for this many `workers` and a table of 2^`k` slots, which count squares
+    /// alone.
     ///
     /// # Errors
     ///
@@ -60,7 +61,7 @@ impl Settings {
         })
     }
 
-    /// The same settings, but these kinds are counted.
+    /// Returns these settings with `kinds` as the kinds of pattern that are counted.
     pub fn with(self, kinds: Kinds) -> Settings
         ensures { result ≡ record self { kinds = kinds } }
     {

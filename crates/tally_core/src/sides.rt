@@ -1,4 +1,4 @@
-//! What a walk knows for one colour to move.
+//! What a walk of a game stores for one colour to move.
 ghost use Rattle.std.specs.Prelude.{◌≡◌, ◌<◌, ℕ, length, All, IfOk, IfErr};
 ghost use Rattle.tally_core.specs.Walk.{shapes_of, there_among};
 ghost use Rattle.tally_core.specs.Inner.Sight.{Fit, PlayedStays};
@@ -12,26 +12,30 @@ use crate::stays::settle_point;
 use go_board::Size;
 use std::alloc::Global;
 
-/// What a walk keeps for one colour to move, so that only points that changed are looked at: which
-/// pattern stays at each empty point, and since which occasion (a move of this colour onto an
-/// empty point). Those occasions are counted when the point has changed, or by `settle`.
+/// What a walk of a game stores for one colour to move, so that only points that changed are looked
+/// at: which pattern each empty point has, and since which occasion (a move of this colour onto an
+/// empty point). How often the pattern has been there since is counted when the point has changed,
+/// or by `settle`.
 #[derive(Drop)]
 pub struct Side {
-    /// How many occasions of this colour there were.
+    /// How many moves onto empty points this colour has made.
     pub occasions: u64,
-    /// The points whose words may have changed since the last of them: for each row a bit for each
-    /// column.
+    /// The points whose pattern words may have changed since the last such move: for each row of
+    /// the board a number with a bit for each column.
     pub changed: Vec<u64>,
-    /// The points at which something may stay: for each row a bit for each column. After an
-    /// occasion they are those that were empty then.
+    /// The points that may have a pattern in `points`: for each row of the board a number with a
+    /// bit for each column. After a move of this colour onto an empty point they are those that
+    /// were empty before it.
     pub standing: Vec<u64>,
-    /// What stays at each point, row by row from the top, each row from the left.
+    /// The patterns that each point has, and since when, row by row from the top, each row from the
+    /// left.
     pub points: Vec<PackedStays>,
 }
 
 impl Side {
-    /// A side before the first action: nothing stays, and every point is among those that changed.
-    /// It takes memory for each point.
+    /// Makes what is stored before the first action: no point has a pattern yet, and every point is
+    /// among those that changed. It takes memory for each point; `TallyFault::Memory` if that is
+    /// refused.
     pub fn begin(alloc: Global, size: Size) -> Result<Side, TallyFault>
         ensures side { IfOk result (IsNewSide size) }
         ensures fault { IfErr result (λ found. found ≡ fault.Memory) }
@@ -49,7 +53,8 @@ impl Side {
         })
     }
 
-    /// Counts the occasions of all patterns that stay, at all points.
+    /// Adds to `meetings`, for each point, how often its patterns have been there since it got
+    /// them. `self` does not change, so a second call would count this again.
     pub fn settle(&self, meetings: &mut Meetings)
         requires stays { All (AreStays (length (shapes_of meetings.old)) self.now.occasions)
             self.now.points.items }

@@ -1,5 +1,5 @@
-//! What one colour sees at an occasion: the patterns of the points that have changed since its last
-//! one.
+//! Counts a move of one colour onto an empty point (an occasion): only the points that have changed
+//! since the last one are looked at.
 ghost use Rattle.std.specs.Prelude.{◌≡◌, ◌+◌, ◌<◌, ◌^◌, ℕ, [], length, slice_index, IfErr, OnOk};
 ghost use Rattle.go_board.specs.Point.{IsOn};
 ghost use Rattle.go_board.specs.Board.{position_of};
@@ -21,8 +21,10 @@ use crate::stays::{begin, play, settle_point};
 use go_board::{Colour, Point};
 use shape_core::{Field, Kinds};
 
-/// Looks at an empty point again: counts the occasions of the patterns that stayed there, and has
-/// its present patterns begin to stay, the square first.
+/// Looks again at an empty `point` that has changed: adds to `meetings` how often the patterns in
+/// `stays` were there, and replaces `stays` by the patterns that the point has now, the square
+/// first. `occasions` is how many moves onto empty points `mover` has made before.
+/// `TallyFault::Memory` if memory was refused.
 fn see_point(
     meetings: &mut Meetings,
     stays: &mut PackedStays,
@@ -58,8 +60,9 @@ fn see_point(
 }
 
 impl Side {
-    /// Counts the occasions of the patterns that stay at the points of these columns of a row. They
-    /// have stones, so nothing stays there from now on.
+    /// Adds to `meetings` how often the patterns of some points of a `row` were there, and removes
+    /// these patterns, since the points have stones now. `columns` has a bit for the column of
+    /// each.
     fn leave_points(&mut self, meetings: &mut Meetings, field: &Field, row: u8, columns: u64)
         requires row { row < field.now.board.size.rows }
         requires columns { columns < 2 ^ field.now.board.size.columns }
@@ -89,10 +92,10 @@ impl Side {
         }
     }
 
-    /// Looks again at the points of a row that have changed, and takes them out of the set: first
-    /// at those where something stays and a stone is now, then at those that are empty, from the
-    /// left. If there was a stone and is one still, nothing stays and nothing comes, so such points
-    /// are not looked at.
+    /// Looks again at the points of a row that have changed, and takes them out of the set
+    /// `changed`: first at those that had a pattern and have a stone now, then at those that are
+    /// empty, from the left. A point that had a stone and has one still has no pattern to count, so
+    /// it is not looked at. `TallyFault::Memory` if memory was refused.
     fn see_row(
         &mut self,
         meetings: &mut Meetings,
@@ -137,9 +140,10 @@ impl Side {
         Ok(())
     }
 
-    /// Counts an occasion of this colour, a move onto an empty point: looks once more at the points
-    /// that have changed since the last one, row by row from the top, and counts the point's
-    /// patterns as played.
+    /// Counts a move of `mover`, whose side this is, onto the empty point `at`: looks once more at
+    /// the points that have changed since the last such move, row by row from the top, and counts
+    /// the patterns of `at` as played. The board is that before the move. `TallyFault::Memory` if
+    /// memory was refused.
     pub(crate) fn count(
         &mut self,
         meetings: &mut Meetings,

@@ -1,4 +1,4 @@
-//! The patterns that stay at the points of a board while a game is walked: most do, and only what
+//! The patterns that points keep while a game is walked: most stay from move to move, and only what
 //! changes is looked up.
 ghost use Rattle.std.specs.Prelude.{◌≡◌, ◌+◌, ◌<◌, ◌^◌, ◌∷◌, ℕ, [], length, IfOk, IfErr, OnOk};
 ghost use Rattle.tally_core.specs.Inner.Counter.{times_in};
@@ -13,15 +13,15 @@ use crate::faults::TallyFault;
 use crate::meetings::Meetings;
 use shape_core::Shape;
 
-/// A pattern that stays at a point: the index of its meeting, and how many occasions of its mover
-/// there had been when it was first there.
+/// A pattern that a point has: its index in the list of the game's patterns (`meeting`), and how
+/// many moves onto empty points the colour to move had made when the point got it (`since`).
 #[derive(Clone, Copy)]
 pub struct Stay {
     pub meeting: usize,
     pub since: u64,
 }
 
-/// The patterns that stay at a point: none if it is not empty, and no diamond if squares alone are
+/// The patterns that a point has: none if it is not empty, and no diamond if squares alone are
 /// counted.
 #[derive(Clone, Copy)]
 pub struct Stays {
@@ -29,7 +29,9 @@ pub struct Stays {
     pub diamond: Option<Stay>,
 }
 
-/// Counts a stay's pattern as there at each occasion since it began to stay.
+/// Counts the pattern of `stay` as there at each move of its colour onto an empty point since the
+/// point got it. `occasions` is how many of these moves there have been by now. Does nothing for
+/// None.
 pub(crate) fn settle(meetings: &mut Meetings, stay: Option<Stay>, occasions: u64)
     requires stay { IsStay (length (shapes_of meetings.old)) occasions stay }
     requires few { (shape : ℕ) →
@@ -46,7 +48,8 @@ pub(crate) fn settle(meetings: &mut Meetings, stay: Option<Stay>, occasions: u64
     }
 }
 
-/// Counts the patterns that stay at a point as there, as `settle` does.
+/// Counts the square and the diamond that a point has as there, each as `settle` does: once for
+/// each of the colour's `occasions` (moves onto empty points) since the point got it.
 pub(crate) fn settle_point(meetings: &mut Meetings, stays: Stays, occasions: u64)
     requires stays { AreStays (length (shapes_of meetings.old)) occasions stays }
     requires few { Fit (there_at meetings.old occasions stays) }
@@ -59,7 +62,7 @@ pub(crate) fn settle_point(meetings: &mut Meetings, stays: Stays, occasions: u64
     settle(meetings, stays.diamond, occasions);
 }
 
-/// Counts a stay's pattern as played once more.
+/// Counts the pattern of `stay` as played once more. Does nothing for None.
 pub(crate) fn play(meetings: &mut Meetings, stay: Option<Stay>)
     requires stay { (occasions : ℕ) × IsStay (length (shapes_of meetings.old)) occasions stay }
     requires few { (shape : ℕ) → played_among meetings.old shape + 1 < 2 ^ 64 }
@@ -74,8 +77,10 @@ pub(crate) fn play(meetings: &mut Meetings, stay: Option<Stay>)
     }
 }
 
-/// Has a pattern begin to stay now, and returns the stay of its meeting. It is inlined, since it
-/// runs for every point that changed.
+/// Finds `shape` in `meetings`, or adds it, and returns the stay of a point that has it from now
+/// on; never None. `occasions` is how many moves onto empty points the colour to move has made by
+/// now. It may take memory; `TallyFault::Memory` if that is refused. It is inlined, since it runs
+/// for every point that changed.
 #[inline(always)]
 pub(crate) fn begin(
     meetings: &mut Meetings,

@@ -36,8 +36,8 @@ impl Tally {
     ghost use Rattle.std.specs.Prelude.{◌≡◌};
     ghost use Rattle.tally_core.specs.Tally.{IsSomeTally};
 
-    /// How many occasions the game has: its moves onto empty points. The value is the tally of some
-    /// game.
+    /// Returns how many moves onto empty points the game has. For proofs, the contract also says
+    /// that `self` is the tally of some game.
     pub fn moves(&self) -> u64
         ensures moves { result ≡ self.now.moves }
         ensures tally { IsSomeTally self.now }
@@ -45,8 +45,8 @@ impl Tally {
         self.moves
     }
 
-    /// The entries of the patterns, in the order of their words and without first games. The value
-    /// is the tally of some game.
+    /// Returns the entries of the patterns, in the order of their words and without first games.
+    /// For proofs, the contract also says that `self` is the tally of some game.
     pub fn entries(&self) -> &[Entry]
         ensures entries { result.now ≡ self.now.entries }
         ensures tally { IsSomeTally self.now }
@@ -55,9 +55,10 @@ impl Tally {
     }
 }
 
-/// The tally of a game: in the position before each move onto an empty point, the canonical pattern
-/// of each empty point, with the mover to move, was there, and that of the move's point was played
-/// besides (this project's own). `kinds` says which kinds of pattern are counted.
+/// Counts the patterns of a game. In the position before each move onto an empty point, the
+/// canonical pattern of each empty point, with the mover to move, counts as there once, and that of
+/// the move's point counts as played too (this project's own). `kinds` says which kinds of pattern
+/// are counted.
 ///
 /// # Errors
 ///
@@ -70,7 +71,7 @@ pub fn tally_plain(alloc: Global, kinds: Kinds, game_record: &Record) -> Result<
 {
     let mut counts = Counts::new(alloc);
     let mut walk = Walk::begin(alloc, kinds);
-    // One game has no number.
+    // A game that is counted alone has no number, so the entries name no first game.
     let unnumbered = FirstGame::new(None);
     let moves = count_game(&mut counts, &mut walk, game_record, unnumbered)?;
     Ok(Tally {

@@ -18,8 +18,9 @@ use sgf_core::few_values;
 use shape_core::Kinds;
 use std::alloc::Global;
 
-/// A game of an input that was walked: its job, how many moves onto empty points it has, and the
-/// patterns it met.
+/// A game of an input that was walked (replayed, and its patterns listed): its job (number, bounds
+/// in the input and record), how many moves onto empty points it has, and its patterns with their
+/// counts.
 #[derive(Drop)]
 pub struct WalkedGame<'a> {
     pub job: Job<'a>,
@@ -37,7 +38,9 @@ pub struct Walker<'a> {
 }
 
 impl<'a> Walker<'a> {
-    /// A walker at the beginning of this input. It takes no memory.
+    /// Makes a walker at the beginning of the input `bytes`, for patterns of these `kinds`. It
+    /// takes no memory. `TallyFault::Sgf` with S4 (too large) if the input has more than 2^28
+    /// bytes.
     pub fn begin(alloc: Global, kinds: Kinds, bytes: &'a [u8]) -> Result<Walker<'a>, TallyFault>
         ensures kinds { IfOk result (λ walker. walker.walk.kinds ≡ kinds) }
         ensures games { IfOk result (λ walker. walker.games ≡ record {
@@ -67,8 +70,11 @@ impl<'a> Walker<'a> {
         self.games.report()
     }
 
-    /// Walks the next game, or returns None if none is left. It takes memory for its tree, its
-    /// record and what it met.
+    /// Reads and walks the next game, or returns None if none is left. Trees of other games and
+    /// those with a fault in their record are counted in the report and skipped. It takes memory
+    /// for the game's tree, its record and its patterns. `TallyFault::Memory` if that is refused,
+    /// `TallyFault::Sgf` at a fault of syntax. It must not be called again after the reader met a
+    /// fault.
     pub fn next(&mut self) -> Result<Option<WalkedGame<'a>>, TallyFault>
         requires small { length self.old.games.bytes ≤ most_bytes }
         requires no_fault { self.old.games.fault ≡ None }

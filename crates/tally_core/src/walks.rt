@@ -13,11 +13,12 @@ use std::alloc::Global;
 use std::marker::Model;
 use std::mem;
 
-/// From this number of actions on, counts of a game may pass 2^64 - 1. An occasion is counted at
-/// most 5410 times.
+/// From this number of actions on, counts of a game may pass 2^64 - 1. A move onto an empty point
+/// adds at most 5410 to all counts together.
 const MOST_ACTIONS: usize = 3_409_749_366_674_594;
 
-/// What walks one game after another: the memory it uses, and the patterns that the last game had.
+/// Walks one game after another: replays it and lists its patterns. It keeps the memory that it
+/// uses, and the patterns of the last game.
 #[derive(Drop)]
 pub struct Walk {
     alloc: Global,
@@ -36,8 +37,8 @@ impl Model for Walk {
 impl Walk {
     ghost use Rattle.shape_core.specs.declared.words.Kinds.{Kinds};
 
-    /// A walk that has walked no game yet. It takes no memory. `kinds` says which kinds of pattern
-    /// are met.
+    /// Makes a walk that has walked no game yet. It takes no memory. `kinds` says which kinds of
+    /// pattern are counted.
     pub fn begin(alloc: Global, kinds: Kinds) -> Walk
         ensures { result ≡ record { kinds = kinds; meetings = [] } }
     {
@@ -48,15 +49,15 @@ impl Walk {
         }
     }
 
-    /// Replays a game and lists its patterns in the order in which they are first met. Returns how
-    /// many occasions it has. What was met in the game before is forgotten, and its memory used
-    /// again. It takes memory for the board and for the patterns.
+    /// Replays a game and lists its patterns, with their counts, in the order in which they are
+    /// first met. Returns how many moves onto empty points it has. The list of the game before is
+    /// removed, and its memory used again. It takes memory for the board and for the patterns.
     ///
     /// # Errors
     ///
     /// `TallyFault::Memory` if memory was refused, and `TallyFault::Overflow` only if the game has
-    /// more actions than any input. After a fault nothing is known of the meetings, and the walk
-    /// can be used as before.
+    /// more actions than any input. After a fault it is not specified what `meetings` returns, and
+    /// the walk can be used for another game as before.
     pub fn walk(&mut self, game_record: &Record) -> Result<u64, TallyFault>
         ensures walked { IfOk result (IsWalk self.old.kinds game_record.now self.new.meetings) }
         ensures among { OnOk result (IsAmong self.new.meetings) }
@@ -83,14 +84,15 @@ impl Walk {
         Ok(moves)
     }
 
-    /// The patterns that the last game met, each with its counts. None if no game was walked.
+    /// Returns the patterns of the last game, each with its counts. The slice is empty if no game
+    /// was walked.
     pub fn meetings(&self) -> &[Meeting]
         ensures { result.now ≡ self.now.meetings }
     {
         self.meetings.as_slice()
     }
 
-    /// The kinds of pattern that are met.
+    /// The kinds of pattern that are counted.
     pub fn kinds(&self) -> Kinds
         ensures { result ≡ self.now.kinds }
     {

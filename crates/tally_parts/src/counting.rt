@@ -1,4 +1,4 @@
-//! One part counted, and its dictionary kept.
+//! Counts one part (texts that are counted together), and stores its dictionary as a text.
 ghost use Rattle.std.specs.Prelude.{◌≡◌, ◌^◌, ◌<◌, ℕ, List, All, OnOk, IfOk};
 ghost use Rattle.shape_dict.specs.Text.{IsSmall};
 ghost use Rattle.batch_core.specs.Batch.{joined};
@@ -22,7 +22,8 @@ const MOST_THREADS: usize = 16;
 /// The fewest threads that make a text of a dictionary: counting is over then.
 const LEAST_THREADS: usize = 4;
 
-/// How many threads make a text of a dictionary under this plan.
+/// Returns how many threads make a text of a dictionary: as many as the plan has workers, but at
+/// least `LEAST_THREADS` and at most `MOST_THREADS`.
 pub(crate) fn threads_for(plan: Plan) -> usize {
     usize::from(plan.workers).clamp(LEAST_THREADS, MOST_THREADS)
 }
@@ -56,7 +57,8 @@ fn numbers_fit(dictionary: &PieceDictionary)
     }
 }
 
-/// Counts a part, and returns the dictionary of the games of all its texts, in their order.
+/// Counts the games of `part`, whose bytes are the texts one after another, and returns their
+/// dictionary. The games are numbered from 0 in the order of the texts.
 ///
 /// # Errors
 ///
@@ -89,11 +91,12 @@ pub(crate) fn count_part<R: Threads + Wait + Sync>(
     }
 }
 
-/// Keeps the whole dictionary of a part as a text, which leaves nothing of it out.
+/// Writes the dictionary of a part as text 3, which leaves nothing of it out, and stores that text
+/// in `spills` as the last one.
 ///
 /// # Errors
 ///
-/// `Memory` if memory for the text was refused; `Spill` if it could not be written or kept.
+/// `Memory` if memory for the text was refused; `Spill` if it could not be written or stored.
 pub(crate) fn spill<R: Threads + Sync, S: Spills>(
     rt: &R,
     alloc: Global,

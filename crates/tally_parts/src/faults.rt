@@ -14,13 +14,13 @@ pub enum PartsFault {
     /// Memory was refused.
     #[error("M1 no memory")]
     Memory,
-    /// `Texts::is_wanted` said that no dictionary is wanted, once all texts were judged.
+    /// `Texts::is_wanted` returned false, once all texts were read and checked.
     #[error("no dictionary is wanted")]
     Unwanted,
     /// A part was not counted, though each of its texts can be read.
     #[error("{0}")]
     Count(HarvestFault),
-    /// The dictionary of a part could not be kept.
+    /// The dictionary of a part could not be written or stored for the join.
     #[error("I2 the dictionary of a part could not be kept")]
     Spill,
     /// The parts' dictionaries were not joined.

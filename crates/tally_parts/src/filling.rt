@@ -1,4 +1,5 @@
-//! Parts: texts that can be read, one after another, as many as are counted together.
+//! Fills a part: the bytes of well-formed texts of games, one after another, that are counted
+//! together.
 ghost use Rattle.std.specs.Prelude.{◌≡◌, ◌+◌, ◌^◌, ◌<◌, ◌≤◌, [], ℕ, List, length, Some, false, IfOk, IfErr, OnOk};
 ghost use Rattle.merge_core.specs.Merge.{AreInputs};
 ghost use Rattle.batch_core.specs.Batch.{joined};
@@ -13,19 +14,20 @@ use game_core::{GamesFault, Report};
 use sgf_core::{MOST_BYTES, SgfFault};
 use std::alloc::{AllocError, Global};
 
-/// How far the texts were read, and the text that waits for the next part, if one does.
+/// How far the texts of games were read, and the text that is the first of the next part, if it was
+/// read already.
 #[derive(Drop)]
 pub(crate) struct Feed {
     /// The number of the text that is read next.
     pub next: usize,
     /// The bytes of the text that was read last.
     pub room: Vec<u8>,
-    /// Whether that text can be read to its end, and waits for the next part.
+    /// Whether the text in `room` is well-formed and waits for the next part, as this one was full.
     pub waits: bool,
 }
 
 impl Feed {
-    /// The start: no text was read yet. It takes no memory.
+    /// Makes a feed of which no text was read yet. It takes no memory.
     pub(crate) fn new(alloc: Global) -> Feed
         ensures next { result.next ≡ 0 }
         ensures waits { result.waits ≡ false }
@@ -38,7 +40,7 @@ impl Feed {
     }
 }
 
-/// Returns the report on the trees of a text.
+/// Checks a text for faults of syntax, and returns the report on its trees.
 ///
 /// # Errors
 ///
@@ -53,13 +55,14 @@ fn judge(alloc: Global, text: &[u8]) -> Result<Report, GamesFault>
     report_of(alloc, text)
 }
 
-/// Whether a text of `text` bytes can be put to a part of `part` bytes, in which there should be no
-/// more than `most`.
+/// Whether a text of `text` bytes may be appended to a part of `part` bytes: the part is empty, or
+/// both together are below `most` and `MOST_BYTES`.
 fn fits(part: usize, text: usize, most: usize) -> bool {
     part == 0 || part.saturating_add(text) < most.min(MOST_BYTES)
 }
 
-/// Appends the text that waits, if one does, to a part that is empty.
+/// Appends the text that waits in `feed`, if one does, to `part`, which is empty. No text waits
+/// afterwards.
 ///
 /// # Errors
 ///
@@ -77,8 +80,9 @@ fn push_waiting(feed: &mut Feed, part: &mut Vec<u8>) -> Result<(), AllocError>
     Ok(())
 }
 
-/// Reads text `n`, from 0, into the feed's buffer. If it was read, `Texts::judged` gets the report
-/// on its trees, or its fault. Returns whether it was read and has no fault.
+/// Reads text `n`, counted from 0, into the feed's buffer. If it was read, it is checked for faults
+/// of syntax, and `Texts::judged` gets the report on its trees, or its fault. Returns whether it
+/// was read and has no fault.
 ///
 /// # Errors
 ///
@@ -112,9 +116,10 @@ fn read_next<T: Texts>(
     Ok(found.is_ok())
 }
 
-/// Fills an empty part with texts: the one that waits, if one does, and those read after it. Texts
-/// that can't be read or have a fault are left out. It stops at the first text that would have the
-/// part exceed `most` bytes: that text waits for the next part.
+/// Fills an empty part with texts: the one that waits in `feed`, if one does, and those read after
+/// it. Texts that can't be read or have a fault are left out. It stops at the first text that does
+/// not fit, because the part would have `most` bytes or more (or `MOST_BYTES`): that text waits in
+/// `feed` for the next part.
 ///
 /// # Errors
 ///

@@ -12,12 +12,12 @@ pub struct Plan {
     pub text: Text,
     /// How many workers count.
     pub workers: u8,
-    /// How many bytes of texts are counted together. A text that is larger is counted alone.
+    /// The bound of the bytes of texts that are counted together. A larger text is counted alone.
     pub most: usize,
 }
 
-/// The kinds of pattern that a text of a dictionary has: text 1 has squares alone, and the others
-/// diamonds too.
+/// Returns the kinds of pattern that this text of a dictionary has: text 1 has squares alone, and
+/// the others have diamonds too.
 pub(crate) fn kinds_for(text: Text) -> Kinds
     ensures { result ≡ kinds_for text }
 {

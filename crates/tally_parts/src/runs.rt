@@ -23,7 +23,7 @@ use std::sync::Wait;
 use std::thread::Threads;
 use tally_core::dictionaries_join;
 
-/// Writes the dictionary of texts that are all in one part.
+/// Writes the dictionary of the only part, if all texts fitted into one part.
 ///
 /// # Errors
 ///
@@ -50,7 +50,8 @@ fn write_alone<R: Threads + Sync, W: Write>(
     }
 }
 
-/// Counts one part after another as long as a text waits, and keeps the dictionary of each part.
+/// Counts the second part and all others: while a text waits in `feed`, it fills `part`, counts it,
+/// and stores its dictionary in `spills`.
 ///
 /// # Errors
 ///
@@ -82,7 +83,7 @@ fn spill_more<R: Threads + Wait + Sync, T: Texts, S: Spills>(
     Ok(())
 }
 
-/// Writes the join of the dictionaries that are kept.
+/// Joins the parts' dictionaries, which are stored in `spills`, and writes the joined dictionary.
 ///
 /// # Errors
 ///
@@ -104,7 +105,8 @@ fn write_joined<R: Threads + Sync, S: Spills + Sync, W: Write>(
         → IfErr result (λ _.
         IsTextCut plan.text texts (W.contents writer.old) (W.contents writer.new)) }
 {
-    // A text has one dictionary, and that of two lists of games is the join of theirs.
+    // A text is that of one dictionary only, and the dictionary of two lists of games is the join
+    // of the two lists' dictionaries.
     texts_are_distinct();
     dictionaries_join();
     games_come_together();
@@ -123,20 +125,21 @@ fn write_joined<R: Threads + Sync, S: Spills + Sync, W: Write>(
 /// texts. Text 1 has squares alone, and the others have diamonds too. A text that has 2^28 bytes or
 /// more, or a fault of syntax, is left out whole, and `Texts::judged` gets its fault.
 ///
-/// The texts are counted in parts. A part has as many texts as the plan's number of bytes allows,
-/// or one text that is larger. `harvest_all` counts a part, on as many threads as it says. If there
-/// is more than one part, the dictionary of each is kept as a text, and `run_merge` joins them.
-/// What is written is the same for each number of workers and of bytes. It takes memory for one
-/// part and one text more, and for what `harvest_all` and `run_merge` take. This project's own.
+/// The texts are counted in parts. A part has as many texts as `plan.most` bytes allow, or one text
+/// that is larger. `harvest_all` counts a part, on at most `plan.workers` threads and the calling
+/// one. If there is more than one part, the dictionary of each is stored in `spills`, which must be
+/// empty at first, and `run_merge` joins them. What is written is the same for each `plan.workers`
+/// and `plan.most`. It takes memory for one part and one text more, and for what `harvest_all` and
+/// `run_merge` take. This project's own.
 ///
 /// # Errors
 ///
-/// `Memory`, or `Count` with F6, if memory was refused. `Unwanted` if no dictionary is wanted once
-/// all texts were judged. `Spill` if a part's dictionary could not be kept. `Merge` if a dictionary
-/// that was kept can't be read, or is not what was kept, or if memory for the join was refused
-/// before its text began. Nothing is written then. Else `Write` if the writer failed, or `Merge` if
-/// it failed or memory was refused while the join was written, with the number of bytes that are
-/// out: what is out is the beginning of the text.
+/// Nothing is written in these cases: `Memory`, or `Count` with F6, if memory was refused.
+/// `Unwanted` if `Texts::is_wanted` is false once all texts were checked. `Spill` if a part's
+/// dictionary could not be stored. `Merge` if a stored dictionary can't be read, or is not what was
+/// stored, or if memory for the join was refused before its text began. Else the beginning of the
+/// text is written, and the fault has its number of bytes: `Write` if the writer failed, or `Merge`
+/// if it failed or memory was refused while the join was written.
 pub fn run_tally<R: Threads + Wait + Sync, T: Texts, S: Spills + Sync, W: Write>(
     rt: &R,
     alloc: Global,

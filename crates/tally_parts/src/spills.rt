@@ -1,4 +1,4 @@
-//! Where texts of dictionaries wait until they are joined.
+//! A store for texts of dictionaries until they are joined.
 use merge_core::Sources;
 use std::alloc::AllocError;
 use std::io;
@@ -10,7 +10,7 @@ pub trait Spills: Sources {
     ghost use Rattle.std.specs.Prelude.{◌≡◌, ◌+◌, ◌<◌, ℕ, None, OnOk, IfOk};
     ghost use Rattle.tally_parts.specs.Spills.{IsEmptyIfKnown};
 
-    /// A text that is being written: it takes the bytes of one text.
+    /// A writer for the bytes of one text. The text isn't in the store until `keep` is called.
     type Draft: Write + Drop;
 
     /// Returns a new draft, which is empty.
@@ -23,7 +23,7 @@ pub trait Spills: Sources {
         ensures bytes { Self.bytes self.new ≡ Self.bytes self.old }
         ensures empty { IfOk result (λ draft. IsEmptyIfKnown (Self.Draft.contents draft)) };
 
-    /// Keeps what was written to a draft, as the last of the texts.
+    /// Adds what was written to `draft` to the store, as the last of its texts.
     ///
     /// # Errors
     ///
@@ -36,7 +36,7 @@ pub trait Spills: Sources {
         ensures last { OnOk result
             (Self.bytes self.new (Self.number self.old) ≡ Self.Draft.contents draft) };
 
-    /// Proofs know the bytes of all drafts, or those of none.
+    /// Used in proofs only: contracts give the bytes of all drafts, or of none.
     ghost known_alike: { (one other : Self.Draft) → Self.Draft.contents one ≡ None
         → Self.Draft.contents other ≡ None };
 }

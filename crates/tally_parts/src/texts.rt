@@ -9,15 +9,15 @@ pub trait Texts {
     /// How many texts there are.
     ghost number: { Self → ℕ };
 
-    /// The bytes of each text, by its number from 0, if they are known.
+    /// The bytes of each text, by its number from 0; None if contracts can't say them.
     ghost bytes: { Self → ℕ → Option (List ℕ) };
 
     /// How many texts there are.
     fn count(&self) -> usize
         ensures { result ≡ number self.now };
 
-    /// Reads text `n`, from 0, into an empty buffer. Returns whether it could be read. A text that
-    /// can't be read is left out.
+    /// Reads text `n`, counted from 0, into `room`, which must be empty. Returns whether it could
+    /// be read. A text that can't be read is left out of the count.
     ///
     /// # Errors
     ///
@@ -30,12 +30,13 @@ pub trait Texts {
         ensures read { (text : List ℕ) → bytes self.old n ≡ Some text
             → IfOk result (λ found. (found ≡ true) × (room.new.items ≡ text)) };
 
-    /// Takes note of the report on the trees of text `n`, from 0, or of the fault for which the
-    /// text is left out. It is called once for each text that could be read, in their order.
+    /// Notes what was found in text `n`, counted from 0: the report on its trees, or the fault for
+    /// which the text is left out of the count. It is called once for each text that could be read,
+    /// in their order.
     fn judged(&mut self, n: usize, found: Result<Report, GamesFault>)
         ensures number { number self.new ≡ number self.old }
         ensures bytes { bytes self.new ≡ bytes self.old };
 
-    /// Whether a dictionary is wanted, now that all texts were judged.
+    /// Whether a dictionary is to be written. It is called once all texts were read and checked.
     fn is_wanted(&self) -> bool;
 }

@@ -6,7 +6,7 @@ use go_board::{Colour, Stone};
 use go_record::{Action, Record};
 use std::alloc::{AllocError, Global};
 
-/// The byte with which the code of setup begins: a rectangle of these stones.
+/// The byte with which the code of a setup of `stone` begins; two corners of a rectangle follow.
 fn stone_code(stone: Stone) -> u8
     ensures { result ≡ stone_code stone }
 {
@@ -46,8 +46,8 @@ fn push_action(code: &mut Vec<u8>, action: Action) -> Result<(), AllocError>
     }
 }
 
-/// Returns the code of a record. It takes memory for at most five bytes an action, and three a
-/// move.
+/// Returns the code of a record: bytes for the size of its board and for each action, which no
+/// other record has. It takes memory for at most five bytes an action, and three a move.
 pub(crate) fn code_of(alloc: Global, game: &Record) -> Result<Vec<u8>, AllocError>
     ensures { IfOk result (λ code. code.items ≡ record_code game.now) }
 {

@@ -43,8 +43,8 @@ fn push_seat_file(text: &mut Vec<u8>, seat: &Seat) -> Result<(), AllocError>
     }
 }
 
-/// Appends the line of a game at `place`, in the file `name`; `first` is the seat of the first game
-/// that has its record.
+/// Appends the line of a game whose record an earlier game has. The game is at `place`, in the file
+/// `name`; `first` is where the first game with the same record is.
 pub(crate) fn push_line(
     text: &mut Vec<u8>,
     place: Place,

@@ -1,4 +1,4 @@
-//! The trees of an input, read one after another, and each game compared with those met before.
+//! The trees of an input, read one after another, and each game compared with the games before it.
 ghost use Rattle.std.specs.Prelude.{◌≡◌, ◌≤◌, ◌<◌, ◌+◌, ◌^◌, ◌≢◌, [], List, length, option_map, IfOk, IfErr};
 ghost use Rattle.sgf_core.specs.Limit.{most_bytes};
 ghost use Rattle.sgf_core.specs.Tree.{GameTree, main_line_of};
@@ -28,10 +28,10 @@ pub(crate) enum Sort {
     Refused,
 }
 
-/// What one step of the reading met.
+/// What one step of the reading found.
 #[derive(Clone, Copy)]
 pub(crate) enum Step {
-    /// A tree of this sort, which ends at this place.
+    /// A tree of this sort; `end` is the byte index after it.
     Tree { sort: Sort, end: usize },
     /// No tree was left.
     End,
@@ -39,8 +39,9 @@ pub(crate) enum Step {
     Fault(SgfFault),
 }
 
-/// How the reading of trees ended: where the last tree ends (0 if there is none), how many trees of
-/// each sort there are, and the fault for which no further one was read, if there is one.
+/// How the reading of trees ended: the byte index after the last tree (0 if there is none), how
+/// many trees of each sort there are, and the fault of syntax for which no further one was read, if
+/// there is one.
 #[derive(Clone, Copy)]
 pub(crate) struct Ending {
     pub(crate) end: usize,
@@ -48,8 +49,9 @@ pub(crate) struct Ending {
     pub(crate) fault: Option<SgfFault>,
 }
 
-/// Meets a tree's game (`Twins::meet`), if it is one, and returns its sort; `number` is the next
-/// game's number.
+/// Returns the sort of `tree`. If it is a game, it has the `number` given and is compared with the
+/// games before: if one has its record, its line is appended to `text`; else `twins` keeps it as
+/// the first that has it.
 fn meet_tree(
     alloc: Global,
     twins: &mut Twins,
@@ -84,7 +86,8 @@ fn meet_tree(
     }
 }
 
-/// Reads the next tree, and meets its game, if it is one; `number` is the number of the next game.
+/// Reads the next tree, and returns its sort, that no tree was left, or its fault of syntax. If it
+/// is a game, its number is `number`, and it is compared with the games before, as by `meet_tree`.
 fn meet_next(
     alloc: Global,
     twins: &mut Twins,
@@ -128,8 +131,8 @@ fn counted(report: Report, sort: Sort) -> Report
     report
 }
 
-/// Meets the games of all trees of an input, and returns how they ended; the first has number
-/// `first`.
+/// Reads all trees of an input, and compares each game with the games before, as by `meet_tree`.
+/// Returns how the reading ended. The input's first game has the number `first`.
 pub(crate) fn meet_all(
     alloc: Global,
     twins: &mut Twins,

@@ -37,26 +37,27 @@ fn twins_text(
     Ok((text, summary))
 }
 
-/// Reads a collection and writes a line for each of its games whose record an earlier game has,
-/// with the number of the first that has it, and the places and files of both. The record is the
-/// size of the board with the setup and the moves. Earlier games are those before it in this
-/// collection, and those that were met in earlier runs with the same `twins`. Each game of the
-/// collection is known to `twins` afterwards. The collection's first game has the number `first`,
-/// and `name` is that of its file.
+/// Reads a collection and writes a line for each of its games whose record an earlier game has: the
+/// number of the game, that of the first game with the record, and where the trees of both are,
+/// with their files. The record is the size of the board with the setup and the moves. Earlier
+/// games are those before it in this collection, and those of earlier runs with the same `twins`.
+/// Afterwards `twins` has all games of the collection. The collection's first game has the number
+/// `first`, and `name` is that of its file.
 ///
-/// The answer says how the reading ended and how many trees of each sort there are: the games
-/// before a fault of syntax are met. It takes memory for the input, the lines, and a tree with its
-/// record; and keeps of each record at most five bytes an action, with the place and the name of
-/// the first game that has it. The time grows with the bytes of the input, and each record is
-/// looked up among those that are known.
+/// Returns how the reading ended and how many trees of each sort there are; games before a fault of
+/// syntax have been compared. It takes memory for the input, the lines, and a tree with its record.
+/// For each record that is new it keeps at most five bytes an action, where its game is, and the
+/// name of the file. The time grows with the bytes of the input, and each record is looked up among
+/// those that are kept.
 ///
 /// # Errors
 ///
 /// `Sgf` with S4 if the input has more than 2^28 bytes, and with S5 if memory for a tree was
-/// refused. `Record` with G4 if memory for a record was refused. Such memory is asked for only when
-/// a whole tree is next, and G4 only if an action of it comes before the first fault. `Memory` if
+/// refused. `Record` with G4 if memory for a record was refused. Such memory is asked for only if a
+/// whole tree is next, and G4 only if an action of it comes before the first fault. `Memory` if
 /// other memory was refused; `Read` if the reader failed. Nothing is written then. `Write` if the
-/// writer failed: exactly that number of bytes is out. After a fault nothing is known of `twins`.
+/// writer failed: it has the exact number of bytes that were written. After an error nothing is
+/// guaranteed of the games that `twins` has.
 pub fn run_twins<R: Read, W: Write>(
     alloc: Global,
     twins: &mut Twins,

@@ -13,10 +13,12 @@ use std::alloc::{AllocError, Global};
 use std::collections::BTreeMap;
 use std::marker::Model;
 
-/// For each record, the first game that has it among those that were met.
+/// For each record (board size, setup and moves), the first game that has it, among the games that
+/// were passed to `meet`.
 ///
-/// Contracts see what it keeps: of each record its code, with the number, the place and the file of
-/// the first game that has it. `Knows` says which games were met.
+/// Contracts see what it keeps: of each record its code (bytes that no other record has), with the
+/// number of the first game that has it, where its tree is, and its file. `Knows` says which games
+/// were passed to `meet`.
 #[derive(Drop)]
 pub struct Twins {
     first: BTreeMap<Vec<u8>, Seat>,
@@ -33,7 +35,7 @@ impl Model for Twins {
 }
 
 impl Twins {
-    /// Begins with no game met. It takes no memory.
+    /// Makes one that has no game. It takes no memory.
     pub fn new(alloc: Global) -> Twins
         ensures { Knows result [] }
     {
@@ -42,8 +44,9 @@ impl Twins {
         }
     }
 
-    /// Meets a game at `place`, in the file `name`. If an earlier game has its record, its line is
-    /// appended to `text`; else it is kept as the first that has it.
+    /// Compares `game`, which is at `place` in the file `name`, with the games before. If an
+    /// earlier game has its record, the line of `game` is appended to `text`; else `game` is kept
+    /// as the first that has it.
     pub(crate) fn meet(
         &mut self,
         alloc: Global,
