@@ -75,8 +75,9 @@ fn shows(board: &Board, cells: &[u8]) -> bool {
     cells.len() == size.area()
 }
 
-/// Whether a board of three columns and two rows shows its stones, after a capture, and so does its
-/// copy, which has no stones that were removed.
+/// Sets stones on an empty `board` of three columns and two rows, of which a move captures one.
+/// Returns whether the board has one removed stone, and its copy has the stones that are left and
+/// no removed one. None if a point is off the board, or memory for the copy was refused.
 fn is_copied(alloc: Global, board: &mut Board) -> Option<bool> {
     set(board, Stone::White, 0, 0);
     set(board, Stone::Black, 1, 0);
@@ -119,7 +120,8 @@ fn places_are_row_by_row(rt: HostRuntime) -> Result<(), Fail> {
     Ok(())
 }
 
-/// Whether two stones side by side in the middle stay.
+/// Plays two stones side by side on an empty board of three columns and three rows. Returns whether
+/// neither move takes a stone, and both stones are there.
 fn stay(board: &mut Board) -> bool {
     board.size().columns() == 3
         && board.removed().is_empty()
@@ -141,7 +143,8 @@ fn takes(board: &mut Board, colour: Colour, column: u8) -> bool {
     play(board, colour, column, 0) == Some(ONE) && board.removed().len() == 1
 }
 
-/// Whether on two points in a row each move but the first takes the stone before it.
+/// Plays four moves, of Black and White in turn, on an empty board of two points in a row. Returns
+/// whether each but the first takes the stone of the move before it.
 fn take_in_turn(board: &mut Board) -> bool {
     play(board, Colour::Black, 0, 0) == Some(NOTHING)
         && takes(board, Colour::White, 1)
@@ -158,7 +161,8 @@ fn each_move_captures_before_its_own_stone_is_judged(rt: HostRuntime) -> Result<
     Ok(())
 }
 
-/// Whether a stone on one point takes itself off.
+/// Plays a black stone on an empty board of one point. Returns whether the move takes it off
+/// itself.
 fn takes_itself_off(board: &mut Board) -> bool {
     play(board, Colour::Black, 0, 0) == Some(OWN) && shows(board, b".")
 }
@@ -170,7 +174,7 @@ fn a_stone_alone_takes_itself_off(rt: HostRuntime) -> Result<(), Fail> {
     Ok(())
 }
 
-/// What a move takes, played by the trait.
+/// Plays a move by `play_move` of the trait `Replayable`, and returns what it takes.
 fn play_by_trait<B: Replayable>(board: &mut B, colour: Colour, point: Point) -> Played
     requires { IsOn (B.board_of board.old).size point }
     ensures { (B.board_of board.new).size ≡ (B.board_of board.old).size }
@@ -178,7 +182,9 @@ fn play_by_trait<B: Replayable>(board: &mut B, colour: Colour, point: Point) -> 
     board.play_move(colour, point)
 }
 
-/// Whether on two points in a row White takes the stone of Black, who takes that of White.
+/// Plays Black, White and Black by the trait `Replayable` on `pair`, which has two empty points in
+/// a row. Returns whether the first move takes no stone, and each of the others takes the stone of
+/// the move before it.
 fn take_by_trait<B: Replayable>(pair: &mut B) -> bool
     requires { ((B.board_of pair.old).size.columns ≡ 2) × ((B.board_of pair.old).size.rows ≡ 1) }
 {
@@ -190,27 +196,32 @@ fn take_by_trait<B: Replayable>(pair: &mut B) -> bool
     first == NOTHING && second == ONE && third == ONE
 }
 
-/// Whether White and Black take each other's stones so on a board; None if none is made.
+/// Plays Black, White and Black on a new board of two points. Some(true) if White takes the black
+/// stone and then Black the white one, else Some(false). None if memory for the board was refused.
 fn board_takes(alloc: Global) -> Option<bool> {
     let mut pair = Board::new(alloc, Size::new(2, 1)?).ok()?;
     Some(take_by_trait(&mut pair))
 }
 
-/// Whether White and Black take each other's stones so on a field; None if none is made.
+/// Plays Black, White and Black on a new field (a board that keeps pattern words) of two points.
+/// Some(true) if White takes the black stone and then Black the white one, else Some(false). None
+/// if memory for the field was refused.
 fn field_takes(alloc: Global) -> Option<bool> {
     let size = Size::new(2, 1)?;
     let mut pair = Field::with_kinds(alloc, size, Kinds::Both).ok()?;
     Some(take_by_trait(&mut pair))
 }
 
-/// What a move on a board of one point takes.
+/// Returns what a black move on a new board of one point takes. None if memory for the board was
+/// refused.
 fn board_of_one_takes(alloc: Global) -> Option<Played> {
     let mut single = Board::new(alloc, Size::new(1, 1)?).ok()?;
     let point = Point { column: 0, row: 0 };
     Some(play_by_trait(&mut single, Colour::Black, point))
 }
 
-/// What a move on a field of one point takes.
+/// Returns what a black move on a new field (a board that keeps pattern words) of one point takes.
+/// None if memory for the field was refused.
 fn field_of_one_takes(alloc: Global) -> Option<Played> {
     let mut single = Field::with_kinds(alloc, Size::new(1, 1)?, Kinds::Both).ok()?;
     let point = Point { column: 0, row: 0 };
@@ -225,7 +236,9 @@ fn moves_by_the_trait_say_what_they_take(rt: HostRuntime) {
     assert!(rt; field_of_one_takes(rt.alloc()) == Some(OWN));
 }
 
-/// Whether a row of Black at the edge, next to which White has set a row, has no liberty and stays.
+/// Sets on a board of three columns and three rows a black row at the edge and a white row next to
+/// it. Returns whether the black row has no liberty and the white one has, and both stay after a
+/// move elsewhere.
 fn stays_without_liberties(board: &mut Board) -> bool {
     for column in 0..3 {
         set(board, Stone::Black, column, 0);
@@ -244,8 +257,8 @@ fn setup_captures_nothing(rt: HostRuntime) -> Result<(), Fail> {
     Ok(())
 }
 
-/// What a move of `colour` at the last free point takes on the largest board, if Black has all
-/// other points.
+/// Returns what a move of `colour` at the last free point takes on the largest board, if Black has
+/// all other points. None if memory for the board was refused.
 fn last_of_all(alloc: Global, colour: Colour) -> Option<Played> {
     let mut board = board_of(alloc, 52, 52)?;
     for row in 0..52 {

@@ -6,7 +6,8 @@ ghost use Rattle.sgf_core.specs.Marks.{marks_of};
 use sgf_core::{Mark, SgfFault, Tree, Trees, is_white};
 use std::alloc::{AllocError, Global};
 
-/// Where the next tree begins and ends.
+/// Reads the next tree, and returns the byte indices of its first byte and after its last. None if
+/// no tree is left. The error is a fault of syntax, or out of memory.
 fn next_bounds(alloc: Global, trees: &mut Trees<'_>) -> Result<Option<(usize, usize)>, SgfFault> {
     match trees.next_tree(alloc)? {
         Some(tree) => Ok(Some((tree.at(), tree.end()))),
@@ -14,8 +15,9 @@ fn next_bounds(alloc: Global, trees: &mut Trees<'_>) -> Result<Option<(usize, us
     }
 }
 
-/// Whether the first trees of `bytes` begin and end at these byte indices, and the call after them
-/// returns `last`.
+/// Whether the first trees of `bytes` have these `bounds`, and the call after them returns `last`.
+/// Bounds are the byte indices of a tree's first byte and after its last. The error is that `bytes`
+/// is too large.
 fn reads(
     alloc: Global,
     bytes: &[u8],
@@ -47,7 +49,8 @@ fn trees_and_faults(rt: HostRuntime) {
     assert!(rt; reads(alloc, b"( \n;)(;)", &[(0, 5), (5, 8)], Ok(None)) == Ok(true));
 }
 
-/// Whether a fault that is returned after the first tree is returned by each further call.
+/// Whether three calls return a first tree of 14 bytes, then the fault of a tree at byte index 14
+/// that is cut off, and then that fault again.
 fn is_kept(alloc: Global, trees: &mut Trees<'_>) -> bool {
     let fault = Err(SgfFault::Truncated(14));
     next_bounds(alloc, trees) == Ok(Some((0, 14)))
@@ -111,7 +114,8 @@ fn with_value(alloc: Global, value: &[u8]) -> Result<Vec<u8>, AllocError> {
     Ok(bytes)
 }
 
-/// Whether the first property of a tree has two values: `value`, and then one byte.
+/// Whether the first property of a tree has two values: `value`, at byte index 4, and the byte `b`,
+/// at 264.
 fn has_values(tree: &Tree<'_>, value: &[u8]) -> bool {
     for mark in tree.marks() {
         if let Mark::Prop(property) = mark {
@@ -125,7 +129,7 @@ fn has_values(tree: &Tree<'_>, value: &[u8]) -> bool {
     false
 }
 
-/// Whether `value` is read as it is.
+/// Whether a tree whose first property has the values `value` and `b` is read with both unchanged.
 fn is_read(alloc: Global, value: &[u8]) -> Result<bool, SgfFault> {
     let bytes = with_value(alloc, value)?;
     let mut trees = Trees::new(bytes.as_slice())?;
@@ -167,7 +171,8 @@ fn lengths(tree: &Tree<'_>) -> (usize, usize) {
     (nodes, properties)
 }
 
-/// How many nodes and properties the main line of the first tree has.
+/// Returns how many nodes and properties the main line of the first tree has, or None if there is
+/// no tree.
 fn first_lengths(alloc: Global, bytes: &[u8]) -> Result<Option<(usize, usize)>, SgfFault> {
     let mut trees = Trees::new(bytes)?;
     match trees.next_tree(alloc)? {
@@ -193,12 +198,13 @@ fn a_million_trees_and_an_end_less(rt: HostRuntime) -> Result<(), SgfFault> {
     Ok(())
 }
 
-/// As many spaces as the largest input has.
+/// Returns 2^28 spaces: the most bytes that an input may have.
 fn most_spaces(alloc: Global) -> Result<Vec<u8>, AllocError> {
     vec![in alloc; b' '; 1 << 28]
 }
 
-/// Whether an input has no trees, and is too large with a byte more.
+/// Whether `bytes` is read as an input without trees, and is refused as too large after one more
+/// byte was added to it.
 fn is_largest(alloc: Global, bytes: &mut Vec<u8>) -> Result<bool, SgfFault> {
     let is_read = reads(alloc, bytes.as_slice(), &[], Ok(None))?;
     bytes.push(b' ')?;
@@ -233,7 +239,8 @@ fn places(alloc: Global, tree: &Tree<'_>, name: &[u8]) -> Result<Vec<usize>, All
     Ok(places)
 }
 
-/// Whether the values of Black's moves have these byte indices.
+/// Whether the values of the properties `B` in the first tree's main line have these byte indices,
+/// in this order. False also if there is no tree.
 fn are_places(alloc: Global, bytes: &[u8], wanted: &[usize]) -> Result<bool, SgfFault> {
     let mut trees = Trees::new(bytes)?;
     match trees.next_tree(alloc)? {
@@ -262,8 +269,8 @@ fn long_tree(alloc: Global) -> Result<Vec<u8>, AllocError> {
     Ok(bytes)
 }
 
-/// How many values the properties with this name have, and the byte indices of the first and the
-/// last.
+/// Returns how many values the properties with this name have in the main line, and the byte
+/// indices of the first and of the last, each None if there is no value.
 fn ends_of(
     alloc: Global,
     tree: &Tree<'_>,
@@ -273,7 +280,8 @@ fn ends_of(
     Ok((found.len(), found.first().copied(), found.last().copied()))
 }
 
-/// Whether this is the long tree.
+/// Whether `tree` has the bounds, the nodes, the properties and the values' byte indices of the
+/// tree that `long_tree` writes.
 fn is_long_tree(alloc: Global, tree: &Tree<'_>) -> bool {
     (tree.at(), tree.end()) == (0, 394_415)
         && lengths(tree) == (65_536, 65_536)
@@ -281,7 +289,8 @@ fn is_long_tree(alloc: Global, tree: &Tree<'_>) -> bool {
         && ends_of(alloc, tree, b"B") == Ok((65_535, Some(1_207), Some(394_411)))
 }
 
-/// Whether the long tree is read as it is.
+/// Whether the first tree in `bytes` is read as the one that `long_tree` writes: 2^16 nodes, of
+/// which the first has 300 values and each other one a move.
 fn reads_long_tree(alloc: Global, bytes: &[u8]) -> Result<bool, SgfFault> {
     let mut trees = Trees::new(bytes)?;
     match trees.next_tree(alloc)? {
@@ -297,7 +306,8 @@ fn many_values_and_nodes(rt: HostRuntime) -> Result<(), SgfFault> {
     Ok(())
 }
 
-/// Where the next tree begins and ends; the call is repeated once if memory was refused.
+/// Reads the next tree, and returns the byte indices of its first byte and after its last. None if
+/// no tree is left. If memory is refused, the call is repeated once.
 fn bounds_again(alloc: Global, trees: &mut Trees<'_>) -> Result<Option<(usize, usize)>, SgfFault> {
     let found = next_bounds(alloc, trees);
     if found == Err(SgfFault::Memory) {

@@ -75,7 +75,8 @@ fn the_parts_are_known(rt: HostRuntime) -> Result<(), Fail> {
     Ok(())
 }
 
-/// The sum of the dictionaries of these texts.
+/// Returns the join of the dictionaries with these texts, the games of `right` after those of
+/// `left`. The error is the first fault of a text, or of joining.
 fn joined(alloc: Global, left: &[u8], right: &[u8]) -> Result<Dictionary, DictFault> {
     let one = Dictionary::read(alloc, left)?;
     let other = Dictionary::read(alloc, right)?;
@@ -116,7 +117,8 @@ fn joins_are_refused(rt: HostRuntime) {
     assert!(rt; joined(alloc, ONE, BOTH).err() == Some(DictFault::MixedKinds));
 }
 
-/// Whether `text` begins with the dictionary `wanted`, which ends at byte index `end`.
+/// Whether `text` begins with a dictionary whose text 1 is `wanted`, and which has `end` bytes
+/// there. The error is the fault of `text`, if it begins with no dictionary.
 fn has_front(alloc: Global, text: &[u8], wanted: &[u8], end: usize) -> Result<bool, DictFault> {
     let (front, count) = Dictionary::read_front(alloc, text)?;
     Ok(count == end && is_text(alloc, &front, Text::One, wanted)?)
@@ -228,7 +230,8 @@ fn numbers_are_appended(rt: HostRuntime) {
     assert!(rt; are_written(rt.alloc(), &numbers, wanted) == Ok(true));
 }
 
-/// Appends the words of a dictionary, and then its lines in text 2 and text 3.
+/// Appends the words of a dictionary's patterns, of 13 hexadecimal digits each and with nothing
+/// between them, then all its lines in text 2, and then all in text 3. No header is appended.
 fn push_all(out: &mut Vec<u8>, dictionary: &Dictionary) -> Result<(), AllocError> {
     for entry in dictionary.entries() {
         push_word(out, entry.shape)?;
@@ -242,7 +245,8 @@ fn push_all(out: &mut Vec<u8>, dictionary: &Dictionary) -> Result<(), AllocError
     Ok(())
 }
 
-/// Whether the words and lines of the dictionary with this `text` are `wanted`.
+/// Whether `wanted` is what the dictionary with this `text` has: first the words of all patterns,
+/// then all lines in text 2, and then all in text 3, without headers.
 fn has_lines(alloc: Global, text: &[u8], wanted: &[u8]) -> Result<bool, DictFault> {
     let dictionary = Dictionary::read(alloc, text)?;
     let mut out = Vec::new(alloc);

@@ -7,7 +7,8 @@ use shape_core::{
 use std::alloc::{AllocError, Global};
 use std::test::Fail;
 
-/// The canonical words of the square with these glyphs, with Black to move and with White to move.
+/// Returns the canonical words of the square with these glyphs, first with Black to move and then
+/// with White. None if these are not 25 glyphs.
 fn squares(glyphs: &[u8]) -> Option<(u64, u64)> {
     let word = from_glyphs(glyphs).ok()?;
     let black = canonical(word, Colour::Black).word().bits();
@@ -28,7 +29,8 @@ fn squares_have_these_canonical_words(rt: HostRuntime) {
     assert!(rt; squares(b"....X....................") == Some((1, 2)));
 }
 
-/// The canonical word of the diamond with these glyphs, with `mover` to move.
+/// Returns the canonical word of the diamond with these glyphs, with `mover` to move. None if these
+/// are not 25 glyphs.
 fn diamond_of(glyphs: &[u8], mover: Colour) -> Option<u64> {
     let word = from_diamond_glyphs(glyphs).ok()?;
     Some(canonical(word, mover).word().bits())
@@ -64,7 +66,7 @@ fn faults_have_these_texts(rt: HostRuntime) -> Result<(), Fail> {
     Ok(())
 }
 
-/// Whether a word is the square of a point above a white stone, on a board without any other point.
+/// Whether a word is the square of a point above a white stone, on a board of these two points.
 fn is_read(word: Word) -> bool {
     word.kind() == Kind::Square
         && word.bits() == 0x3fffbfcffffff
@@ -82,7 +84,8 @@ fn words_say_what_they_are(rt: HostRuntime) -> Result<(), Fail> {
     Ok(())
 }
 
-/// The glyphs of the image of a corner under the symmetry of this number.
+/// Returns the glyphs of the image, under the symmetry of this number, of a square with one black
+/// stone next to a corner. None if the number is above 7.
 fn corner_under(number: u8) -> Option<[u8; 25]> {
     let corner = from_glyphs(b".X.......................").ok()?;
     Some(glyphs(image(corner, Symmetry::new(number)?)))
@@ -153,8 +156,8 @@ fn is_empty_alike(field: &Field, board: &Board, point: Point) -> bool {
     is_empty == (board.cell(point) == Stone::Empty)
 }
 
-/// Whether the patterns of each point are those of the board, for both colours to move, and so are
-/// the columns of each row that the field calls empty.
+/// Whether field and board agree at each point in three things: whether it is empty, its canonical
+/// square and its canonical diamond, both with Black and with White to move.
 fn are_canonical(field: &Field, board: &Board) -> bool {
     let size = board.size();
     for index in 0..size.area() {
@@ -223,8 +226,8 @@ fn has_marks(alloc: Global, field: &mut Field, before: &Board) -> Result<bool, A
     Ok(are_among(&marks, field, before))
 }
 
-/// The point of move number `turn`: in a window of five columns and five rows that wanders over a
-/// board.
+/// Returns the point of move number `turn`, counted from 0: in a window of five columns and five
+/// rows that wanders over a board.
 fn wandering(size: Size, turn: usize) -> Point {
     let wander = turn / 30 * 4;
     Point {
@@ -233,7 +236,8 @@ fn wandering(size: Size, turn: usize) -> Point {
     }
 }
 
-/// Whether a move takes the same stones on a field and on a board.
+/// Plays a move on a field and on a board. Returns whether it takes the same stones on both. False
+/// also if the point is off one of them.
 fn is_played_alike(field: &mut Field, board: &mut Board, colour: Colour, point: Point) -> bool {
     field.size().has(point)
         && board.size().has(point)
@@ -248,9 +252,11 @@ fn follow(board: &mut Board, colour: Colour, point: Point) {
     }
 }
 
-/// Plays 300 moves on a field and on two boards, of which `before` is always one move late. Whether
-/// field and board have the same words after each of them, and the field marks each point whose
-/// words changed.
+/// Plays 300 moves, of Black and White in turn, on `field`, on `board` and, each one move later, on
+/// `before`. All three must be empty and of one size. Returns true if after each move field and
+/// board have the same stones and words, and the field has marked each point whose words the move
+/// changed, and if at the end they have the same canonical patterns. Returns false at the first
+/// difference. `AllocError` if memory for the marks was refused.
 fn are_played_alike(
     alloc: Global,
     field: &mut Field,
@@ -276,19 +282,26 @@ fn are_played_alike(
     Ok(are_canonical(field, board))
 }
 
-/// Plays the moves of `are_played_alike`, with a new board for `before`.
+/// Plays 300 moves on `field` and `board`, which must be empty and of one size. A new board
+/// `before` is always one move late, so that it shows which points' words a move changed.
+/// Some(true) if the field always has the stones and words of the board and marks these points,
+/// Some(false) at the first difference, None if memory was refused.
 fn play_beside(alloc: Global, field: &mut Field, board: &mut Board) -> Option<bool> {
     let mut before = Board::new(alloc, board.size()).ok()?;
     are_played_alike(alloc, field, board, &mut before).ok()
 }
 
-/// Plays the moves of `are_played_alike`, with new boards of the field's size.
+/// Plays 300 moves on the empty `field` and on a new board of its size. Some(true) if the field
+/// always has the stones and words of the board and marks the points whose words a move changed,
+/// Some(false) at the first difference, None if memory was refused.
 fn play_on(alloc: Global, field: &mut Field) -> Option<bool> {
     let mut board = Board::new(alloc, field.size()).ok()?;
     play_beside(alloc, field, &mut board)
 }
 
-/// Plays the moves of `are_played_alike`, on a new field and new boards of this size.
+/// Plays 300 moves on a new field and a new board of this size. Some(true) if the field always has
+/// the stones and words of the board and marks the points whose words a move changed, Some(false)
+/// at the first difference. None if memory was refused, or a board can't have this size.
 fn play_along(alloc: Global, columns: u8, rows: u8) -> Option<bool> {
     let mut field = Field::new(alloc, Size::new(columns, rows)?).ok()?;
     play_on(alloc, &mut field)
@@ -321,7 +334,8 @@ fn set(field: &mut Field, point: Point, stone: Stone) {
     }
 }
 
-/// The cell and the square of the corner.
+/// Returns the stone at the corner and the word of its square, or None if the field has no such
+/// point.
 fn at_corner(field: &Field) -> Option<(Stone, Word)> {
     if !field.size().has(CORNER) {
         return None;

@@ -5,10 +5,10 @@ use shape_dict::{Entry, FirstGame, put_in_order};
 use std::process::Abort;
 use std::test::Fail;
 
-/// So many entries that threads share the work of sorting them.
+/// How many entries the tests sort: so many that threads share the work.
 const MANY: u64 = 5000;
 
-/// The canonical pattern of the word with this number.
+/// Returns the canonical pattern of the word with this number, with Black to move.
 fn shape(number: u64) -> Result<Shape, Fail> {
     let word = Word::new(number).ok_or("a word")?;
     Ok(canonical(word, Colour::Black))

@@ -7,11 +7,11 @@ use std::alloc::Global;
 use std::test::Fail;
 use tally_core::{Report, Settings, TallyFault, count_plain, has_diamonds, tally_plain};
 
-/// Two stones, on a board of two points.
+/// A game of one black and one white move, on a board of two points.
 pub(crate) const TWO_STONES: &[u8] = b"(;SZ[2:1];B[aa];W[ba])";
 
-/// Inputs, the texts of their dictionaries of squares, and their reports: games, others and
-/// refused.
+/// Inputs, the texts of their dictionaries (text 1, squares alone), and their reports: how many
+/// games of Go, trees of other games and refused trees they have.
 const COLLECTIONS: [(&[u8], &str, (u64, u64, u64)); 8] = [
     (
         b"(;SZ[1];B[aa])",
@@ -51,7 +51,8 @@ const COLLECTIONS: [(&[u8], &str, (u64, u64, u64)); 8] = [
     (b"", "shapes 1 games 0 moves 0 patterns 0\n", (0, 0, 0)),
 ];
 
-/// The game of a tree; None if it is another game, or there was no memory.
+/// Returns the record of a tree. None if it is of another game, or has a fault, or memory was
+/// refused.
 fn record_of(alloc: Global, tree: &Tree<'_>) -> Option<Record> {
     match read_record(alloc, tree) {
         Ok(Kind::Go(game)) => Some(game),
@@ -59,7 +60,8 @@ fn record_of(alloc: Global, tree: &Tree<'_>) -> Option<Record> {
     }
 }
 
-/// The first game of an input; None if its first tree is none, or there was no memory.
+/// Returns the record of the first tree of an input. None if there is no tree, or it is of another
+/// game, or has a fault, or memory was refused.
 pub(crate) fn game_of(alloc: Global, bytes: &[u8]) -> Option<Record> {
     let mut trees = Trees::new(bytes).ok()?;
     match trees.next_tree(alloc) {
@@ -79,7 +81,8 @@ fn are(entries: &[Entry], wanted: &[(u64, u64, u64)]) -> bool {
     entries.len() == wanted.len()
 }
 
-/// Whether the tally of a game of two moves has these patterns.
+/// Whether the tally of `game` has two moves, and for each pattern, in this order, these three
+/// numbers: its word, how often it was there and how often it was played.
 fn is_tally(
     alloc: Global,
     kinds: Kinds,
@@ -131,8 +134,9 @@ fn is_written(
     Ok(written.as_slice() == wanted.as_bytes())
 }
 
-/// Whether counting `input` gives the text `wanted` of squares, and these numbers of games, trees
-/// of other games and refused trees.
+/// Whether counting patterns of these `kinds` in `input` gives a dictionary whose text 1 (squares
+/// alone) is `wanted`, and the report `trees`: how many games of Go, trees of other games and
+/// refused trees there are.
 fn counts(
     alloc: Global,
     kinds: Kinds,
@@ -154,8 +158,9 @@ fn counts(
     is_written(alloc, &dictionary, Text::One, wanted)
 }
 
-/// Whether counting `input` gives `wanted` and `trees`, as in `counts`, with squares alone and with
-/// both kinds of pattern.
+/// Whether counting `input` gives a dictionary whose text 1 (squares alone) is `wanted`, and the
+/// report `trees`: how many games of Go, trees of other games and refused trees there are. It is
+/// counted twice: with squares alone and with squares and diamonds.
 fn counts_either_way(
     alloc: Global,
     input: &[u8],
@@ -224,13 +229,14 @@ fn faults_have_texts(rt: HostRuntime) -> Result<(), Fail> {
     Ok(())
 }
 
-/// How many moves and patterns the tally of a game has.
+/// Returns how many moves onto empty points a game has, and how many different squares and
+/// diamonds.
 fn tallied(alloc: Global, game: &Record) -> Result<(u64, usize), TallyFault> {
     let tally = tally_plain(alloc, Kinds::Both, game)?;
     Ok((tally.moves(), tally.entries().len()))
 }
 
-/// How many patterns an input has.
+/// Returns how many different squares and diamonds the games of an input have.
 fn patterns(alloc: Global, bytes: &[u8]) -> Result<usize, TallyFault> {
     let counted = count_plain(alloc, Kinds::Both, bytes)?;
     Ok(counted.dictionary.len())

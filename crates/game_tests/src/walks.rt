@@ -57,7 +57,8 @@ fn push_game(text: &mut Vec<u8>, columns: u8, rows: u8, nodes: u32) -> Result<()
     Ok(())
 }
 
-/// A game of 120 nodes on a board of this size.
+/// Returns the record of a game of 120 nodes on a board of this size, the same at each call. None
+/// if memory for the record was refused.
 fn made_up(alloc: Global, columns: u8, rows: u8) -> Result<Option<Record>, AllocError> {
     let mut text = Vec::new(alloc);
     push_game(&mut text, columns, rows, 120)?;
@@ -290,7 +291,8 @@ fn walks_count_as_the_plain_definition(rt: HostRuntime) -> Result<(), Fail> {
     compare_all(&rt, alloc, &mut squares, &mut both)
 }
 
-/// How many moves the walk of a game has, and how many meetings: patterns with counts.
+/// Returns how many moves onto empty points the walk of a game finds, and how many meetings it
+/// lists: patterns with their counts.
 fn walked(walk: &mut Walk, game: &Record) -> Result<(u64, usize), TallyFault> {
     let moves = walk.walk(game)?;
     Ok((moves, walk.meetings().len()))

@@ -29,8 +29,9 @@ fn full(game: u64, word: Word) -> HarvestFault {
     HarvestFault::Full { game, word }
 }
 
-/// What `confirm_full` returns for a table of one slot, which has `own`: for the pattern `other`,
-/// which it has not, and for `own`.
+/// Makes a table of one slot, which gets the pattern of `ONE_POINT`. Returns what `confirm_full`
+/// (which says why a table has no slot for a pattern) returns for the pattern `other`, which the
+/// table does not have, and for `own`, which it has. None if memory was refused.
 fn confirmed_of_one(alloc: Global, other: Word, own: Word) -> Option<(HarvestFault, HarvestFault)> {
     let (table, mut pass) = table_of(alloc, 0)?;
     let shares = [first_share(alloc, &table, &mut pass, ONE_POINT)?];
@@ -47,8 +48,10 @@ fn a_table_is_full_of_patterns_but_not_of_one_it_has(rt: HostRuntime) -> Result<
     Ok(())
 }
 
-/// Adds a game, for one of whose patterns the table has no slot, to a share. Returns the result of
-/// that, and what `confirm_full` returns for the share and this pattern.
+/// Adds the first game in `bytes`, with the number `game`, to `share`. Returns what `Share::add`
+/// returned (None if there is no such game or memory for its record was refused), and what
+/// `confirm_full` returns then: the fault that says why the table has no slot for the pattern
+/// `word`.
 fn refuse<O: ProbeOrder>(
     alloc: Global,
     mut share: Share,
@@ -65,8 +68,9 @@ fn refuse<O: ProbeOrder>(
     (added, confirm_full(table, pass, &[share], game, word))
 }
 
-/// Adds a game with a third pattern to a share of two patterns, over a table of two slots, as
-/// `refuse`.
+/// Adds a game with a third pattern to a share of two patterns, over a table of two slots. Returns
+/// what `Share::add` returned, and the fault by which `confirm_full` says why the table has no slot
+/// for the pattern `word`. None if memory for the table or the first game was refused.
 fn refuse_third(
     alloc: Global,
     word: Word,
@@ -84,8 +88,10 @@ fn a_refusal_of_a_full_table_is_confirmed(rt: HostRuntime) -> Result<(), Fail> {
     Ok(())
 }
 
-/// Adds a game of two patterns to an empty share, over a table of one slot, as `refuse`. The first
-/// pattern gets the slot, and a row in the share that counts nothing.
+/// Adds a game of two patterns to an empty share, over a table of one slot. The first pattern gets
+/// the slot, and a row in the share that counts nothing. Returns what `Share::add` returned, and
+/// the fault by which `confirm_full` says why the table has no slot for the pattern `word`. None if
+/// memory for the table was refused.
 fn refuse_second(
     alloc: Global,
     word: Word,
@@ -103,8 +109,10 @@ fn a_refusal_is_confirmed_by_a_row_without_counts(rt: HostRuntime) -> Result<(),
     Ok(())
 }
 
-/// Adds a game of two patterns to an empty share, over a table of two slots of which one has a key
-/// that no share entered, as `refuse`.
+/// Adds a game of two patterns to an empty share, over a table of two slots, into which `key`, of
+/// no share, was entered before. Returns what `Share::add` returned, and the fault by which
+/// `confirm_full` says why the table has no slot for the pattern `word`. None if memory for the
+/// table was refused.
 fn refuse_beside_a_key(
     alloc: Global,
     key: Key,

@@ -136,7 +136,9 @@ fn gathered_of<R: Threads + Sync>(
     gather_three(rt, alloc, &table, &mut pass, records, dealt)
 }
 
-/// The records of these games.
+/// Returns, for each of these texts, the record (board size and moves) of its first game. The error
+/// is "no record" if a text has no game, or a fault of syntax before its end, or memory for the
+/// record was refused; it is `AllocError` if memory for the list was.
 fn records_of(alloc: Global, games: &[&[u8]]) -> Result<Vec<Record>, Fail> {
     let mut records = Vec::new(alloc);
     for bytes in games {
@@ -145,7 +147,8 @@ fn records_of(alloc: Global, games: &[&[u8]]) -> Result<Vec<Record>, Fail> {
     Ok(records)
 }
 
-/// The dictionary of the six games, counted on one thread.
+/// Returns the dictionary of the six games in `SIX`, with squares and diamonds, counted on one
+/// thread.
 fn wanted_of(alloc: Global) -> Result<Dictionary, Fail> {
     let mut collection = Vec::new(alloc);
     for bytes in SIX {
@@ -161,7 +164,7 @@ fn are_alike(one: &Dictionary, other: &Dictionary) -> bool {
 }
 
 /// Whether the dictionary is `wanted`, which one thread counts, for each way to divide the six
-/// games.
+/// games in `records`. False also if there are not six.
 fn are_gathered<R: Threads + Sync>(
     rt: &R,
     alloc: Global,

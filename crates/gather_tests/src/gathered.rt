@@ -59,7 +59,8 @@ pub(crate) fn has(dictionary: &Dictionary, wanted: &[Option<Entry>]) -> bool {
     dictionary.entries().len() == wanted.len()
 }
 
-/// Whether the dictionary of two shares has both games, of which each share has one.
+/// Whether two shares of one game each, `record` as game 0 and as game 1, are joined to a
+/// dictionary of both: one pattern, there twice and played twice, first in game 0.
 fn are_both_gathered<R: Threads + Sync, O: ProbeOrder>(
     rt: &R,
     alloc: Global,
@@ -74,9 +75,9 @@ fn are_both_gathered<R: Threads + Sync, O: ProbeOrder>(
     Ok(is_right && has(&both, &[entry_of(ALONE, 2, 2, 0)]))
 }
 
-/// Joins two shares of one game each, three times, and returns: the fault if both have game 0, of
-/// three games; the fault if they have the first and the last of three; and whether the first and
-/// the second give a dictionary of both.
+/// Joins two shares of one game each, three times. Returns the fault if both have game 0, of three
+/// games; the fault if they have the games 0 and 2, of three; and whether the games 0 and 1, of
+/// two, give a dictionary of both. None if memory for the table was refused.
 fn gathered_in_pairs<R: Threads + Sync>(
     rt: &R,
     alloc: Global,
@@ -105,7 +106,8 @@ fn each_game_is_in_one_share(rt: HostRuntime) -> Result<(), Fail> {
     Ok(())
 }
 
-/// Whether joining no shares gives a dictionary without games, which counts diamonds.
+/// Whether joining no shares gives a dictionary without games, which counts diamonds. `Memory` if
+/// memory was refused.
 fn gathers_none<R: Threads + Sync>(rt: &R, alloc: Global) -> Result<bool, HarvestFault> {
     let Some((table, mut pass)) = table_of(alloc, 0) else {
         return Err(HarvestFault::Memory);
@@ -119,8 +121,9 @@ fn no_share_has_no_pattern(rt: HostRuntime) {
     assert!(rt; gathers_none(&rt, rt.alloc()) == Ok(true));
 }
 
-/// Returns the fault of joining a share over a table other than its own, and what `confirm_full`
-/// returns there for another pattern.
+/// Returns the fault of joining `share` over a table other than its own, or None in its place if
+/// there is no fault, and what `confirm_full` (which says why a table has no slot for a pattern)
+/// returns over that table for the pattern `word`. None if memory for the table was refused.
 fn gathered_elsewhere<R: Threads + Sync>(
     rt: &R,
     alloc: Global,
@@ -136,7 +139,9 @@ fn gathered_elsewhere<R: Threads + Sync>(
     Some((gathered, confirm_full(&table, &mut pass, &shares, 0, word)))
 }
 
-/// Returns what `gathered_elsewhere` does for a share of the game of one point.
+/// Makes a share of the game of one point, over a table of its own. Returns the fault of joining it
+/// over another, new table, and what `confirm_full` (which says why a table has no slot for a
+/// pattern) returns over that for the pattern `word`. None if memory was refused.
 fn first_elsewhere<R: Threads + Sync>(
     rt: &R,
     alloc: Global,
@@ -165,7 +170,7 @@ fn a_share_of_another_table_is_a_stranger(rt: HostRuntime) -> Result<(), Fail> {
 }
 
 /// Returns the fault of joining a share if another caller has noted game 0 at the slot of its
-/// pattern.
+/// pattern. None if there is no fault, or memory for the table or the share was refused.
 fn gathered_with_a_mark<R: Threads + Sync>(rt: &R, alloc: Global) -> Option<HarvestFault> {
     let (table, mut pass) = table_of(alloc, 0)?;
     let share = first_share(alloc, &table, &mut pass, b"(;SZ[1]AB[aa];W[aa])")?;
@@ -204,7 +209,7 @@ fn shares_by_words(
 }
 
 /// Joins what two workers have counted by words of two games, and enters the patterns into a table
-/// of 2^`exponent` slots.
+/// of 2^`exponent` slots. None if a sum passes 2^64 - 1, which two such games can't reach.
 fn gathered_by_words<R: Threads + Sync>(
     rt: &R,
     alloc: Global,
@@ -219,8 +224,9 @@ fn gathered_by_words<R: Threads + Sync>(
     gather_words(rt, alloc, Kinds::Squares, 2, &table, &mut pass, shares)
 }
 
-/// Whether each pattern of the games of two points and of one has a slot in a table of 2^`exponent`
-/// slots. None if the dictionary is not that of both games.
+/// Counts the game of two points and that of one, and enters their patterns into a table of
+/// 2^`exponent` slots. Some(true) if each pattern has a slot, Some(false) if one has none, and None
+/// if the dictionary is not that of both games.
 fn are_numbered<R: Threads + Sync>(
     rt: &R,
     alloc: Global,

@@ -25,10 +25,11 @@ const IN_TURN: &[u8] = b"(;SZ[2:1];B[aa];W[ba])";
 /// Two points: Black plays at both.
 const BLACK_ALONE: &[u8] = b"(;SZ[2:1];B[aa];B[ba])";
 
-/// How many slots the table has.
+/// How many slots the table in these tests has.
 const SLOTS: usize = 16;
 
-/// The row of a share (the counts of one pattern) for each slot of the table; None if it has none.
+/// Returns, at the index of each slot of the table, the share's row (the counts of one pattern)
+/// with the number of that slot, or None if the share has no such row.
 fn rows_of(share: &Share) -> [Option<Row>; SLOTS] {
     let mut rows = [None; SLOTS];
     for row in share.rows() {
@@ -88,8 +89,8 @@ fn add_or_keep<O: ProbeOrder>(
     share.add(table, pass, game, record).is_ok()
 }
 
-/// Returns the share of both games. A game for which memory is refused is added once more; None if
-/// memory is refused again.
+/// Returns a share with `IN_TURN` as game 1 and then `BLACK_ALONE` as game 0. A game for which
+/// memory is refused is added once more; None if memory is refused again.
 fn share_of_both<O: ProbeOrder>(
     rt: &impl Abort,
     alloc: Global,
@@ -113,13 +114,13 @@ fn share_of_both<O: ProbeOrder>(
     Some(share)
 }
 
-/// Whether a share has both games, with their moves.
+/// Whether a share has game 1 and then game 0, and four moves in all.
 fn has_both(share: &Share) -> bool {
     share.games() == [1, 0].as_slice() && share.moves() == 4
 }
 
 /// Returns the dictionary of a share of both games. If memory is refused, asserts that the share is
-/// as it was, and tries once more.
+/// as it was, and tries once more; None if memory is refused again.
 fn gather_or_keep<O: ProbeOrder>(
     rt: &(impl Abort + Threads + Sync),
     alloc: Global,
@@ -157,8 +158,9 @@ fn is_right(dictionary: &Dictionary) -> bool {
     is_of(dictionary, 2, 4) && has(dictionary, &wanted)
 }
 
-/// Whether a share has both games, and its dictionary their counts; None if memory was refused
-/// twice.
+/// Counts both games into a share, and makes its dictionary. Returns whether share and dictionary
+/// have both games and their counts. None if memory for the table was refused, or memory for a game
+/// or the dictionary was refused twice.
 fn counts_both(rt: &(impl Abort + Threads + Sync), alloc: Global) -> Option<bool> {
     let (table, mut pass) = table_of(alloc, 4)?;
     let share = share_of_both(rt, alloc, &table, &mut pass)?;

@@ -8,7 +8,8 @@ use crossbeam_queue::{Pass, RuledArrayQueue};
 use std::collections::LinkedList;
 use std::marker::{Brand, Model, PhantomData};
 
-/// The identity of a queue of jobs. Used in contracts only; no code makes one.
+/// Tells one queue of jobs from every other in contracts: no two queues have the same value. Used
+/// in contracts only; no code makes one.
 pub struct QueueName;
 
 impl Model for QueueName {

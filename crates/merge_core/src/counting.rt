@@ -18,9 +18,10 @@ use crate::tallies::{Tally, no_tally, with_kept};
 use crate::trees::{Tree, next_of};
 use std::alloc::Global;
 
-/// Reads the join that `tree` makes to its end. Returns how many squares and diamonds it keeps, and
-/// how often these were played: all, or with `least` only squares that were there at least as
-/// often. `Changed` if a sum is over 2^64 - 1.
+/// Reads the join that `tree` makes to its end, and keeps none of it. Returns how many different
+/// squares and diamonds the join keeps, and how often these were played. It keeps all patterns if
+/// `least` is None, else only squares that were there at least `least` times. `Changed` if a sum is
+/// over 2^64 - 1.
 pub(crate) fn tally_of_kept<E: Entries>(
     mut tree: Tree<E>,
     least: Option<u64>,
@@ -46,10 +47,11 @@ pub(crate) fn tally_of_kept<E: Entries>(
     Err(NextFault::Changed)
 }
 
-/// Joins the first `count` dictionaries. Returns their totals, and how many squares and diamonds
-/// the join keeps and how often these were played: all, or with `least` only squares that were
-/// there at least as often. Each dictionary is read to its end: `Ok` means that all are
-/// well-formed.
+/// Makes the join of the first `count` dictionaries entry by entry, to count it: nothing is written
+/// or kept. Returns the totals of the dictionaries, and how many different squares and diamonds the
+/// join keeps and how often these were played. It keeps all patterns if `least` is None, else only
+/// squares that were there at least `least` times. Each dictionary is read to its end: `Ok` means
+/// that all are well-formed.
 pub(crate) fn count_join<S: Sources>(
     alloc: Global,
     sources: &S,

@@ -27,8 +27,8 @@ pub(crate) struct Grown<E> {
 }
 
 /// Makes one tree that joins the entries of two trees, with the games of `right` after those of
-/// `left`. The first entry of each is read at once. `Changed` if their totals can't be added,
-/// `Memory` if memory was refused, else a fault of reading the first entries.
+/// `left`. The first entry of each of the two is read at once. `Changed` if their totals can't be
+/// added, `Memory` if memory was refused, else a fault of reading the first entries.
 fn pair<E: Entries>(alloc: Global, left: Grown<E>, right: Grown<E>) -> Result<Grown<E>, NextFault>
     ensures next { (mine : List One) → (other : List One) → Yields E.yields left.tree mine
         → Yields E.yields right.tree other → MatchResult result
@@ -77,7 +77,9 @@ fn pair<E: Entries>(alloc: Global, left: Grown<E>, right: Grown<E>) -> Result<Gr
 
 /// Opens `count` dictionaries, from number `from` on, counted from 0, and builds the tree that
 /// joins them. It joins the tree of the first half and that of the other, so that an entry goes
-/// through no more nodes than `count` can be halved (rounded up).
+/// through at most log2(`count`) nodes, rounded up. If there are two or more, it reads their first
+/// entries. `Changed` if totals can't be added, `Memory` if memory was refused, `Read` or another
+/// fault if a dictionary can't be opened or its first entries can't be read or joined.
 pub(crate) fn grow<S: Sources>(
     alloc: Global,
     sources: &S,

@@ -57,7 +57,7 @@ fn numbered(fault: StreamFault, n: usize) -> MergeFault
 }
 
 /// Reads dictionary `n`, counted from 0, to its end, to check that it is well-formed. Returns its
-/// totals and how often its patterns were there in all.
+/// totals and how often its patterns were there in all, or 2^64 - 1 if that is more.
 fn judge_one<S: Sources>(alloc: Global, sources: &S, n: usize) -> Result<Judged, MergeFault>
     requires few { n + 1 < 2 ^ 64 }
     requires within { n < S.number sources.now }
@@ -132,7 +132,8 @@ fn judge_next<S: Sources>(
 }
 
 /// Checks the first `count` dictionaries in their order: that each is well-formed and can be added
-/// to those before it. The error is the first fault in that order.
+/// to those before it. Returns the totals of all, and how often their patterns were there in all,
+/// or 2^64 - 1 if that is more. The error is the first fault in that order.
 fn judge_each<S: Sources>(alloc: Global, sources: &S, count: usize) -> Result<Judged, MergeFault>
     requires some { 1 ≤ count }
     requires few { count < 2 ^ 64 }
@@ -156,10 +157,10 @@ fn judge_each<S: Sources>(alloc: Global, sources: &S, count: usize) -> Result<Ju
 }
 
 /// Checks that all dictionaries are well-formed and can be joined. Returns the totals of their
-/// join, and how many squares and diamonds it keeps and how often these were played: all, or with
-/// `least` only squares that were there at least as often. If one pass over all of them gives no
-/// join, they are checked one after another, and the first fault is the error. `Empty` if there is
-/// none.
+/// join, and how many different squares and diamonds it keeps and how often these were played. It
+/// keeps all patterns if `least` is None, else only squares that were there at least `least` times.
+/// If one pass over all of them gives no join, they are checked one after another, and the first
+/// fault is the error. `Empty` if there is none.
 pub(crate) fn judge_all<S: Sources>(
     alloc: Global,
     sources: &S,

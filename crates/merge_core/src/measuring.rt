@@ -79,7 +79,7 @@ fn both_ranged(alloc: Global, left: &Ranged, right: &Ranged) -> Result<Ranged, N
     }
 }
 
-/// Counts the ranges of words from cut `from` up to cut `to`, both counted from 0, one after
+/// Counts the ranges of words between cut `from` and cut `to`, both counted from 0, one after
 /// another in this thread, and returns the sums of their tallies.
 fn count_ranges<S: Sources>(
     alloc: Global,
@@ -131,9 +131,10 @@ fn count_block<S: Sources>(
     count_ranges(alloc, sources, plan, from, last.min(from + size))
 }
 
-/// Counts the ranges of words before cut `last`, counted from 0, in blocks of `size` ranges: each
-/// block in a thread of its own if one can be started. Returns the tallies of each block, or its
-/// fault.
+/// Counts the `last` ranges of words between cut 0 and cut `last`, in blocks of `size` ranges: each
+/// block in a thread of its own if one can be started. The last block may have fewer ranges.
+/// Returns, in their order, the tallies of each block, or its fault. `AllocError` if memory for
+/// this list was refused.
 fn blocks_of<T: Threads + Sync, S: Sources + Sync>(
     rt: &T,
     alloc: Global,
@@ -195,7 +196,7 @@ fn sum_up(alloc: Global, blocks: &[Result<Ranged, NextFault>]) -> Result<Ranged,
     Ok(total)
 }
 
-/// Counts all ranges of words of a plan before cut `last`, counted from 0, in about `threads`
+/// Counts the `last` ranges of words of a plan between cut 0 and cut `last`, in about `threads`
 /// threads if they can be started. It waits for them, and returns the sums of all tallies.
 pub(crate) fn count_all<T: Threads + Sync, S: Sources + Sync>(
     rt: &T,

@@ -39,7 +39,8 @@ const ROOM: usize = 1 << 21;
 /// The least word of a diamond; the words of squares are below it.
 const DIAMONDS: u64 = 1 << 50;
 
-/// The bound of all words, which are below it.
+/// One more than the greatest word that a pattern may have. It is the word of the last cut, where
+/// all lines end.
 const END: u64 = 1 << 51;
 
 /// Returns the index after the first line feed, at which the next line begins, or None if there is
@@ -177,7 +178,8 @@ fn cuts_of<S: Sources>(
     Some(cuts)
 }
 
-/// The headers of dictionaries, and the byte indices at which their lines begin and end.
+/// The headers of dictionaries, the byte indices at which their lines begin (`starts`), and their
+/// sizes in bytes, where the lines end (`ends`).
 #[derive(Drop)]
 struct Fronts {
     headers: Vec<Header>,
@@ -205,9 +207,9 @@ fn fronts_of<S: Sources>(alloc: Global, sources: &S) -> Option<Fronts> {
     Some(fronts)
 }
 
-/// Appends to `words` the words of some lines of dictionary `n` before byte index `end`: about
-/// `step` bytes apart, the first of them `skip` bytes after the beginning. None if memory was
-/// refused.
+/// Appends to `words` the words of some lines of dictionary `n`: of the first line that begins
+/// after byte index `skip`, of the first after `skip` + `step`, and so on, as long as that index is
+/// below `end`. A line that can't be read is left out. None if memory was refused.
 fn push_words<S: Sources>(
     alloc: Global,
     sources: &S,
@@ -233,9 +235,9 @@ fn push_words<S: Sources>(
     Some(())
 }
 
-/// Returns a sorted sample of all dictionaries' words: one each `step` bytes, as if their bytes
-/// followed one another. `ends` are their sizes. None if memory was refused, `ends` has too few, or
-/// `step` is 0.
+/// Returns a sample, in ascending order, of all dictionaries' words: one each `step` bytes, as if
+/// their bytes followed one another. `ends` are their sizes in bytes. None if memory was refused,
+/// `ends` has too few, or `step` is 0.
 fn sample<S: Sources>(alloc: Global, sources: &S, ends: &[usize], step: usize) -> Option<Vec<u64>> {
     let mut words = Vec::with_capacity(alloc, ROOM).ok()?;
     let mut skip: usize = 0;
@@ -253,8 +255,10 @@ fn sample<S: Sources>(alloc: Global, sources: &S, ends: &[usize], step: usize) -
     Some(words)
 }
 
-/// Returns the sorted words of all cuts but the first and the last: every eighth of the sampled
-/// words, and the word at which the diamonds begin. None if memory was refused.
+/// Returns, in ascending order, the words at which one range of words ends and the next begins:
+/// those of all cuts but the first and the last. `samples` are words of the dictionaries, in
+/// ascending order. Those at the indices 7, 15, 23 and so on become cuts, and so does 2^50, the
+/// least word of a diamond. None if memory was refused.
 fn cut_words(alloc: Global, samples: &[u64]) -> Option<Vec<u64>> {
     let mut words = Vec::new(alloc);
     words.push(DIAMONDS).ok()?;
@@ -267,8 +271,9 @@ fn cut_words(alloc: Global, samples: &[u64]) -> Option<Vec<u64>> {
     Some(words)
 }
 
-/// Makes the cuts at `words`, that is all but the first and the last, in about `threads` threads.
-/// None if a search fails or memory was refused.
+/// Makes the cuts (a byte index in each dictionary) at `words`, which rise, in about `threads`
+/// threads. These are all cuts but the first and the last. None if a search fails or memory was
+/// refused.
 fn inner_cuts<T: Threads + Sync, S: Sources + Sync>(
     rt: &T,
     alloc: Global,

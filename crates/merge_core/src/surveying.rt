@@ -66,7 +66,7 @@ fn fits(header: &Header, tally: Tally) -> bool
     }
 }
 
-/// Whether two headers say the same.
+/// Whether two headers are equal in all their numbers.
 fn is_same(one: &Header, other: &Header) -> bool
     ensures { IsTrue result → one.now ≡ other.now }
 {

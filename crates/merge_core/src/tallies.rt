@@ -9,7 +9,8 @@ use crate::forms::{is_kept, is_square};
 use shape_dict::Entry;
 use std::alloc::Global;
 
-/// How many squares and diamonds there are, and how often they were played.
+/// How many different squares and how many different diamonds some entries have, and how often
+/// squares were played in all, and diamonds in all.
 #[derive(Clone, Copy, PartialEq, Eq)]
 pub(crate) struct Tally {
     pub(crate) squares: u64,
@@ -30,7 +31,7 @@ pub(crate) fn no_tally() -> Tally
     }
 }
 
-/// Adds one more entry to a tally; None if a sum is over 2^64 - 1.
+/// Returns the tally with one more entry, or None if a sum is over 2^64 - 1.
 #[inline(always)]
 fn with(tally: Tally, entry: Entry) -> Option<Tally>
     ensures { IfSome result (λ next. (before : List One) → IsTally before tally
@@ -69,8 +70,9 @@ pub(crate) fn tally_of(entries: &[Entry]) -> Option<Tally>
     Some(tally)
 }
 
-/// Adds one more entry to a tally if the join keeps it: always without `least`, else if it is a
-/// square that was there at least as often. None if a sum is over 2^64 - 1.
+/// Returns the tally with one more entry if the join keeps that, else the tally unchanged. It keeps
+/// an entry always if `least` is None, else if it is a square that was there at least `least`
+/// times. None if a sum is over 2^64 - 1.
 pub(crate) fn with_kept(least: Option<u64>, tally: Tally, entry: &Entry) -> Option<Tally>
     ensures { IfSome result (λ next. (before : List One) → IsCountOf least before tally
         → IsCountOf least (before ++ entry.now ∷ []) next) }
@@ -82,8 +84,8 @@ pub(crate) fn with_kept(least: Option<u64>, tally: Tally, entry: &Entry) -> Opti
     }
 }
 
-/// Returns the tally of the entries, or with `least` of the squares alone that were there at least
-/// as often; None if a sum is over 2^64 - 1.
+/// Returns the tally of all entries if `least` is None, else of the squares alone that were there
+/// at least `least` times. None if a sum is over 2^64 - 1.
 pub(crate) fn count_of(least: Option<u64>, entries: &[Entry]) -> Option<Tally>
     ensures { IfSome result (IsCountOf least entries.now) }
 {
@@ -97,7 +99,7 @@ pub(crate) fn count_of(least: Option<u64>, entries: &[Entry]) -> Option<Tally>
     Some(tally)
 }
 
-/// Adds up two tallies; None if a sum is over 2^64 - 1.
+/// Returns the sum of two tallies, or None if a sum is over 2^64 - 1.
 pub(crate) fn both_tallies(left: Tally, right: Tally) -> Option<Tally>
     ensures { IfSome result (IsSum left right) }
 {

@@ -80,7 +80,8 @@ fn advance<E: Entries>(tree: &mut Tree<E>, next: &mut Option<Entry>) -> Result<(
     }
 }
 
-/// Returns the next entry of the join that `tree` makes, or None at the end.
+/// Returns the next entry of the join that `tree` makes, or None at the end. After an error a
+/// further call may return anything.
 #[inline(always)]
 pub(crate) fn next_of<E: Entries>(tree: &mut Tree<E>) -> Result<Option<Entry>, NextFault>
     ensures next { (entries : List One) → Yields E.yields tree.old entries

@@ -9,7 +9,7 @@ use std::io::Write;
 use std::process::Abort;
 use std::thread::Threads;
 
-/// Texts in memory, of each of which at most `most` bytes can be read.
+/// Texts in memory. A reader of one fails once it has given `most` bytes.
 #[derive(Clone, Copy)]
 struct Texts<'a> {
     texts: &'a [&'a [u8]],
@@ -51,7 +51,7 @@ impl<'a> Sources for Texts<'a> {
     }
 }
 
-/// A writer that takes `most` bytes.
+/// A writer that takes `most` bytes in all, and then takes none: `write` returns 0.
 #[derive(Drop)]
 struct Full {
     got: Vec<u8>,
@@ -87,8 +87,9 @@ const FIVE: &[u8] = b"shapes 1 games 9 moves 8 patterns 2\n3fff3fcffffff 16 5\n3
 
 const MIXED: &[u8] = b"shapes 2 games 0 moves 0 squares 0 diamonds 0\n";
 
-/// Joins the texts, each of which gives at most `read` bytes, into a writer that takes at most
-/// `written`. Returns the join's result, and the bytes that were written.
+/// Joins the texts, of which each reader fails once it has given `read` bytes, into a writer that
+/// takes at most `written` bytes in all. The join is written in the format `text`. Returns the
+/// join's result, and the bytes that were written.
 fn joined<T: Threads + Sync>(
     rt: &T,
     alloc: Global,
@@ -107,7 +108,7 @@ fn joined<T: Threads + Sync>(
     (done, out.got)
 }
 
-/// Asserts that the join of the texts is `wanted`.
+/// Asserts that the join of `texts`, written in the format `text`, is `wanted`.
 fn assert_joined(
     rt: &(impl Abort + Threads + Sync),
     alloc: Global,
@@ -154,8 +155,9 @@ fn first_faults(rt: HostRuntime) {
     assert!(rt; done == Err(MergeFault::Empty));
 }
 
-/// Joins the texts, each of which gives at most `read` bytes. Returns the number, from 1, of the
-/// dictionary whose reading failed, or None if the join ended otherwise or wrote something.
+/// Joins the texts, of which each reader fails once it has given `read` bytes. Returns the number,
+/// from 1, of the dictionary whose reading failed, or None if the join ended otherwise or wrote
+/// something.
 fn unread<T: Threads + Sync>(rt: &T, alloc: Global, texts: &[&[u8]], read: usize) -> Option<usize> {
     let (done, got) = joined(rt, alloc, Text::One, texts, read, 1000);
     let is_empty = got.is_empty();

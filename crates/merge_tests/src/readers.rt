@@ -2,7 +2,8 @@
 use std::io;
 use std::io::{Error, ErrorKind, Read};
 
-/// A reader that gives at most `step` bytes at once, and fails once it has given `most`.
+/// A reader of the bytes `left`. It gives at most `step` bytes at once, and fails once it has given
+/// `most` bytes in all.
 #[derive(Drop)]
 pub struct Drip<'a> {
     pub left: &'a [u8],

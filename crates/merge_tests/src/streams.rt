@@ -34,7 +34,7 @@ fn told_twice(alloc: Global, reader: Drip<'_>) -> Result<u64, StreamFault> {
     }
 }
 
-/// A text of four patterns, which were there six times.
+/// A dictionary's text of four patterns, which were there six times together.
 const FOUR: &[u8] = b"shapes 3 games 1 moves 2 squares 2 diamonds 2\n\
     3fff3fcffffff 2 1 0\n3fffbfcffffff 1 1 -\n7ffcffcffffff 2 1 0\n7ffeffcffffff 1 1 0\n";
 

@@ -18,7 +18,8 @@ use tally_core::Settings;
 /// another fails by that, and does not hang.
 const LOOKS: u64 = 1 << 24;
 
-/// Makes the thread that begins the first game of all wait until another game has begun.
+/// Makes the thread that begins the first game of all wait until another game has begun, or until
+/// it has checked that `LOOKS` times.
 #[derive(Drop)]
 struct TwoAtOnce {
     begun: AtomicU64,
@@ -69,7 +70,8 @@ fn text_of_harvest<R: Threads + Wait + Sync, G: Gate>(
     text_of(alloc, counted.dictionary)
 }
 
-/// The text of five games of each of two sorts.
+/// The dictionary, in text format 3 with squares alone, of five games of one point and five of two
+/// points in turn.
 const OF_10: &str =
     "shapes 3 games 10 moves 15 squares 3 diamonds -\n3fff3fcffffff 10 5 1\n3fffbfcffffff 5 5 1\n3fffffcffffff 5 5 0\n";
 
@@ -114,7 +116,8 @@ fn gate_two_at_once_over_a_table(rt: HostRuntime) -> Result<(), Fail> {
     Ok(())
 }
 
-/// Makes each worker wait until the thread that reads (worker 0) counts a game.
+/// Makes each worker wait until the thread that reads (worker 0) counts a game, or until a worker
+/// has checked that `LOOKS` times.
 #[derive(Drop)]
 struct ReaderHelps {
     helped: AtomicU64,
@@ -145,7 +148,8 @@ impl Gate for ReaderHelps {
     }
 }
 
-/// The text of one hundred and fifty games of each of two sorts.
+/// The dictionary, in text format 3 with squares alone, of 150 games of one point and 150 of two
+/// points in turn.
 const OF_300: &str =
     "shapes 3 games 300 moves 450 squares 3 diamonds -\n3fff3fcffffff 300 150 1\n3fffbfcffffff 150 150 1\n3fffffcffffff 150 150 0\n";
 
@@ -171,8 +175,8 @@ fn reader_helps(rt: HostRuntime) -> Result<(), Fail> {
     Ok(())
 }
 
-/// Counts its calls for each of the games 0 to 9 by a worker from 0 to 3, in four bits a game, and
-/// all its other calls together.
+/// Counts its calls: in `told`, in the bits 4g to 4g + 3, those for game g from 0 to 9 by a worker
+/// from 0 to 3, and in `strange` all others together.
 #[derive(Drop)]
 struct Notes {
     told: AtomicU64,
@@ -189,8 +193,9 @@ impl Gate for Notes {
     }
 }
 
-/// What a `Notes` gate has counted after three workers have counted this collection: its calls for
-/// games 0 to 9, in four bits a game, and all others.
+/// Returns what a `Notes` gate has counted after three workers counted the collection `bytes`:
+/// first its calls for the games 0 to 9, with those for game g in the bits 4g to 4g + 3, and then
+/// all others.
 fn noted<R: Threads + Wait + Sync>(
     rt: &R,
     alloc: Global,

@@ -26,18 +26,24 @@ const ONE_POINT: &[u8] = b"(;SZ[1];B[aa])";
 /// Two moves on a board of two points: two patterns.
 const TWO_POINTS: &[u8] = b"(;SZ[2:1];B[aa];W[ba])";
 
-/// The pattern of `ONE_POINT`.
+/// The word of the one square that `ONE_POINT` has: an empty point with nothing of the board round
+/// it.
 const ALONE: u64 = 0x3fffffcffffff;
 
-/// The patterns of `TWO_POINTS`: an empty board is there at two points, one with a stone at one.
+/// The word of the square that both points of an empty two-point board have: the other point is
+/// empty, and all else is off the board. `TWO_POINTS` has it twice, before its first move.
 const EMPTY: u64 = 0x3fff3fcffffff;
 
+/// The word of the square of the empty point of a two-point board, if the other point has a stone
+/// of the opponent. `TWO_POINTS` has it once, before its second move.
 const TAKEN: u64 = 0x3fffbfcffffff;
 
-/// How many workers each collection is counted by.
+/// The numbers of workers to try: a test counts one collection four times, with 1, 2, 7 and 64
+/// workers.
 pub(crate) const CREWS: [u8; 4] = [1, 2, 7, 64];
 
-/// A collection of 2 * `pairs` games: one of one point and one of two points in turn.
+/// Returns the text of a collection of 2 * `pairs` games: `ONE_POINT` and `TWO_POINTS` in turn.
+/// `AllocError` if memory was refused.
 pub(crate) fn collection(alloc: Global, pairs: u64) -> Result<Vec<u8>, AllocError> {
     let mut bytes = Vec::new(alloc);
     for _ in 0..pairs {
@@ -47,7 +53,8 @@ pub(crate) fn collection(alloc: Global, pairs: u64) -> Result<Vec<u8>, AllocErro
     Ok(bytes)
 }
 
-/// The dictionary in text format 3: squares, diamonds if they were counted, and the first games.
+/// Returns the dictionary `counted` in text format 3: squares, diamonds if they were counted, and
+/// the first games.
 pub(crate) fn text_of(alloc: Global, counted: PieceDictionary) -> Result<Vec<u8>, Fail> {
     let dictionary = counted.into_dictionary(alloc)?;
     let mut text = Vec::new(alloc);
@@ -71,8 +78,8 @@ fn report_of(games: u64, others: u64, refused: u64) -> Report {
     }
 }
 
-/// One hundred and fifty games of each of two sorts: two points are there once empty and once
-/// taken.
+/// The dictionary, in text format 3 with squares and diamonds, of 150 games of one point and 150 of
+/// two points in turn: `ONE_POINT` and `TWO_POINTS`.
 const OF_300: &str =
     "shapes 3 games 300 moves 450 squares 3 diamonds 3\n3fff3fcffffff 300 150 1\n3fffbfcffffff 150 150 1\n3fffffcffffff 150 150 0\n7ffcffcffffff 300 150 1\n7ffeffcffffff 150 150 1\n7fffffcffffff 150 150 0\n";
 
@@ -92,8 +99,9 @@ fn any_number_of_workers_counts_the_same(rt: HostRuntime) -> Result<(), Fail> {
     Ok(())
 }
 
-/// Counts a collection, with the kinds of pattern in `settings`, over a new table that tries slots
-/// in this `order`.
+/// Counts the collection `bytes`, with the workers and kinds of pattern in `settings`, over a new
+/// table that tries slots in this `order`. Each worker calls `gate` when it begins a game. `Memory`
+/// also if memory for the table was refused.
 pub(crate) fn counted_on<R: Threads + Wait + Sync, O: ProbeOrder + Send + Sync, G: Gate>(
     rt: &R,
     alloc: Global,
@@ -108,11 +116,13 @@ pub(crate) fn counted_on<R: Threads + Wait + Sync, O: ProbeOrder + Send + Sync, 
     harvest_on(rt, alloc, settings, &table, &mut pass, bytes, gate)
 }
 
-/// Twenty games: ten empty boards of two points, and ten of one.
+/// The dictionary, in text format 3 with squares alone, of ten games of one point and ten of two
+/// points in turn: `ONE_POINT` and `TWO_POINTS`.
 const OF_20: &str =
     "shapes 3 games 20 moves 30 squares 3 diamonds -\n3fff3fcffffff 20 10 1\n3fffbfcffffff 10 10 1\n3fffffcffffff 10 10 0\n";
 
-/// Asserts that `counted` is what one thread counts of the twenty games in `bytes`.
+/// Asserts that `counted` has the report and the dictionary that one thread counts of the twenty
+/// games in `bytes`, and that the text of that dictionary is `OF_20`.
 fn assert_20(rt: &impl Abort, alloc: Global, bytes: &[u8], counted: Counted) -> Result<(), Fail> {
     let plain = count_plain(alloc, Kinds::Squares, bytes)?;
     assert!(rt; counted.report == report_of(20, 0, 0) && counted.report == plain.report);
@@ -154,8 +164,10 @@ fn any_order_of_probes_counts_the_same(rt: HostRuntime) -> Result<(), Fail> {
     Ok(())
 }
 
-/// Runs a worker until it takes an end from the queue. Asserts that it has no fault, and has
-/// counted exactly these games, with this number of moves.
+/// Runs a worker until it takes an end (the sign that no job is left) from the queue, and returns
+/// what it gives back: its counts, its end of the queue and its pass. Asserts that no game was
+/// refused, and that it has counted exactly these `games`, in this order, with this number of
+/// `moves` onto empty points.
 fn draw_to_the_end<'q, 'a, R: Abort + Wait, O: ProbeOrder>(
     rt: &R,
     alloc: Global,
@@ -206,8 +218,9 @@ fn worker_beside<'q, 'a, 't, O: ProbeOrder>(
     }
 }
 
-/// Runs the workers from 1 up to `workers`, one after another. Each takes an end from the queue,
-/// with no game left for it. Their endpoints and passes are joined to `endpoint` and `pass` again.
+/// Runs the workers 1 to `workers` - 1, one after another. Each takes an end (the sign that no job
+/// is left) from the queue, which has no job any more. Their endpoints and passes are joined to
+/// `endpoint` and `pass` again.
 fn draw_ends<R: Abort + Wait, O: ProbeOrder>(
     rt: &R,
     alloc: Global,
@@ -227,8 +240,9 @@ fn draw_ends<R: Abort + Wait, O: ProbeOrder>(
     }
 }
 
-/// Runs workers one after another, on a queue with all games and an end for each worker: the first
-/// takes all games and an end, and each later one an end.
+/// Runs `workers` workers one after another, on a queue with the four games of `bytes` and an end
+/// (the sign that no job is left) for each worker. Asserts that the first takes all games and an
+/// end, that each later one takes an end alone, and that the queue is empty then.
 fn work_in_turn<R: Abort + Wait>(
     rt: &R,
     alloc: Global,
@@ -261,8 +275,8 @@ fn a_worker_draws_to_the_first_end(rt: HostRuntime) -> Result<(), Fail> {
     Ok(())
 }
 
-/// Whether the fault is F1 (no free slot) for the third pattern of a collection, which is first in
-/// game 1.
+/// Whether the fault is F1 (no free slot) in game 1 for the pattern `TAKEN`, the third that a
+/// collection of `ONE_POINT` and `TWO_POINTS` has.
 fn is_third(fault: &HarvestFault) -> bool {
     match fault {
         HarvestFault::Full { game, word } => *game == 1 && word.bits() == TAKEN,

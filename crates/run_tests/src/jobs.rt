@@ -16,7 +16,7 @@ use tally_core::{Report, TallyFault};
 /// Two games, and between them a tree of another game and one with a board of no column.
 const MIXED: &[u8] = b"(;SZ[1];B[aa])(;GM[2])(;SZ[0])\n(;B[aa];W[bb])";
 
-/// A collection of this number of games, each without a move.
+/// Returns the text of a collection of this number of games, each without a move.
 fn collection(alloc: Global, games: u64) -> Result<Vec<u8>, AllocError> {
     let mut bytes = Vec::new(alloc);
     for _ in 0..games {
@@ -25,8 +25,8 @@ fn collection(alloc: Global, games: u64) -> Result<Vec<u8>, AllocError> {
     Ok(bytes)
 }
 
-/// What a job has: its game's number, the byte indices at which its tree begins and ends, the
-/// columns of the board, and how many actions there are.
+/// Returns what a job has: its game's number, the byte indices of its tree's first byte and after
+/// its last, the columns of the board, and how many actions there are.
 fn said(job: &Job<'_>) -> (u64, usize, usize, u8, usize) {
     let record = job.record();
     (
@@ -38,7 +38,9 @@ fn said(job: &Job<'_>) -> (u64, usize, usize, u8, usize) {
     )
 }
 
-/// What the job of the next game has (as in `said`); None if no game is left.
+/// Returns what the job of the next game has: its game's number, the byte indices of its tree's
+/// first byte and after its last, the columns of the board, and how many actions there are. None if
+/// no game is left.
 fn next_said(
     alloc: Global,
     games: &mut Games<'_>,
@@ -93,8 +95,8 @@ fn a_fault_comes_after_the_games_before_it(rt: HostRuntime) -> Result<(), TallyF
     Ok(())
 }
 
-/// Adds the jobs of the next games to the queue until it is full. Returns the item for which there
-/// was no room, or None if all games were added.
+/// Adds the jobs of the next games to the queue until it is full. Returns the job for which there
+/// was no room, or None if all games were added. The error is a fault of reading.
 pub(crate) fn put_until_full<'a, R: Wait>(
     rt: &R,
     alloc: Global,
@@ -130,7 +132,8 @@ pub(crate) fn puts_an_end<R: Wait>(rt: &R, endpoint: &mut Endpoint<'_, '_>) -> b
     endpoint.put(rt, Item::End).is_ok()
 }
 
-/// Takes the next item from the queue, and returns its game if it is a job, else None.
+/// Takes the next item from the queue, and returns the number of its game if it is a job. None if
+/// it is an end (the sign that no job is left) or the queue is empty.
 fn draw_game<R: Wait>(rt: &R, endpoint: &mut Endpoint<'_, '_>) -> Option<u64>
     ensures { endpoint.new ≡ record endpoint.old {
       drawn = endpoint.new.drawn;
@@ -140,7 +143,8 @@ fn draw_game<R: Wait>(rt: &R, endpoint: &mut Endpoint<'_, '_>) -> Option<u64>
     number(endpoint.draw(rt))
 }
 
-/// Takes the next item from the queue, and returns whether it was an end.
+/// Takes the next item from the queue, and returns whether it was an end (the sign that no job is
+/// left). False also if the queue is empty.
 fn draws_an_end<R: Wait>(rt: &R, endpoint: &mut Endpoint<'_, '_>) -> bool
     ensures { endpoint.new ≡ record endpoint.old {
       drawn = endpoint.new.drawn;
@@ -150,7 +154,9 @@ fn draws_an_end<R: Wait>(rt: &R, endpoint: &mut Endpoint<'_, '_>) -> bool
     matches!(endpoint.draw(rt), Some(Item::End))
 }
 
-/// Tries to take an item from the queue, and returns whether the queue was empty.
+/// Asks the queue once for an item, and returns whether it found the queue empty. If it took an
+/// item, that is dropped. It does not wait for an item to come, but it may wait for a thread that
+/// is in the middle of a call.
 fn draws_nothing<R: Wait>(rt: &R, endpoint: &mut Endpoint<'_, '_>) -> bool
     ensures { endpoint.new ≡ record endpoint.old {
       drawn = endpoint.new.drawn;
@@ -272,8 +278,8 @@ fn put_all<'a, R: Wait>(
     Ok(games.report().games)
 }
 
-/// Takes jobs from the queue until an end comes, and returns their games; waits while the queue is
-/// empty.
+/// Takes jobs from the queue until an end (the sign that no job is left) comes, and returns the
+/// numbers of their games in the order in which they came. It waits while the queue is empty.
 fn draw_all<R: Wait>(
     rt: &R,
     alloc: Global,
@@ -298,7 +304,7 @@ fn keep(games: &mut Vec<u64>, game: u64) -> Result<(), TallyFault> {
     }
 }
 
-/// Joins two lists of games.
+/// Appends the games in `right` to `left`, and returns that list. `Memory` if memory was refused.
 fn all_of(mut left: Vec<u64>, right: &[u64]) -> Result<Vec<u64>, TallyFault> {
     for game in right {
         keep(&mut left, *game)?;
@@ -306,8 +312,9 @@ fn all_of(mut left: Vec<u64>, right: &[u64]) -> Result<Vec<u64>, TallyFault> {
     Ok(left)
 }
 
-/// Returns the games of the jobs that two workers take from the queue, each in a thread until an
-/// end comes.
+/// Lets two workers take jobs from the queue, each in a thread of its own until an end (the sign
+/// that no job is left) comes. Returns the numbers of the games: those that `one` took, and then
+/// those that `other` took.
 fn draw_by_two<R: Threads + Wait + Sync>(
     rt: &R,
     alloc: Global,
@@ -322,7 +329,7 @@ fn draw_by_two<R: Threads + Wait + Sync>(
     all_of(left?, right?.as_slice())
 }
 
-/// Both values, or the first fault.
+/// Returns both values, or a fault: that of `read` if both have one.
 fn both(
     read: Result<u64, TallyFault>,
     drawn: Result<Vec<u64>, TallyFault>,
@@ -334,7 +341,8 @@ fn both(
 }
 
 /// Adds all games to the queue in one thread, while two workers take them in others. Returns how
-/// many games were read, and those that the workers took.
+/// many games were read, and the numbers of those that the workers took: all of one worker, and
+/// then all of the other.
 fn put_and_draw<'a, R: Threads + Wait + Sync>(
     rt: &R,
     alloc: Global,
@@ -356,7 +364,9 @@ fn put_and_draw<'a, R: Threads + Wait + Sync>(
     both(read, drawn)
 }
 
-/// Makes a queue and hands the games of these bytes through it to two workers, as `put_and_draw`.
+/// Makes a queue for the games in `bytes`. One thread adds all of them to it, while two workers
+/// take them. Returns how many games were read, and the numbers of those that the workers took: all
+/// of one worker, and then all of the other.
 fn drawn_by_two<R: Threads + Wait + Sync>(
     rt: &R,
     alloc: Global,
@@ -388,7 +398,7 @@ fn two_workers_draw_each_game_once(rt: HostRuntime) -> Result<(), Fail> {
     Ok(())
 }
 
-/// The number of the game of the next job.
+/// Returns the number of the game of the next job, or None if no game is left.
 fn next_number(alloc: Global, games: &mut Games<'_>) -> Result<Option<u64>, TallyFault> {
     match games.next_job(alloc)? {
         Some(job) => Ok(Some(job.game())),

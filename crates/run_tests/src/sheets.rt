@@ -18,7 +18,8 @@ const TIES: &[u8] =
 /// a stone.
 const PAIR: &[u8] = b"shapes 1 games 1 moves 2 patterns 2\n3fff3fcffffff 2 1\n3fffbfcffffff 1 1\n";
 
-/// What is asked for if nothing else is said.
+/// What most tests here ask for: as plain text, the squares that were there at least once, but at
+/// most 50, those that were played most often first.
 const USUAL: Asked = Asked {
     order: Order::Played,
     kind: Kind::Square,
@@ -147,7 +148,7 @@ impl<'a> Read for Bytes<'a> {
     }
 }
 
-/// A writer that takes `most` bytes, and then fails.
+/// A writer that takes `most` bytes in all, and then takes none: `write` returns 0.
 #[derive(Drop)]
 pub(crate) struct Full {
     pub(crate) got: Vec<u8>,

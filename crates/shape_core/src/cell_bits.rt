@@ -6,9 +6,9 @@ use crate::diamond_bits::DIAMOND_BITS;
 use crate::square_bits::SQUARE_BITS;
 use crate::words::Kind;
 
-/// Returns the two bits of a `cell` in each of the eight images of a word of this `kind`: in the
-/// word itself and in its image with rows for columns, in these two with left and right exchanged,
-/// with top and bottom exchanged, and with both.
+/// Returns the two bits of a `cell` in each of the eight images of a word of this `kind`. The first
+/// two are the word itself and its image with rows for columns. The others are this pair with left
+/// and right exchanged, then with top and bottom exchanged, and then with both exchanged.
 #[inline(always)]
 pub fn cell_bits(kind: Kind, cell: usize) -> &'static [u64; 8]
     requires { cell < 25 }

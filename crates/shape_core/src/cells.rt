@@ -11,7 +11,9 @@ use go_board::{Point, Size};
 /// so that none is below 0.
 pub type Away = (u8, u8);
 
-/// The cells of a square, row by row from the top, each row from the left.
+/// The 25 cells of a square, cell 0 first: row by row from the top, each row from the left. A cell
+/// (a, b) lies a - 3 columns to the right of the middle and b - 3 rows below it. Cell i has the
+/// bits 2i and 2i + 1 of a square's word.
 #[rattlefmt::skip]
 pub const SQUARE_CELLS: [Away; 25] = [
     (1, 1), (2, 1), (3, 1), (4, 1), (5, 1),
@@ -21,7 +23,9 @@ pub const SQUARE_CELLS: [Away; 25] = [
     (1, 5), (2, 5), (3, 5), (4, 5), (5, 5),
 ];
 
-/// The cells of a diamond, row by row from the top, each row from the left.
+/// The 25 cells of a diamond, cell 0 first: row by row from the top, each row from the left. A cell
+/// (a, b) lies a - 3 columns to the right of the middle and b - 3 rows below it. Cell i has the
+/// bits 2i and 2i + 1 of a diamond's word.
 #[rattlefmt::skip]
 pub const DIAMOND_CELLS: [Away; 25] = [
                             (3, 0),
@@ -37,10 +41,12 @@ pub const DIAMOND_CELLS: [Away; 25] = [
 /// below the middle it lies, with three added so that none is below 0.
 pub type AwayRow = (u8, u8);
 
-/// The rows of a square, from the top.
+/// The rows of a square, from the top. A row (a, b) has a cells to each side of the middle column,
+/// and lies b - 3 rows below the middle.
 pub const SQUARE_ROWS: [AwayRow; 5] = [(2, 1), (2, 2), (2, 3), (2, 4), (2, 5)];
 
-/// The rows of a diamond, from the top.
+/// The rows of a diamond, from the top. A row (a, b) has a cells to each side of the middle column,
+/// and lies b - 3 rows below the middle.
 pub const DIAMOND_ROWS: [AwayRow; 7] = [(0, 0), (1, 1), (2, 2), (3, 3), (2, 4), (1, 5), (0, 6)];
 
 /// Returns the point that lies `away` from `point`, or None if that is off the board. `away` has

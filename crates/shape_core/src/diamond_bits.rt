@@ -1,8 +1,8 @@
 //! The bits of the cells of a diamond.
 
-/// For each cell of a diamond its two bits in eight words, as `SQUARE_BITS` has them for a square:
-/// in the word itself and in its image with rows for columns, in these two with left and right
-/// exchanged, with top and bottom exchanged, and with both.
+/// For each cell of a diamond, at the cell's index, its two bits in eight words. The first two are
+/// the word itself and its image with rows for columns. The others are this pair with left and
+/// right exchanged, then with top and bottom exchanged, and then with both exchanged.
 #[rattlefmt::skip]
 pub const DIAMOND_BITS: [[u64; 8]; 25] = [
     [0x3, 0xc0000, 0x3, 0xc0000000, 0x3000000000000, 0xc0000, 0x3000000000000, 0xc0000000],

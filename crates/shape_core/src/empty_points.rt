@@ -10,15 +10,16 @@ ghost use Rattle.shape_core.specs.Inner.KeptLists.{emptied};
 use go_board::{Point, Size, Stone};
 use std::alloc::{AllocError, Global};
 
-/// The empty points of a board: for each row a number with a bit for each column.
+/// The empty points of a board: for each row a number, whose bit c is set if the point in column c,
+/// counted from 0, is empty.
 #[derive(Drop)]
 pub struct EmptyPoints {
     pub rows: Vec<u64>,
 }
 
 impl EmptyPoints {
-    /// The empty points of a board without stones, which are all its points. It takes memory for
-    /// each row.
+    /// Returns the empty points of a board without stones, which are all its points. It takes
+    /// memory for each row; `AllocError` if that is refused.
     pub fn new(alloc: Global, size: Size) -> Result<EmptyPoints, AllocError>
         ensures { IfOk result (λ empties. (position : Position) →
             ((q : Point) → IsOn size q → position q ≡ stone.Empty) →
@@ -29,7 +30,8 @@ impl EmptyPoints {
         Ok(EmptyPoints { rows })
     }
 
-    /// A copy of these points. It takes memory for each row.
+    /// Returns a copy of these points. It takes memory for each row; `AllocError` if that is
+    /// refused.
     pub fn copied(&self, alloc: Global) -> Result<EmptyPoints, AllocError>
         ensures { IfOk result (λ empties. empties.rows.items ≡ self.now.rows.items) }
     {

@@ -141,8 +141,8 @@ impl Field {
         self.board.cell(point)
     }
 
-    /// The empty points of a row: a number with a bit for each column. The row is one of the
-    /// board's.
+    /// Returns the empty points of a row: bit c of the number is set if the point in column c,
+    /// counted from 0, is empty. The row is one of the board's.
     pub fn empty_columns(&self, row: u8) -> u64
         requires { row < self.now.board.size.rows }
         ensures columns { AreEmptyColumns self.now.board.size (position_of self.now.board) row
@@ -208,8 +208,8 @@ impl Field {
     }
 
     /// Adds the marked points, whose words have changed since the last call, to both sets `first`
-    /// and `second`, and unmarks all points. A set has a number for each row of the board, with a
-    /// bit for each column.
+    /// and `second`, and unmarks all points. A set has a number for each row of the board, whose
+    /// bit c is for column c, counted from 0.
     pub fn move_changed(&mut self, first: &mut [u64], second: &mut [u64])
         requires first { length first.old ≡ self.old.board.size.rows }
         requires second { length second.old ≡ self.old.board.size.rows }

@@ -19,7 +19,7 @@ pub struct ImagedWord {
     flipped: u64x2,
     /// The pair with top and bottom exchanged.
     turned: u64x2,
-    /// The pair with both exchanged.
+    /// The pair with left and right exchanged, and top and bottom too.
     both: u64x2,
 }
 

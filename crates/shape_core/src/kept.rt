@@ -31,7 +31,8 @@ pub struct KeptWords {
     /// The words of the diamonds with their images, in the same order. Empty if diamonds are not
     /// kept.
     pub diamonds: Vec<ImagedWord>,
-    /// For each row a number with a bit for each column, set if the point is marked.
+    /// For each row a number, whose bit c is set if the point in column c, counted from 0, is
+    /// marked.
     pub changed: Vec<u64>,
 }
 
@@ -64,7 +65,7 @@ impl KeptWords {
     }
 
     /// Makes a copy of the words and of the marks of changed points. It takes memory for each point
-    /// of the board.
+    /// of the board; `AllocError` if that is refused.
     pub fn copied(&self, alloc: Global) -> Result<KeptWords, AllocError>
         requires room { HasRoom self.now }
         ensures size { IfOk result (λ kept. kept.size ≡ self.now.size) }
@@ -83,8 +84,8 @@ impl KeptWords {
         })
     }
 
-    /// Updates the words after a stone was set on a point, or the point was emptied, and marks each
-    /// point of which a kept word changes.
+    /// Updates the words after `stone` was set on `point`, or after the point was emptied
+    /// (`Stone::Empty`), and marks each point of which a kept word changes.
     pub fn change(&mut self, point: Point, stone: Stone)
         requires on_board { IsOn self.old.size point }
         requires room { HasRoom self.old }
@@ -147,8 +148,8 @@ fn list_of<T: Copy>(alloc: Global, items: &[T]) -> Result<Vec<T>, AllocError>
     Ok(list)
 }
 
-/// The words of this kind of all points of a board, row by row from the top, each row from the
-/// left.
+/// Returns the words of this kind, with their images, of all points of a board: row by row from the
+/// top, each row from the left. It takes memory for each point; `AllocError` if that is refused.
 fn words_of(alloc: Global, board: &Board, kind: Kind) -> Result<Vec<ImagedWord>, AllocError>
     ensures { IfOk result (λ words. AreWords kind board.now.size (position_of board.now)
         words.items) }

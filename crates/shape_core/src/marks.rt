@@ -8,7 +8,8 @@ ghost use Rattle.shape_core.specs.Field.{IsMarked, AreJoined};
 ghost use Rattle.shape_core.specs.KeptLists.{AreMarks};
 ghost use Rattle.shape_core.specs.Inner.Table.{IsInRun};
 
-/// Marks in `changed` the points of a `row` from column `left` on and before column `end`.
+/// Marks in `changed` the points of a `row` from column `left` on and before column `end`, both
+/// counted from 0.
 pub fn mark_run(changed: &mut [u64], row: u8, left: u8, end: u8)
     requires row { row < length changed.old }
     requires columns { left ≤ end }
@@ -24,7 +25,8 @@ pub fn mark_run(changed: &mut [u64], row: u8, left: u8, end: u8)
 }
 
 /// Adds the points that are marked in `changed` to both sets `first` and `second`, and unmarks
-/// them. All three have a number for each row of the board, with a bit for each column.
+/// them. All three have a number for each row of the board, whose bit c is for column c, counted
+/// from 0.
 pub fn move_marks(changed: &mut [u64], first: &mut [u64], second: &mut [u64])
     requires first { length first.old ≡ length changed.old }
     requires second { length second.old ≡ length changed.old }

@@ -22,8 +22,9 @@ pub struct Header {
     pub diamonds: Option<u64>,
 }
 
-/// Reads the first words of a header, up to its number of games. Returns which of the three texts
-/// they begin, with the bytes after them, or None if they begin none.
+/// Reads the first words of a header, up to its number of games: `shapes 1 games `, or the same
+/// with 2 or 3. That number is the format of the dictionary's text. Returns the format, and the
+/// bytes from the number of games on. None if `bytes` begin otherwise.
 fn front(bytes: &[u8]) -> Option<(Text, &[u8])>
     ensures found { IfSome result (λ p. bytes.now ≡ front_text p.0 ++ p.1.now) }
     ensures only { (text : Kind) → (left : List ℕ) → bytes.now ≡ front_text text ++ left

@@ -16,8 +16,10 @@ pub struct ShapesEntry {
     pub first: u64,
 }
 
-/// What the header of a dictionary's text says: how many games and moves were counted, how many
-/// squares and diamonds follow (2^64 - 1 if diamonds were not counted), and how many both are.
+/// What the header of a dictionary's text says: how many games and moves were counted, and how many
+/// lines for squares and for diamonds follow. `diamonds` is 2^64 - 1 if diamonds were not counted.
+/// `patterns` is the sum of both, or the squares alone if diamonds were not counted, and 2^64 - 1
+/// if it is more.
 #[repr(C)]
 #[derive(Clone, Copy)]
 pub struct ShapesHeader {

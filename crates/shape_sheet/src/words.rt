@@ -80,7 +80,7 @@ impl<'a> FromArguments<'a> for Drawing<'a> {
     }
 
     /// Returns what the values ask for; no values at all ask for a page of the 50 squares that were
-    /// played most. `Usage` if the name is that of no order, or a number is missing or too large.
+    /// played most. `Usage` if a value names no known order, or a number is missing or too large.
     fn from_values(_alloc: Global, matches: &ArgMatches<'a>) -> Result<Drawing<'a>, RunFault> {
         match sheet_of(matches) {
             Some(sheet) => Ok(Drawing {

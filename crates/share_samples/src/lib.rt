@@ -86,7 +86,8 @@ pub fn entry_of(bits: u64, there: u64, played: u64, first: u32) -> Option<Entry>
 }
 
 /// Returns a share (what one worker has counted) of this game alone, with the number `game`, of
-/// worker 0, which counts squares alone; or why the game was refused.
+/// worker 0, which counts squares alone; or why the game was refused. `pass` is the right to call
+/// `table`, in which the patterns get slots.
 pub fn share_of<O: ProbeOrder>(
     alloc: Global,
     table: &SlotTable<O>,
@@ -109,8 +110,9 @@ pub fn share_of<O: ProbeOrder>(
 }
 
 /// Returns a share (what one worker has counted) of the first game in the collection `bytes`, which
-/// gets the number 0, of worker 0 and squares alone. None if there is no such game, memory was
-/// refused, or the game could not be added.
+/// gets the number 0, of worker 0 and squares alone. `pass` is the right to call `table`, in which
+/// the patterns get slots. None if there is no such game, memory was refused, or the game could not
+/// be added.
 pub fn first_share<O: ProbeOrder>(
     alloc: Global,
     table: &SlotTable<O>,
@@ -129,8 +131,9 @@ pub fn first_share<O: ProbeOrder>(
 }
 
 /// Adds the first game in the collection `bytes` to a share (what one worker has counted), with the
-/// number `game`. Returns what `Share::add` returned. None if there is no such game or memory for
-/// its record was refused; then nothing was added.
+/// number `game`. `pass` is the right to call `table`, in which the patterns get slots. Returns
+/// what `Share::add` returned. None if there is no such game or memory for its record was refused;
+/// then nothing was added.
 pub fn add_written<O: ProbeOrder>(
     alloc: Global,
     share: &mut Share,

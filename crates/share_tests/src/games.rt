@@ -13,7 +13,8 @@ use std::alloc::Global;
 use table_shares::Share;
 
 /// Adds the first game in `bytes` to a share, with the number `game`, and returns what `Share::add`
-/// returned. None if there is no such game, or memory for its record was refused.
+/// returned. `pass` is the right to call `table`. None if there is no such game, or memory for its
+/// record was refused.
 pub(crate) fn add<O: ProbeOrder>(
     alloc: Global,
     share: &mut Share,
@@ -29,8 +30,9 @@ pub(crate) fn add<O: ProbeOrder>(
     add_written(alloc, share, table, pass, game, bytes)
 }
 
-/// Returns a share of the first game in `bytes` alone, as game 0. None if there is no such game or
-/// it was refused.
+/// Returns a share (what one worker has counted) of the first game in `bytes` alone, which gets the
+/// number 0. Its patterns get slots in `table`, which is called by `pass` (the right to call it).
+/// None if there is no such game, or memory was refused, or the game was not added.
 pub(crate) fn first<O: ProbeOrder>(
     alloc: Global,
     table: &SlotTable<O>,

@@ -98,8 +98,8 @@ fn ends_after(share: &Share, many: usize) -> bool {
     rows.next().is_none() && rows.next().is_none()
 }
 
-/// Whether a share of `ONE_POINT` alone has one row, as `ends_after` finds. None if it could not be
-/// made.
+/// Whether the iterator over the rows of a share of `ONE_POINT` alone returns one row, and then
+/// None twice. None if the share could not be made.
 fn ends_after_one(alloc: Global) -> Option<bool> {
     let (table, mut pass) = table_of(alloc, 4)?;
     let share = first(alloc, &table, &mut pass, ONE_POINT)?;

@@ -17,15 +17,16 @@ fn has_first_alone(share: &Share, moves: u64) -> bool {
     share.games() == [0].as_slice() && share.moves() == moves
 }
 
-/// Adds `TWO_POINTS` as game 1 to a share, with a new table, and returns what came of it. None if
-/// memory was refused.
+/// Adds `TWO_POINTS` as game 1 to a share, with a new table of one slot, and returns what
+/// `Share::add` returned. None if memory for the table or the game's record was refused.
 fn add_elsewhere(alloc: Global, share: &mut Share) -> Option<Result<(), HarvestFault>> {
     let (table, mut pass) = table_of(alloc, 0)?;
     add(alloc, share, &table, &mut pass, 1, TWO_POINTS)
 }
 
-/// Adds a game to a share with another table than its first game's. Returns what came of it, and
-/// whether the share still has its first game alone.
+/// Adds a game to a share with another table than its first game's. Returns what `Share::add`
+/// returned, and whether the share still has its first game alone. None if memory was refused
+/// before.
 fn refused_elsewhere(alloc: Global) -> Option<(Result<(), HarvestFault>, bool)> {
     let (table, mut pass) = table_of(alloc, 0)?;
     let mut share = first(alloc, &table, &mut pass, ONE_POINT)?;
@@ -44,7 +45,8 @@ fn a_share_takes_no_game_of_another_table(rt: HostRuntime) {
 }
 
 /// Adds the first game in `bytes` to a share, with the number `game`. Returns whether it was
-/// refused since the table had no number (free slot) for the pattern with this word.
+/// refused since the table had no number (free slot) for the pattern with this word. False if it
+/// was added, refused for another reason, or not read.
 fn wants_a_number<O: ProbeOrder>(
     alloc: Global,
     share: &mut Share,
@@ -62,7 +64,7 @@ fn wants_a_number<O: ProbeOrder>(
 }
 
 /// Whether a table of two slots is too small for both games, and the share has its first game alone
-/// after the second was refused.
+/// after the second was refused. None if memory for the table or the first game was refused.
 fn is_too_small(alloc: Global) -> Option<bool> {
     let alone = Word::new(ALONE)?;
     let (table, mut pass) = table_of(alloc, 1)?;
@@ -95,7 +97,7 @@ fn has_blank_alone(share: &Share) -> bool {
 }
 
 /// Whether a game with two patterns, added over a table of one slot, is refused and leaves one row,
-/// with counts of 0.
+/// with counts of 0. None if memory for the table was refused.
 fn leaves_a_blank(alloc: Global) -> Option<bool> {
     let taken = Word::new(TAKEN)?;
     let (table, mut pass) = table_of(alloc, 0)?;

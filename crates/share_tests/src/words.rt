@@ -22,7 +22,8 @@ fn entry_of(bits: u64, game: u64) -> Option<Entry>
 }
 
 /// Enters three patterns into a table of 2^`bits` slots. Returns what `number_entries` returned,
-/// and the least game that is marked at the number (slot) of the last pattern; None if it has none.
+/// and the least game that is marked at the number (slot) of the last pattern, or None in its place
+/// if that has no slot or no mark. None if memory for the table was refused.
 fn numbered(alloc: Global, bits: u32) -> Option<(Result<(), HarvestFault>, Option<u64>)> {
     let entries = [
         entry_of(EMPTY, 4)?,

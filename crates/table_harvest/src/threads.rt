@@ -233,10 +233,11 @@ impl<'q, 'a, 't, O: ProbeOrder, G: Gate> Caller<'q, 'a, 't, O, G> {
     ghost use Rattle.table_harvest.specs.Working.{IsReturned};
     ghost use Rattle.table_harvest.specs.Inner.Threads.{IsCaller, AreResults, AreAsked};
 
-    /// Starts the workers, reads all games, and waits for the workers. Returns the results of the
-    /// workers in the order of their numbers, and then that of this thread. If fewer workers than
-    /// were asked for could be started, the results' fault is `Memory`. `AllocError` if memory was
-    /// refused for the results.
+    /// Starts the workers, reads all games, and waits for the workers. Returns what each thread has
+    /// counted, one entry for each: those of the workers in the order of their numbers, and then
+    /// that of this thread. `fault` of the results is why this thread did not read all games, or
+    /// None: it is `Memory`, and nothing was read, if fewer workers than were asked for could be
+    /// started. `AllocError` if memory was refused for the results.
     pub(crate) fn run<R: Threads + Wait + Sync>(
         self,
         rt: &R,

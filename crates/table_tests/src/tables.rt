@@ -68,7 +68,7 @@ fn an_absent_key_takes_no_number(rt: HostRuntime) -> Result<(), Fail> {
     Ok(())
 }
 
-/// Returns the answers for four keys that are entered by one call.
+/// Enters four keys by one call, and returns their answers in the order of `keys`.
 fn enter_four<O: ProbeOrder>(
     table: &SlotTable<O>,
     pass: &mut Pass<O>,
@@ -198,7 +198,8 @@ struct Job<O> {
     first: u8,
 }
 
-/// The pass of a thread that ended, and the slot of each key.
+/// The pass (what a caller has seen of the table's calls, for proofs) of a thread that ended, and
+/// the slot of each key from 0 to 198, at the key's index.
 #[derive(Drop)]
 struct Done<O> {
     pass: Pass<O>,
@@ -225,8 +226,8 @@ fn jobs_of<O: ProbeOrder>(
     Ok(jobs)
 }
 
-/// Enters all keys, from the job's first one on in strides of its own (every key, every second one,
-/// and so on), and returns their slots.
+/// Enters all keys from 0 to 198, from `first` of the job on and in strides of `first` + 1 (every
+/// key, every second one, and so on, and from the beginning again). Returns their slots.
 fn enter_all<O: ProbeOrder>(rt: &impl Abort, table: &SlotTable<O>, job: Job<O>) -> Done<O>
     requires { IsPassOf table.now job.pass }
     ensures { IsPassOf table.now result.pass }
@@ -240,7 +241,8 @@ fn enter_all<O: ProbeOrder>(rt: &impl Abort, table: &SlotTable<O>, job: Job<O>) 
     Done { pass, numbers }
 }
 
-/// Runs `enter_all` for each job in a thread of its own, and waits for all of them.
+/// Runs `enter_all` for each job in a thread of its own, and waits for all of them. Returns what
+/// they return, one for each job. `AllocError` if memory for this was refused.
 fn run_all<O: ProbeOrder + Send + Sync, R: Threads + Abort + Sync>(
     rt: &R,
     table: &SlotTable<O>,
@@ -343,7 +345,8 @@ fn all_threads_get_the_same_numbers(rt: HostRuntime) -> Result<(), Fail> {
     Ok(())
 }
 
-/// Enters a key of its own for each job, in a thread of its own, and returns the answers.
+/// Enters for each job the key that its `first` gives, each in a thread of its own, and returns the
+/// answers. `AllocError` if memory for them was refused.
 fn enter_each<O: ProbeOrder + Send + Sync, R: Threads + Abort + Sync>(
     rt: &R,
     table: &SlotTable<O>,
@@ -381,7 +384,8 @@ fn one_slot_has_one_key(rt: HostRuntime) -> Result<(), Fail> {
     Ok(())
 }
 
-/// Notes at slot 0 a game of its own for each job (the least is kept), in a thread of its own.
+/// Notes at slot 0, for each job in a thread of its own, the game 41 plus the job's `first`; the
+/// table keeps the least. `AllocError` if memory for the results was refused.
 fn mark_each<O: ProbeOrder + Send + Sync, R: Threads + Sync>(
     rt: &R,
     table: &SlotTable<O>,
@@ -400,7 +404,7 @@ fn mark_each<O: ProbeOrder + Send + Sync, R: Threads + Sync>(
     )
 }
 
-/// Notes at slot 0 the game 41 plus the number of the job, if the table has a slot.
+/// Notes at slot 0 the game 41 plus the job's `first`, if the table has a slot.
 fn mark_one<O: ProbeOrder>(table: &SlotTable<O>, job: Job<O>) -> Done<O>
     requires { IsPassOf table.now job.pass }
     ensures { IsPassOf table.now result.pass }

@@ -33,8 +33,8 @@ impl Model for Blank {
 }
 
 impl Blank {
-    /// Makes a source of empty fields, which keep the words of these `kinds` of pattern. It has no
-    /// field yet, and takes no memory.
+    /// Makes a source of empty fields, which keep the words of these `kinds` of pattern. It takes
+    /// no memory, and stores no field to copy yet: the first call of `field` makes one.
     pub fn new(alloc: Global, kinds: Kinds) -> Blank
         ensures { result ≡ kinds }
     {

@@ -11,7 +11,7 @@ use thiserror::Error;
 /// Why no dictionary was made.
 #[derive(Clone, Copy, Debug, PartialEq, Eq, Error)]
 pub enum TallyFault {
-    /// The numbers of workers or of slots are outside their limits.
+    /// The workers are outside 1 to 64, or the exponent k of the table of 2^k slots is over 22.
     #[error("F5 bad settings")]
     BadSettings,
     /// Memory was refused.

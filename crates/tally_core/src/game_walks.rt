@@ -18,9 +18,10 @@ use shape_core::Field;
 use std::alloc::Global;
 
 /// A game that is being walked: the board as it is, the patterns met so far with their counts
-/// (`meetings`), and for each colour to move the pattern that each empty point has, and since when.
-/// How often such a pattern has been there since then is not in `meetings` yet: it is added when
-/// the point changes, or by `finish`.
+/// (`meetings`), and, for each colour to move, the square and the diamond that each empty point
+/// has, with how many moves onto empty points this colour had made when the point got them. How
+/// often these have been there since then is not in `meetings` yet: it is added when the point
+/// changes, or by `finish`.
 ///
 /// Contracts speak of the counts that `meetings` would have if all this were added now (settled).
 #[derive(Drop)]
@@ -55,9 +56,9 @@ impl GameWalk {
         })
     }
 
-    /// If `action` is a move onto an empty point, counts the patterns of all empty points before it
-    /// as there, those of its own point as played too, and returns 1. Else returns 0. The board
-    /// does not change: `act` is called after this.
+    /// If `action` is a move onto an empty point, counts the patterns of all points that are empty
+    /// before it as there, those of the point that it fills as played too, and returns 1. Else
+    /// returns 0. The board does not change: `act` is called after this.
     ///
     /// # Errors
     ///

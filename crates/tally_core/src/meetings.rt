@@ -147,7 +147,9 @@ impl Meetings {
     }
 
     /// Makes the hash table twice as long, and enters all meetings again. It takes memory;
-    /// `AllocError` if that is refused. The list of meetings stays as it is in any case.
+    /// `AllocError` if that is refused. The hash table may have no slots then: until `clear` makes
+    /// new ones, shapes are not found, and `meet` may add further meetings of the same shape. The
+    /// list of meetings stays as it is in any case.
     #[inline(never)]
     fn grow(&mut self) -> Result<(), AllocError>
         ensures same { self.new ≡ self.old }

@@ -9,9 +9,10 @@ use std::marker::Model;
 /// long.
 const NOTHING: usize = usize::MAX;
 
-/// The square and the diamond that a point has for one colour to move, and since when, as a walk of
-/// a game stores them for each point. They are small enough that those of both colours fit a
-/// processor's first cache.
+/// What one point of the board has for one colour to move: its square, its diamond, and how many
+/// moves onto empty points this colour had made in this game when the point got both. A walk of a
+/// game stores one such value for each point and colour. They are small enough that those of both
+/// colours, of a board of 19 by 19, fit a processor's first cache.
 #[derive(Drop, Clone)]
 pub struct PackedStays {
     /// The index of the square in the list of the game's patterns, or `NOTHING`.
@@ -68,7 +69,7 @@ impl PackedStays {
     }
 
     /// Packs the `square` and the `diamond` of a point. Each that is not None must have begun at
-    /// `since`: when its colour had made that many moves onto empty points.
+    /// `since`: when its colour had made that many moves onto empty points in this game.
     pub fn new(square: Option<Stay>, diamond: Option<Stay>, since: u64) -> PackedStays
         requires square { BeginsAt since square }
         requires diamond { BeginsAt since diamond }
@@ -81,7 +82,9 @@ impl PackedStays {
         }
     }
 
-    /// Unpacks the point's square and diamond, each with since when the point has had it.
+    /// Unpacks the point's square and diamond, each None if the point has none. Both have in
+    /// `since` how many moves onto empty points their colour had made in this game when the point
+    /// got them.
     pub fn get(&self) -> Stays
         ensures { result ≡ self.now }
     {

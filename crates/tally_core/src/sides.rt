@@ -27,8 +27,9 @@ pub struct Side {
     /// bit for each column. After a move of this colour onto an empty point they are those that
     /// were empty before it.
     pub standing: Vec<u64>,
-    /// The patterns that each point has, and since when, row by row from the top, each row from the
-    /// left.
+    /// The square and the diamond that each point has, and how many moves onto empty points this
+    /// colour had made when the point got both. The points are in the order of rows from the top,
+    /// each row from the left.
     pub points: Vec<PackedStays>,
 }
 

@@ -10,7 +10,9 @@ use game_files::push_name;
 use shape_dict::push_number;
 use std::alloc::AllocError;
 
-/// Appends where a tree begins and ends.
+/// Appends a tab and the byte index of the tree's first byte, and then a tab and the byte index
+/// after its last byte, both in decimal. The number of the game is not appended, nor a tab or line
+/// feed after these.
 fn push_bounds(text: &mut Vec<u8>, place: Place) -> Result<(), AllocError>
     ensures { OnOk result (text.new.items ≡ text.old.items ++ bounds_text place) }
 {

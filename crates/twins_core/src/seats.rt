@@ -3,7 +3,8 @@ ghost use Rattle.std.specs.Prelude.{◌≡◌, IfOk, option_map, string_bytes};
 
 use std::alloc::{AllocError, Global};
 
-/// The number of a game, and the byte indices in the input at which its tree begins and ends.
+/// The number of a game, and the byte indices in the input of its tree's first byte (`from`) and
+/// after its last (`to`).
 #[derive(Clone, Copy, Debug)]
 pub(crate) struct Place {
     pub(crate) number: u64,
