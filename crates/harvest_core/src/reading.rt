@@ -84,7 +84,8 @@ fn close<R: Wait, G: Gate>(rt: &R, shared: &Shared<'_, '_>, gate: &G, own: &mut 
     }
 }
 
-/// The result of the thread that reads.
+/// What the thread that reads the input returns: what it has counted itself, how many trees of each
+/// sort it read, and why it stopped before the last tree, if it did.
 #[derive(Drop)]
 pub(crate) struct Reading<'q, 'a> {
     pub own: Worker<'q, 'a>,

@@ -95,8 +95,10 @@ impl<'a> Lesson<Item<'a>, Knowledge> for Takes {
     ghost fact = { λ v items. ⊤ };
 }
 
-/// What a pass (a thread's right to call the queue) that has all parts may conclude about the whole
-/// queue. Used in contracts only; no code makes one.
+/// The rule by which a pass (a thread's right to call the queue) learns what holds of the whole
+/// queue, for example that no game was drawn more often than it was put. It asks for all 1024 parts
+/// of the queue's endpoints: then no other endpoint is left. Used in contracts only; no code makes
+/// one.
 pub(crate) struct Settles;
 
 impl<'a> Lesson<Item<'a>, Knowledge> for Settles {

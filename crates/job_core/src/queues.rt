@@ -85,8 +85,8 @@ impl<'q, 'a> Model for Endpoint<'q, 'a> {
 }
 
 impl<'q, 'a> Endpoint<'q, 'a> {
-    /// Makes the reader's endpoint at a new `queue`, for the jobs of the input `bytes`. It has all
-    /// 1024 parts (see `Endpoint`). It takes no memory.
+    /// Makes the reader's endpoint at a new `queue`, for the jobs of the input `bytes`. It takes no
+    /// memory. In contracts it has all 1024 parts of the queue, of which `another` gives some away.
     ///
     /// `pass` must be the one that `new_queue` returned with the queue, and unused.
     pub fn open(queue: &'q Jobs<'a>, pass: Seat<'a>, bytes: &'a [u8]) -> Endpoint<'q, 'a>
@@ -99,7 +99,8 @@ impl<'q, 'a> Endpoint<'q, 'a> {
     }
 
     /// Makes a worker's endpoint at the queue of `self`, for another thread. It gets one of the
-    /// parts (see `Endpoint`) of `self`, which must have more than one. It takes no memory.
+    /// parts of `self`, which must have two at least: in contracts, the endpoints of a queue have
+    /// 1024 parts together. It takes no memory.
     pub fn another(&mut self) -> Endpoint<'q, 'a>
         requires { 1 < self.old.parts }
         ensures lent { self.new ≡ record self.old { parts = self.old.parts - 1 } }

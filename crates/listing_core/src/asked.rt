@@ -1,4 +1,4 @@
-//! What a listing writes of an input, and how.
+//! The options of a listing of an input's trees.
 use crate::conditions::Condition;
 
 /// What is written of each tree that is chosen.
@@ -12,7 +12,8 @@ pub enum Form {
     Trees,
 }
 
-/// What a listing writes of an input, and how.
+/// The options of a listing of an input's trees: which trees are chosen, what is written of each,
+/// which number the first game has, and whether each line names the file.
 #[derive(Clone, Copy, Debug)]
 pub struct Asked<'a> {
     /// What is written of each tree that is chosen.

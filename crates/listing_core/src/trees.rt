@@ -76,7 +76,8 @@ fn number_of(what: &What, next: u64) -> Option<u64>
     }
 }
 
-/// The line of a tree; `what` is what the tree is, and `next` is the number of the next game.
+/// Returns the line that lists a tree: its number, where its bytes begin and end, and `what` was
+/// found: a game, a tree of another game, or a fault. `next` is the number of the next game.
 fn line_of(tree: &Tree<'_>, next: u64, what: What) -> Line
     ensures line { (recorded : Result Kind RecordFault) → IsWhat recorded what
         → IsLineOf recorded next result }
@@ -90,7 +91,8 @@ fn line_of(tree: &Tree<'_>, next: u64, what: What) -> Line
     }
 }
 
-/// Appends what is written of a tree, and returns its line; `next` is the number of the next game.
+/// Appends what is written of a tree to `text`, and returns its line. `next` is the number that the
+/// tree has if it is a game.
 fn push_tree(
     alloc: Global,
     asked: &Asked<'_>,

@@ -92,15 +92,19 @@ fn merge_ranges<T: Threads + Sync, S: Sources + Sync, W: Write>(
 }
 
 /// Joins dictionaries and writes the text of their join. Each input is a text of its own, in any of
-/// the three texts and of any size; the games of each are numbered after those of the inputs before
-/// it. If the form has a least number, the text is that of another dictionary: its games are those
-/// of the join, its patterns are the squares of the join that were there at least as often, and its
-/// moves are those at which one of them was played. Each input is read twice: first to check it and
-/// to count what the join has, and then to write. If the inputs are large, twice as many threads as
-/// there are processors, at most 16, do that at the same time, each with a range of words; it takes
-/// memory for a range of about half a megabyte for each. If they are small, or can't be checked by
-/// ranges, this thread reads them line by line, with a block of 65,536 bytes of each in memory, and
-/// one more; if there is a fault, they are checked again, one after another.
+/// the three formats (see `Text`) and of any size. The games of each are numbered after those of
+/// the inputs before it.
+///
+/// If `form.least` is a number, only the squares that were there at least that often in the join
+/// are written. The games are still all those of the join, and the moves those at which one of
+/// these squares was played.
+///
+/// Each input is read twice: first to check it and to count what the join has, and then to write.
+/// If the inputs are large, two threads for each processor, at most 16, share this work. A thread
+/// takes a range of words at a time (lines are in the order of their words), and memory for its
+/// lines, about half a megabyte. If the inputs are small, or can't be checked by ranges, the
+/// calling thread reads them line by line, with a block of 65,536 bytes of each in memory, and one
+/// more. If there is a fault, it then checks them again, one after another.
 ///
 /// # Errors
 ///

@@ -30,7 +30,8 @@ fn moves_for(least: Option<u64>, totals: Totals, counts: Tally) -> u64
     }
 }
 
-/// Returns the number of diamonds for the header, or None if the header names none.
+/// Returns the number of diamonds for the header. It is None, and the header names none, if the
+/// joined dictionaries count no diamonds, or if `least` is given: squares alone are kept then.
 fn diamonds_for(least: Option<u64>, totals: Totals, counts: Tally) -> Option<u64>
     ensures { result ≡ diamonds_for least totals counts }
 {

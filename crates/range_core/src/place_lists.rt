@@ -26,8 +26,9 @@ fn listed(alloc: Global, sums: &Sums, room: usize) -> Result<RecordList, AllocEr
     Ok(list)
 }
 
-/// Adds up the entries of a full list, and doubles its capacity if the sums fill more than half. If
-/// memory for the sums is refused, or one passes 2^64 - 1, the list is unchanged.
+/// Makes room in a full list: the entries of each pattern become one, with their counts added up.
+/// If more than half is still filled then, the list's capacity is doubled. `sums` is memory to work
+/// in. If memory is refused, or a sum passes 2^64 - 1, the list is unchanged.
 #[inline(never)]
 fn make_room(alloc: Global, sums: &mut Sums, list: &mut RecordList)
     ensures { (shape : ℕ) → total_of shape list.new ≡ total_of shape list.old }

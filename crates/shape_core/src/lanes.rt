@@ -92,8 +92,8 @@ pub fn top_bottom(words: u64x2, kind: Kind) -> u64x2
     }
 }
 
-/// Returns, for each of the two words, the lower bit of each cell whose two bits differ. All other
-/// bits are 0.
+/// Returns, for each of the two words, a mask of the cells whose two bits differ: 1 at the lower
+/// bit of each such cell, and 0 everywhere else.
 fn differing(words: u64x2) -> u64x2
     ensures { (a b : ℕ) → words ≡ a ∷ b ∷ [] → result
         ≡ bit_and (bit_xor a (a / 2 ^ 1)) 0x1555555555555

@@ -77,7 +77,8 @@ fn sum_of_glyphs(bytes: &[u8]) -> Result<u64, GlyphFault>
     Ok(sum)
 }
 
-/// The square of these 25 glyphs, cell 0 first. Takes no memory.
+/// Returns the square that 25 glyphs spell: `.` empty, `X` black, `O` white, `#` off the board. The
+/// cells go row by row from the top, each row from the left. It takes no memory.
 ///
 /// # Errors
 ///
@@ -94,7 +95,9 @@ pub fn from_glyphs(bytes: &[u8]) -> Result<Word, GlyphFault>
     Ok(Word::of_bits(sum))
 }
 
-/// The diamond of these 25 glyphs, cell 0 first. Takes no memory.
+/// Returns the diamond that 25 glyphs spell: `.` empty, `X` black, `O` white, `#` off the board.
+/// The cells go row by row from the top (1, 3, 5, 7, 5, 3 and 1 cells), each row from the left. It
+/// takes no memory.
 ///
 /// # Errors
 ///

@@ -159,8 +159,8 @@ impl Dictionary {
         Ok(Dictionary::new(games, moves, entries, left.counts_diamonds()))
     }
 
-    /// Appends the text of the dictionary that `text` names to `out`. Text 1 has the squares,
-    /// text 2 has the diamonds too, and text 3 has first games besides.
+    /// Appends this dictionary to `out`, in the form that `text` names: text 1 has the squares
+    /// alone, text 2 the diamonds too, and text 3 also the first game that had each pattern.
     ///
     /// # Errors
     ///

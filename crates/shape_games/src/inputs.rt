@@ -1,4 +1,5 @@
-//! The inputs of a run, one after another, and the sums over them.
+//! The inputs of a run, one after another, and what is kept over all of them: how many trees of
+//! each sort there were, the games met so far (to find those that are there twice), and the status.
 ghost use Rattle.std.specs.Prelude.{◌≡◌, ◌≤◌, IfSome};
 ghost use Rattle.listing_core.specs.Listing.{most_first};
 ghost use Rattle.shape_games.specs.Inputs.{first_status};
@@ -194,8 +195,9 @@ fn sum_up(rt: &HostRuntime, asked: &Asked<'_>, sum: &mut Sum) {
     );
 }
 
-/// Writes what is asked for of all inputs that the words name. Prints to standard error what went
-/// wrong and, at the end, how many trees of each sort there were. Returns the exit status.
+/// Writes what is asked for of all inputs that the command line names. Prints to standard error
+/// what went wrong and, at the end, how many trees of each sort there were. It returns the exit
+/// status.
 ///
 /// # Errors
 ///

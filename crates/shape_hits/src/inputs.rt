@@ -1,4 +1,4 @@
-//! The inputs of a run, one after another, and the sums over them.
+//! The inputs of a run that lists hits, one after another, and the sums over them.
 ghost use Rattle.std.specs.Prelude.{◌≡◌};
 ghost use Rattle.shape_hits.specs.Inputs.{first_status, left_after};
 

@@ -33,7 +33,8 @@ impl Status {
     ghost use Rattle.std.specs.Prelude.{◌≡◌};
     ghost use Rattle.shape_keys.specs.Status.{number_of};
 
-    /// The number of the status. The faults of a text, X1 to X9, are 11 to 19.
+    /// Returns the number that a call returns for this status: 0 for `Done`, 1 to 8 for the others
+    /// in their order, and 11 to 19 for the faults X1 to X9 of a dictionary's text.
     pub fn number(self) -> u32
         ensures { result ≡ number_of self }
     {

@@ -239,19 +239,20 @@ impl<O: ProbeOrder> SlotTable<O> {
         self.end_all(pass, keys, &looks, answers)
     }
 
-    /// Enters these keys, each by a call of its own, as `enter` does: a key that has no number (the
-    /// index of its slot) gets a free one. `answers[i]` becomes the number of `keys[i]`, or `Full`
-    /// if none was free. It takes no memory and waits for no other thread.
+    /// Enters each key by a call of its own, as `enter` does, and sets `answers[i]` to the answer
+    /// for `keys[i]`: the key's number (the index of its slot), or `Full` if it had none and none
+    /// was free. Other threads may call the table meanwhile. It takes no memory and waits for no
+    /// other thread. A key may be in `keys` several times.
     ///
-    /// After the first `Full` most keys are not entered any more, since each new one would be
-    /// looked for in all slots. Their answers are `Absent`, which no call of `enter` answers. Keys
-    /// of the same block of 128 that were found by the block's first loads have their numbers.
+    /// The keys are taken in blocks of 128. In each block, the first slots of all keys are loaded,
+    /// then the second slots of those that found another key there, and so on; so the cache lines
+    /// of the slots are fetched together. A key that is found by a load has its number then. The
+    /// others take a free slot or go on after all loads of their block, in the order of the keys.
+    /// So the calls end in another order than the keys have.
     ///
-    /// In each block, the first slots of all keys are loaded, then the second slots of those that
-    /// found another key there, and so on; so the cache lines of the slots are fetched together. A
-    /// key that is found has its number by that load. The others take a free slot or go on after
-    /// all loads of their block, in the order of the keys. So the calls end in another order than
-    /// the keys have. A key may be in `keys` several times.
+    /// After the first `Full` no key is looked for any more, since each new one would be looked for
+    /// in all slots. Later keys of the same block have their numbers if a load had found them. All
+    /// other later keys are not entered: their answers are `Absent`, which `enter` never answers.
     ///
     /// `pass` (the right to call the table) must be of this table, and there must be as many
     /// answers as keys. What the answers hold before is not read.

@@ -15,7 +15,7 @@ use probe_core::{Answer, Call, Key, Probe, ProbeOrder, Turn, Want};
 use std::marker::Brand;
 
 /// Takes the next step of a probe (a call under way) on the shared words, and returns the probe
-/// after it, or the call's answer. `seat` is the thread's right to step on the words.
+/// after it, or the call's answer. `seat` is the thread's right to load and change the words.
 fn turn<A: Ask, O: ProbeOrder>(shared: &Shown<O>, seat: &mut Place<O>, probe: Probe<O>) -> Turn<O>
     requires seat { IsSeatAt O.exponent shared.now seat.old }
     requires probe { (probe.order ≡ shared.now.key) × (probe.machine ≡ A.machine) }
@@ -37,7 +37,7 @@ fn turn<A: Ask, O: ProbeOrder>(shared: &Shown<O>, seat: &mut Place<O>, probe: Pr
 }
 
 /// Takes the steps of a probe (a call under way) until the call ends, and returns the answer.
-/// `seat` is the thread's right to step on the words.
+/// `seat` is the thread's right to load and change the words.
 pub(crate) fn run<O: ProbeOrder>(shared: &Shown<O>, seat: &mut Place<O>, probe: Probe<O>) -> Answer
     requires seat { IsSeatAt O.exponent shared.now seat.old }
     requires order { probe.order ≡ shared.now.key }
@@ -59,7 +59,7 @@ pub(crate) fn run<O: ProbeOrder>(shared: &Shown<O>, seat: &mut Place<O>, probe: 
 }
 
 /// Makes a call (enters or looks up a key), takes all its steps and returns the answer. `seat` is
-/// the thread's right to step on the words.
+/// the thread's right to load and change the words.
 pub(crate) fn asked<O: ProbeOrder>(
     shared: &Shown<O>,
     seat: &mut Place<O>,
@@ -78,7 +78,7 @@ pub(crate) fn asked<O: ProbeOrder>(
 }
 
 /// Returns the word of the slot at this index of the key's probe order. For proofs that load is a
-/// step of the key's `Enter`. `seat` is the thread's right to step on the words.
+/// step of the key's `Enter`. `seat` is the thread's right to load and change the words.
 pub(crate) fn look<A: Ask, O: ProbeOrder>(
     shared: &Shown<O>,
     seat: &mut Place<O>,
@@ -99,7 +99,7 @@ pub(crate) fn look<A: Ask, O: ProbeOrder>(
 }
 
 /// Loads the word of the slot `number`, as part of no call, and returns its key, or None if the
-/// slot is free. `seat` is the thread's right to step on the words.
+/// slot is free. `seat` is the thread's right to load and change the words.
 pub(crate) fn word_at<O: ProbeOrder>(
     shared: &Shown<O>,
     seat: &mut Place<O>,
@@ -121,9 +121,9 @@ pub(crate) fn word_at<O: ProbeOrder>(
     }
 }
 
-/// Splits a thread's seat (its right to step on the words), and returns the new one. For proofs it
-/// has seen the same calls, and gets half of the first piece of the stake (the seat's part of the
-/// right to call the table).
+/// Splits a thread's seat (its right to load and change the words), and returns the new one. For
+/// proofs it has seen the same calls, and gets half of the first piece of the stake (the seat's
+/// part of the right to call the table).
 pub(crate) fn split<O: ProbeOrder>(shared: &Shown<O>, seat: &mut Place<O>) -> Place<O>
     requires { IsSeatAt O.exponent shared.now seat.old }
     ensures same { (seat.new.table_id ≡ seat.old.table_id)
@@ -135,8 +135,8 @@ pub(crate) fn split<O: ProbeOrder>(shared: &Shown<O>, seat: &mut Place<O>) -> Pl
     shared.split_seat::<Cut>(seat)
 }
 
-/// Merges the seat `other` (a right to step on the words) into `seat`: for proofs, also the calls
-/// that it has seen or made, and its stake (its part of the right to call the table).
+/// Merges the seat `other` (a right to load and change the words) into `seat`: for proofs, also the
+/// calls that it has seen or made, and its stake (its part of the right to call the table).
 pub(crate) fn meet<O: ProbeOrder>(shared: &Shown<O>, seat: &mut Place<O>, other: Place<O>)
     requires seat { IsSeatAt O.exponent shared.now seat.old }
     requires other { IsSeatAt O.exponent shared.now other }
@@ -148,7 +148,7 @@ pub(crate) fn meet<O: ProbeOrder>(shared: &Shown<O>, seat: &mut Place<O>, other:
 }
 
 /// Notes a game in the slot `number`: the slot's mark word becomes `game` if that is less. `seat`
-/// is the thread's right to step on the words.
+/// is the thread's right to load and change the words.
 pub(crate) fn mark<O: ProbeOrder>(shared: &Shown<O>, seat: &mut Place<O>, number: usize, game: u64)
     requires seat { IsSeatAt O.exponent shared.now seat.old }
     requires number { number < 2 ^ O.exponent shared.now.key }
@@ -162,7 +162,7 @@ pub(crate) fn mark<O: ProbeOrder>(shared: &Shown<O>, seat: &mut Place<O>, number
 }
 
 /// Returns the least game that was marked in the slot `number`, or None if none was. `seat` is the
-/// thread's right to step on the words.
+/// thread's right to load and change the words.
 pub(crate) fn first<O: ProbeOrder>(
     shared: &Shown<O>,
     seat: &mut Place<O>,

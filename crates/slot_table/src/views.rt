@@ -43,7 +43,8 @@ pub(crate) type Words<O> = Table<(), View<O>, O, OneHistory, Global>;
 /// The words as threads share them.
 pub(crate) type Shown<O> = Shared<(), View<O>, O, OneHistory>;
 
-/// A thread's seat at a table: its right to step on the words, with what it has seen, for proofs.
+/// A thread's seat at a table: its right to load and change the words, one atomic
+/// step at a time. What it has seen by them is there for proofs.
 pub(crate) type Place<O> = Seat<(), View<O>>;
 
 /// The step of a call that is taken. Used in contracts only.

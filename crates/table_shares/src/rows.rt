@@ -1,4 +1,5 @@
-//! The rows of a share (one pattern's counts each), found by the pattern's number in the table.
+//! The rows of a share, which is what one worker has counted. A row has the counts of one pattern,
+//! and is found by the pattern's number in the table.
 ghost use Rattle.std.specs.Prelude.{◌≡◌, ◌+◌, ◌^◌, ◌<◌, ◌≤◌, IfSome, IfNone};
 ghost use Rattle.sgf_core.specs.Limit.{most_bytes};
 ghost use Rattle.table_shares.specs.Rows.{blank};

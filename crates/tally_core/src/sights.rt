@@ -92,10 +92,11 @@ impl Side {
         }
     }
 
-    /// Looks again at the points of a row that have changed, and takes them out of the set
-    /// `changed`: first at those that had a pattern and have a stone now, then at those that are
-    /// empty, from the left. A point that had a stone and has one still has no pattern to count, so
-    /// it is not looked at. `TallyFault::Memory` if memory was refused.
+    /// Brings the points of a row that have changed up to date, and takes them out of the set
+    /// `changed`. First the pattern of each point that has a stone now ends, and its counts are
+    /// added in `meetings`. Then the pattern of each point that is empty now, from the left, is
+    /// found and begins. A point that had a stone and has one still has no pattern, so it is not
+    /// looked at. `TallyFault::Memory` if memory was refused.
     fn see_row(
         &mut self,
         meetings: &mut Meetings,

@@ -31,8 +31,8 @@ pub enum PartsFault {
     Write { written: usize },
 }
 
-/// The exit status of a fault: 1 for `Unwanted`, 5 if memory was refused, 6 if a read or a write
-/// failed.
+/// Returns the exit status of a fault: 1 for `Unwanted`; 5 if memory was refused, also while a part
+/// was counted; 6 if a dictionary could not be stored, read again, joined or written.
 pub fn status_of(fault: &PartsFault) -> u8
     ensures { result ≡ status_of fault.now }
 {

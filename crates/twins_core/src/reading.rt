@@ -50,8 +50,13 @@ pub(crate) struct Ending {
 }
 
 /// Returns the sort of `tree`. If it is a game, it has the `number` given and is compared with the
-/// games before: if one has its record, its line is appended to `text`; else `twins` keeps it as
-/// the first that has it.
+/// games before it: if one has the same record (board size and actions), a line about `tree` is
+/// appended to `text`, with the file's `name` if there is one; else `twins` keeps it as the first
+/// with its record.
+///
+/// # Errors
+///
+/// What memory was refused for. A tree with a fault in its record is no error, but `Refused`.
 fn meet_tree(
     alloc: Global,
     twins: &mut Twins,

@@ -1,4 +1,4 @@
-//! From a reader to a writer: the games whose record an earlier game has.
+//! Reads collections, and writes which of their games have the record of an earlier game.
 ghost use Rattle.std.specs.Prelude.{◌≤◌, List, option_map, IfOk, IfErr};
 ghost use Rattle.engine_core.specs.Runs.{HasRead, Wrote, IsRunFault};
 ghost use Rattle.listing_core.specs.Listing.{most_first};
@@ -13,7 +13,9 @@ use sgf_core::Trees;
 use std::alloc::Global;
 use std::io::{Read, Write};
 
-/// Returns what is written of an input, and how its reading ended.
+/// Returns the lines for those games of an input whose record an earlier game has, and how its
+/// reading ended. All games of the input are added to `twins`. The first has the number `first`,
+/// and `name` is that of the input's file.
 fn twins_text(
     alloc: Global,
     twins: &mut Twins,
