@@ -1,4 +1,4 @@
-//! Texts of games: what the trees of one are, and how one is appended to those before it.
+//! Reads texts of games one by one, and joins them into one input.
 ghost use Rattle.std.specs.Prelude.{◌≡◌, ℕ, List, [], ◌∷◌, ◌++◌, OnOk, IfOk, IfErr};
 ghost use Rattle.game_core.specs.Games.{HasReadAll};
 ghost use Rattle.game_core.specs.Faults.{IsGamesFault};
@@ -24,7 +24,7 @@ pub fn report_of(alloc: Global, text: &[u8]) -> Result<Report, GamesFault>
 }
 
 /// Appends `text` to `texts`, the SGF texts already joined, and a closing parenthesis after it.
-/// Outside of trees the parenthesis is passed over, and no tree continues after it. It takes
+/// Outside of trees a reader passes over the parenthesis, and no tree continues after it. It takes
 /// memory.
 ///
 /// # Errors

@@ -46,11 +46,13 @@ fn counted_text<T: Threads + Wait + Sync, G: Gate>(
 }
 
 /// Reads a collection, writes a text of the dictionary of its games, and returns how many trees it
-/// has of each sort. The kinds of pattern that are counted are those of the settings: if diamonds
-/// are not counted, texts 2 and 3 say so, and text 1 is that of the squares. The text is the same
-/// for every number of workers. `harvest` counts, and says on how many threads; 8 to 16 threads, as
-/// many as there are workers, make the text in parts that are written one after another. It takes
-/// memory for the input, for what `harvest` takes, and for the text.
+/// has of each sort: games of Go, other games, and refused trees.
+///
+/// The kinds of pattern that are counted are those of the settings: if diamonds are not counted,
+/// texts 2 and 3 say so, and text 1 is that of the squares. The text is the same for every number
+/// of workers. `harvest` counts, and says on how many threads; 8 to 16 threads, as many as there
+/// are workers, make the text in parts that are written one after another. It takes memory for the
+/// input, for what `harvest` takes, and for the text.
 ///
 /// The gate is for a test or a display of progress: it learns which worker is about to count which
 /// game. It does not change the result. That the call ends rests on a promise that no contract

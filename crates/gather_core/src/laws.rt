@@ -7,8 +7,9 @@ ghost use Rattle.tally_core.specs.Games.{IsDictionaryOf};
 ghost use Rattle.gather_core.specs.Shares.{Held, Added, replayed_of};
 ghost use Rattle.gather_core.specs.Gathering.{HaveGames, IsGathered, all_added, replayed_games};
 
-/// The dictionary of shares is that of their games, in the order of the games' numbers. Each game
-/// of a share is the game at the place of its number. (A share is what one worker has counted.)
+/// States, for proofs, that the dictionary of shares (a share is what one worker has counted) is
+/// that of their games, in the order of the games' numbers. Each game of a share is the game at the
+/// index of its number. It does nothing at run time.
 pub fn dictionary_of_shares()
     ensures dictionary { (kinds : Kinds) → (games : ℕ)
         → (addeds : List (List Added)) → (shares : List Held) → HaveGames kinds games addeds shares

@@ -16,8 +16,9 @@ pub fn key_of(shape: Shape) -> Key
     Key::new(shape.word().bits()).unwrap()
 }
 
-/// Marks a game at a number, unless a game that is no later is marked there. If no game is given,
-/// nothing is done.
+/// Marks `game` as the first game at `number`, a slot of the table, unless a game that is no later
+/// is marked there. If `game` is unknown, nothing is done. `pass`, the right to call the table,
+/// must be of the table.
 pub fn mark_first<O: ProbeOrder>(
     table: &SlotTable<O>,
     pass: &mut Pass<O>,

@@ -12,7 +12,7 @@ use shape_dict::Entry;
 use slot_table::{Pass, SlotTable};
 
 /// Returns the fault that no number is free for the pattern of an entry. It has the pattern's first
-/// game, or 0 if it has none.
+/// game, or 0 if that is unknown.
 fn full(entry: &Entry) -> HarvestFault
     ensures { (game : ℕ) × (result ≡ fault.Full game entry.now.shape)
         × IfSome entry.now.first (λ first. game ≡ first) }
@@ -50,13 +50,13 @@ fn number_one<O: ProbeOrder>(
 
 /// Enters the pattern of each entry into the table, and marks the entry's first game at its number.
 ///
-/// No other pattern is entered, and no other game marked. The pass must be of the table. It takes
-/// no memory.
+/// No other pattern is entered, and no other game marked. `pass`, the right to call the table, must
+/// be of the table. It takes no memory.
 ///
 /// # Errors
 ///
-/// `Full` if no number is free for a pattern, with its first game. By then patterns of these
-/// entries may have got numbers and marks in the table.
+/// `Full` if no number is free for a pattern, with its first game, or 0 if that is unknown. By then
+/// patterns of these entries may have got numbers and marks in the table.
 pub fn number_entries<O: ProbeOrder>(
     table: &SlotTable<O>,
     pass: &mut Pass<O>,

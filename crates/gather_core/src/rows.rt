@@ -2,8 +2,9 @@
 use shape_core::Shape;
 use shape_dict::FirstGame;
 
-/// What a share has counted at one number of the table: the number's pattern, how often it was
-/// there and was played, and the least game in which it was there, or None before any was counted.
+/// What a share (one worker's counts) has for one pattern: the pattern's number in the table, the
+/// pattern, how often it was there and was played, and the least game in which it was there,
+/// unknown before any was counted.
 #[derive(Clone, Copy, Debug, PartialEq, Eq)]
 pub struct Row {
     pub number: usize,

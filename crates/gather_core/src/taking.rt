@@ -1,5 +1,5 @@
-//! Threads take ranges of patterns by places: each range is added up, its patterns get their
-//! numbers and are dealt to ranges of words.
+//! Threads take ranges of patterns by places (slots of a hash table): each range is added up, its
+//! patterns get their numbers and are dealt to ranges of words.
 ghost use Rattle.std.specs.Prelude.{◌≡◌, ◌++◌, ◌∷◌, [], true, List, length, IfOk, IfErr, IfSome};
 ghost use Rattle.std.specs.Prelude.{OnOk};
 ghost use Rattle.std.specs.Bool.{OnTrue};
@@ -32,8 +32,8 @@ pub(crate) struct Numbering<'t, O: ProbeOrder> {
     pub room: usize,
 }
 
-/// What is made of ranges by places: lists by ranges of words, and the pass with which their
-/// patterns got numbers.
+/// What is made of ranges by places: lists by ranges of words, and the pass (right to call the
+/// table) with which their patterns got numbers.
 #[derive(Drop)]
 pub(crate) struct Taken<O: ProbeOrder> {
     pub pass: Pass<O>,
@@ -52,8 +52,8 @@ struct Workspace {
     numbered: bool,
 }
 
-/// Gives the patterns of these entries their numbers, unless `numbered` says that the numbers ran
-/// out before. Returns whether they have lasted so far.
+/// Gives the patterns of `entries` numbers in the table, unless `numbered` is false: the numbers
+/// ran out before. Returns whether they have lasted so far.
 fn number_more<O: ProbeOrder>(
     table: &SlotTable<O>,
     pass: &mut Pass<O>,
@@ -73,8 +73,8 @@ fn number_more<O: ProbeOrder>(
     number_entries(table, pass, entries).is_ok()
 }
 
-/// Adds a range up, gives its patterns numbers while there are any, and deals them to ranges of
-/// words. Returns whether the range can be added up: a sum that passes 2^64 - 1 cannot.
+/// Adds a range up, gives its patterns numbers while there are any, and deals them to the ranges of
+/// words in `work`. Returns false if a sum passes 2^64 - 1, else true.
 ///
 /// # Errors
 ///
@@ -108,7 +108,8 @@ fn take_range<O: ProbeOrder>(
     Ok(true)
 }
 
-/// Takes one range after another in this thread. Returns None if one cannot be added up.
+/// Adds up one range after another in this thread, and returns their entries by ranges of words.
+/// Returns None if a sum passes 2^64 - 1.
 ///
 /// # Errors
 ///
@@ -149,8 +150,8 @@ fn take_alone<O: ProbeOrder>(
     }))
 }
 
-/// Puts together what two threads have taken: all is numbered if what each has taken is. Returns
-/// None if one of them has nothing. The pass gets the calls of both.
+/// Puts together what two threads have made of their ranges: all patterns are numbered if those of
+/// both are. Returns None if one of the two is None. The pass gets the calls of both.
 ///
 /// # Errors
 ///
@@ -189,7 +190,8 @@ fn both_taken<O: ProbeOrder>(
     }))
 }
 
-/// Takes the ranges of two halves, each in a thread of its own if one can be started.
+/// Makes of the ranges `low` and `high` what `take_ranges` makes of all, each of the two in a
+/// thread of its own if one can be started.
 #[cycle(taking)]
 fn take_both<R: Threads + Sync, O: ProbeOrder + Send + Sync>(
     rt: &R,
@@ -224,11 +226,14 @@ fn take_both<R: Threads + Sync, O: ProbeOrder + Send + Sync>(
     both_taken(numbering, low?, high?)
 }
 
-/// Takes ranges by places: halves of them in threads of their own if these can be started, and
-/// halves of these, `depth` times. Returns None if a sum passes 2^64 - 1. A pattern for which no
-/// number is free is taken without one, and then not all are numbered. The pass must be of the
-/// table. It takes memory for the entries of each pattern once more, and gives back that of the
-/// ranges one by one.
+/// Adds up ranges by places, gives their patterns numbers in the table, and returns their entries
+/// in lists by ranges of words. The two halves of the ranges are in threads of their own if these
+/// can be started, and each is halved again, `depth` times in all. Returns None if a sum passes
+/// 2^64 - 1.
+///
+/// A pattern for which no number is free is taken without one, and then not all are numbered. The
+/// pass must be of the table. It takes memory for the entries of each pattern once more, and gives
+/// back that of the ranges one by one.
 ///
 /// # Errors
 ///

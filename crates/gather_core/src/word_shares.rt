@@ -13,7 +13,8 @@ use std::alloc::{AllocError, Global};
 use std::marker::Model;
 use tally_core::{Meeting, Walk};
 
-/// Appends to lists what a game has met of a pattern, its counts, unless both counts are 0.
+/// Appends an entry to `lists` with the counts of `meeting`, what a game has met of one pattern,
+/// and the game, `first`. Does nothing if both counts are 0.
 #[inline(always)]
 fn append_one(lists: &mut PlaceLists, meeting: &Meeting, first: FirstGame) -> Result<(), AllocError>
     ensures { OnOk result ((game : ℕ) → first ≡ Some game → (shape : ℕ)
@@ -32,8 +33,8 @@ fn append_one(lists: &mut PlaceLists, meeting: &Meeting, first: FirstGame) -> Re
     Ok(())
 }
 
-/// Appends to lists what a game has met of all patterns, except what counts nothing. It takes
-/// memory if lists have no room.
+/// Appends what the game numbered `game` has met of all patterns to `lists`, except what counts
+/// nothing. It takes memory if lists have no room.
 ///
 /// # Errors
 ///
@@ -90,8 +91,8 @@ impl WordShare {
     ghost use Rattle.gather_core.specs.Adding.{IsAdded};
     ghost use Rattle.gather_core.specs.WordShares.{unnumbered, IsWordFault};
 
-    /// Makes an empty share for the worker with this number. Each of its lists has room for this
-    /// many patterns. It takes memory for that.
+    /// Makes an empty share (what a worker has counted) for the worker with this number. Each of
+    /// its lists has room for `room` entries. It takes memory for that.
     ///
     /// # Errors
     ///
@@ -120,8 +121,9 @@ impl WordShare {
         })
     }
 
-    /// Counts a game into the share. It uses no table of numbers. It takes memory for the game's
-    /// board, and when a list is full.
+    /// Replays the game `game_record`, whose number is `game`, and counts its patterns into the
+    /// share. It uses no table of numbers. It takes memory for the game's board, and when a list is
+    /// full.
     ///
     /// # Errors
     ///
@@ -152,14 +154,14 @@ impl WordShare {
         self.games.as_slice()
     }
 
-    /// The number of moves onto empty points in the games.
+    /// Returns the number of moves onto empty points in the games.
     pub fn moves(&self) -> u64
         ensures { result ≡ self.now.moves }
     {
         self.moves
     }
 
-    /// Returns what was counted, as entries in lists by ranges of places.
+    /// Returns what was counted, as entries in lists by ranges of places (slots of a hash table).
     pub fn into_lists(self) -> Lists
         ensures rows { map unnumbered (all_of result) ≡ self.rows }
         ensures len { length result ≡ place_ranges }

@@ -1,9 +1,10 @@
 //! Gates: what a worker calls before it counts each game.
 
-/// What whoever counts a game calls before counting it. A gate changes no answer.
+/// Is called before each game is counted, for a test or a display of progress. A gate changes no
+/// result.
 pub trait Gate: Sync {
-    /// A worker is about to count a game. Workers are numbered from 0; if the table is somebody
-    /// else's, 0 is the thread that reads.
+    /// Learns that worker `worker` is about to count game `game`. Both are numbered from 0; worker
+    /// 0 is the thread that reads.
     fn at(&self, worker: usize, game: u64);
 }
 

@@ -1,4 +1,5 @@
-//! Several threads count a collection by words, and one dictionary is made of what they have met.
+//! Several threads count a collection by words (the numbers of patterns), and one dictionary is
+//! made of what they have met.
 ghost use Rattle.std.specs.Prelude.{◌≡◌, ◌⊎◌, ◌<◌, ◌≤◌, ℕ, List, length, IfOk, IfErr};
 ghost use Rattle.std.specs.Prelude.{IfSome, IsErrAnd};
 ghost use Rattle.sgf_core.specs.Limit.{most_bytes};
@@ -51,8 +52,8 @@ fn threads_for<R: Threads>(rt: &R, asked: u8) -> u8 {
     asked.saturating_add(1).min(processors).max(LEAST_THREADS)
 }
 
-/// Makes the dictionary of what was counted by words, once the input was read. Returns None if a
-/// sum passes 2^64 - 1.
+/// Makes the dictionary of what was counted by words, once the input was read, and gives its
+/// patterns numbers in the table. Returns None if a sum passes 2^64 - 1.
 ///
 /// # Errors
 ///
@@ -111,7 +112,7 @@ fn both_of(
 }
 
 /// Counts all games of an input, and makes a table of this capacity meanwhile, in one more thread
-/// if one can be started.
+/// if one can be started. Returns the table and what all threads have counted.
 ///
 /// # Errors
 ///
@@ -149,11 +150,15 @@ fn count_beside_table<'q, 'a, R: Threads + Wait + Sync, G: Gate>(
     both_of(shared, made, counts)
 }
 
-/// Counts a collection by words in several threads: as many as there are workers, and this one, but
-/// no more than there are processors, and at least two. This thread reads, and puts a job for each
-/// game into a queue, from which the others draw. It counts what the queue has no room for, and
-/// draws too when all is read. The patterns get numbers in one new table of 2^exponent slots, which
-/// one more thread makes meanwhile. Returns None if a sum of all threads passes 2^64 - 1.
+/// Counts the collection `bytes` by words in several threads, and returns its dictionary, and how
+/// many of its trees are games, of other games, or refused. Returns None if a sum of all threads
+/// passes 2^64 - 1.
+///
+/// As many threads count as there are workers, and this one, but no more than there are processors,
+/// and at least two. This thread reads, and puts a job for each game into a queue, from which the
+/// others draw. It counts what the queue has no room for, and draws too when all is read. The
+/// patterns get numbers in one new table of 2^exponent slots, which one more thread makes
+/// meanwhile.
 ///
 /// It takes memory for the queue, for the records of the games in it, for the table, for each
 /// thread for what its games meet and for the board, and for the dictionary.

@@ -1,4 +1,4 @@
-//! The table in which the patterns of a count get their numbers.
+//! The table in which the patterns of a count get their numbers, the indices of its slots.
 ghost use Rattle.std.specs.Prelude.{◌≡◌, IfOk, IfErr};
 ghost use Rattle.slot_table.specs.Passes.{IsPassOf};
 ghost use Rattle.harvest_faults.specs.declared.faults.HarvestFault.TheVariants as fault;
@@ -8,14 +8,14 @@ use probe_core::{Capacity, OddRuns};
 use slot_table::{Pass, SlotTable};
 use std::alloc::Global;
 
-/// The table that numbers all patterns, and its first pass.
+/// The table that numbers all patterns, and its first pass (the right to call it).
 #[derive(Drop)]
 pub(crate) struct Numbering {
     pub table: SlotTable<OddRuns>,
     pub pass: Pass<OddRuns>,
 }
 
-/// Makes a table of this capacity in which no number is taken.
+/// Makes a table of this capacity in which no number is taken, and its first pass.
 ///
 /// # Errors
 ///

@@ -26,8 +26,8 @@ use tally_core::{Counted, Settings};
 /// points then have a new pattern of each kind, so few inputs need more.
 const SLOTS_A_BYTE: usize = 16;
 
-/// Returns the exponent of a table that mostly holds the patterns of this many bytes, at most
-/// `most`.
+/// Returns the exponent k of a table whose 2^k slots mostly suffice for the patterns of a
+/// collection of `bytes` bytes; it is at most `most`.
 fn likely_exponent(bytes: usize, most: u32) -> u32
     ensures { result ≤ most }
 {
@@ -35,7 +35,8 @@ fn likely_exponent(bytes: usize, most: u32) -> u32
     (slots.ilog2() + 1).min(most)
 }
 
-/// Returns what was counted of a collection, if it has at most this many patterns.
+/// Returns `counted`, what was counted of the collection `bytes`, if it has at most `most`
+/// patterns.
 ///
 /// # Errors
 ///
@@ -58,7 +59,8 @@ fn within(
     Ok(counted)
 }
 
-/// Numbers the patterns of lists, list after list, until one finds no number.
+/// Gives the patterns of lists numbers in the table, list after list, until no number is free for
+/// one.
 fn number_pieces<O: ProbeOrder>(table: &SlotTable<O>, pass: &mut Pass<O>, pieces: &[Vec<Entry>])
     requires { IsPassOf table.now pass.old }
 {
@@ -69,7 +71,8 @@ fn number_pieces<O: ProbeOrder>(table: &SlotTable<O>, pass: &mut Pass<O>, pieces
     }
 }
 
-/// Numbers the patterns of a dictionary in a new table of 2^k slots.
+/// Makes a new table of 2^k slots, and gives the patterns of a dictionary numbers in it. The table
+/// is then dropped.
 ///
 /// # Errors
 ///
@@ -86,20 +89,23 @@ fn number_again(alloc: Global, k: u32, dictionary: &PieceDictionary) -> Result<(
     Ok(())
 }
 
-/// Counts a whole collection by workers, with at most 2^k patterns. The settings have the number of
-/// workers, the exponent k and the kinds of pattern. It answers what `count_plain` answers,
-/// whatever the gate, the number of workers and their turns. This is the project's own.
+/// Counts a whole collection, `bytes`, by workers, and returns its dictionary, and how many of its
+/// trees are games, of other games, or refused. The settings have the number of workers, the kinds
+/// of pattern, and the exponent k: there may be at most 2^k patterns. It returns what `count_plain`
+/// returns, whatever the gate, the number of workers and their turns. This is the project's own.
 ///
 /// As many threads count as the settings have workers, and this one, but no more than there are
 /// processors, and at least two; one more makes the table meanwhile. They are numbered from 0. This
 /// thread is 0: it reads, and puts a job for each game into a queue, from which the others draw. It
-/// counts a game itself when the queue is full, and draws with the others when all is read. Each
-/// appends what its games meet to lists of its own; the gate is called before each game. Each game
-/// is counted once, as all ends of the queue prove together. If a thread cannot be started, the
-/// others draw its games. When no game is left, threads add the lists up, give the patterns numbers
-/// in one table, which has 2^k slots, or fewer for a small input, and put them in order. If that
-/// table had no number for a pattern, this thread numbers all of them once more, in a table of 2^k
-/// slots; nothing is counted twice.
+/// counts a game itself when the queue is full, and draws with the others when all is read. If a
+/// thread cannot be started, the others draw its games.
+///
+/// Each thread appends what its games meet to lists of its own; the gate is called before each
+/// game. Each game is counted once, as the contracts of all ends of the queue prove together. When
+/// no game is left, threads add the lists up, give the patterns numbers in one table, which has 2^k
+/// slots, or fewer for a small input, and put them in order. If that table had no number for a
+/// pattern, this thread numbers all of them once more, in a table of 2^k slots; nothing is counted
+/// twice.
 ///
 /// Calls at the queue may wait for a thread that is in the middle of one, and each thread waits for
 /// items until it has drawn an end: that this call ends rests on the calls that wait keeping their
@@ -109,7 +115,7 @@ fn number_again(alloc: Global, k: u32, dictionary: &PieceDictionary) -> Result<(
 ///
 /// # Errors
 ///
-/// `Memory` if memory was refused. Else the answer is determined by the input and the settings:
+/// `Memory` if memory was refused. Else the result is determined by the input and the settings:
 /// `Sgf` with S4 if the input has more than 2^28 bytes, else with its first fault of syntax; else
 /// `Full` if it has more than 2^k patterns. `Full` names the pattern with which the patterns, in
 /// the order of the games and of their walks, are first more than 2^k, and the first game that has
@@ -147,10 +153,10 @@ pub fn harvest<R: Threads + Wait + Sync, G: Gate>(
     Ok(counted)
 }
 
-/// Counts a whole collection by workers, however many patterns it has, and gives no pattern a
-/// number. It answers what `count_plain` answers, whatever the gate, the number of workers and
-/// their turns. Threads, waiting and memory are those of `harvest`, except for the table. This is
-/// the project's own.
+/// Counts a whole collection, `bytes`, by workers, however many patterns it has, and gives no
+/// pattern a number. Returns what `count_plain` returns, whatever the gate, the number of workers
+/// and their turns. Threads, waiting and memory are those of `harvest`, except for the table. This
+/// is the project's own.
 ///
 /// # Errors
 ///

@@ -29,7 +29,7 @@ pub(crate) struct Reached {
     pub before: usize,
 }
 
-/// Whether a pattern's first game is below this game.
+/// Whether a pattern's first game is known and below `game`.
 fn is_before(entry: &Entry, game: u64) -> bool
     ensures { result ≡ is_below game entry.now.first }
 {
@@ -39,7 +39,7 @@ fn is_before(entry: &Entry, game: u64) -> bool
     }
 }
 
-/// Counts the patterns of a list whose first games are below this game.
+/// Counts the patterns of a list whose first games are below `game`.
 fn before_in(entries: &[Entry], game: u64) -> usize
     ensures { result ≡ length (entries_before game entries.now) }
 {
@@ -52,8 +52,8 @@ fn before_in(entries: &[Entry], game: u64) -> usize
     count
 }
 
-/// Counts the patterns of lists whose first games are below this game: those that the games below
-/// it have.
+/// Counts the patterns of all lists whose first games are below `game`: the patterns that the games
+/// below it have.
 fn before(pieces: &[Vec<Entry>], game: u64) -> usize
     requires { length (entries_in pieces.now) < 2 ^ 63 }
     ensures { result ≡ length (entries_before game (entries_in pieces.now)) }
@@ -93,8 +93,8 @@ fn span_of(pieces: &[Vec<Entry>], games: u64, most: usize) -> Span
     span
 }
 
-/// Counts a pattern for its first game, if that is one of the games from `low` on that have a
-/// count.
+/// Adds 1 to the count of the game `first`, a pattern's first game. `counts` has the counts of the
+/// games from `low` on. Nothing is done if `first` is None or has no count there.
 fn count_first(counts: &mut [usize], low: u64, first: Option<u64>)
     requires few { (i : ℕ) → i < length counts.old → get_or counts.old i 0 + 1 < 2 ^ 64 }
     ensures long { length counts.new ≡ length counts.old }
@@ -113,7 +113,8 @@ fn count_first(counts: &mut [usize], low: u64, first: Option<u64>)
     }
 }
 
-/// Counts each pattern of a list for its first game.
+/// Adds 1, for each pattern of a list, to the count of its first game. `counts` has the counts of
+/// the games from `low` on; other games are passed over.
 fn count_firsts(counts: &mut [usize], low: u64, entries: &[Entry])
     requires few { (i : ℕ) → i < length counts.old
         → get_or counts.old i 0 + length entries.now < 2 ^ 64 }
@@ -146,7 +147,8 @@ fn counts_of(
     Ok(counts)
 }
 
-/// Returns the game of a span with whose patterns there are first more than `most`.
+/// Returns the first game of `span` with which there are more than `most` patterns, and how many
+/// the games below it have. It takes memory for a count of each game of the span.
 fn reached_in(
     alloc: Global,
     pieces: &[Vec<Entry>],

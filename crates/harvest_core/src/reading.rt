@@ -96,7 +96,8 @@ pub(crate) struct Reading<'q, 'a> {
 }
 
 /// Reads all games and deals them out, puts an end into the queue for each thread, and counts with
-/// the others until it draws an end. It waits for the workers.
+/// the others until it draws an end. Returns what it has read and counted. It waits for the
+/// workers.
 pub(crate) fn read<'q, 'a, R: Wait, G: Gate>(
     rt: &R,
     shared: &Shared<'_, 'a>,

@@ -37,8 +37,8 @@ struct Seat<'q, 'a> {
     endpoint: Endpoint<'q, 'a>,
 }
 
-/// Makes the seats of the workers beside the thread that reads, each with a part of this endpoint
-/// of the queue.
+/// Makes the seats of the workers beside the thread that reads: for each its number, from 1, and an
+/// endpoint of the queue split off `endpoint`.
 fn worker_seats<'q, 'a>(
     shared: &Shared<'q, 'a>,
     endpoint: &mut Endpoint<'q, 'a>,
@@ -56,9 +56,9 @@ fn worker_seats<'q, 'a>(
     Ok(seats)
 }
 
-/// Starts a worker on each of these seats, in a thread of its own if one can be started, and
-/// returns the workers when each has drawn an end. One for which no thread can be started draws
-/// only its end, after another worker has drawn one.
+/// Starts a worker on each of `seats` (its number and its end of the queue), in a thread of its own
+/// if one can be started, and returns the workers when each has drawn an end. A worker for which no
+/// thread can be started draws only its end, after another worker has drawn one.
 fn count_beside<'q, 'a, R: Threads + Wait + Sync, G: Gate>(
     rt: &R,
     shared: &Shared<'_, '_>,
@@ -79,7 +79,8 @@ fn count_beside<'q, 'a, R: Threads + Wait + Sync, G: Gate>(
     thread::map_vec(rt, seats, &one)
 }
 
-/// Takes the endpoints of all workers back into this one, and returns the workers' shares.
+/// Merges the endpoints of all workers into `endpoint`, and returns the workers' shares (what each
+/// has counted).
 ///
 /// # Errors
 ///
@@ -108,8 +109,8 @@ fn take_up<'q, 'a>(
     Ok(shares)
 }
 
-/// Puts together what the workers and the thread that reads have counted. Each game of the input is
-/// in these shares once, as the endpoints tell together.
+/// Puts together what the workers and the thread that reads have counted, a share for each. Each
+/// game of the input is in these shares once, as the contracts of their endpoints prove together.
 ///
 /// # Errors
 ///
@@ -143,8 +144,8 @@ fn joined<'q, 'a>(
     Ok(ThreadCounts { shares, report })
 }
 
-/// Counts all games of an input by words in as many threads as are asked for. The reader and the
-/// endpoint must be new.
+/// Counts all games of an input by words, in `shared.workers` threads if they can be started.
+/// `games` must be at the input's beginning, and `endpoint` the first of a new queue, not used yet.
 ///
 /// # Errors
 ///

@@ -31,7 +31,7 @@ struct FirstBeyond {
     game: u64,
 }
 
-/// Whether a pattern's first game is this game.
+/// Whether a pattern's first game is known and is `game`.
 fn is_new(entry: &Entry, game: u64) -> bool
     ensures { result ≡ is_game game entry.now.first }
 {
@@ -41,7 +41,7 @@ fn is_new(entry: &Entry, game: u64) -> bool
     }
 }
 
-/// Puts into a set the words of those patterns of a list which this game is the first to have.
+/// Puts into `words` the words of those patterns of a list which `game` is the first game to have.
 fn put_new(words: &mut HashSet<u64>, entries: &[Entry], game: u64) -> Result<(), HarvestFault>
     ensures put { OnOk result (HasPut words.old (new_words game entries.now) words.new) }
     ensures fault { IfErr result (λ found. found ≡ fault.Memory) }
@@ -54,7 +54,8 @@ fn put_new(words: &mut HashSet<u64>, entries: &[Entry], game: u64) -> Result<(),
     Ok(())
 }
 
-/// Returns the words of the patterns that this game is the first to have. It takes memory for them.
+/// Returns the words of the patterns that `game` is the first game to have. It takes memory for
+/// them.
 fn new_of(alloc: Global, pieces: &[Vec<Entry>], game: u64) -> Result<HashSet<u64>, HarvestFault>
     ensures has { IfOk result
         (λ words. HasWords words (new_words game (entries_in pieces.now))) }
@@ -67,8 +68,9 @@ fn new_of(alloc: Global, pieces: &[Vec<Entry>], game: u64) -> Result<HashSet<u64
     Ok(words)
 }
 
-/// Returns the job of this game. The games before it are read and passed over. It takes memory for
-/// a tree and its record.
+/// Returns the job (the number and the record) of game `game`, counted from 0, of the input
+/// `bytes`. The games before it are read and passed over. It takes memory for a tree and its
+/// record.
 fn job_of<'a>(alloc: Global, bytes: &'a [u8], game: u64) -> Result<Job<'a>, HarvestFault>
     requires { HasGame bytes.now game }
     ensures job { IfOk result (λ job. (job.bytes ≡ bytes.now) × (job.game ≡ game)) }
@@ -83,8 +85,8 @@ fn job_of<'a>(alloc: Global, bytes: &'a [u8], game: u64) -> Result<Job<'a>, Harv
     unreachable!()
 }
 
-/// Walks this game, so that `walk` has what it meets. It takes memory for the game's tree, its
-/// record, the board and what the game meets.
+/// Replays game `game` of the input `bytes`: `walk.meetings()` has its patterns then. It takes
+/// memory for the game's tree, its record, the board and what the game meets.
 fn walk_game(alloc: Global, walk: &mut Walk, bytes: &[u8], game: u64) -> Result<(), HarvestFault>
     requires { HasGame bytes.now game }
     ensures met { OnOk result (HasMet walk.old.kinds bytes.now game walk.new.meetings) }
@@ -98,8 +100,9 @@ fn walk_game(alloc: Global, walk: &mut Walk, bytes: &[u8], game: u64) -> Result<
     Ok(())
 }
 
-/// Returns the pattern at this place, from 0, among the patterns that were met and whose words are
-/// in a set, in the order in which each was first met. The words up to it are taken out of the set.
+/// Returns the pattern at index `place`, from 0, among those of `meetings` whose words are in
+/// `words`, each counted once, in the order in which they were first met. The words up to it are
+/// taken out of `words`. None if there are fewer.
 fn shape_at(words: &mut HashSet<u64>, meetings: &[Meeting], place: usize) -> Option<Shape>
     ensures { result ≡ slice_get (filter (contains nat_eq words.old)
         (once_each (shapes_of meetings.now))) place }
@@ -116,8 +119,9 @@ fn shape_at(words: &mut HashSet<u64>, meetings: &[Meeting], place: usize) -> Opt
     None
 }
 
-/// Walks this game, and returns the pattern at this place, from 0, among those whose words are in a
-/// set.
+/// Replays game `game` of the input, and returns the pattern at index `place`, from 0, among its
+/// patterns whose words are in `words`, in the order in which they are first met. None if there are
+/// fewer.
 fn shape_of(
     alloc: Global,
     walk: &mut Walk,
@@ -135,8 +139,8 @@ fn shape_of(
     Ok(shape_at(words, walk.meetings(), place))
 }
 
-/// Returns the pattern at this place, from 0, among those that this game is the first to have, in
-/// the order in which its walk meets them.
+/// Returns the pattern at index `place`, from 0, among those that `game` is the first game to have,
+/// in the order in which its walk meets them. None if there are fewer.
 fn new_at(
     alloc: Global,
     kinds: Kinds,

@@ -1,4 +1,5 @@
-//! A worker: it draws jobs from the queue and counts their games by words, until it draws an end.
+//! A worker: it draws jobs (a game's number and record) from the queue and counts their games by
+//! words, until it draws an end.
 use crate::gates::Gate;
 use gather_core::WordShare;
 use harvest_faults::HarvestFault;
@@ -34,8 +35,8 @@ pub(crate) struct Worker<'q, 'a> {
     pub counted: Result<WordShare, HarvestFault>,
 }
 
-/// Returns how many patterns games of this many bytes mostly meet, counted anew in each game: three
-/// a byte, but no more than 2^22.
+/// Returns how many patterns games of this many bytes mostly meet, where a pattern counts once for
+/// each game that has it: three a byte, but no more than 2^22.
 fn likely_meetings(bytes: usize) -> usize {
     bytes.saturating_mul(3).min(1 << 22)
 }
@@ -45,9 +46,9 @@ impl<'q, 'a> Worker<'q, 'a> {
     ghost use Rattle.harvest_core.specs.Inner.Working.{HasCounted, IsAtWork, GoesOn};
     ghost use Rattle.harvest_core.specs.Inner.Dealt.{CountsGame};
 
-    /// Makes the worker of this number, at this endpoint. It takes memory for its lists: for what
-    /// as many games meet as it is likely to draw, and a quarter more, since the thread that reads
-    /// draws fewer. If that is refused, the worker has the fault.
+    /// Makes the worker of this number, at this endpoint. It takes memory for its lists: for the
+    /// patterns of as many games as it is likely to draw, and a quarter more, since the thread that
+    /// reads draws fewer. If that is refused, `counted` is `Memory`.
     pub(crate) fn begin(
         shared: &Shared<'_, '_>,
         number: usize,
@@ -71,7 +72,7 @@ impl<'q, 'a> Worker<'q, 'a> {
 
     /// Counts the game of a job, after it has called the gate. If an earlier game could not be
     /// counted, the job is dropped. It takes memory for the patterns of the game, and for its board
-    /// and walk. If that is refused, or a count might be too large, the worker has the fault from
+    /// and walk. If that is refused, or a count might be too large, `counted` is the fault from
     /// then on.
     pub(crate) fn count<G: Gate>(&mut self, shared: &Shared<'_, '_>, gate: &G, job: &Job<'_>)
         requires job { job.now.bytes ≡ shared.now.bytes.now }
@@ -110,7 +111,7 @@ impl<'q, 'a> Worker<'q, 'a> {
     }
 
     /// Draws items and counts their games until it draws an end, and returns the worker. It waits
-    /// for whoever puts items into the queue.
+    /// for the thread that puts items into the queue.
     pub(crate) fn work<R: Wait, G: Gate>(
         self,
         rt: &R,

@@ -78,8 +78,8 @@ impl HarvestFault {
         }
     }
 
-    /// The `HarvestFault` of the same name for a fault of counting on one thread. It takes no
-    /// memory.
+    /// Returns the `HarvestFault` of the same name for a fault of counting on one thread. It takes
+    /// no memory.
     pub fn of_tally(fault: TallyFault) -> HarvestFault
         ensures { result ≡ same_fault fault }
     {

@@ -1,4 +1,4 @@
-//! Counts the patterns that a join keeps, and how often they were played.
+//! Counts the patterns that a join of dictionaries keeps, and how often they were played.
 ghost use Rattle.std.specs.Prelude.{◌≡◌, ◌≤◌, ◌<◌, ◌^◌, ℕ, Bool, List, length, MatchResult, IfOk};
 ghost use Rattle.shape_dict.specs.declared.entries.Entry.{Entry as One};
 ghost use Rattle.shape_dict.specs.Contents.{Contents};
@@ -18,10 +18,10 @@ use crate::tallies::{Tally, no_tally, with_kept};
 use crate::trees::{Tree, next_of};
 use std::alloc::Global;
 
-/// Reads the join that `tree` makes to its end, and keeps none of it. Returns how many different
-/// squares and diamonds the join keeps, and how often these were played. It keeps all patterns if
-/// `least` is None, else only squares that were there at least `least` times. `Changed` if a sum is
-/// over 2^64 - 1.
+/// Reads all entries (patterns with their counts) of the join that `tree` makes, and stores none.
+/// Returns how many different squares and diamonds the join keeps, and how often these were played.
+/// It keeps all patterns if `least` is None, else only squares that were there at least `least`
+/// times. `Changed` if a sum is over 2^64 - 1, else a fault of reading.
 pub(crate) fn tally_of_kept<E: Entries>(
     mut tree: Tree<E>,
     least: Option<u64>,
@@ -48,10 +48,10 @@ pub(crate) fn tally_of_kept<E: Entries>(
 }
 
 /// Makes the join of the first `count` dictionaries entry by entry, to count it: nothing is written
-/// or kept. Returns the totals of the dictionaries, and how many different squares and diamonds the
-/// join keeps and how often these were played. It keeps all patterns if `least` is None, else only
-/// squares that were there at least `least` times. Each dictionary is read to its end: `Ok` means
-/// that all are well-formed.
+/// or stored. Returns the totals of the dictionaries (their games and moves), and how many
+/// different squares and diamonds the join keeps and how often these were played. It keeps all
+/// patterns if `least` is None, else only squares that were there at least `least` times. Each
+/// dictionary is read to its end: `Ok` means that all are well-formed.
 pub(crate) fn count_join<S: Sources>(
     alloc: Global,
     sources: &S,

@@ -1,4 +1,5 @@
-//! Sources of entries, which are taken one after another, and why the next entry may not come.
+//! Sources of entries (patterns with their counts), which are taken one after another, and why the
+//! next entry may not come.
 use shape_dict::Entry;
 
 /// Why the next entry of a join was not returned.
@@ -31,8 +32,9 @@ pub trait Entries: Drop {
     ///
     /// # Errors
     ///
-    /// `Overflow` if the counts of an entry that is still to come are too large; `Read` if a reader
-    /// failed. After an error a further call may return anything.
+    /// `Overflow` if the counts of an entry that is still to come are too large; `Read` if reading
+    /// failed, or what was read is not well-formed. After an error a further call may return
+    /// anything.
     fn next_entry(&mut self) -> Result<Option<Entry>, NextFault>
         ensures next { (entries : List One) → yields self.old entries
             → MatchResult result (IsNext (yields self.new) entries) (IsNextFault entries) }

@@ -32,7 +32,8 @@ pub enum MergeFault {
     Memory { written: usize },
 }
 
-/// The exit status of a fault: 2 usage, 3 input refused, 5 no memory, 6 read or write failed.
+/// Returns the exit status for a fault: 2 usage, 3 input refused, 5 no memory, 6 read or write
+/// failed.
 pub fn status_of(fault: &MergeFault) -> u8
     ensures { result ≡ status_of fault.now }
 {

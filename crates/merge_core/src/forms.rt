@@ -10,11 +10,11 @@ use shape_dict::{Entry, Text};
 /// In which text a join is written, and which of its patterns.
 #[derive(Clone, Copy, Debug, PartialEq, Eq)]
 pub struct Form {
-    /// The text, one of the three forms of a dictionary.
+    /// The text format, one of the three in which a dictionary can be written.
     pub text: Text,
-    /// If there is a number, only the squares that were there at least as often are written, and
-    /// the header's moves are those at which one of them was played. Else all that the text has is
-    /// written.
+    /// If this is a number, only the squares that were there at least that often are written, and
+    /// the header's moves are those at which one of them was played. If it is None, all patterns
+    /// that the text format has are written.
     pub least: Option<u64>,
 }
 

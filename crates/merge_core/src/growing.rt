@@ -19,16 +19,17 @@ use crate::sources::Sources;
 use crate::trees::{Tree, next_of};
 use std::alloc::Global;
 
-/// A tree of joins, and the totals of the dictionaries at its leaves.
+/// A tree of joins, and the totals (games and moves) of the dictionaries at its leaves.
 #[derive(Drop)]
 pub(crate) struct Grown<E> {
     pub(crate) tree: Tree<E>,
     pub(crate) totals: Totals,
 }
 
-/// Makes one tree that joins the entries of two trees, with the games of `right` after those of
-/// `left`. The first entry of each of the two is read at once. `Changed` if their totals can't be
-/// added, `Memory` if memory was refused, else a fault of reading the first entries.
+/// Makes one tree that joins the entries of the trees `left` and `right`, with the games of `right`
+/// after those of `left`. The first entry of each of the two is read at once. `Changed` if their
+/// totals can't be added, `Memory` if memory was refused, else a fault of reading the first
+/// entries.
 fn pair<E: Entries>(alloc: Global, left: Grown<E>, right: Grown<E>) -> Result<Grown<E>, NextFault>
     ensures next { (mine : List One) → (other : List One) → Yields E.yields left.tree mine
         → Yields E.yields right.tree other → MatchResult result

@@ -51,10 +51,10 @@ impl Heads {
     }
 }
 
-/// Returns an entry that the right list alone has, always in Some, with `games`, the number of the
-/// left one's games, added to its first game. The numbers of games add up to less than 2^64 in
-/// dictionaries that were checked before, so a sum that is too large means that a dictionary has
-/// changed: `Changed`.
+/// Returns `entry`, which the right list alone has, with `games`, how many games the left list is
+/// of, added to its first game. The result is always Some. The numbers of games add up to less than
+/// 2^64 in dictionaries that were checked before, so a sum that is too large means that a
+/// dictionary has changed: `Changed`.
 #[inline(always)]
 pub(crate) fn moved(entry: Entry, games: u64) -> Result<Option<Entry>, NextFault>
     ensures ok { IfOk result (λ moved. moved ≡ Some (moved_entry games entry)) }
@@ -64,8 +64,8 @@ pub(crate) fn moved(entry: Entry, games: u64) -> Result<Option<Entry>, NextFault
     Ok(Some(moved))
 }
 
-/// Returns the sum of two entries of the same pattern, always in Some, with the first game of
-/// `left`. `Overflow` if a count would pass 2^64 - 1.
+/// Returns the sum of two entries of the same pattern, with the first game of `left`. The result is
+/// always Some. `Overflow` if a count would pass 2^64 - 1.
 #[inline(always)]
 pub(crate) fn summed(left: Entry, right: Entry) -> Result<Option<Entry>, NextFault>
     ensures ok { IfOk result (λ both. both ≡ Some (summed_entry left right)) }

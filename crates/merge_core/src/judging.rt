@@ -156,11 +156,12 @@ fn judge_each<S: Sources>(alloc: Global, sources: &S, count: usize) -> Result<Ju
     Ok(judged)
 }
 
-/// Checks that all dictionaries are well-formed and can be joined. Returns the totals of their
-/// join, and how many different squares and diamonds it keeps and how often these were played. It
-/// keeps all patterns if `least` is None, else only squares that were there at least `least` times.
-/// If one pass over all of them gives no join, they are checked one after another, and the first
-/// fault is the error. `Empty` if there is none.
+/// Checks that all dictionaries are well-formed and can be joined. Returns the totals of their join
+/// (its games and moves), and how many different squares and diamonds it keeps and how often these
+/// were played. It keeps all patterns if `least` is None, else only squares that were there at
+/// least `least` times. If one pass over all of them gives no join, they are checked one after
+/// another, and the error is the first fault found then, or else that of the pass. `Empty` if there
+/// is no dictionary.
 pub(crate) fn judge_all<S: Sources>(
     alloc: Global,
     sources: &S,

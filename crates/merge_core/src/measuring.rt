@@ -1,4 +1,5 @@
-//! Counts in threads how many patterns are in ranges of words, and how often they were played.
+//! Counts in threads how many patterns are in ranges of words (lines are in the order of their
+//! words), and how often they were played.
 ghost use Rattle.std.specs.Prelude.{◌≡◌, ◌<◌, ◌+◌, ◌*◌, ◌/◌, ◌%◌, ◌^◌, ℕ, List, Option, min, IfOk, length};
 ghost use Rattle.std.specs.Prelude.{vec_len};
 ghost use Rattle.std.specs.Thread.{IsSend, IsSync};
@@ -23,8 +24,9 @@ pub(crate) struct Ranged {
     pub(crate) each: Vec<Tally>,
 }
 
-/// Counts what is in the range of words from cut `n`, counted from 0, up to the next cut: in the
-/// join and in each dictionary. A cut is the word and the byte indices at which a range begins.
+/// Counts the patterns in the range of words from cut `n`, counted from 0, up to the next cut, and
+/// how often they were played. Returns the tallies of the join and of each dictionary. A cut is the
+/// word and the byte indices at which a range begins.
 fn count_one<S: Sources>(
     alloc: Global,
     sources: &S,
@@ -63,8 +65,8 @@ fn copied(alloc: Global, ranged: &Ranged) -> Result<Ranged, NextFault>
     }
 }
 
-/// Adds up the tallies of two ranges of words that follow one another. `Overflow` if a sum is over
-/// 2^64 - 1, `Memory` if memory was refused.
+/// Returns the sums of the tallies of two ranges of words that follow one another. `Overflow` if a
+/// sum is over 2^64 - 1, `Memory` if memory was refused.
 fn both_ranged(alloc: Global, left: &Ranged, right: &Ranged) -> Result<Ranged, NextFault>
     ensures joined { IfOk result (λ both. both.joined ≡ sum_of left.now.joined right.now.joined) }
     ensures each { IfOk result (λ both. both.each.items
@@ -165,8 +167,9 @@ fn blocks_of<T: Threads + Sync, S: Sources + Sync>(
     )
 }
 
-/// Adds up the tallies of blocks of ranges of words that follow one another. The error is that of
-/// the first block that has one, or `Changed` if there is no block, or a fault of adding.
+/// Returns the sums of the tallies of blocks of ranges of words that follow one another. The error
+/// is that of the first block that has one, or `Changed` if there is no block, or a fault of
+/// adding.
 fn sum_up(alloc: Global, blocks: &[Result<Ranged, NextFault>]) -> Result<Ranged, NextFault>
     ensures { (bytes : ℕ → Option (List ℕ)) → (plan : Cuts) → (end : ℕ → ℕ)
         → AreBlocks bytes plan end blocks.now

@@ -7,8 +7,8 @@ use crate::entries::NextFault;
 use shape_dict::Entry;
 use std::alloc::Global;
 
-/// Returns an entry that the right list alone has, with `games`, the number of the left one's
-/// games, added to its first game. `Changed` if that would pass 2^64 - 2.
+/// Returns `entry`, which the right list alone has, with `games`, how many games the left list is
+/// of, added to its first game. `Changed` if that would pass 2^64 - 2.
 #[inline(always)]
 fn moved(entry: Entry, games: u64) -> Result<Entry, NextFault>
     ensures { IfOk result (λ moved. moved ≡ moved_entry games entry) }
@@ -25,7 +25,7 @@ fn summed(left: Entry, right: Entry) -> Result<Entry, NextFault>
     left.with(right).ok_or(NextFault::Overflow)
 }
 
-/// Appends an entry.
+/// Appends `entry` to `entries`. `Memory` if memory was refused.
 #[inline(always)]
 fn push(entries: &mut Vec<Entry>, entry: Entry) -> Result<(), NextFault>
     ensures ok { OnOk result (entries.new.items ≡ entries.old.items ++ entry ∷ []) }
@@ -36,7 +36,7 @@ fn push(entries: &mut Vec<Entry>, entry: Entry) -> Result<(), NextFault>
     }
 }
 
-/// Appends the entries of the left list, as they are.
+/// Appends the entries of `left` to `entries`, as they are. `Memory` if memory was refused.
 fn push_kept(entries: &mut Vec<Entry>, left: &[Entry]) -> Result<(), NextFault>
     ensures ok { OnOk result (entries.new.items ≡ entries.old.items ++ left.now) }
 {
@@ -46,8 +46,9 @@ fn push_kept(entries: &mut Vec<Entry>, left: &[Entry]) -> Result<(), NextFault>
     Ok(())
 }
 
-/// Appends the entries of the right list, with `games`, the number of the left one's games, added
-/// to their first games.
+/// Appends the entries of `right` to `entries`, with `games`, how many games the left list is of,
+/// added to their first games. `Changed` if that would pass 2^64 - 2, `Memory` if memory was
+/// refused.
 fn push_moved(entries: &mut Vec<Entry>, right: &[Entry], games: u64) -> Result<(), NextFault>
     ensures ok { OnOk result (entries.new.items
         ≡ entries.old.items ++ map (moved_entry games) right.now) }

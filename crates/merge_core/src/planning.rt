@@ -1,5 +1,6 @@
-//! Plans at which words dictionaries are divided into ranges, so that these are about even. A bad
-//! plan costs time alone: what is between the cuts is checked.
+//! Plans at which words (the numbers of patterns, in whose order lines are) dictionaries are
+//! divided into ranges, so that these are about even. A bad plan costs time alone: what is between
+//! the cuts is checked.
 ghost use Rattle.std.specs.Prelude.{◌≡◌, ◌≤◌, ◌<◌, ◌+◌, ◌^◌, IfSome, length};
 
 use crate::cuts::{Cut, Plan};
@@ -102,8 +103,8 @@ fn place_in_block<S: Sources>(
 
 /// Searches dictionary `n`, from byte index `from` on, at which a line begins, for the first line
 /// whose word is not below `word`. Returns the line's byte index, or `end` if there is none, or
-/// None if a read fails. The line is mostly near, so steps grow until it is passed, and only then
-/// are halved.
+/// None if the bytes can't be read as lines. The line is mostly near, so steps grow until it is
+/// passed, and only then are halved.
 fn place_of<S: Sources>(
     alloc: Global,
     sources: &S,
@@ -156,7 +157,7 @@ fn cut_of<S: Sources>(
     Some(Cut { word, places })
 }
 
-/// Makes a cut (a byte index in each dictionary) at each of these words, which rise. `starts` and
+/// Makes a cut (a byte index in each dictionary) at each of `words`, which rise. `starts` and
 /// `ends` are the byte indices at which the dictionaries' lines begin and end. None if a search
 /// fails or memory was refused.
 fn cuts_of<S: Sources>(
@@ -305,7 +306,7 @@ fn inner_cuts<T: Threads + Sync, S: Sources + Sync>(
 
 /// Plans how the lines of dictionaries are divided into ranges of words, in about `threads`
 /// threads. `least`, by which the join keeps patterns, is copied into the plan. None if the
-/// dictionaries have less than 256 KiB together, one can't be read, or memory was refused.
+/// dictionaries have less than 256 KiB together, one can't be read as lines, or memory was refused.
 pub(crate) fn plan_for<T: Threads + Sync, S: Sources + Sync>(
     rt: &T,
     alloc: Global,

@@ -17,7 +17,8 @@ use std::thread::{Threads, map_indices};
 /// About how many bytes a line has.
 const LINE: usize = 24;
 
-/// Makes the lines of those entries that the form asks for. `Memory` if memory was refused.
+/// Returns the lines of those of `entries` that `form` asks for, by its text format and its least
+/// count. `Memory` if memory was refused.
 fn lines_of(alloc: Global, form: Form, entries: &[Entry]) -> Result<Vec<u8>, NextFault>
     ensures { IfOk result (λ lines. lines.items ≡ lines_of form entries.now) }
 {

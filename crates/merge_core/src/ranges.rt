@@ -1,4 +1,4 @@
-//! Joins what all dictionaries have in a range of words.
+//! Joins what all dictionaries have in a range of words (lines are in the order of their words).
 ghost use Rattle.std.specs.Prelude.{◌≡◌, ◌≤◌, ◌<◌, ◌+◌, ◌++◌, ◌∷◌, [], ◌^◌, List, IfOk, length, vec_len};
 ghost use Rattle.merge_core.specs.declared.tallies.Tally.{Tally as Sums};
 ghost use Rattle.shape_dict.specs.Inner.Merging.{merged};
@@ -23,8 +23,9 @@ pub(crate) struct Joined {
     pub(crate) entries: Vec<Entry>,
 }
 
-/// Reads what dictionary `n`, counted from 0, has in a range of words. Its tally (how many squares
-/// and diamonds these are, and how often they were played) is appended to `each`.
+/// Returns the entries that dictionary `n`, counted from 0, has in a range of words, and how many
+/// games the dictionary has. The tally of these entries (how many squares and diamonds they are,
+/// and how often they were played) is appended to `each`.
 fn one_joined<S: Sources>(
     alloc: Global,
     sources: &S,

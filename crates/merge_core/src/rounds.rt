@@ -41,7 +41,7 @@ pub(crate) struct Front {
     pub(crate) patterns: u64,
 }
 
-/// Counts the lines: the line feeds.
+/// Returns how many line feeds there are, one for each line.
 fn count_lines(lines: &[u8]) -> u64 {
     lines.iter().filter(|byte| **byte == b'\n').count() as u64
 }
@@ -49,7 +49,8 @@ fn count_lines(lines: &[u8]) -> u64 {
 /// Writes the header of a join, and the lines of its ranges of words in order. The lines of some
 /// ranges at a time, at most 16, are made in threads, and then this thread writes them. Before
 /// those of the last range are written, the number of all lines is compared with that of the
-/// header: `Changed` if they differ.
+/// header: `Changed` if they differ. Other faults are `Write` if the writer failed, and those of
+/// making lines.
 pub(crate) fn write_ranges<T: Threads + Sync, S: Sources + Sync, W: Write>(
     rt: &T,
     alloc: Global,

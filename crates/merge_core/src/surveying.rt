@@ -49,8 +49,9 @@ pub(crate) fn read_front<S: Sources>(
     Ok((header, front.len() - rest.len()))
 }
 
-/// Whether a dictionary's lines, whose tally this is, fit its header: as many squares and diamonds
-/// as it says, each kind played as often in all as it has moves, and no moves without games.
+/// Whether the lines of a dictionary, by their `tally`, fit its header: as many squares and
+/// diamonds as it says, each kind played as often in all as it has moves, and no moves without
+/// games.
 fn fits(header: &Header, tally: Tally) -> bool
     ensures { IsTrue result → Fits header.now tally }
 {
@@ -154,10 +155,11 @@ fn totals_of(headers: &[Header]) -> Option<Totals>
     })
 }
 
-/// Checks the dictionaries range by range of this plan, in about `threads` threads. Returns the
-/// totals of their join and the tally of its patterns that are written (all, or by `plan.least`):
-/// how many they are, and how often they were played. None if a check or a read failed: that says
-/// nothing of the dictionaries, which are then joined line by line.
+/// Checks the dictionaries by the ranges of words of `plan`, in about `threads` threads. Returns
+/// the totals of their join (its games and moves) and the tally of its patterns that are written
+/// (all, or by `plan.least`): how many they are, and how often they were played. None if a check or
+/// a read failed, or memory was refused: that says nothing of the dictionaries, which are then
+/// joined line by line.
 pub(crate) fn survey<T: Threads + Sync, S: Sources + Sync>(
     rt: &T,
     alloc: Global,

@@ -51,7 +51,7 @@ fn with(tally: Tally, entry: Entry) -> Option<Tally>
     })
 }
 
-/// Returns the tally of these entries; None if a sum is over 2^64 - 1.
+/// Returns the tally of `entries`; None if a sum is over 2^64 - 1.
 pub(crate) fn tally_of(entries: &[Entry]) -> Option<Tally>
     ensures { IfSome result (IsTally entries.now) }
 {

@@ -20,8 +20,9 @@ pub(crate) enum Tree<E> {
     },
 }
 
-/// Puts the next entry of the join into `next`, or None at the end. The entry is not the result,
-/// since in a tree of many levels it would then be copied several times at each level.
+/// Puts the next entry of the join that `tree` makes into `next`, or None at the end. The entry is
+/// not the result, since in a tree of many levels it would then be copied several times at each
+/// level.
 #[tactic(auto, using(crate::proofs::Unmerged::left_fault, crate::proofs::Unmerged::right_fault, crate::proofs::Unmerged::both_fault))]
 fn advance<E: Entries>(tree: &mut Tree<E>, next: &mut Option<Entry>) -> Result<(), NextFault>
     ensures next { (entries : List One) → Yields E.yields tree.old entries → MatchResult result

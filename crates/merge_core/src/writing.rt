@@ -72,7 +72,8 @@ pub(crate) fn header_of(
     Ok(header)
 }
 
-/// Appends an entry's line, except that text 1 has no line for a diamond.
+/// Appends the line of `entry` to `out`, or nothing for a diamond in text 1, which has squares
+/// alone.
 fn push_one(out: &mut Vec<u8>, text: Text, entry: &Entry) -> Result<(), AllocError>
     ensures line { OnOk result (out.new.items
         ≡ out.old.items ++ text_lines text (entry.now ∷ [])) }
@@ -89,8 +90,8 @@ fn push_one(out: &mut Vec<u8>, text: Text, entry: &Entry) -> Result<(), AllocErr
     }
 }
 
-/// Appends an entry's line if the form asks for it: if the entry passes `form.least`, and if the
-/// text has a line for its kind.
+/// Appends the line of `entry` to `out` if the form asks for it: if the entry passes `form.least`,
+/// and the text has its kind of pattern (text 1 has squares alone).
 pub(crate) fn push_entry(out: &mut Vec<u8>, form: Form, entry: &Entry) -> Result<(), AllocError>
     ensures line { OnOk result (out.new.items
         ≡ out.old.items ++ lines_of form (entry.now ∷ [])) }

@@ -29,7 +29,7 @@ impl EntryList {
     ghost use Rattle.std.specs.Prelude.{IfOk, IfSome, IfNone, OnOk, OnErr};
     ghost use Rattle.range_core.specs.Entries.{IsCountedEntry};
 
-    /// An empty list. It takes no memory.
+    /// Makes an empty list. It takes no memory.
     pub fn new(alloc: Global) -> EntryList
         ensures { result ≡ [] }
     {
@@ -38,7 +38,7 @@ impl EntryList {
         }
     }
 
-    /// An empty list with room for this many entries. It takes 32 bytes for each.
+    /// Makes an empty list with room for `room` entries. It takes 32 bytes for each.
     ///
     /// # Errors
     ///
@@ -51,7 +51,7 @@ impl EntryList {
         })
     }
 
-    /// The entries, in their order.
+    /// Returns the entries, in their order.
     #[inline(always)]
     pub fn as_slice(&self) -> &[Entry]
         ensures value { result.now ≡ self.now }
@@ -60,7 +60,7 @@ impl EntryList {
         self.entries.as_slice()
     }
 
-    /// The entries, in their order.
+    /// Turns the list into a vector of its entries, in their order.
     pub(crate) fn into_vec(self) -> Vec<Entry>
         ensures value { result.items ≡ self }
         ensures counted { All IsCountedEntry self }

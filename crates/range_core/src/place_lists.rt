@@ -1,4 +1,4 @@
-//! The entries of one worker, in lists by ranges of the shared table's places.
+//! The entries of one worker, in lists by ranges of places (slots of the shared table).
 ghost use Rattle.std.specs.Prelude.{◌≡◌, ◌+◌, ◌<◌, ℕ, IfOk, OnOk, OnErr};
 ghost use Rattle.range_core.specs.Totals.{total_of, together, count_at};
 
@@ -17,7 +17,7 @@ pub const PLACE_LISTS: usize = 512;
 /// How many entries a list has room for at least.
 const LEAST_ROOM: usize = 16;
 
-/// The entries of sums, in a list with room for this many.
+/// Makes a list of the entries of `sums`, with room for `room` entries at first.
 fn listed(alloc: Global, sums: &Sums, room: usize) -> Result<RecordList, AllocError>
     ensures { IfOk result (λ list. (shape : ℕ) → total_of shape list ≡ total_of shape sums.now) }
 {
@@ -47,8 +47,8 @@ fn make_room(alloc: Global, sums: &mut Sums, list: &mut RecordList)
     }
 }
 
-/// Appends an entry, which must count something, to a list. If the list is full, room is made
-/// first.
+/// Appends `entry`, which must count something, to `list`. If the list is full, room is made first,
+/// with `sums` as memory to work in.
 #[inline(always)]
 fn append_to(
     alloc: Global,
@@ -97,7 +97,7 @@ impl PlaceLists {
     ghost use Rattle.range_core.specs.Ranges.{AreDealtBy};
     ghost use Rattle.range_core.specs.Places.{place_ranges, range_of_place};
 
-    /// Empty lists, each with room for this many entries. It takes memory for that.
+    /// Makes empty lists, each with room for `room` entries. It takes memory for that.
     ///
     /// # Errors
     ///
@@ -134,7 +134,7 @@ impl PlaceLists {
         Ok(())
     }
 
-    /// The lists, in the order of their ranges.
+    /// Returns the lists, in the order of their ranges of places.
     pub fn into_lists(self) -> Lists
         ensures lists { result ≡ self }
         ensures len { length self ≡ place_ranges }

@@ -13,7 +13,7 @@ use std::alloc::AllocError;
 /// for the first places of the shared table. So each range of patterns has its part of that table.
 pub const MULTIPLIER: u64 = 0x9E37_79B9_7F4A_7C15;
 
-/// The product of a pattern's word and the factor, from which its first place is taken.
+/// Returns the product of a pattern's word and `factor`, from which its first place is taken.
 #[inline(always)]
 fn mixed(factor: u64, shape: Shape) -> u64
     ensures { result ≡ mixed_of factor shape }
@@ -21,7 +21,7 @@ fn mixed(factor: u64, shape: Shape) -> u64
     shape.word().bits().wrapping_mul(factor)
 }
 
-/// The first place of a pattern among this number of places.
+/// Returns the place, counted from 0, at which a search for a pattern begins among `places` places.
 #[inline(always)]
 pub fn home(factor: u64, shape: Shape, places: usize) -> usize
     requires { 0 < places }
@@ -31,7 +31,7 @@ pub fn home(factor: u64, shape: Shape, places: usize) -> usize
     ((u128::from(mixed(factor, shape)) * places as u128) >> 64) as usize
 }
 
-/// The place after another one; the first comes after the last.
+/// Returns the place after `place`; the first of the `places` places comes after the last.
 #[inline(always)]
 fn next(place: usize, places: usize) -> usize
     requires { place < places }
@@ -49,8 +49,8 @@ pub fn is_free(row: &Entry) -> bool
     row.there == 0 && row.played == 0
 }
 
-/// The place of a pattern's row, or else the first free place, from its first place on. None if it
-/// has no row and no place is free.
+/// Returns the place of a pattern's row, or else the first free place, in a search that begins at
+/// the pattern's first place. None if it has no row and no place is free.
 #[inline(always)]
 pub fn find(factor: u64, rows: &[Entry], shape: Shape) -> Option<usize>
     requires { AreRows factor rows.now }
@@ -71,7 +71,7 @@ pub fn find(factor: u64, rows: &[Entry], shape: Shape) -> Option<usize>
     None
 }
 
-/// A row that counts nothing, for a free place.
+/// Returns a row that counts nothing, for a free place.
 fn free_row() -> Entry
     ensures shape { IsShape result }
     ensures free { result.there + result.played ≡ 0 }

@@ -22,7 +22,8 @@ pub(crate) struct Record {
     sums: u64,
 }
 
-/// The record of an entry, or None if its first game is unknown or a number is too large.
+/// Returns `entry` packed into a record, or None if its first game is unknown or a number is too
+/// large.
 #[inline(always)]
 pub(crate) fn packed(entry: &Entry) -> Option<Record>
     ensures { IfSome result (λ one. entry_of one ≡ entry.now) }
@@ -37,7 +38,7 @@ pub(crate) fn packed(entry: &Entry) -> Option<Record>
     })
 }
 
-/// The entry of a record.
+/// Returns the entry that was packed into a record.
 #[inline(always)]
 pub(crate) fn unpacked(one: Record) -> Entry
     ensures { result ≡ entry_of one }

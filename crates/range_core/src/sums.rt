@@ -16,7 +16,7 @@ use std::marker::Model;
 /// bits that are left.
 const FACTOR: u64 = MULTIPLIER.wrapping_mul(PLACE_LISTS as u64);
 
-/// The lesser of two first games, or the known one if only one is known.
+/// Returns the lesser of two first games, or the known one if only one is known.
 #[inline(always)]
 fn least(one: FirstGame, other: FirstGame) -> FirstGame
     ensures { result ≡ earlier one other }
@@ -28,8 +28,8 @@ fn least(one: FirstGame, other: FirstGame) -> FirstGame
     }
 }
 
-/// The sum of two entries of one pattern, with the lesser first game. None if a sum passes 2^64 -
-/// 1.
+/// Returns the sum of two entries of one pattern, with the lesser first game. None if a sum passes
+/// 2^64 - 1.
 #[inline(always)]
 pub(crate) fn joined(one: &Entry, other: &Entry) -> Option<Entry>
     ensures some { IfSome result (λ both. both ≡ record other.now {
@@ -48,8 +48,8 @@ pub(crate) fn joined(one: &Entry, other: &Entry) -> Option<Entry>
     })
 }
 
-/// The row with the entry added to it. It is the row of the entry's pattern, or a free one. None if
-/// a sum passes 2^64 - 1.
+/// Returns `row` with `entry` added to it. The row must be that of the entry's pattern, or a free
+/// one. None if a sum passes 2^64 - 1.
 #[inline(always)]
 fn summed(row: &Entry, entry: &Entry) -> Option<Entry>
     ensures { IfSome result (λ more. more ≡ summed_row row.now entry.now) }
@@ -60,7 +60,7 @@ fn summed(row: &Entry, entry: &Entry) -> Option<Entry>
     joined(row, entry)
 }
 
-/// How many places are needed so that none of this many entries is without a place.
+/// Returns a number of places with which `Sums::add` finds a place for each of `entries` entries.
 pub(crate) fn places_for(entries: usize) -> usize {
     entries.saturating_add(entries / 3).saturating_add(8)
 }
@@ -95,7 +95,7 @@ impl Sums {
     ghost use Rattle.shape_dict.specs.declared.entries.Entry.{Entry};
     ghost use Rattle.range_core.specs.Totals.{count_at, together, total_of};
 
-    /// An empty map. It takes no memory.
+    /// Makes an empty map. It takes no memory.
     pub fn new(alloc: Global) -> Sums
         ensures { result ≡ [] }
     {
@@ -106,11 +106,11 @@ impl Sums {
         }
     }
 
-    /// Removes all entries, and makes this many places. It takes memory if there were fewer.
+    /// Removes all entries, and makes `places` places. It takes memory if there were fewer.
     ///
     /// # Errors
     ///
-    /// `AllocError` if memory was refused.
+    /// `AllocError` if memory was refused: there is no place then.
     pub(crate) fn clear(&mut self, places: usize) -> Result<(), AllocError>
         ensures { self.new ≡ [] }
     {
@@ -165,7 +165,7 @@ impl Sums {
         true
     }
 
-    /// Appends the entries to a list.
+    /// Appends the summed entry of each pattern to `list`.
     ///
     /// # Errors
     ///
@@ -181,7 +181,7 @@ impl Sums {
         Ok(())
     }
 
-    /// Adds the entries to a list.
+    /// Adds the summed entry of each pattern to `list`.
     ///
     /// # Errors
     ///

@@ -123,7 +123,8 @@ impl Dictionary {
         Ok(PieceDictionary::new(self.games, self.moves, pieces, self.counts_diamonds))
     }
 
-    /// The entry of a pattern, or None if the dictionary has none. It takes no memory.
+    /// Returns the entry of the pattern `shape`, or None if the dictionary does not have the
+    /// pattern. It takes no memory.
     pub fn find(&self, shape: Shape) -> Option<Entry>
         ensures { result ≡ entry_of shape self.now.entries }
     {
@@ -159,8 +160,8 @@ impl Dictionary {
         Ok(Dictionary::new(games, moves, entries, left.counts_diamonds()))
     }
 
-    /// Appends this dictionary to `out`, in the form that `text` names: text 1 has the squares
-    /// alone, text 2 the diamonds too, and text 3 also the first game that had each pattern.
+    /// Appends this dictionary to `out`, in the format `text`: text 1 has the squares alone, text 2
+    /// the diamonds too, and text 3 also the first game that had each pattern.
     ///
     /// # Errors
     ///
@@ -196,7 +197,8 @@ fn counts_of(dictionary: &Dictionary) -> (u64, Option<u64>)
     (squares, Some(all - squares))
 }
 
-/// Appends the header of a text, or only a part of it if memory was refused.
+/// Appends the header of the dictionary's text to `out`, or only a part of it if memory was
+/// refused.
 fn append_header(dictionary: &Dictionary, text: Text, out: &mut Vec<u8>) -> Result<(), AllocError>
     ensures ok { OnOk result (out.new.items
         ≡ out.old.items ++ header_text (header_of text dictionary.now)) }
@@ -213,7 +215,7 @@ fn append_header(dictionary: &Dictionary, text: Text, out: &mut Vec<u8>) -> Resu
     )
 }
 
-/// Appends a text, or only a part of it if memory was refused.
+/// Appends the dictionary's whole text to `out`, or only a part of it if memory was refused.
 fn append(dictionary: &Dictionary, text: Text, out: &mut Vec<u8>) -> Result<(), AllocError>
     ensures ok { OnOk result (out.new.items ≡ out.old.items ++ text_of text dictionary.now) }
     ensures begins { Begins out.old.items out.new.items }

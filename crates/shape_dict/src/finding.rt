@@ -6,7 +6,7 @@ ghost use Rattle.shape_dict.specs.Contents.{entry_of};
 use crate::entries::Entry;
 use shape_core::Shape;
 
-/// The entry of a pattern, or None if there is none.
+/// Returns the entry of the pattern `shape` among `entries`, or None if it is not there.
 pub(crate) fn find_entry(entries: &[Entry], shape: Shape) -> Option<Entry>
     requires { IsStrictlyIncreasing (map (λ entry. entry.shape) entries.now) }
     ensures { result ≡ entry_of shape entries.now }

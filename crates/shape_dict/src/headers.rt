@@ -11,8 +11,8 @@ ghost use Rattle.shape_dict.specs.declared.entries.Text.TheVariants as kind;
 use crate::entries::Text;
 use crate::numbers::{after, number, number_after, optional_after};
 
-/// What a header says: which text it is, the games and moves, how many squares follow, and how many
-/// diamonds if they are counted.
+/// What a header says: in which of the three formats its text is, the games and moves, how many
+/// squares follow, and how many diamonds if they are counted.
 #[derive(Clone, Copy, Debug, PartialEq, Eq)]
 pub struct Header {
     pub text: Text,

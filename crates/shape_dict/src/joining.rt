@@ -1,4 +1,4 @@
-//! The join of two lists of entries whose words rise.
+//! Joins two lists of entries whose words rise.
 ghost use Rattle.std.specs.Prelude.{◌≡◌, ◌++◌, ◌∷◌, [], ◌+◌, ◌^◌, ◌<◌, ◌≤◌, ◌⊎◌, All, map, OnOk};
 ghost use Rattle.std.specs.Prelude.{IfOk, IfErr, IfSome, OnErr, length};
 ghost use Rattle.std.specs.List.Sorted.{IsStrictlyIncreasing};
@@ -11,7 +11,7 @@ use crate::entries::Entry;
 use crate::faults::DictFault;
 use std::alloc::{AllocError, Global};
 
-/// The sum of two numbers, or `DictFault::Overflow` if it is over 2^64 - 1.
+/// Returns the sum of two numbers, or `DictFault::Overflow` if it is over 2^64 - 1.
 pub(crate) fn sum_of(left: u64, right: u64) -> Result<u64, DictFault>
     ensures ok { IfOk result (λ sum. (sum ≡ left + right) × (left + right < 2 ^ 64)) }
     ensures err { IfErr result (λ found. (found ≡ fault.Overflow) × (2 ^ 64 ≤ left + right)) }
@@ -40,7 +40,7 @@ fn summed(left: Entry, right: Entry) -> Result<Entry, DictFault>
     left.with(right).ok_or(DictFault::Overflow)
 }
 
-/// Appends an entry.
+/// Appends `entry` to `entries`.
 pub(crate) fn push(entries: &mut Vec<Entry>, entry: Entry) -> Result<(), AllocError>
     ensures ok { OnOk result (entries.new.items ≡ entries.old.items ++ entry ∷ []) }
     ensures small { entry.there < 2 ^ 64 }
@@ -49,7 +49,7 @@ pub(crate) fn push(entries: &mut Vec<Entry>, entry: Entry) -> Result<(), AllocEr
     Ok(())
 }
 
-/// Appends the entries of `left` unchanged.
+/// Appends the entries of `left` to `entries`, unchanged.
 fn push_kept(entries: &mut Vec<Entry>, left: &[Entry]) -> Result<(), AllocError>
     requires { All (λ entry. entry.there < 2 ^ 64) entries.old.items }
     ensures ok { OnOk result (entries.new.items ≡ entries.old.items ++ left.now) }
@@ -62,8 +62,8 @@ fn push_kept(entries: &mut Vec<Entry>, left: &[Entry]) -> Result<(), AllocError>
     Ok(())
 }
 
-/// Appends entries that the right dictionary alone has, with `games`, the number of the left one's
-/// games, added to their first games.
+/// Appends to `entries` those of `right`, which the right dictionary alone has, with `games`, the
+/// number of the left one's games, added to their first games.
 fn push_moved(entries: &mut Vec<Entry>, right: &[Entry], games: u64) -> Result<(), AllocError>
     requires small { All (λ entry. entry.there < 2 ^ 64) entries.old.items }
     requires first { All (λ entry. IfSome entry.first (λ game. game + games + 1 < 2 ^ 64)) right.now }

@@ -17,8 +17,8 @@ const LEAST: usize = 65_536;
 /// Most lines have at most this many bytes.
 const LINE: usize = 20;
 
-/// Returns how many of the `lists` lists of entries each part has the lines of, so that `threads`
-/// threads make about as many each. `LEAST` entries or fewer make one part.
+/// Returns how many of `lists` lists of entries are made into one part of the text: about as many
+/// for each of `threads` threads, or all of them if they have `LEAST` entries or fewer together.
 fn part_length(lists: usize, entries: usize, threads: usize) -> usize
     ensures { 0 < result }
 {
@@ -52,7 +52,7 @@ fn entries_of(lists: &[Vec<Entry>]) -> usize {
     entries
 }
 
-/// Makes the lines of a text for the entries of these lists, in a vector of their own.
+/// Returns the lines of the entries of `lists` in the format `text`.
 fn lines_part(alloc: Global, text: Text, lists: &[Vec<Entry>]) -> Result<Vec<u8>, AllocError>
     ensures { IfOk result (λ part. part.items ≡ lines_of text (entries_in lists.now)) }
 {
@@ -63,9 +63,10 @@ fn lines_part(alloc: Global, text: Text, lists: &[Vec<Entry>]) -> Result<Vec<u8>
     Ok(part)
 }
 
-/// Makes the lines of a text for the entries of these lists, and returns them in parts, in order.
-/// At most `threads` threads make them, and the call waits for them. `entries` is how many entries
-/// there are. A part is an error if memory for it was refused.
+/// Makes the lines of a text for the entries of `lists`, and returns them in parts, in order. At
+/// most `threads` threads make them, and the call waits for them. `entries` is how many entries
+/// there are. A part is an error if memory for it was refused; the whole result is one if memory
+/// for the list of parts was.
 pub(crate) fn made_parts<R: Threads + Sync>(
     rt: &R,
     alloc: Global,

@@ -208,7 +208,7 @@ fn counts_of(dictionary: &PieceDictionary) -> (u64, Option<u64>)
     (squares, Some(all - squares))
 }
 
-/// Makes the header of a text, in a vector of its own.
+/// Returns the header of the dictionary's text in the format `text`.
 fn header_part(
     alloc: Global,
     text: Text,

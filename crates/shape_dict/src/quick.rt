@@ -18,7 +18,8 @@ use shape_core::{Kind, Shape, Word};
 /// The most digits of a number that are read here.
 const DIGITS: usize = 18;
 
-/// The number that the first digits spell, and how many digits these are: `DIGITS` at most.
+/// Returns the number that the decimal digits at the front spell, and how many digits these are: at
+/// most `DIGITS` are read. Both are 0 if no digit comes first.
 #[inline(always)]
 fn quick_digits(bytes: &[u8]) -> (u64, usize)
     ensures fits { result.1 ≤ length bytes.now }

@@ -14,8 +14,8 @@ use crate::writing::{push_bytes, push_line, push_number, push_optional};
 use shape_core::Kind;
 use std::alloc::AllocError;
 
-/// Appends the first words of a header, up to its number of games: they say which of the three
-/// texts it begins.
+/// Appends the first words of a header to `out`, those before its number of games: `shapes 1 games`
+/// and a space, or the same with 2 or 3, for the format `text`.
 fn push_front(out: &mut Vec<u8>, text: Text) -> Result<(), AllocError>
     ensures ok { OnOk result (out.new.items ≡ out.old.items ++ front_text text) }
     ensures begins { Begins out.old.items out.new.items }
@@ -27,8 +27,8 @@ fn push_front(out: &mut Vec<u8>, text: Text) -> Result<(), AllocError>
     }
 }
 
-/// Appends how many patterns there are, for a header: in text 1 the squares, else the squares and
-/// the diamonds, or `-` for None.
+/// Appends how many patterns there are to `out`, for a header: in text 1 the squares, else the
+/// squares and the diamonds, or `-` if `diamonds` is None.
 fn push_counts(
     out: &mut Vec<u8>,
     text: Text,
@@ -52,7 +52,7 @@ fn push_counts(
     }
 }
 
-/// Appends the first words of a header, with its numbers of games and of moves.
+/// Appends the first words of a header to `out`, with its numbers of games and of moves.
 fn push_games(out: &mut Vec<u8>, text: Text, games: u64, moves: u64) -> Result<(), AllocError>
     ensures ok { OnOk result (out.new.items ≡ out.old.items ++ games_text text games moves) }
     ensures begins { Begins out.old.items out.new.items }
@@ -63,8 +63,9 @@ fn push_games(out: &mut Vec<u8>, text: Text, games: u64, moves: u64) -> Result<(
     push_number(out, moves)
 }
 
-/// Appends the header of a text: which text it is, the games and moves, how many squares follow,
-/// and how many diamonds if they are counted.
+/// Appends the header of a text in the format `text` to `out`: the format's number, the games and
+/// moves, and how many squares follow. In texts 2 and 3 it also says how many diamonds follow, or
+/// `-` for None if they are not counted.
 ///
 /// # Errors
 ///
@@ -93,7 +94,7 @@ pub fn push_header(
     push_bytes(out, b"\n")
 }
 
-/// Appends a line for each pattern.
+/// Appends the line of each entry to `out`, in the format `text`.
 fn push_lines(out: &mut Vec<u8>, text: Text, entries: &[Entry]) -> Result<(), AllocError>
     ensures ok { OnOk result (out.new.items
         ≡ out.old.items ++ flat_map (line_text text) entries.now) }
@@ -105,7 +106,7 @@ fn push_lines(out: &mut Vec<u8>, text: Text, entries: &[Entry]) -> Result<(), Al
     Ok(())
 }
 
-/// Appends a line of text 1 for each square.
+/// Appends the line of each square to `out`, in text 1.
 fn push_squares(out: &mut Vec<u8>, entries: &[Entry]) -> Result<(), AllocError>
     ensures ok { OnOk result (out.new.items
         ≡ out.old.items ++ flat_map (line_text kind.One) (squares_of entries.now)) }
@@ -119,7 +120,7 @@ fn push_squares(out: &mut Vec<u8>, entries: &[Entry]) -> Result<(), AllocError>
     Ok(())
 }
 
-/// Appends the lines of a text for these entries: in text 1 for the squares alone.
+/// Appends the lines of `entries` to `out`, in the format `text`: in text 1 of the squares alone.
 pub(crate) fn push_entries(
     out: &mut Vec<u8>,
     text: Text,

@@ -10,7 +10,7 @@ use itoa::Buffer;
 use shape_core::Shape;
 use std::alloc::AllocError;
 
-/// Appends all these bytes, or none of them.
+/// Appends all of `bytes` to `out`, or none of them if memory was refused.
 pub(crate) fn push_bytes(out: &mut Vec<u8>, bytes: &[u8]) -> Result<(), AllocError>
     ensures ok { OnOk result (out.new.items ≡ out.old.items ++ bytes.now) }
     ensures begins { Begins out.old.items out.new.items }
@@ -68,7 +68,7 @@ pub fn push_word(out: &mut Vec<u8>, shape: Shape) -> Result<(), AllocError>
     push_bytes(out, &digits)
 }
 
-/// The 13 lowest hexadecimal digits of a number, the highest first.
+/// Returns the 13 lowest hexadecimal digits of a number, the highest first.
 fn word_digits(number: u64) -> [u8; 13]
     ensures { result ≡ word_text number }
 {
@@ -127,7 +127,8 @@ fn push_uses(out: &mut Vec<u8>, entry: &Entry) -> Result<(), AllocError>
     push_number(out, entry.played)
 }
 
-/// Appends a pattern's line in one of the three texts.
+/// Appends a pattern's line to `out`, in the format `text`: its word, how often it was there and
+/// was played, in text 3 also its first game, and a line feed.
 ///
 /// # Errors
 ///

@@ -49,7 +49,8 @@ impl<R: Read + Drop> Lines<R> {
     ghost use Rattle.stream_core.specs.declared.faults.StreamFault.TheVariants as fault;
     ghost use Rattle.stream_core.specs.declared.standing.Standing.TheVariants as standing;
 
-    /// Opens a text and reads its header. It takes memory for a block, and reads one.
+    /// Opens a text and reads its header. It takes memory for a block of 65,536 bytes, and reads at
+    /// most as many.
     ///
     /// # Errors
     ///
@@ -79,7 +80,7 @@ impl<R: Read + Drop> Lines<R> {
         })
     }
 
-    /// What the text's header says.
+    /// Returns what the text's header says.
     pub fn header(&self) -> Header
         ensures { result ≡ self.now.header }
     {

@@ -17,7 +17,7 @@ pub struct Progress {
     pub diamonds: Option<u64>,
 }
 
-/// The progress before any entry.
+/// Returns the progress before any entry.
 pub(crate) fn start() -> Progress
     ensures of { IsProgress result [] }
     ensures counted { CountedTo result.given result.last }
@@ -45,7 +45,7 @@ impl Progress {
     ghost use Rattle.stream_core.specs.Progress.{IsProgress};
     ghost use Rattle.stream_core.specs.Inner.Counting.{CountedTo};
 
-    /// The progress after one more entry.
+    /// Returns the progress after one more entry, `entry`.
     pub(crate) fn with(self, entry: &Entry) -> Progress
         requires counted { CountedTo self.given self.last }
         requires above { IsAbove self.last entry.now.shape }

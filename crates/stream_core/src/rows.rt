@@ -13,7 +13,7 @@ const SHORTEST: usize = 18;
 /// The words from this number on are those of diamonds.
 const DIAMONDS: u64 = 1 << 50;
 
-/// The header, changed so that all its lines are of one kind, that of the word `low`.
+/// Returns the header, changed so that all its lines are of one kind, that of the word `low`.
 fn of_one_kind(header: &Header, low: u64) -> Header
     ensures text { result.text ≡ header.now.text }
     ensures games { result.games ≡ header.now.games }
@@ -40,10 +40,10 @@ fn next_row<'a>(kinds: &Header, least: u64, bytes: &'a [u8]) -> Option<(Entry, &
     Some((entry, rest))
 }
 
-/// Reads bytes out of a text that are whole lines, and returns their entries, whose words rise from
-/// `low` on, stay below `high` and are all of the kind of `low`. `header` is the text's. None if a
-/// line is not well-formed, is not such a line, or has a number of more than 18 digits: the text
-/// may be well-formed all the same. It takes memory for the entries.
+/// Reads `bytes`, whole lines out of a text with this header, and returns their entries. Their
+/// words must rise from `low` on, stay below `high` and all be of the kind of `low`, square or
+/// diamond. None if that is not so, or a line is not well-formed or has a number of more than 18
+/// digits: the text may be well-formed all the same. It takes memory for the entries.
 ///
 /// # Errors
 ///

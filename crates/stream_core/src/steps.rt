@@ -21,7 +21,7 @@ use shape_dict::{DictFault, Entry, Header, count_lines, read_entry, read_header}
 use std::io::Read;
 
 /// Reads the header at the front of a block, passes over it, and returns it. `Dict` with
-/// `BadHeader` if there is none, `Read` if a read failed.
+/// `BadHeader` if the bytes don't begin with a header, `Read` if a read failed.
 pub(crate) fn take_header<R: Read>(block: &mut Block<R>) -> Result<Header, StreamFault>
     ensures is_header { IfOk result IsHeader }
     ensures taken { IfOk result (λ header. Consumes (bytes_of block.old) (bytes_of block.new)
@@ -39,8 +39,8 @@ pub(crate) fn take_header<R: Read>(block: &mut Block<R>) -> Result<Header, Strea
     Ok(header)
 }
 
-/// Reads the line at the front of a block, passes over it, and returns its entry. If the line has a
-/// fault, the block stays as it is.
+/// Reads the line at the front of a block, passes over it, and returns its entry. `progress` says
+/// what came before it. If the line has a fault, that is the error, and the block stays as it is.
 fn take_line<R: Read>(
     block: &mut Block<R>,
     header: &Header,
@@ -93,7 +93,8 @@ fn end<R: Read>(block: &Block<R>, header: &Header, progress: &Progress) -> Resul
 }
 
 /// Reads and returns the next entry while more may come, or None at the end of a well-formed text.
-/// `progress` then has that entry too.
+/// `progress` then has that entry too. `Dict` with the fault of the line or of the end, `Read` if a
+/// read failed.
 pub(crate) fn next<R: Read>(
     block: &mut Block<R>,
     header: &Header,

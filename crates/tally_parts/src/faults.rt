@@ -26,7 +26,7 @@ pub enum PartsFault {
     /// The parts' dictionaries were not joined.
     #[error("{0}")]
     Merge(MergeFault),
-    /// A write failed.
+    /// A write failed, after `written` bytes of the text.
     #[error("I2 write failed after {written} bytes")]
     Write { written: usize },
 }

@@ -12,7 +12,8 @@ pub struct Plan {
     pub text: Text,
     /// How many workers count.
     pub workers: u8,
-    /// The bound of the bytes of texts that are counted together. A larger text is counted alone.
+    /// Texts are counted together while they have fewer bytes than this. A larger text is counted
+    /// alone.
     pub most: usize,
 }
 
