@@ -33,7 +33,7 @@ enum Stage {
     Fault(GamesFault),
 }
 
-/// The result of reading one tree.
+/// What `read_one_tree` found.
 #[derive(Drop)]
 enum TreeOutcome<'a> {
     /// The tree is a game, and this is its job: its number, its bounds in the input and its record.
@@ -147,7 +147,8 @@ fn next_record(alloc: Global, trees: &mut Trees<'_>) -> Result<Option<Recorded>,
     }))
 }
 
-/// Counts a tree in the report by its record, and returns the record if the tree is a game.
+/// Counts a tree in the report by its record, and returns the record if the tree is a game of Go.
+/// None if it is of another game, or its record has a fault.
 fn count(report: &mut Report, recorded: Result<Kind, RecordFault>) -> Option<Record>
     requires { (report.old.games < most_bytes) × (report.old.others < most_bytes)
         × (report.old.refused < most_bytes) }
@@ -165,7 +166,7 @@ fn count(report: &mut Report, recorded: Result<Kind, RecordFault>) -> Option<Rec
 }
 
 impl<'a> Games<'a> {
-    /// A reader at the beginning of this input. It takes no memory.
+    /// Makes a reader at the beginning of this input. It takes no memory.
     ///
     /// # Errors
     ///
@@ -197,8 +198,9 @@ impl<'a> Games<'a> {
         })
     }
 
-    /// Reads the next tree, counts it in the report, and returns what it was. A fault of syntax or
-    /// out of memory is kept: each later call returns it again and changes nothing.
+    /// Reads the next tree, counts it in the report, and returns what it was, or `End` if none is
+    /// left. A fault of syntax or out of memory is kept: each later call returns it again and
+    /// changes nothing.
     fn read_one_tree(&mut self, alloc: Global) -> Result<TreeOutcome<'a>, GamesFault>
         ensures bytes { self.new.bytes ≡ self.old.bytes }
         ensures outcome { IfOk result (IsTreeOutcome self.old self.new) }
@@ -271,8 +273,8 @@ impl<'a> Games<'a> {
         }
     }
 
-    /// How many of the trees read so far are games of Go, are of other games, and are refused. It
-    /// takes no memory.
+    /// Returns how many of the trees read so far are games of Go, are of other games, and are
+    /// refused. It takes no memory.
     pub fn report(&self) -> Report
         ensures report { result ≡ self.now.report }
         ensures read { HasRead self.now.bytes self.now.from self.now.report }

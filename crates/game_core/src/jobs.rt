@@ -42,7 +42,7 @@ impl<'a> Model for Job<'a> {
 
 impl<'a> Job<'a> {
     /// Makes the job of the game of number `game` in the input `bytes`. Its tree has the bytes from
-    /// index `at` on and before index `end`.
+    /// index `at` on and before index `end`, and its record is `actions`.
     pub(crate) fn new(bytes: &'a [u8], game: u64, at: usize, end: usize, actions: Record) -> Job<'a>
         requires game { IsGameOf bytes.now game at end actions }
         requires few { game < most_bytes }
@@ -58,7 +58,7 @@ impl<'a> Job<'a> {
         }
     }
 
-    /// The number of the game: how many games come before it in the input.
+    /// Returns the number of the game: how many games come before it in the input.
     pub fn game(&self) -> u64
         ensures number { result ≡ self.now.game }
         ensures few { result < most_bytes }
@@ -66,28 +66,28 @@ impl<'a> Job<'a> {
         self.game
     }
 
-    /// The byte index, in the whole input, of the first parenthesis of the game's tree.
+    /// Returns the byte index, in the whole input, of the first parenthesis of the game's tree.
     pub fn at(&self) -> usize
         ensures { result ≡ self.now.at }
     {
         self.at
     }
 
-    /// The byte index, in the whole input, after the last parenthesis of the game's tree.
+    /// Returns the byte index, in the whole input, after the last parenthesis of the game's tree.
     pub fn end(&self) -> usize
         ensures { result ≡ self.now.end }
     {
         self.end
     }
 
-    /// The whole input.
+    /// Returns the bytes of the whole input.
     pub fn bytes(&self) -> &'a [u8]
         ensures { result.now ≡ self.now.bytes }
     {
         self.bytes
     }
 
-    /// The record of the game.
+    /// Returns the record of the game.
     pub fn record(&self) -> &Record
         ensures value { result.now ≡ self.now.actions }
         ensures game { IsGameOf

@@ -5,7 +5,8 @@ ghost use Rattle.go_board.specs.Point.{IsOn, AreNeighbours};
 
 use crate::points::{Point, Size};
 
-/// The neighbours of a point: left, right, above and below, each None if it is off the board.
+/// Returns the neighbours of a point: left, right, above and below, each None if it is off the
+/// board.
 pub(crate) fn neighbours(size: Size, point: Point) -> [Option<Point>; 4]
     requires { IsOn size point }
     ensures four { length result ≡ 4 }

@@ -50,8 +50,8 @@ impl Board {
     ghost use Rattle.go_board.specs.Play.{SetsOn, PlaysOn};
     ghost use Rattle.go_board.specs.Board.{position_of, IsBoard};
 
-    /// An empty board of this size, from which nothing was removed. It takes memory for each point
-    /// of the board.
+    /// Makes an empty board of this size, from which nothing was removed. It takes memory for each
+    /// point of the board.
     ///
     /// # Errors
     ///
@@ -91,7 +91,7 @@ impl Board {
         Ok(board)
     }
 
-    /// The size of the board.
+    /// Returns the size of the board.
     pub fn size(&self) -> Size
         ensures value { result ≡ self.now.size }
         ensures board { IsBoard self.now }
@@ -99,7 +99,8 @@ impl Board {
         self.size
     }
 
-    /// What stands on a point. The point is on the board.
+    /// Returns what stands on a point: a stone of either colour, or `Stone::Empty`. The point is on
+    /// the board.
     pub fn cell(&self, point: Point) -> Stone
         requires { IsOn self.now.size point }
         ensures value { result ≡ position_of self.now point }
@@ -171,8 +172,8 @@ impl Board {
         is_alive(self.size, &self.stones, &mut self.group, point)
     }
 
-    /// The points that the last `play` emptied, each once; none before the first. `set` and
-    /// `has_liberty` do not change them.
+    /// Returns the points that the last `play` emptied, each once; none before the first `play`.
+    /// `set` and `has_liberty` do not change them.
     pub fn removed(&self) -> &[Point]
         ensures value { result.now ≡ self.now.removed }
         ensures board { IsBoard self.now }

@@ -48,7 +48,7 @@ impl PointSet {
         })
     }
 
-    /// The number of points.
+    /// Returns the number of points in the set.
     pub fn len(&self) -> usize
         ensures value { result ≡ length self.now.points }
         ensures few { result ≤ self.now.size.columns * self.now.size.rows }
@@ -57,7 +57,7 @@ impl PointSet {
         self.count
     }
 
-    /// The points, in the order in which they were added.
+    /// Returns the points, in the order in which they were added.
     pub fn points(&self) -> &[Point]
         ensures value { result.now ≡ self.now.points }
         ensures gathered { IsGathered self.now.size self.now.points }

@@ -19,7 +19,7 @@ impl Colour {
     ghost use Rattle.std.specs.Prelude.{◌≡◌};
     ghost use Rattle.go_board.specs.Play.{other, stone_of};
 
-    /// The colour of the opponent.
+    /// Returns the colour of the opponent.
     pub fn other(self) -> Colour
         ensures { result ≡ other self }
     {
@@ -29,7 +29,7 @@ impl Colour {
         }
     }
 
-    /// A stone of this colour.
+    /// Returns a stone of this colour.
     pub fn stone(self) -> Stone
         ensures { result ≡ stone_of self }
     {
@@ -73,7 +73,7 @@ impl Size {
     ghost use Rattle.go_board.specs.Extent.{IsExtent};
     ghost use Rattle.go_board.specs.Point.{IsOn, index_of};
 
-    /// The size, or None if a side is outside 1 to 52.
+    /// Returns the size of this many `columns` and `rows`, or None if either is outside 1 to 52.
     pub fn new(columns: u8, rows: u8) -> Option<Size>
         ensures some { IsSome result ↔ IsExtent (record { columns = columns; rows = rows }) }
         ensures value { IfSome result (λ size. size ≡ record { columns = columns; rows = rows }) }
@@ -85,7 +85,7 @@ impl Size {
         }
     }
 
-    /// The number of columns, from 1 to 52.
+    /// Returns the number of columns, from 1 to 52.
     pub fn columns(self) -> u8
         ensures value { result ≡ self.columns }
         ensures size { IsExtent self }
@@ -93,7 +93,7 @@ impl Size {
         self.columns
     }
 
-    /// The number of rows, from 1 to 52.
+    /// Returns the number of rows, from 1 to 52.
     pub fn rows(self) -> u8
         ensures value { result ≡ self.rows }
         ensures size { IsExtent self }
@@ -101,8 +101,8 @@ impl Size {
         self.rows
     }
 
-    /// The number of points of a board of this size: the length of a list with an item for each
-    /// point.
+    /// Returns the number of points of a board of this size: the length of a list with an item for
+    /// each point.
     pub fn area(self) -> usize
         ensures value { result ≡ self.columns * self.rows }
         ensures size { IsExtent self }

@@ -23,8 +23,9 @@ fn is_pass(size: Size, text: &[u8]) -> bool
     }
 }
 
-/// Returns the move or the pass of this `colour` that a value spells. `BadPoint` if it spells
-/// neither, `OffBoard` if the point is off the board.
+/// Returns the move or the pass of this `colour` that a value spells. A pass is an empty value, or
+/// `tt` if no side of the board is over 19. `BadPoint` if the value spells neither, `OffBoard` if
+/// the point is off the board.
 fn move_of(size: Size, colour: Colour, value: Value<'_>) -> Result<Action, RecordFault>
     ensures value { result ≡ move_of size colour (value_of value.entry) }
     ensures on_board { IfOk result (IsActionOn size) }

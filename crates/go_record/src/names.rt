@@ -17,7 +17,8 @@ fn is_named(prop: &Prop<'_>, name: &[u8]) -> bool
     prop.is(name)
 }
 
-/// What a setup property puts on its points, or None if the property is no setup.
+/// Returns what a setup property puts on its points: black for AB, white for AW, `Stone::Empty` for
+/// AE. None if the property is no setup.
 fn setup_stone(prop: &Prop<'_>) -> Option<Stone>
     ensures { result ≡ setup_stone prop.now }
 {
@@ -32,7 +33,7 @@ fn setup_stone(prop: &Prop<'_>) -> Option<Stone>
     }
 }
 
-/// The colour whose moves a property has, or None if it has no moves.
+/// Returns the colour whose moves a property has (B or W), or None if the property has no moves.
 fn move_colour(prop: &Prop<'_>) -> Option<Colour>
     ensures { result ≡ move_colour prop.now }
 {

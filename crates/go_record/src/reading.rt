@@ -80,10 +80,11 @@ fn actions_of(alloc: Global, size: Size, line: MainLine<'_, '_>) -> Result<Vec<A
 /// There is no error if the tree is of another game, whatever its SZ is. `BadSize` if the value of
 /// SZ is no size from 1 to 52 by 1 to 52. Otherwise the first of these, in the order of the
 /// actions: `BadPoint` if a value spells no point, rectangle or pass, and `OffBoard` if a point of
-/// it is off the board. Each has the byte offset of its value in the input. `Memory` if memory for
-/// the actions was refused. It is asked for only if an action comes before the first fault: never
-/// for a tree of another game, with a bad size, or without an action before its first fault. The
-/// tree is only read, so the call may be tried again.
+/// it is off the board. Each has the byte offset of its value in the input.
+///
+/// `Memory` if memory for the actions was refused. It is asked for only if an action comes before
+/// the first fault: never for a tree of another game, with a bad size, or without an action before
+/// its first fault. The tree is only read, so the call may be tried again.
 pub fn read_record(alloc: Global, tree: &Tree<'_>) -> Result<Kind, RecordFault>
     ensures reads { (game : GameTree) → tree.now.marks ≡ marks_of game
         → IsRecordOrMemory (main_line_of game) result }

@@ -34,7 +34,8 @@ impl Record {
     ghost use Rattle.std.specs.Prelude.{◌≡◌, All};
     ghost use Rattle.go_record.specs.Actions.{AreOnBoard, IsActionOn};
 
-    /// The record of these actions on a board of this size. Each of their points is on the board.
+    /// Makes the record of these actions on a board of this size. Each of their points is on the
+    /// board.
     pub(crate) fn new(size: Size, actions: Vec<Action>) -> Record
         requires { All (IsActionOn size) actions.items }
         ensures { result ≡ record { size = size; actions = actions.items } }
@@ -42,14 +43,14 @@ impl Record {
         Record { size, actions }
     }
 
-    /// The size of the board.
+    /// Returns the size of the board.
     pub fn size(&self) -> Size
         ensures { result ≡ self.now.size }
     {
         self.size
     }
 
-    /// The actions, in order.
+    /// Returns the actions, in order.
     pub fn actions(&self) -> &[Action]
         ensures value { result.now ≡ self.now.actions }
         ensures on_board { AreOnBoard self.now }

@@ -94,14 +94,14 @@ fn sides(columns: &[u8], rows: &[u8]) -> Option<Size>
     Size::new(columns as u8, rows as u8)
 }
 
-/// The byte index of the first colon, or None if there is no colon.
+/// Returns the byte index of the first colon, or None if there is no colon.
 fn colon_at(text: &[u8]) -> Option<usize>
     ensures { result ≡ position is_colon text.now }
 {
     text.iter().position(|byte| *byte == b':')
 }
 
-/// The parts before and after the first colon, or None if there is no colon.
+/// Returns the parts before and after the first colon, or None if there is no colon.
 pub(crate) fn split_colon(text: &[u8]) -> Option<(&[u8], &[u8])>
     ensures { MatchOption result (list_any is_colon text.now ≡ false)
         (λ parts. (list_any is_colon text.now ≡ true)

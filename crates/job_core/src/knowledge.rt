@@ -96,9 +96,9 @@ impl<'a> Lesson<Item<'a>, Knowledge> for Takes {
 }
 
 /// The rule by which a pass (a thread's right to call the queue) learns what holds of the whole
-/// queue, for example that no game was drawn more often than it was put. It asks for all 1024 parts
-/// of the queue's endpoints: then no other endpoint is left. Used in contracts only; no code makes
-/// one.
+/// queue, for example that no game was taken more often than it was added. It asks for all 1024
+/// parts of the queue's endpoints: then no other endpoint is left. Used in contracts only; no code
+/// makes one.
 pub(crate) struct Settles;
 
 impl<'a> Lesson<Item<'a>, Knowledge> for Settles {

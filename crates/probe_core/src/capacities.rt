@@ -44,7 +44,7 @@ impl Capacity {
         1 << self.exponent
     }
 
-    /// The exponent k of the 2^k slots.
+    /// Returns the exponent k of the 2^k slots.
     pub(crate) fn exponent(self) -> u32
         ensures value { result ≡ self }
         ensures small { self ≤ 22 }

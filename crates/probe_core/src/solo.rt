@@ -55,8 +55,8 @@ impl<O: ProbeOrder> SoloTable<O> {
         Ok(SoloTable { order, words })
     }
 
-    /// Returns the key's number. If the key has none, it gets a free number and keeps it; if none
-    /// is free, the answer is `Full`. It takes no memory.
+    /// Returns the key's number (the index of its slot). If the key has none, it gets a free number
+    /// and keeps it; if none is free, the answer is `Full`. It takes no memory.
     pub fn enter(&mut self, key: Key) -> Answer
         ensures order { self.new.order ≡ self.old.order }
         ensures step { Step self.old.table (Call.Enter key) result self.new.table }
@@ -71,8 +71,9 @@ impl<O: ProbeOrder> SoloTable<O> {
         }
     }
 
-    /// Returns the key's number. If the key has none, the answer is `Absent` if some number is
-    /// free, else `Full`. The table stays as it is, and no memory is taken.
+    /// Returns the key's number (the index of its slot). If the key has none, the answer is
+    /// `Absent` if some number is free, else `Full`. The table stays as it is, and no memory is
+    /// taken.
     pub fn look_up(&self, key: Key) -> Answer
         ensures step { Step self.now.table (Call.LookUp key) result self.now.table }
         ensures whole { length self.now.table ≡ 2 ^ O.exponent self.now.order }

@@ -65,8 +65,8 @@ pub fn reached(size: Size, point: Point, away: Away) -> Option<Point>
     size.has(reached).then_some(reached)
 }
 
-/// Returns the row of the board that has the points whose patterns have `point` in their row
-/// `down`: that many rows below the middle, with three added. None if that row is off the board.
+/// Returns the row of the board whose points have `point` in the row `down` of their patterns,
+/// which lies `down - 3` rows below the middle. None if that row is off the board.
 pub fn row_seeing(size: Size, point: Point, down: u8) -> Option<u8>
     requires on_board { IsOn size point }
     requires extent { IsExtent size }

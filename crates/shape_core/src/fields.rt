@@ -48,7 +48,8 @@ impl Field {
     ghost use Rattle.shape_core.specs.Field.{AreJoined, MarksNear, reach_of, AreEmptyColumns};
     ghost use Rattle.shape_core.specs.KeptLists.{AreMarks};
 
-    /// An empty board of this size, with the words of both kinds kept and no point marked.
+    /// Makes an empty board of this size, which keeps the words of squares and of diamonds, with no
+    /// point marked.
     ///
     /// It takes memory for each point of the board.
     ///
@@ -67,7 +68,8 @@ impl Field {
         Field::with_kinds(alloc, size, Kinds::Both)
     }
 
-    /// An empty board of this size, with the words of these kinds kept and no point marked.
+    /// Makes an empty board of this size, which keeps the words of these `kinds` of pattern, with
+    /// no point marked.
     ///
     /// It takes memory for each point of the board.
     ///
@@ -117,7 +119,7 @@ impl Field {
         })
     }
 
-    /// The size of the board.
+    /// Returns the size of the board.
     pub fn size(&self) -> Size
         ensures value { result ≡ self.now.board.size }
         ensures board { IsBoard self.now.board }
@@ -125,14 +127,15 @@ impl Field {
         self.board.size()
     }
 
-    /// The kinds of pattern whose words are kept.
+    /// Returns the kinds of pattern whose words are kept: squares alone, or diamonds too.
     pub fn kinds(&self) -> Kinds
         ensures { result ≡ self.now.kinds }
     {
         self.kept.kinds
     }
 
-    /// What stands on a point. The point is on the board.
+    /// Returns what stands on a point: a stone of either colour, or `Stone::Empty`. The point is on
+    /// the board.
     pub fn cell(&self, point: Point) -> Stone
         requires { IsOn self.now.board.size point }
         ensures value { result ≡ position_of self.now.board point }
@@ -152,8 +155,8 @@ impl Field {
         self.empties.rows[usize::from(row)]
     }
 
-    /// The points that the last `play` emptied, each once; none before the first. `set` does not
-    /// change them.
+    /// Returns the points that the last `play` emptied, each once; none before the first `play`.
+    /// `set` does not change them.
     pub fn removed(&self) -> &[Point]
         ensures value { result.now ≡ self.now.board.removed }
         ensures board { IsBoard self.now.board }
@@ -161,7 +164,7 @@ impl Field {
         self.board.removed()
     }
 
-    /// The word of a point's square, as the board is now. The point is on the board.
+    /// Returns the word of a point's square, as the board is now. The point is on the board.
     pub fn word(&self, point: Point) -> Word
         requires { IsOn self.now.board.size point }
         ensures { result
@@ -170,8 +173,8 @@ impl Field {
         self.kept.squares[self.kept.size.index(point)].word()
     }
 
-    /// The word of a point's diamond, as the board is now. The point is on the board, and diamonds
-    /// are kept.
+    /// Returns the word of a point's diamond, as the board is now. The point is on the board, and
+    /// diamonds are kept.
     pub fn diamond(&self, point: Point) -> Word
         requires on_board { IsOn self.now.board.size point }
         requires kept { self.now.kinds ≡ Kinds.Both }
@@ -224,9 +227,11 @@ impl Field {
     }
 
     /// Puts a stone on a point, or empties it, whatever stood there; nothing is captured. The point
-    /// is on the board. Each point of which a kept word changes is marked, and no point that is
-    /// more than two columns or rows away, three if diamonds are kept. No point is marked if
-    /// `stone` stood there already. Takes no memory.
+    /// is on the board.
+    ///
+    /// Each point of which a kept word changes is marked, and no point that is more than two
+    /// columns or rows away, three if diamonds are kept. No point is marked if `stone` stood there
+    /// already. Takes no memory.
     pub fn set(&mut self, point: Point, stone: Stone)
         requires { IsOn self.old.board.size point }
         ensures sets { SetsOn self.old.board point stone self.new.board }
@@ -245,10 +250,11 @@ impl Field {
 
     /// Plays a move, as the board does: the stone is placed, whatever stood there; then each group
     /// of the other colour that is next to it and has no liberty is removed; then its own group, if
-    /// that has none. Returns how many stones were removed. The point is on the board. Each point
-    /// of which a kept word changes is marked, and no point that is more than two columns or rows
-    /// away, three if diamonds are kept, from the move's point and all that it emptied. Takes no
-    /// memory.
+    /// that has none. Returns how many stones were removed. The point is on the board.
+    ///
+    /// Each point of which a kept word changes is marked, and no point that is more than two
+    /// columns or rows away, three if diamonds are kept, from the move's point and from all that
+    /// were emptied. Takes no memory.
     pub fn play(&mut self, colour: Colour, point: Point) -> Played
         requires { IsOn self.old.board.size point }
         ensures plays { PlaysOn self.old.board colour point self.new.board result }

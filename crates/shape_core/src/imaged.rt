@@ -56,7 +56,7 @@ fn changed(words: u64x2, bits: u64x2, changes: u64x2) -> u64x2
 }
 
 impl ImagedWord {
-    /// A word with its images.
+    /// Computes the images of a word, and returns it with them.
     pub fn new(word: Word) -> ImagedWord
         ensures { result ≡ word }
     {
@@ -72,7 +72,7 @@ impl ImagedWord {
         }
     }
 
-    /// The word.
+    /// Returns the word itself, without its images.
     pub fn word(self) -> Word
         ensures { result ≡ self }
     {
@@ -80,8 +80,8 @@ impl ImagedWord {
         Word::of_bits(word)
     }
 
-    /// The word, with its images, after the code of one cell is changed by exclusive or with
-    /// `change`.
+    /// Returns the word, with its images, after the code of one `cell` is changed by exclusive or
+    /// with `change`.
     #[inline(always)]
     pub fn with_change(self, cell: usize, change: u8) -> ImagedWord
         requires cell { cell < 25 }
@@ -98,7 +98,7 @@ impl ImagedWord {
         }
     }
 
-    /// The word with the colours exchanged, with its images.
+    /// Returns the word with the colours exchanged, with its images.
     pub fn exchanged(self) -> ImagedWord
         ensures { result ≡ exchange_of self }
     {
@@ -110,7 +110,7 @@ impl ImagedWord {
         }
     }
 
-    /// The least of the word and its images.
+    /// Returns the least of the word and its images.
     #[inline(always)]
     pub fn least(self) -> Word
         ensures value { result ≡ least_image self }

@@ -28,8 +28,8 @@ pub struct KeptWords {
     pub kinds: Kinds,
     /// The words of the squares with their images, row by row from the top, each row from the left.
     pub squares: Vec<ImagedWord>,
-    /// The words of the diamonds with their images, in the same order. Empty if diamonds are not
-    /// kept.
+    /// The words of the diamonds with their images, in the order of `squares`. Empty if diamonds
+    /// are not kept.
     pub diamonds: Vec<ImagedWord>,
     /// For each row a number, whose bit c is set if the point in column c, counted from 0, is
     /// marked.
@@ -162,7 +162,7 @@ fn words_of(alloc: Global, board: &Board, kind: Kind) -> Result<Vec<ImagedWord>,
     Ok(words)
 }
 
-/// The word of a point's pattern of this kind.
+/// Computes the word of a point's pattern of this `kind`.
 fn word_at(board: &Board, point: Point, kind: Kind) -> Word
     requires { IsOn board.now.size point }
     ensures { result ≡ word_around kind board.now.size (position_of board.now) point }

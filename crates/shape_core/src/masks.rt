@@ -45,7 +45,7 @@ fn diamond_diagonal(word: u64) -> u64
         | swapped(word, 0x300c0, 26)
 }
 
-/// The kind of the word's pattern.
+/// Returns the kind of the word's pattern: a square or a diamond.
 fn kind(word: u64) -> Kind
     ensures { result ≡ kind_of word }
 {
@@ -56,7 +56,7 @@ fn kind(word: u64) -> Kind
     }
 }
 
-/// The word with left and right exchanged.
+/// Returns the word with left and right exchanged.
 pub fn left_right(word: u64) -> u64
     requires { word < 2 ^ 51 }
     ensures value { result ≡ image_of symmetry.LeftRight word }
@@ -66,7 +66,7 @@ pub fn left_right(word: u64) -> u64
     moved
 }
 
-/// The word with top and bottom exchanged.
+/// Returns the word with top and bottom exchanged.
 pub fn top_bottom(word: u64) -> u64
     requires { word < 2 ^ 51 }
     ensures value { result ≡ image_of symmetry.TopBottom word }
@@ -76,7 +76,7 @@ pub fn top_bottom(word: u64) -> u64
     moved
 }
 
-/// The word with rows for columns and columns for rows.
+/// Returns the word with rows for columns and columns for rows.
 #[tactic(auto, using(crate::proofs::Images::image_of_small))]
 pub fn diagonal(word: u64) -> u64
     requires { word < 2 ^ 51 }
@@ -90,7 +90,7 @@ pub fn diagonal(word: u64) -> u64
     }
 }
 
-/// The word with black for white and white for black: the two bits of each cell exchanged.
+/// Returns the word with black for white and white for black: the two bits of each cell exchanged.
 pub fn exchanged(word: u64) -> u64
     requires { word < 2 ^ 51 }
     ensures value { result ≡ exchange_of word }

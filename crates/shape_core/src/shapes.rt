@@ -30,7 +30,7 @@ impl Model for Shape {
 }
 
 impl Shape {
-    /// The shape's word.
+    /// Returns the shape's word.
     pub fn word(self) -> Word
         ensures value { result ≡ self }
         ensures small { self < 2 ^ 51 }
@@ -39,8 +39,8 @@ impl Shape {
         self.word
     }
 
-    /// The shape that is this word, or None if the word is not the least of its eight images. Takes
-    /// no memory.
+    /// Returns the shape that has this word, or None if the word is not the least of its eight
+    /// images. Takes no memory.
     pub fn of_word(word: Word) -> Option<Shape>
         ensures { SomeIff result (least_image word ≡ word) word }
     {

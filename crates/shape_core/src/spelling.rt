@@ -17,7 +17,7 @@ pub enum GlyphFault {
     BadGlyph(usize),
 }
 
-/// The glyphs of a word's cells, cell 0 first. Takes no memory.
+/// Returns the glyphs of a word's cells, cell 0 first. Takes no memory.
 pub fn glyphs(word: Word) -> [u8; 25]
     ensures { result ≡ glyphs_of word }
 {
@@ -28,7 +28,7 @@ pub fn glyphs(word: Word) -> [u8; 25]
     glyphs
 }
 
-/// The glyph of a code.
+/// Returns the glyph of a code: `.`, `X`, `O` and `#` for 0 to 3.
 fn glyph(code: u8) -> u8
     ensures { result ≡ glyph_of code }
 {
@@ -40,7 +40,7 @@ fn glyph(code: u8) -> u8
     }
 }
 
-/// The code of a glyph, or None if the byte is no glyph.
+/// Returns the code of a glyph, from 0 to 3, or None if the byte is no glyph.
 fn code(glyph: u8) -> Option<u8>
     ensures some { is_some result ≡ is_glyph glyph }
     ensures value { IfSome result (λ code. (code < 4) × (glyph_of code ≡ glyph)) }

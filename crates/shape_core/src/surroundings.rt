@@ -14,8 +14,8 @@ use go_board::{Board, Point, Stone};
 /// The code of a cell off the board.
 const OFF_BOARD: u8 = 3;
 
-/// The square of a point: the word of the five columns and five rows round it. The point is on the
-/// board. Takes no memory.
+/// Returns the square of a point: the word of the five columns and five rows round it. The point is
+/// on the board. Takes no memory.
 pub fn around(board: &Board, point: Point) -> Word
     requires { IsOn board.now.size point }
     ensures { result ≡ word_around kind.Square board.now.size (position_of board.now) point }
@@ -23,8 +23,8 @@ pub fn around(board: &Board, point: Point) -> Word
     Word::of_bits(sum_around(board, point, &SQUARE_CELLS))
 }
 
-/// The diamond of a point: the word of the points at most three steps away from it. The point is on
-/// the board. Takes no memory.
+/// Returns the diamond of a point: the word of the points at most three steps away from it. The
+/// point is on the board. Takes no memory.
 pub fn diamond(board: &Board, point: Point) -> Word
     requires { IsOn board.now.size point }
     ensures { result ≡ word_around kind.Diamond board.now.size (position_of board.now) point }

@@ -27,8 +27,8 @@ pub enum Symmetry {
 }
 
 impl Symmetry {
-    /// The symmetry of this number, from 0 to 7 in the order of the variants, or None for a greater
-    /// number.
+    /// Returns the symmetry of this number, from 0 to 7 in the order of the variants, or None for a
+    /// greater number.
     pub fn new(number: u8) -> Option<Symmetry>
         ensures { SomeIff result (number < 8) (numbered number) }
     {
@@ -46,8 +46,8 @@ impl Symmetry {
     }
 }
 
-/// The image of a word under a symmetry: each cell's code at the cell to which the symmetry moves
-/// it. It is of the word's kind. Takes no memory.
+/// Returns the image of a word under a symmetry: each cell's code is at the cell to which the
+/// symmetry moves it. It is of the word's kind. Takes no memory.
 pub fn image(word: Word, symmetry: Symmetry) -> Word
     ensures { result ≡ image_of symmetry word }
 {
@@ -65,7 +65,8 @@ pub fn image(word: Word, symmetry: Symmetry) -> Word
     Word::of_bits(moved)
 }
 
-/// The word with black for white and white for black. It is of the word's kind. Takes no memory.
+/// Returns the word with black for white and white for black. It is of the word's kind. Takes no
+/// memory.
 pub fn exchange(word: Word) -> Word
     ensures { result ≡ exchange_of word }
 {

@@ -50,7 +50,7 @@ impl Word {
     ghost use Rattle.std.specs.Prelude.{◌≡◌, ◌<◌, ◌^◌, SomeIff};
     ghost use Rattle.shape_core.specs.Word.{code_at, kind_of};
 
-    /// The word of this number, or None if it is 2^51 or more.
+    /// Returns the word that is this number, or None if the number is 2^51 or more.
     pub fn new(bits: u64) -> Option<Word>
         ensures { SomeIff result (bits < 2 ^ 51) bits }
     {
@@ -61,7 +61,7 @@ impl Word {
         }
     }
 
-    /// The word of this number, which is below 2^51.
+    /// Returns the word that is this number, which must be below 2^51.
     pub(crate) fn of_bits(bits: u64) -> Word
         requires { bits < 2 ^ 51 }
         ensures { result ≡ bits }
@@ -69,7 +69,7 @@ impl Word {
         Word { bits }
     }
 
-    /// The word's number.
+    /// Returns the word as a number, which is below 2^51.
     pub fn bits(self) -> u64
         ensures value { result ≡ self }
         ensures small { self < 2 ^ 51 }
@@ -77,7 +77,8 @@ impl Word {
         self.bits
     }
 
-    /// The code of a cell: 0 empty, 1 black, 2 white, 3 off the board. The cell is below 25.
+    /// Returns the code of a cell: 0 empty, 1 black, 2 white, 3 off the board. The cell is below
+    /// 25.
     pub fn code(self, cell: usize) -> u8
         requires { cell < 25 }
         ensures value { result ≡ code_at self cell }
@@ -86,7 +87,7 @@ impl Word {
         ((self.bits >> (2 * cell)) & 3) as u8
     }
 
-    /// The kind of the word's pattern: a square or a diamond.
+    /// Returns the kind of the word's pattern: a square or a diamond.
     pub fn kind(self) -> Kind
         ensures { result ≡ kind_of self }
     {

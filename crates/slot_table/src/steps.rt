@@ -77,8 +77,8 @@ pub(crate) fn asked<O: ProbeOrder>(
     run(shared, seat, Probe::begin(order, call))
 }
 
-/// Returns the word of the slot at this index of the key's probe order. For proofs that load is a
-/// step of the key's `Enter`. `seat` is the thread's right to load and change the words.
+/// Loads the slot at this `index` of the key's probe order, and returns its word. For proofs that
+/// load is a step of the key's `Enter`. `seat` is the thread's right to load and change the words.
 pub(crate) fn look<A: Ask, O: ProbeOrder>(
     shared: &Shown<O>,
     seat: &mut Place<O>,

@@ -47,7 +47,7 @@ pub(crate) type Shown<O> = Shared<(), View<O>, O, OneHistory>;
 /// step at a time. What it has seen by them is there for proofs.
 pub(crate) type Place<O> = Seat<(), View<O>>;
 
-/// The step of a call that is taken. Used in contracts only.
+/// Names the call of which a step is taken, and how far it is (`machine`). Used in contracts only.
 pub(crate) trait Ask {
     ghost use Rattle.probe_core.specs.Machine.{Machine};
 

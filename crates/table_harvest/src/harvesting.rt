@@ -66,8 +66,9 @@ fn explain<O: ProbeOrder>(
     }
 }
 
-/// Merges all shares (what each worker has counted) into the dictionary, once the input was read
-/// to its end; `report` is the report on its trees. The errors are those of `gather`, and `Memory`.
+/// Merges all shares (what each worker has counted) into the dictionary, once the input was read to
+/// its end, and returns it with `report`, the report on the input's trees. The errors are those of
+/// `gather`, and `Memory`.
 fn count_of<R: Threads + Sync, O: ProbeOrder>(
     rt: &R,
     alloc: Global,
@@ -97,10 +98,10 @@ fn count_of<R: Threads + Sync, O: ProbeOrder>(
     Ok(Counted { dictionary, report })
 }
 
-/// Makes the dictionary from what all threads have counted, or returns the fault to report, in this
-/// order: out of memory, that of the input, that of the games that were refused (`worst` chooses
-/// it), and that of merging the shares. `pass` (the right to call the table) takes over the calls
-/// of all threads. `bytes`, the input, is used in contracts only.
+/// Makes the dictionary from `results`, what all threads have counted, or returns the fault to
+/// report, in this order: out of memory, that of the input, that of the games that were refused
+/// (`worst` chooses it), and that of merging the shares. `pass` (the right to call the table) takes
+/// over the calls of all threads. `bytes`, the input, is used in contracts only.
 fn conclude<R: Threads + Sync, O: ProbeOrder>(
     rt: &R,
     alloc: Global,
@@ -177,27 +178,31 @@ fn stakes_come_together()
 /// gate (what is called before each game), the number of workers and the order in which their steps
 /// happen. This is the project's own.
 ///
-/// The calling thread reads, and counts the games for which the job queue has no room; as many
+/// The calling thread reads, and counts the games for which the job queue has no room. As many
 /// workers as the settings say count the games that they take from the queue. The number of slots
-/// in the settings is ignored: the table has its own. `pass` (the right to call the table) must be
-/// of the table, which may have numbers already. Afterwards `pass` has made the calls of all
-/// threads: they entered patterns of the input alone, and marked games of the input (noted them as
-/// the least) at numbers of their own patterns alone. It has as much stake (its part of that right)
-/// as before, unless `Memory` was returned. It takes memory for a queue of at most 128 games, for
-/// each thread for the largest tree and its record, the board and the patterns of its games, and
-/// for the dictionary.
+/// in the settings is ignored: the table has its own. It takes memory for a queue of at most 128
+/// games, for each thread for the largest tree and its record, the board and the patterns of its
+/// games, and for the dictionary.
+///
+/// `pass` (the right to call the table) must be of the table, which may have numbers already.
+/// Afterwards `pass` has made the calls of all threads: they entered patterns of the input alone,
+/// and marked games of the input (noted them as the least) at numbers of their own patterns alone.
+/// It has as much stake (its part of that right) as before, unless `Memory` was returned.
 ///
 /// # Errors
 ///
-/// `Sgf` with S4 if the input has more than 2^28 bytes, and then nothing was done to the table;
-/// else `Memory` if memory was refused or a worker was not started; else `Sgf` with the first fault
-/// of syntax; else `Full` with a game and one of its patterns for which no number (slot) was free,
+/// `Sgf` with S4 if the input has more than 2^28 bytes, and then nothing was done to the table.
+/// Else `Memory` if memory was refused or a worker was not started. Else `Sgf` with the first fault
+/// of syntax. Else `Full` with a game and one of its patterns for which no number (slot) was free,
 /// if the input has as many other patterns as the table has numbers. If nobody else uses the table,
-/// there is no other fault. Else `Stranger` if the table is full: it names the least number whose
-/// key is no pattern that was counted, so that somebody else entered it and no share has a row of
-/// it. `Marks` if all games were counted: it names a number with a least game that somebody else
-/// marked, and the shares' least game there, which is another. After each the table keeps the
-/// numbers and marks that it got.
+/// there is no other fault.
+///
+/// If somebody else uses it, there are two more. `Stranger` if the table is full: it names the
+/// least number whose key is no pattern that was counted, so that somebody else entered it and no
+/// share has a row of it. `Marks` if all games were counted: it names a number with a least game
+/// that somebody else marked, and the shares' least game there, which is another.
+///
+/// After each fault the table keeps the numbers and marks that it got.
 pub fn harvest_on<R: Threads + Wait + Sync, O: ProbeOrder, G: Gate>(
     rt: &R,
     alloc: Global,

@@ -54,7 +54,7 @@ pub(crate) fn part(alloc: Global, worked: Vec<Worked>) -> Result<Parted, AllocEr
     Ok(parted)
 }
 
-/// Whether memory was refused to some worker.
+/// Whether `Memory` is among `refusals`: memory was refused to some worker.
 pub(crate) fn want_memory(refusals: &[HarvestFault]) -> bool
     ensures { IsTrue result ↔ Contains refusals.now fault.Memory }
 {

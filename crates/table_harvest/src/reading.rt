@@ -137,9 +137,9 @@ pub(crate) fn close<R: Wait>(rt: &R, endpoint: &mut Endpoint<'_, '_>, workers: u
     }
 }
 
-/// The result of the thread that reads: what it has counted, the report on the input's trees, the
-/// fault that ended it, if any, and its end of the queue with its pass (its right to call the
-/// table).
+/// What `read_games` returns: what the reading thread has counted itself (`worked`), the report on
+/// the input's trees, the `fault` that ended the reading, if any, and the thread's end of the queue
+/// with its pass, its right to call the table (`own`).
 #[derive(Drop)]
 pub(crate) struct Reading<'q, 'a, 't, O: ProbeOrder, G: Gate> {
     pub worked: Worked,
@@ -150,7 +150,7 @@ pub(crate) struct Reading<'q, 'a, 't, O: ProbeOrder, G: Gate> {
 
 /// Reads all games, each of which is added to the queue or counted here, and then adds an end for
 /// each of the `workers` workers that were started. It waits for the workers to take items while
-/// the queue has no room for an end.
+/// the queue has no room for an end. A fault is in the result: the ends are added then too.
 pub(crate) fn read_games<'q, 'a, 't, R: Wait, O: ProbeOrder, G: Gate>(
     rt: &R,
     alloc: Global,

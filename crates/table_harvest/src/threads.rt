@@ -27,9 +27,9 @@ use std::sync::Wait;
 use std::thread;
 use std::thread::{Promise, PromisedHandle, Threads};
 
-/// What the thread that reads works with: the games of the input, what it counts with itself, and,
-/// for the proof alone, its pass (its right to call the table) before parts of it were given to
-/// workers.
+/// What the reading thread holds before it starts workers: the reader of the input's games
+/// (`games`), its end of the queue and the table (`own`), and, for the proof alone, its pass (its
+/// right to call the table) before parts of it were given to workers (`begun`).
 #[derive(Drop)]
 pub(crate) struct Caller<'q, 'a, 't, O: ProbeOrder, G: Gate> {
     pub games: Games<'a>,
@@ -89,7 +89,8 @@ impl<'q, 'a, 't, O: ProbeOrder, G: Gate> Caller<'q, 'a, 't, O, G> {
     ghost use Rattle.slot_table.specs.Stakes.{halved, half_of};
     ghost use Rattle.table_harvest.specs.Inner.Threads.{IsFresh};
 
-    /// Makes what the thread that reads works with, before anything is read or a worker is started.
+    /// Makes the reading thread's state from the reader `games` and its own worker, `own`, before
+    /// anything is read or a worker is started.
     pub(crate) fn begin(games: Games<'a>, own: Worker<'q, 'a, 't, O, G>) -> Caller<'q, 'a, 't, O, G>
         ensures games { result.games ≡ games.entry }
         ensures own { result.own ≡ own.entry }

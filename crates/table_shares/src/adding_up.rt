@@ -32,10 +32,10 @@ fn moves_of(shares: &[Share]) -> Result<u64, HarvestFault>
     Ok(moves)
 }
 
-/// Makes the dictionary of all shares (a share is what one worker has counted). `listed` are its
-/// entries, in any order: the sums of the shares' counts by pattern. Threads put them in order.
-/// The shares must be of these kinds, and have the games below `games`, each once. It takes no
-/// memory.
+/// Makes the dictionary of all shares (a share is what one worker has counted). `listed` are the
+/// dictionary's entries, in any order: the sums of the shares' counts by pattern. Threads put them
+/// in order. Each share must have counted patterns of these `kinds`, and the shares must together
+/// have each game below `games` once. It takes no memory.
 ///
 /// # Errors
 ///

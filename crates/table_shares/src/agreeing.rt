@@ -21,7 +21,7 @@ pub(crate) struct Differs {
     pub of_table: Option<u64>,
 }
 
-/// Returns the fault that reports a pattern's number with its two least games that differ.
+/// Returns the fault `Marks` with the pattern's number and the two least games of `differs`.
 pub(crate) fn marks_fault(differs: Differs) -> HarvestFault
     ensures { result ≡ fault.Marks differs.number differs.of_shares differs.of_table }
 {

@@ -17,7 +17,8 @@ struct Seen {
     twice: Option<u64>,
 }
 
-/// Notes a game as seen. If it was seen before, `seen.twice` becomes `game`, unless it is less.
+/// Notes a game as seen. If it was seen before, `seen.twice` becomes `game`, unless it has a lesser
+/// game already.
 fn note(seen: &mut Seen, game: u64)
     requires { game < length seen.old.games.items }
     ensures long { length seen.new.games.items ≡ length seen.old.games.items }
@@ -35,7 +36,7 @@ fn note(seen: &mut Seen, game: u64)
     };
 }
 
-/// Notes these games as seen.
+/// Notes each of `games` as seen, in `seen`.
 fn note_all(seen: &mut Seen, games: &[u64])
     requires { All (λ game. game < length seen.old.games.items) games.now }
     ensures long { length seen.new.games.items ≡ length seen.old.games.items }

@@ -30,8 +30,8 @@ pub(crate) fn list_keys(keys: &mut Vec<Key>, meetings: &[Meeting]) -> Result<(),
 }
 
 /// Enters these keys into the table, each if it isn't there, and replaces `answers` by the answer
-/// for each key: the number (slot) that it has, or that no slot is free. After the first key for
-/// which none is free, most keys are not entered.
+/// for each key: the number (slot) that it has, or `Full` if no slot is free. After the first
+/// `Full` most keys are not entered, and their answer is `Absent`.
 ///
 /// # Errors
 ///

@@ -35,8 +35,8 @@ use std::thread::Threads;
 /// there are shares, rounded up to a power of two, but at most 64. The answer is the same for any
 /// number.
 ///
-/// `pass` (the right to call the table) must be of the table, each share of these kinds, and each
-/// of its games below `games`.
+/// `pass` (the right to call the table) must be of the table. Each share must have counted these
+/// `kinds` of pattern, and each of its games must be below `games`.
 ///
 /// # Errors
 ///

@@ -18,7 +18,8 @@ pub(crate) enum Sought {
     From(usize),
 }
 
-/// Whether a row is looked for that has this number and a pattern whose word has these bits.
+/// Whether `sought` asks for a row that has this `number` and a pattern whose word has these
+/// `bits`.
 fn is_sought(sought: Sought, number: usize, bits: u64) -> bool
     ensures yes { OnTrue result (IsSought sought number bits) }
     ensures no { OnFalse result (IsSought sought number bits → ⊥) }

@@ -45,8 +45,9 @@ pub(crate) fn earlier(one: Option<u64>, other: Option<u64>) -> Option<u64>
     }
 }
 
-/// Adds one more row of the number to `sums`. `found` are the bits of the pattern that the row
-/// should have; None if the number has no pattern.
+/// Returns `sums` with one more row of the same number added. `found` are the bits of the pattern
+/// that the row should have; None if the number has no pattern. If the row is of another pattern,
+/// that is the `stranger`, unless an earlier row gave one.
 fn add(sums: NumberSums, row: Row, found: Option<u64>) -> NumberSums
     ensures { (rows more : List Row) → (number : ℕ) → AreOfNumbers more
         → row_of more number ≡ Some row → AreSums rows number found sums

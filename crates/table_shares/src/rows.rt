@@ -28,8 +28,8 @@ fn blank_row(number: usize, shape: Shape) -> Row
     }
 }
 
-/// Adds the counts of a game's `meeting` with the row's pattern to the row, whose least game
-/// becomes `game` if that is less.
+/// Adds the counts of a game's `meeting`, which is of the row's pattern, to the row. The row's
+/// least game becomes `game` if it had none or a greater one.
 fn raise_row(row: &mut Row, meeting: Meeting, game: u64)
     requires there { row.old.there + meeting.there < 2 ^ 64 }
     requires played { row.old.played + meeting.played < 2 ^ 64 }
@@ -107,7 +107,7 @@ impl Rows {
         self.rows.as_slice()
     }
 
-    /// The sum of all counts of the rows.
+    /// Returns the sum of all counts of the rows.
     pub fn weight(&self) -> u64
         ensures { result ≡ weight_of self.now }
     {

@@ -83,7 +83,7 @@ impl Share {
         }
     }
 
-    /// The number of the worker that counts into the share.
+    /// Returns the number of the worker that counts into the share.
     pub fn worker(&self) -> usize
         ensures { result ≡ self.now.worker }
     {
@@ -98,7 +98,7 @@ impl Share {
         self.ledger.games.as_slice()
     }
 
-    /// The number of moves onto empty points in the games.
+    /// Returns how many moves onto empty points the games have.
     pub fn moves(&self) -> u64
         ensures { result ≡ self.now.moves }
     {
@@ -147,15 +147,17 @@ impl Share {
     ///
     /// # Errors
     ///
-    /// `Full` if no number is free for a pattern of the game: it names the first such pattern in
-    /// the order in which the game is replayed, and each pattern before it has a number and its
-    /// row; `Stranger` if the share's row of a pattern's number is of another pattern, as if the
-    /// share was counted over another table;
-    /// `Overflow` if the share's moves or all its counts together would pass 2^64 - 1, or if the
-    /// game has more actions than any input; `Memory` if memory was refused. After each the share's
-    /// games, moves and sums are as they were and the game is nowhere marked. Patterns of the game
-    /// may have got rows without counts, and numbers in the table; after `Full` and `Overflow` each
-    /// pattern that was entered and got a number has a row of that number.
+    /// `Full` if no number is free for a pattern of the game. It names the first such pattern in
+    /// the order in which the game is replayed; each pattern before it has a number and its row.
+    /// `Stranger` if the share's row of a pattern's number is of another pattern, as if the share
+    /// was counted over another table. `Overflow` if the share's moves or all its counts together
+    /// would pass 2^64 - 1, or if the game has more actions than any input. `Memory` if memory was
+    /// refused.
+    ///
+    /// After each the share's games, moves and sums are as they were, and the game is nowhere
+    /// marked. Patterns of the game may have got rows without counts, and numbers in the table.
+    /// After `Full` and `Overflow` each pattern that was entered and got a number has a row of that
+    /// number.
     pub fn add<O: ProbeOrder>(
         &mut self,
         table: &SlotTable<O>,

@@ -18,7 +18,8 @@ use harvest_faults::HarvestFault;
 use shape_dict::{Entry, FirstGame};
 use std::alloc::Global;
 
-/// Makes a dictionary's entry of a row. The entry's word is canonical: the type `Shape` says so.
+/// Makes a dictionary's entry of a row (one pattern's counts in a share). The entry's word is
+/// canonical: the type `Shape` says so.
 fn entry(row: Row) -> Entry
     ensures value { result ≡ with_row None row }
     ensures shape { IsShape result }

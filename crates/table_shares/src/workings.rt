@@ -13,8 +13,9 @@ use std::alloc::Global;
 use tally_core::{Meeting, Walk};
 
 /// Makes a row with counts of 0 for each of a game's patterns that got a number in the table,
-/// unless the number has a row. `answers[i]` is the table's answer for `meetings[i]`. `Stranger` if
-/// a number's row is of another pattern; `Memory` if memory was refused. Rows made before stay.
+/// unless the number has a row. `answers[i]` is the table's answer for `meetings[i]`, a pattern of
+/// the game with its counts. `Stranger` if a number's row is of another pattern; `Memory` if memory
+/// was refused. Rows made before stay.
 fn make_all(rows: &mut Rows, meetings: &[Meeting], answers: &[Answer]) -> Result<(), HarvestFault>
     requires length { length answers.now ≡ length meetings.now }
     requires numbers { AreBelow (2 ^ 22) answers.now }

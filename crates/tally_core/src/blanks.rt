@@ -45,7 +45,7 @@ impl Blank {
         }
     }
 
-    /// The kinds of pattern whose words the fields keep.
+    /// Returns the kinds of pattern (squares alone, or diamonds too) whose words the fields keep.
     pub fn kinds(&self) -> Kinds
         ensures { result ≡ self.now }
     {

@@ -19,7 +19,7 @@ use shape_core::Kinds;
 use shape_dict::{Entry, PieceDictionary};
 use std::alloc::{AllocError, Global};
 
-/// What counting a collection gives.
+/// The result of `count_plain`: a collection's dictionary, and the report on its trees.
 #[derive(Drop)]
 pub struct Counted {
     /// The dictionary of its games.
@@ -28,17 +28,17 @@ pub struct Counted {
     pub report: Report,
 }
 
-/// Returns for how many patterns to make room: the most that an input of this many `bytes` is
-/// likely to have, but at most 2^22. A move takes six bytes, and brings some eight patterns that
-/// the collection has not had yet.
+/// Returns for how many patterns to make room: one and a half for each of the input's `bytes`, but
+/// at most 2^22. A move takes six bytes, and brings some eight patterns that the collection has not
+/// had yet, so there is mostly room to spare.
 fn likely_patterns(bytes: usize) -> usize {
     (bytes / 2).saturating_mul(3).min(1 << 22)
 }
 
 /// Makes the result of counting a collection from what was counted: how many `moves` onto empty
 /// points its games have, the `report` on its trees, and the `entries` of its patterns in the order
-/// of their words. It takes memory for a list whose one item is that list of entries; `AllocError`
-/// if that is refused.
+/// of their words. `kinds` says whether diamonds were counted. It takes memory for a list whose one
+/// item is that list of entries; `AllocError` if that is refused.
 fn counted_of(
     alloc: Global,
     kinds: Kinds,
@@ -57,11 +57,12 @@ fn counted_of(
     Ok(Counted { dictionary, report })
 }
 
-/// Counts a whole collection on one thread. Returns the dictionary of its games, which are numbered
-/// from 0 in their order, and how many of its trees are games of Go, are of other games, and are
-/// refused.
-/// `kinds` says which kinds of pattern are counted. It takes memory for the largest tree and its
-/// record, for the board, and for each pattern.
+/// Counts a whole collection, the input `bytes`, on one thread. Returns the dictionary of its
+/// games, and how many of its trees are games of Go, are of other games, and are refused. Games are
+/// numbered from 0 in their order.
+///
+/// `kinds` says which kinds of pattern are counted: squares alone, or diamonds too. It takes memory
+/// for the largest tree and its record, for the board, and for each pattern.
 ///
 /// # Errors
 ///

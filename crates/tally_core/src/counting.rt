@@ -60,7 +60,8 @@ fn count_walked(counter: &mut Counter, walked: &WalkedGame<'_>) -> Result<(), Ta
 }
 
 /// Reads all games of the walker's input, of which none may have been read yet, and adds them to
-/// `counter`. A fault that the reader met is returned unchanged.
+/// `counter`. Returns `TallyFault::Sgf` at a fault of syntax, as the reader met it, and
+/// `TallyFault::Memory` if memory was refused. The games before the fault stay counted.
 pub(crate) fn count_games(walker: &mut Walker<'_>, counter: &mut Counter) -> Result<(), TallyFault>
     requires small { length walker.old.games.bytes ≤ most_bytes }
     requires begins { walker.old.games.report.games ≡ 0 }

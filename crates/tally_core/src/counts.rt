@@ -151,7 +151,7 @@ impl Counts {
         }
     }
 
-    /// How many patterns have counts.
+    /// Returns how many patterns have counts.
     pub fn len(&self) -> usize
         ensures len { result ≡ length self.now }
         ensures once { IsDistinct nat_eq (keys_of self.now) }
@@ -188,9 +188,9 @@ impl Counts {
     }
 
     /// Adds an entry to the counts of its pattern, if that has a row or a slot is free. If the
-    /// pattern has no count yet, the entry's game is its first. `TallyFault::Memory` if no slot is
-    /// free, `TallyFault::Overflow` if a count would pass 2^64 - 1; nothing changes then. It takes
-    /// no memory.
+    /// pattern has no count yet, the entry's game is its first. Does nothing for an entry whose
+    /// counts are both 0. `TallyFault::Memory` if no slot is free, `TallyFault::Overflow` if a
+    /// count would pass 2^64 - 1; nothing changes then. It takes no memory.
     #[inline(always)]
     fn enter(&mut self, entry: &Entry) -> Result<(), TallyFault>
         ensures ok { OnOk result
@@ -233,7 +233,7 @@ impl Counts {
     }
 
     /// Doubles the slots, or makes the first `FIRST_PLACES`, and enters each row again. It takes
-    /// memory. If that is refused, nothing changes.
+    /// memory; `AllocError` if that is refused, and nothing changes then.
     fn grow(&mut self) -> Result<(), AllocError>
         ensures { AreCounts (count_in self.old) (count_in self.new) }
     {

@@ -17,11 +17,12 @@ use go_record::{Action, apply};
 use shape_core::Field;
 use std::alloc::Global;
 
-/// A game that is being walked: the board as it is, the patterns met so far with their counts
-/// (`meetings`), and, for each colour to move, the square and the diamond that each empty point
-/// has, with how many moves onto empty points this colour had made when the point got them. How
-/// often these have been there since then is not in `meetings` yet: it is added when the point
-/// changes, or by `finish`.
+/// A game that is being walked: the board as it is (`field`), the patterns met so far with their
+/// counts (`meetings`), and what is stored for each colour to move (`black` and `white`).
+///
+/// A side stores which square and which diamond each empty point has, and how many moves onto empty
+/// points this colour had made when the point got them. How often these two patterns were there
+/// since then is not in `meetings` yet: it is added when the point changes, or by `finish`.
 ///
 /// Contracts speak of the counts that `meetings` would have if all this were added now (settled).
 #[derive(Drop)]

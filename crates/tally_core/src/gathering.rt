@@ -1,4 +1,4 @@
-//! The dictionary of the games that were counted.
+//! Makes a dictionary of the patterns that were counted.
 ghost use Rattle.std.specs.Prelude.{◌≡◌, ℕ, Option, List, All, map, length};
 ghost use Rattle.std.specs.List.Sorted.{IsStrictlyIncreasing};
 ghost use Rattle.tally_core.specs.Counts.{Replayed};
@@ -11,7 +11,8 @@ ghost use Rattle.tally_core.specs.Inner.Entries.{AreEntered};
 use shape_core::{Kinds, kinds_stay};
 use shape_dict::{Dictionary, Entry};
 
-/// Whether diamonds are among these kinds.
+/// Returns whether `kinds` has diamonds (the patterns of all points at most three steps away)
+/// besides squares.
 pub fn has_diamonds(kinds: Kinds) -> bool
     ensures { result ≡ counts_diamonds kinds }
 {
@@ -22,7 +23,8 @@ pub fn has_diamonds(kinds: Kinds) -> bool
 }
 
 /// Makes the dictionary of this many `games` with this many `moves` onto empty points. `entries`
-/// are those of the patterns, in ascending order of their words. It takes no memory.
+/// are those of the patterns, in ascending order of their words, and `kinds` says whether diamonds
+/// were counted. It takes no memory.
 pub(crate) fn dictionary_of(kinds: Kinds, games: u64, moves: u64, entries: Vec<Entry>) -> Dictionary
     requires counted { (counts : ℕ → Option Count) × AreEntered counts entries.items
         × ((replayed : List Replayed) × (length replayed ≡ games)

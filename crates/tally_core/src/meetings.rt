@@ -58,14 +58,14 @@ enum Place {
     Free(usize),
 }
 
-/// A hash of a shape: it differs much between shapes that differ little.
+/// Returns a hash of a shape: it differs much between shapes that differ little.
 fn mixed(shape: Shape) -> usize {
     let product = shape.word().bits().wrapping_mul(0x9E37_79B9_7F4A_7C15);
     (product >> 32) as usize
 }
 
 impl Meetings {
-    /// An empty list of meetings. It takes no memory.
+    /// Makes an empty list of meetings. It takes no memory.
     pub fn new(alloc: Global) -> Meetings
         ensures { result ≡ [] }
     {
@@ -95,7 +95,7 @@ impl Meetings {
         Ok(())
     }
 
-    /// All meetings of the game so far, in the order in which they came.
+    /// Returns all meetings of the game so far, in the order in which they came.
     pub fn as_slice(&self) -> &[Meeting]
         ensures { result.now ≡ self.now }
     {
@@ -187,8 +187,8 @@ impl Meetings {
     }
 
     /// Returns the index in the list of a meeting of this `shape`: one that is there, or a new one
-    /// with both counts 0, which takes memory. `AllocError` if that is refused. It is inlined,
-    /// since it runs for every point that changed.
+    /// with both counts 0, which takes memory. `AllocError` if that is refused; the meeting may
+    /// have been added then. It is inlined, since it runs for every point that changed.
     #[inline(always)]
     pub fn meet(&mut self, shape: Shape) -> Result<usize, AllocError>
         ensures met { IfOk result (IsMet (shapes_of self.new) shape) }

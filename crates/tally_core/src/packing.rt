@@ -1,4 +1,4 @@
-//! The square and the diamond that a point has, in three words: it has had both since one move.
+//! Packs the square and the diamond that a point has, both since the same move, in three numbers.
 ghost use Rattle.std.specs.Prelude.{◌≡◌, None};
 ghost use Rattle.tally_core.specs.Inner.Packing.{stay_of, BeginsAt};
 
@@ -32,8 +32,9 @@ impl Model for PackedStays {
     ghost view = { λ p. stays_of p.square p.diamond p.since };
 }
 
-/// Makes the stay of a point that has had the pattern at index `at` of the list of the game's
-/// patterns since its colour had made `since` moves onto empty points. None if `at` is `NOTHING`.
+/// Makes the stay (a pattern that a point has, and since when) of a point that has had the pattern
+/// at index `at` of the list of the game's patterns since its colour had made `since` moves onto
+/// empty points. None if `at` is `NOTHING`.
 fn stay_at(at: usize, since: u64) -> Option<Stay>
     ensures { result ≡ stay_of at since }
 {

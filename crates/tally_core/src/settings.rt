@@ -4,8 +4,8 @@ use crate::faults::TallyFault;
 use shape_core::Kinds;
 use std::marker::Model;
 
-/// Workers from 1 to 64, a table of 2^k slots with k from 0 to 22, and the kinds of pattern that
-/// are counted.
+/// How a collection is counted: by how many workers (1 to 64), over a table of how many slots (2^k,
+/// with k from 0 to 22), and which kinds of pattern.
 #[derive(Clone, Copy, Debug, PartialEq, Eq)]
 pub struct Settings {
     workers: u8,
@@ -68,21 +68,21 @@ impl Settings {
         Settings { kinds, ..self }
     }
 
-    /// How many workers count, from 1 to 64.
+    /// Returns how many workers count, from 1 to 64.
     pub fn workers(self) -> u8
         ensures { result ≡ self.workers }
     {
         self.workers
     }
 
-    /// The exponent k, from 0 to 22: the table has 2^k slots.
+    /// Returns the exponent k, from 0 to 22: the table has 2^k slots.
     pub fn k(self) -> u8
         ensures { result ≡ self.k }
     {
         self.exponent
     }
 
-    /// The kinds of pattern that are counted.
+    /// Returns the kinds of pattern that are counted.
     pub fn kinds(self) -> Kinds
         ensures { result ≡ self.kinds }
     {

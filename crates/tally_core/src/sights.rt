@@ -22,9 +22,9 @@ use go_board::{Colour, Point};
 use shape_core::{Field, Kinds};
 
 /// Looks again at an empty `point` that has changed: adds to `meetings` how often the patterns in
-/// `stays` were there, and replaces `stays` by the patterns that the point has now, the square
-/// first. `occasions` is how many moves onto empty points `mover` has made before.
-/// `TallyFault::Memory` if memory was refused.
+/// `stays` were there, and replaces `stays` by the square that the point has now, and its diamond
+/// if diamonds are counted. `occasions` is how many moves onto empty points `mover` has made
+/// before. `TallyFault::Memory` if memory was refused.
 fn see_point(
     meetings: &mut Meetings,
     stays: &mut PackedStays,
@@ -60,9 +60,9 @@ fn see_point(
 }
 
 impl Side {
-    /// Adds to `meetings` how often the patterns of some points of a `row` were there, and removes
-    /// these patterns, since the points have stones now. `columns` has a bit for the column of
-    /// each.
+    /// Ends the patterns of some points of a `row` that have stones now: adds to `meetings` how
+    /// often they were there, and removes them from `self.points`. `columns` has a bit for the
+    /// column of each of these points.
     fn leave_points(&mut self, meetings: &mut Meetings, field: &Field, row: u8, columns: u64)
         requires row { row < field.now.board.size.rows }
         requires columns { columns < 2 ^ field.now.board.size.columns }

@@ -63,7 +63,8 @@ impl<'a> Walker<'a> {
         })
     }
 
-    /// How many of the trees read so far are games of Go, are of other games, and are refused.
+    /// Returns how many of the trees read so far are games of Go, are of other games, and are
+    /// refused.
     pub fn report(&self) -> Report
         ensures { result ≡ self.now.games.report }
     {

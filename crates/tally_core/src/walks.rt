@@ -92,7 +92,7 @@ impl Walk {
         self.meetings.as_slice()
     }
 
-    /// The kinds of pattern that are counted.
+    /// Returns the kinds of pattern that are counted.
     pub fn kinds(&self) -> Kinds
         ensures { result ≡ self.now.kinds }
     {
