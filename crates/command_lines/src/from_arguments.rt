@@ -11,7 +11,8 @@ use clap::{ArgMatches, Command};
 use engine_core::RunFault;
 use std::alloc::{AllocError, Global};
 
-/// What the words of a program without subcommands may ask for, and how to read it from them.
+/// A type whose values are what the words of a program without subcommands may ask for, with how to
+/// read it from the words.
 pub trait FromArguments<'a>: Sized + Drop {
     /// The program, as it is defined for `clap`. Used in contracts only.
     ghost app: { App };
@@ -34,7 +35,8 @@ pub trait FromArguments<'a>: Sized + Drop {
     ///
     /// # Errors
     ///
-    /// Why the values ask for nothing; `Memory` if memory was refused.
+    /// If the values ask for nothing, the fault that says why, such as `Usage`; `Memory` if memory
+    /// was refused.
     fn from_values(alloc: Global, matches: &ArgMatches<'a>) -> Result<Self, RunFault>
         ensures asked { IfOk result (IsAsked (rows_in matches.now)) }
         ensures fault { IfErr result (λ found. (found ≡ fault.Memory)
@@ -44,12 +46,13 @@ pub trait FromArguments<'a>: Sized + Drop {
     ghost simple: { is_simple_and_free app ≡ true };
 }
 
-/// Reads what the words after a program's name ask for. It takes memory.
+/// Returns what the words after a program's name ask for: a value of `T`, or the text of help or
+/// version. It takes memory.
 ///
 /// # Errors
 ///
-/// `Usage` if `clap` refuses the words; if it takes them, why their values ask for nothing;
-/// `Memory` if memory was refused.
+/// `Usage` if `clap` refuses the words. The error of `T::from_values` if `clap` takes them, but
+/// they ask for nothing. `Memory` if memory was refused.
 pub fn read_arguments<'a, T: FromArguments<'a>>(
     alloc: Global,
     words: &'a [String],

@@ -14,7 +14,7 @@ use std::alloc::Global;
 /// What a line asks for.
 #[derive(Debug, Drop)]
 pub enum Line<T> {
-    /// The value that the words ask for, which `clap` takes.
+    /// What the words ask for; `clap` takes them.
     Asked(T),
     /// The text of help or version, which the words ask for.
     Told(String),

@@ -11,7 +11,7 @@ use std::alloc::{AllocError, Global};
 const VERSION: &str = "1.1.0";
 
 /// Defines a subcommand of this name, without arguments. Its help says what it is about, how it is
-/// used and, at the end, these notes. It takes no memory.
+/// used and, at the end, `notes`. It takes no memory.
 pub fn command_named<'a>(
     alloc: Global,
     name: &'a str,
@@ -29,8 +29,8 @@ pub fn command_named<'a>(
 }
 
 /// Defines the program of this name, without arguments and subcommands. Its help says what it is
-/// about, how it is used and, at the end, these notes; `--version` prints its name and version. The
-/// words it is given do not begin with its name. It takes no memory.
+/// about, how it is used and, at the end, `notes`; `--version` prints its name and version. The
+/// words that it is to read do not begin with its name. It takes no memory.
 pub fn program_named<'a>(
     alloc: Global,
     name: &'a str,
@@ -45,7 +45,7 @@ pub fn program_named<'a>(
         .no_binary_name(true)
 }
 
-/// Adds an argument to the command, after its other arguments. It takes memory.
+/// Returns the command with one more argument, after its others. It takes memory.
 ///
 /// # Errors
 ///
@@ -60,7 +60,7 @@ pub fn with_argument<'a>(command: Command<'a>, argument: Arg<'a>) -> Result<Comm
     command.arg(argument)
 }
 
-/// Adds a subcommand to the command, after its other subcommands. It takes memory.
+/// Returns the command with one more subcommand, after its others. It takes memory.
 ///
 /// # Errors
 ///

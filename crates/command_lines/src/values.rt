@@ -9,7 +9,8 @@ use clap::ArgMatches;
 use shape_core::Kind;
 use std::alloc::{AllocError, Global};
 
-/// Returns the first value of the option or word of this name, if it has one. It takes no memory.
+/// Returns the first value of the option or word of this name, or None if it has none. It takes no
+/// memory.
 pub fn word_of<'a>(matches: &ArgMatches<'a>, name: &str) -> Option<&'a str>
     ensures { option_map (λ word. word.now) result ≡ first_of name.now (rows_in matches.now) }
 {
@@ -37,7 +38,7 @@ pub fn words_of<'a>(
     Ok(words)
 }
 
-/// Returns the number that the option of this name has, if it has one. It takes no memory.
+/// Returns the number that the option of this name has, or None if it has none. It takes no memory.
 pub fn number(matches: &ArgMatches<'_>, name: &str) -> Option<u64>
     ensures number { IfSome result (IsNumberOf name.now (rows_in matches.now)) }
     ensures none { IfNone result (HasNoNumber (2 ^ 64) name.now (rows_in matches.now)) }
@@ -60,8 +61,8 @@ pub fn optional_number(matches: &ArgMatches<'_>, name: &str) -> Option<Option<u6
     }
 }
 
-/// Returns the number that the option of this name has, if it has one below 256. It takes no
-/// memory.
+/// Returns the number below 256 that the option of this name has, or None if it has none. It takes
+/// no memory.
 pub fn small_number(matches: &ArgMatches<'_>, name: &str) -> Option<u8>
     ensures number { IfSome result (IsNumberOf name.now (rows_in matches.now)) }
     ensures none { IfNone result (HasNoNumber (2 ^ 8) name.now (rows_in matches.now)) }

@@ -26,7 +26,8 @@ pub enum Outcome {
     NotFound,
 }
 
-/// Replays a game, and returns the text of its final position.
+/// Replays a game, and returns the text of its final position: `.`, `X` and `O`, a line for each
+/// row.
 fn final_text(alloc: Global, game_record: &Record) -> Result<Vec<u8>, RunFault>
     ensures text { IfOk result (λ text. (final : Position) × IsFinal game_record.now final
         × (text.items ≡ position_text game_record.now.size final)) }
@@ -38,8 +39,8 @@ fn final_text(alloc: Global, game_record: &Record) -> Result<Vec<u8>, RunFault>
     Ok(board_text(alloc, &board)?)
 }
 
-/// Returns the text of the final position of the first tree's game. None if there is no tree or it
-/// is of another game than Go.
+/// Returns the text of the final position of the game in the first tree of `input`. None if there
+/// is no tree or it is of another game than Go.
 #[tactic(auto, using(crate::proofs::Runs::sgf_cause))]
 fn first_text(alloc: Global, input: &[u8]) -> Result<Option<Vec<u8>>, RunFault>
     ensures text { IfOk result (λ found. IfSome found (λ text. IsBoardText input.now text.items)) }

@@ -124,8 +124,8 @@ impl fmt::Display for DictLine {
     }
 }
 
-/// The exit status of a fault: 2 usage, 3 input refused, 4 table full, 5 no memory, 6 read or write
-/// failed.
+/// Returns the exit status of a fault: 2 usage, 3 input refused, 4 table full, 5 no memory, 6 read
+/// or write failed.
 pub fn status_of(fault: &RunFault) -> u8
     ensures { result ≡ status_of fault.now }
 {

@@ -25,8 +25,8 @@ fn entry_in(alloc: Global, input: &[u8], shape: Shape) -> Result<Option<Entry>, 
     Ok(dictionary.find(shape))
 }
 
-/// Makes a pattern's line: its word in 13 hexadecimal digits, how often it was there, and how often
-/// it was played.
+/// Returns a pattern's line: its word in 13 hexadecimal digits, how often it was there, and how
+/// often it was played.
 fn found_line(alloc: Global, entry: &Entry) -> Result<Vec<u8>, AllocError>
     ensures { IfOk result (λ line. line.items ≡ line_text kind.One entry.now) }
 {

@@ -17,8 +17,8 @@ pub(crate) struct Batch {
     pub(crate) length: usize,
 }
 
-/// Reads the dictionary at the front of the bytes into a batch of it alone (a batch is the join of
-/// dictionaries that were read). None if it cannot be read, or memory was refused.
+/// Reads the dictionary at the front of the bytes, and returns it as a batch of its own (a batch is
+/// the join of dictionaries that were read). None if it cannot be read, or memory was refused.
 fn read_one(alloc: Global, bytes: &[u8]) -> Option<Batch>
     ensures batch { IfSome result (IsBatch bytes.now) }
     ensures some { IfSome result (λ batch. 1 ≤ batch.length) }
@@ -53,9 +53,9 @@ pub(crate) fn join_two(alloc: Global, first: &Batch, next: &Batch) -> Option<Bat
 }
 
 /// Reads and joins dictionaries from the front of the bytes, as few as have texts of `least` bytes
-/// or more together. It joins those of the first half of these bytes, those of what is left of
-/// them, and then both. So each dictionary is joined no more often than `least` can be halved. None
-/// if one of them cannot be read or joined, or memory was refused.
+/// or more together. It first joins the dictionaries of half of `least` bytes, then those of the
+/// rest, and then the two joins. So each dictionary is joined no more often than `least` can be
+/// halved. None if one of them cannot be read or joined, or memory was refused.
 pub(crate) fn join_front(alloc: Global, bytes: &[u8], least: usize) -> Option<Batch>
     requires { least ≤ length bytes.now }
     ensures batch { IfSome result (IsBatch bytes.now) }

@@ -54,8 +54,8 @@ fn read_by_block<R: Read>(
     Ok(())
 }
 
-/// Reads the reader's bytes up to its end, or the first 2^28 + 1 of them. A read of no bytes is the
-/// end. It takes memory for the bytes and one block more.
+/// Reads and returns the reader's bytes up to its end, or the first 2^28 + 1 of them. A read of no
+/// bytes is the end. It takes memory for the bytes and one block of 65,536 bytes more.
 ///
 /// # Errors
 ///

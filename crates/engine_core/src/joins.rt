@@ -32,8 +32,8 @@ fn add_next(alloc: Global, sum: &Dictionary, bytes: &[u8]) -> Result<(Dictionary
 /// Reads the dictionary that follows a batch (the joined dictionaries at the front of the input),
 /// and returns a batch with that one added.
 ///
-/// `RunFault::Dict` has the number of that dictionary, from 1, and why it cannot be read or added,
-/// or out of memory.
+/// The error is `RunFault::Dict` with the number of the dictionary that was to be added, from 1,
+/// and why it cannot be read or added; that may be lack of memory.
 fn add_one(alloc: Global, input: &[u8], before: &Batch) -> Result<Batch, RunFault>
     requires few { length input.now ≤ most_bytes }
     requires before { IsBatch input.now before.now }
@@ -53,9 +53,9 @@ fn add_one(alloc: Global, input: &[u8], before: &Batch) -> Result<Batch, RunFaul
     }
 }
 
-/// Adds to a batch (the joined dictionaries at the front of the input) those that follow it, up to
-/// byte index `end` at least. They are joined before they are added. None if one of them cannot be
-/// read or joined, or memory was refused.
+/// Adds to a batch (the joined dictionaries at the front of the input) the dictionaries that follow
+/// it, up to byte index `end` at least. They are joined with one another before they are added.
+/// None if one of them cannot be read or joined, or memory was refused.
 fn add_joined(alloc: Global, input: &[u8], before: &Batch, end: usize) -> Option<Batch>
     requires before { IsBatch input.now before.now }
     requires more { before.now.length ≤ end }
@@ -67,10 +67,10 @@ fn add_joined(alloc: Global, input: &[u8], before: &Batch, end: usize) -> Option
     join_two(alloc, before, &next)
 }
 
-/// Adds to a batch (the joined dictionaries at the front of the input) those that follow it, up to
-/// byte index `end` at least. If they cannot be joined before they are added, those of the first
-/// half of the bytes are added, and then the others: so the first fault is found, and each time
-/// only half of the bytes are read again.
+/// Adds to a batch (the joined dictionaries at the front of the input) the dictionaries that follow
+/// it, up to byte index `end` at least. If they cannot be joined with one another first, those of
+/// the first half of the bytes are added, and then the others. So the error is the first fault, and
+/// each time only half of the bytes are read again.
 fn add_up_to(alloc: Global, input: &[u8], before: Batch, end: usize) -> Result<Batch, RunFault>
     requires few { length input.now ≤ most_bytes }
     requires before { IsBatch input.now before }
@@ -113,8 +113,8 @@ fn join_all(alloc: Global, input: &[u8]) -> Result<(Dictionary, usize), RunFault
     Ok((all.sum, all.number))
 }
 
-/// Joins all dictionaries whose texts follow one another in `input`, and returns the text of their
-/// join that `text` names.
+/// Joins all dictionaries whose texts follow one another in `input`, and returns the join in the
+/// text format `text`.
 fn joined_text(alloc: Global, text: Text, input: &[u8]) -> Result<Vec<u8>, RunFault>
     ensures written { IfOk result (λ written. IsJoinText text input.now written.items) }
     ensures fault { IfErr result (IsJoinRunFault input.now) }
@@ -132,11 +132,13 @@ fn joined_text(alloc: Global, text: Text, input: &[u8]) -> Result<Vec<u8>, RunFa
     Ok(written)
 }
 
-/// Reads one dictionary or more, one after another, each in any of the three texts, and writes a
-/// text of their join: the games of each are numbered after those of the dictionaries before it. It
-/// takes memory for the input, for joins of parts of the input that wait to be joined, of which
-/// there are no more than the input's bytes can be halved, for the join that is made of two of
-/// them, and for the text.
+/// Reads one dictionary or more, one after another, each in any of the three text formats, and
+/// writes their join in the format `text`: the games of each are numbered after those of the
+/// dictionaries before it. Returns `Done`.
+///
+/// It takes memory for the input, for the text, and for joins of some of the dictionaries that wait
+/// to be joined. There are at most as many such joins as the number of the input's bytes can be
+/// halved, and one more, which is made of two of them.
 ///
 /// # Errors
 ///

@@ -25,7 +25,7 @@ fn write_bytes<W: Write>(writer: &mut W, bytes: &[u8]) -> Result<(), usize>
     Ok(())
 }
 
-/// Writes the text. It takes no memory.
+/// Writes all bytes of `text`. It takes no memory.
 ///
 /// # Errors
 ///

@@ -24,7 +24,8 @@ fn colour_of(text: &str) -> Option<Colour>
     None
 }
 
-/// Reads `glyphs` as those of a pattern of `kind`, and returns the word they spell.
+/// Reads `glyphs` as the 25 glyphs of a pattern of `kind`, and returns the word that they spell.
+/// The error says whether they are not 25, or which is no glyph.
 fn word_of(kind: Kind, glyphs: &str) -> Result<Word, GlyphFault>
     ensures spelled { IfOk result (λ word. glyphs_of word ≡ glyphs.now) }
     ensures small { IfOk result (λ word. word < 2 ^ 51) }
@@ -37,12 +38,14 @@ fn word_of(kind: Kind, glyphs: &str) -> Result<Word, GlyphFault>
     }
 }
 
-/// Returns the canonical form of the pattern with these glyphs and this mover, `black` or `white`.
+/// Returns the canonical form of the pattern with these glyphs when `mover`, `black` or `white`, is
+/// to move. It is the same however the pattern is turned or mirrored, and with the colours
+/// exchanged.
 ///
 /// # Errors
 ///
-/// `Usage` exactly if the mover is neither, and else `Glyph` if the glyphs are not 25 (H2) or one
-/// of them is no glyph (H1).
+/// `Usage` exactly if `mover` is neither `black` nor `white`, and else `Glyph` if the glyphs are
+/// not 25 (H2) or one of them is no glyph (H1).
 pub fn pattern_of(kind: Kind, glyphs: &str, mover: &str) -> Result<Shape, RunFault>
     ensures shape { IfOk result (IsPatternOf kind glyphs.now mover.now) }
     ensures fault { IfErr result (IsPatternFault glyphs.now mover.now) }

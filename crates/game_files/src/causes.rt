@@ -43,7 +43,8 @@ impl fmt::Display for Cause {
     }
 }
 
-/// What packed an input with these first bytes, if something did.
+/// Returns which program packed an input that begins with these bytes, or None if none of those
+/// known did.
 fn packed_cause(front: &[u8]) -> Option<Cause>
     ensures { result ≡ packed_cause front.now }
 {
@@ -73,8 +74,8 @@ fn is_wide(front: &[u8]) -> bool
         || front.starts_with(b"\x00(")
 }
 
-/// Returns what an input without a tree may be, by its first eight bytes, or all if it has fewer.
-/// It takes no memory.
+/// Returns what an input without a tree may be, such as packed by gzip. `front` has its first eight
+/// bytes, or all if it has fewer. It takes no memory.
 pub fn cause_of(front: &[u8]) -> Cause
     ensures { result ≡ cause_of front.now }
 {

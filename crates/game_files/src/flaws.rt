@@ -17,7 +17,8 @@ pub enum Why {
     Unopened,
     /// It is a folder, and no file below it has a name that ends in `.sgf`.
     NoGames,
-    /// It is a folder, and this number of names below it are not UTF-8 and were passed over.
+    /// It is a folder, or a list of names, and this many names below or in it are not UTF-8 and
+    /// were passed over.
     PassedOver(u64),
 }
 
@@ -46,8 +47,8 @@ pub struct Flaw {
     pub why: Why,
 }
 
-/// The exit status of a run that met `why`: 0 if it is no fault, 1 if a folder has no file of
-/// games, 6 if a file could not be read.
+/// Returns the exit status of a run that met `why`: 0 if names were only passed over, 1 if a folder
+/// has no file of games, 6 if a file could not be read.
 pub fn status_of(why: Why) -> u8
     ensures { result ≡ status_of why }
 {

@@ -46,7 +46,7 @@ impl<'a, R: Read> Fronted<'a, R> {
         }
     }
 
-    /// Keeps as many of the bytes as there is room for.
+    /// Keeps the first of `bytes`, as many as there is room for in the eight that are kept.
     fn keep(&mut self, bytes: &[u8])
         ensures kept { self.new.kept ≡ kept_after self.old.kept bytes.now }
         ensures remaining { self.new.remaining ≡ self.old.remaining }

@@ -5,7 +5,7 @@ ghost use Rattle.game_files.specs.Shown.{shown_byte, shown_name};
 use std::alloc::AllocError;
 use std::fmt;
 
-/// The byte that is shown for a byte of a name.
+/// Returns the byte that is shown for a byte of a name: `?` for one below 32 or 127, else itself.
 fn shown_byte(byte: u8) -> u8
     ensures { result ≡ shown_byte byte }
 {

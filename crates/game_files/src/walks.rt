@@ -27,7 +27,8 @@ pub(crate) struct Below {
     pub(crate) passed_over: u64,
 }
 
-/// A walk below a folder.
+/// A walk through all that is below a folder: the names that it has yet to look at, and what it
+/// found.
 #[derive(Drop)]
 struct Walk<'a> {
     rt: &'a HostRuntime,
@@ -110,7 +111,7 @@ impl Walk<'_> {
     }
 }
 
-/// A walk that begins at the folder of this name.
+/// Makes a walk that begins at the folder `folder`, of which nothing was looked at yet.
 fn walk_at<'a>(rt: &'a HostRuntime, folder: &str) -> Result<Walk<'a>, AllocError>
     ensures { IfOk result (λ walk. walk.below.files.items ≡ []) }
 {

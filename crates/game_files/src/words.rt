@@ -20,7 +20,7 @@ pub enum Source {
     Flaw(Flaw),
 }
 
-/// Appends what is wrong with a name.
+/// Appends to `all` that `name` has the flaw `why`.
 fn push_flaw(
     rt: &HostRuntime,
     name: &str,
@@ -34,7 +34,7 @@ fn push_flaw(
     Ok(())
 }
 
-/// Appends how many names of a folder were passed over, if some were.
+/// Appends to `all` that `names` names below a folder were passed over, unless they are 0.
 fn push_passed_over(
     rt: &HostRuntime,
     folder: &str,
@@ -49,7 +49,7 @@ fn push_passed_over(
     Ok(())
 }
 
-/// Appends what is wrong with names.
+/// Appends `flaws`, each what is wrong with a name, to `all`.
 fn push_flaws(flaws: Vec<Flaw>, all: &mut Vec<Source>) -> Result<(), AllocError>
     ensures { OnOk result (all.new.items ≡ all.old.items ++ map source.Flaw flaws.items) }
 {
@@ -59,7 +59,7 @@ fn push_flaws(flaws: Vec<Flaw>, all: &mut Vec<Source>) -> Result<(), AllocError>
     Ok(())
 }
 
-/// Appends files as inputs.
+/// Appends `files` as inputs to `all`.
 fn push_files(files: Vec<String>, all: &mut Vec<Source>) -> Result<(), AllocError>
     ensures { OnOk result (all.new.items ≡ all.old.items ++ map source.File files.items) }
 {
@@ -69,8 +69,8 @@ fn push_files(files: Vec<String>, all: &mut Vec<Source>) -> Result<(), AllocErro
     Ok(())
 }
 
-/// Appends what was found below `folder`: first what is wrong, then the files. If both are none,
-/// appends the flaw that it has no games.
+/// Appends what was found below `folder`: first what is wrong, then the files. If there is neither,
+/// appends the flaw that the folder has no games.
 fn push_below(
     rt: &HostRuntime,
     folder: &str,
@@ -87,7 +87,8 @@ fn push_below(
     push_files(below.files, all)
 }
 
-/// Appends the inputs that a folder stands for.
+/// Appends to `all` what a folder stands for: first what is wrong with names below it, then its
+/// files of games. If it has no such file, and every name could be looked at, the folder is a flaw.
 fn push_folder(rt: &HostRuntime, folder: &str, all: &mut Vec<Source>) -> Result<(), AllocError>
     ensures { OnOk result (Grew IsBelow all.old.items all.new.items) }
 {
@@ -96,7 +97,8 @@ fn push_folder(rt: &HostRuntime, folder: &str, all: &mut Vec<Source>) -> Result<
     push_below(rt, folder, below, all)
 }
 
-/// Appends the inputs that a word stands for, or what is wrong with it.
+/// Appends to `all` the inputs that `word` stands for (standard input for `-`), or what is wrong
+/// with it.
 fn push_word(rt: &HostRuntime, word: &str, all: &mut Vec<Source>) -> Result<(), AllocError>
     ensures { OnOk result (Grew (IsMeant word.now) all.old.items all.new.items) }
 {

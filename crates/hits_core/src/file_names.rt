@@ -1,4 +1,4 @@
-//! The name of the file of a hit.
+//! The name of the SGF file for a hit, which is a time that a pattern was played or was there.
 ghost use Rattle.std.specs.Prelude.{◌≡◌, ◌++◌, OnOk, IfOk, replicate};
 ghost use Rattle.hits_core.specs.Sgf.{padded, file_name};
 

@@ -14,8 +14,9 @@ use crate::watching::find_there;
 use std::alloc::Global;
 use tally_core::TallyFault;
 
-/// Replays `game`, and adds to `found` the times that a pattern of `wanted` was played, or was
-/// there, as `sought` says. The only error is `Memory`: memory was refused.
+/// Replays `game`, and adds to `found` a hit for each time that a pattern of `wanted` was played,
+/// or was there, as `sought` says, up to as many as are asked for. The only error is `Memory`:
+/// memory was refused.
 fn find_one(
     alloc: Global,
     wanted: &Wanted,
@@ -33,8 +34,8 @@ fn find_one(
 }
 
 /// Returns the first hits in `games`, at most `most` (None for all): the times that a pattern of
-/// `wanted` was played, or was there, as `sought` says. Once that number is found, no further game
-/// is replayed. It takes memory for the hits, and for one game's board. The only error is `Memory`:
+/// `wanted` was played, or was there, as `sought` says. Once `most` are found, no further game is
+/// replayed. It takes memory for the hits, and for one game's board. The only error is `Memory`:
 /// memory was refused.
 pub(crate) fn find_in(
     alloc: Global,

@@ -15,7 +15,7 @@ pub(crate) struct Found {
 }
 
 impl Found {
-    /// Whether there are as many hits as are asked for.
+    /// Whether there are as many hits as are asked for; false if all are asked for.
     pub(crate) fn is_full(&self) -> bool
         ensures { MatchBool result (IsFull self.now.most self.now.hits.items)
             (IsFull self.now.most self.now.hits.items → ⊥) }
@@ -26,7 +26,8 @@ impl Found {
         }
     }
 
-    /// Adds a hit, unless there are as many as are asked for already.
+    /// Adds `hit` to the hits, unless there are as many as are asked for already. The only error is
+    /// `Memory`: memory was refused.
     pub(crate) fn push(&mut self, hit: Hit) -> Result<(), TallyFault>
         ensures grown { OnOk result (GrowsBy self.old self.new (hit ∷ [])) }
         ensures fault { IfErr result (λ found. found ≡ fault.Memory) }

@@ -2,7 +2,9 @@
 use go_board::{Colour, Point};
 use shape_core::Shape;
 
-/// A time that a pattern was played, or was there, in a game of a collection.
+/// A time that a pattern was played, or was there, in a game of a collection. It is played by a
+/// move onto its middle. It is there just before any move onto an empty point, if an empty point
+/// has it.
 #[derive(Clone, Copy, Debug, PartialEq, Eq)]
 pub struct Hit {
     /// The number of the game among the collection's games, from 0.
@@ -17,6 +19,6 @@ pub struct Hit {
     pub place: usize,
     /// How many rows the game's board has.
     pub rows: u8,
-    /// The pattern's canonical word.
+    /// The pattern's canonical word, which is the same however the pattern is turned or mirrored.
     pub word: Shape,
 }

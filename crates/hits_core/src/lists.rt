@@ -57,8 +57,8 @@ pub fn read_wanted<R: Read>(alloc: Global, reader: &mut R) -> Result<Wanted, Wor
     }
 }
 
-/// The exit status for a fault: 2 if the list is refused, 6 if it was not read, and 5 if memory was
-/// refused.
+/// Returns the exit status for a fault: 2 if the list is refused, 6 if it was not read, and 5 if
+/// memory was refused.
 pub fn status_of(fault: &WordsFault) -> u8
     ensures { result ≡ status_of fault.now }
 {

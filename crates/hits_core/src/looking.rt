@@ -14,7 +14,8 @@ use go_board::{Board, Colour, Point};
 use shape_core::{Field, Kinds, Shape, around, canonical, diamond, kinds_stay};
 use tally_core::TallyFault;
 
-/// The patterns of one point, its square and its diamond: each is None if it is not looked for.
+/// The wanted patterns of one point: its square and its diamond, each None if it is not one that is
+/// looked for.
 #[derive(Clone, Copy)]
 pub(crate) struct Sight {
     pub(crate) square: Option<Shape>,
@@ -32,8 +33,8 @@ pub(crate) struct Moment {
     pub(crate) mover: Colour,
 }
 
-/// Returns the square and the diamond round `point`, canonical for the player `mover`, each only if
-/// it is one of `wanted`.
+/// Returns the wanted patterns that `point` has for the player `mover`: its square and its diamond
+/// in canonical form, each None if it is not one of `wanted`.
 pub(crate) fn see_board(board: &Board, wanted: &Wanted, mover: Colour, point: Point) -> Sight
     requires { IsOn board.now.size point }
     ensures { patterns_in result

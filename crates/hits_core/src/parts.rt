@@ -51,7 +51,7 @@ fn made_parts<T: Threads + Sync>(
     )
 }
 
-/// Adds `hits` to `found`, up to as many as are asked for.
+/// Adds `hits` to `found`, up to as many as are asked for. The only error is `Memory`.
 fn push_all(found: &mut Found, hits: &[Hit]) -> Result<(), TallyFault>
     ensures grown { OnOk result (GrowsBy found.old found.new hits.now) }
     ensures fault { IfErr result (λ found. found ≡ fault.Memory) }
@@ -63,7 +63,8 @@ fn push_all(found: &mut Found, hits: &[Hit]) -> Result<(), TallyFault>
 }
 
 /// Joins the hits of all parts in order, and returns the first of all, at most `most` (None for
-/// all). If a part has an error, the first such error is returned.
+/// all). `made` has the hits of each part, or its error; if a part has an error, the first such
+/// error is returned.
 fn joined(
     alloc: Global,
     most: Option<u64>,
@@ -85,8 +86,9 @@ fn joined(
 }
 
 /// Returns the first hits in `games`, at most `most` (None for all): the times that a pattern of
-/// `wanted` was played, or was there, as `sought` says. At most `threads` threads find them; the
-/// call waits for these. It takes memory for the hits, and for each thread for one game's board.
+/// `wanted` was played, or was there, as `sought` says. At most `threads` threads find them, and
+/// the call waits until they have ended. It takes memory for the hits, and for each thread for one
+/// game's board. The only error is `Memory`: memory was refused.
 pub(crate) fn find_all<T: Threads + Sync>(
     rt: &T,
     alloc: Global,

@@ -8,8 +8,8 @@ use std::alloc::Global;
 use tally_core::TallyFault;
 
 /// Returns all games of `input`, of which the first has the number `first`, and the report: how
-/// many trees are games, of other games, and refused. It takes memory for the records of the games,
-/// and for a tree at a time.
+/// many trees are games, are of other games, and are refused for a fault in their record. It takes
+/// memory for the records of the games, and for a tree at a time.
 ///
 /// # Errors
 ///

@@ -19,8 +19,8 @@ use std::io::{Read, Write};
 use std::thread::Threads;
 use tally_core::TallyFault;
 
-/// Returns the `RunFault` for a fault of reading games or finding hits: that of SGF stays, and any
-/// other becomes `Memory`.
+/// Returns the `RunFault` for a fault of reading games or finding hits: a fault of the SGF is kept,
+/// and any other becomes `Memory`.
 fn run_fault(fault: TallyFault) -> RunFault
     ensures { (input : List ℕ) → IsReadFault input fault → IsHitsFault input result }
 {
@@ -41,7 +41,7 @@ fn limit_of(most: Option<u64>) -> Option<u64>
     }
 }
 
-/// The outcome of a search: `Done` if there is a hit, else `NotFound`.
+/// Returns the outcome of a search: `Done` if there is a hit, else `NotFound`.
 fn outcome_of(hits: &[Hit]) -> Outcome
     ensures { IsAnswer result hits.now }
 {
@@ -62,8 +62,9 @@ fn cut(hits: &mut Vec<Hit>, most: Option<u64>)
     }
 }
 
-/// Returns the games of `input`, the report on its trees, and the first hits, at most as many as
-/// `search` lists. At most `workers` threads find them.
+/// Reads the games of `input` and finds hits of `wanted` in them with at most `workers` threads.
+/// Returns the games, the report on the input's trees, and the first hits, at most as many as
+/// `search` lists.
 fn find<T: Threads + Sync>(
     rt: &T,
     alloc: Global,
@@ -88,7 +89,8 @@ fn find<T: Threads + Sync>(
     })
 }
 
-/// Returns the lines of the first hits of an input, and what was found.
+/// Finds the hits in `input`, and returns the text with a line for each of the first of them, at
+/// most as many as `search` lists, and the results: games, report and hits.
 fn hits_text<T: Threads + Sync>(
     rt: &T,
     alloc: Global,
@@ -109,18 +111,19 @@ fn hits_text<T: Threads + Sync>(
 }
 
 /// Reads a collection and writes a line for each hit: each time that a pattern of `wanted` was
-/// played, or was there, as `search.sought` says. The lines are in the order of games, moves and
-/// points (row by row from the top, each row from the left), at one point the square before the
-/// diamond. A line has the game's number, the number of the move, the point, who was to move, the
-/// byte index at which the game's tree begins, and the name of the file if it has one. The first
-/// game has the number `search.first`. Returned are the games, the report on the trees of the
-/// input, the hits that are written, and whether there is any. If there is none, nothing is
+/// played, or was there, as `search.sought` says. Returned are the games, the report on the trees
+/// of the input, the hits that are written, and whether there is any. If there is none, nothing is
 /// written.
 ///
-/// If at most `search.most` hits are asked for, the first of all are written. The whole input is
-/// checked to be well-formed all the same; once that number is found, and one at least, a thread
-/// replays no further game. Games are numbered and replayed as by `shapes count`. At most `workers`
-/// threads replay them; the text is the same whatever their number.
+/// The lines are in the order of games, moves and points (row by row from the top, each row from
+/// the left), at one point the square before the diamond. A line has the game's number, the number
+/// of the move, the point, who was to move, the byte index at which the game's tree begins, and the
+/// name of the file if it has one. The first game has the number `search.first`.
+///
+/// If at most `search.most` hits are asked for, the first of all are written. A thread that has
+/// found that many, and one at least, replays no further game; the whole input is checked to be
+/// well-formed all the same. Games are numbered and replayed as by `shapes count`. At most
+/// `workers` threads replay them; the text is the same whatever their number.
 ///
 /// It takes memory for the input, for the records of all games, for a tree at a time, for each
 /// thread for a board, for the hits, and for their lines.

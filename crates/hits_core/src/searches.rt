@@ -3,9 +3,10 @@
 /// Which times a pattern is listed.
 #[derive(Clone, Copy, Debug, PartialEq, Eq)]
 pub enum Sought {
-    /// Each time that it was played.
+    /// Each time that it was played: a move onto the empty point in its middle.
     Played,
-    /// Each time that it was there.
+    /// Each time that it was there: just before a move onto an empty point, each empty point that
+    /// had it for the player to move.
     There,
 }
 
@@ -14,7 +15,7 @@ pub enum Sought {
 pub enum Shown {
     /// The game, the move, the point, the colour, and the byte index of the game's tree.
     Places,
-    /// The pattern's word before these.
+    /// The pattern's word, and after it what `Places` shows.
     WordsToo,
 }
 

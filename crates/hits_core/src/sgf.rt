@@ -1,4 +1,5 @@
-//! The SGF file of a hit: its game up to the position that was looked at.
+//! The SGF file of a hit (a time that a pattern was played or was there): its game up to the
+//! position before the move.
 ghost use Rattle.std.specs.Prelude.{◌≡◌, ◌++◌, ◌≤◌, OnOk, IfOk, None, length, take, drop};
 ghost use Rattle.hits_core.specs.Lines.{point_text};
 ghost use Rattle.hits_core.specs.Sgf.{actions_before, actions_from, value_text, size_text};
@@ -35,7 +36,7 @@ fn place_of(actions: &[Action], moves: u64) -> usize
     actions.len()
 }
 
-/// Appends a point as a value in brackets.
+/// Appends a point as SGF has it in a value, such as `[dp]`.
 fn push_point_value(text: &mut Vec<u8>, point: Point) -> Result<(), AllocError>
     ensures { OnOk result (text.new.items ≡ text.old.items ++ value_text (point_text point)) }
 {
@@ -44,7 +45,7 @@ fn push_point_value(text: &mut Vec<u8>, point: Point) -> Result<(), AllocError>
     text.extend_from_slice(b"]")
 }
 
-/// Appends the size of a board, as SGF has it.
+/// Appends the size of a board as SGF has it: `19`, or columns and rows as `19:13` if they differ.
 #[tactic(auto, unfolding(crate::specs::Sgf::size_text))]
 fn push_size(text: &mut Vec<u8>, size: Size) -> Result<(), AllocError>
     ensures { OnOk result (text.new.items ≡ text.old.items ++ size_text size) }
@@ -57,7 +58,7 @@ fn push_size(text: &mut Vec<u8>, size: Size) -> Result<(), AllocError>
     push_number(text, u64::from(size.rows()))
 }
 
-/// Appends the size of a board as a value in brackets.
+/// Appends the size of a board as an SGF value, such as `[19]`.
 fn push_size_value(text: &mut Vec<u8>, size: Size) -> Result<(), AllocError>
     ensures { OnOk result (text.new.items ≡ text.old.items ++ value_text (size_text size)) }
 {
@@ -75,7 +76,8 @@ fn push_root(text: &mut Vec<u8>, size: Size) -> Result<(), AllocError>
     push_size_value(text, size)
 }
 
-/// Appends the points of a rectangle: one point, or two corners.
+/// Appends the points of a rectangle as SGF has them: `aa` if it is one point, else its corners
+/// `aa:cc`.
 fn push_span(text: &mut Vec<u8>, low: Point, high: Point) -> Result<(), AllocError>
     ensures { OnOk result (text.new.items ≡ text.old.items ++ span_text low high) }
 {
@@ -87,7 +89,7 @@ fn push_span(text: &mut Vec<u8>, low: Point, high: Point) -> Result<(), AllocErr
     push_point(text, high)
 }
 
-/// The name of the property that sets a stone, or takes it away.
+/// Returns the SGF property that sets up `stone`: AB, AW, or AE, which takes stones away.
 fn setup_name(stone: Stone) -> &'static [u8]
     ensures { result.now ≡ setup_name stone }
 {
@@ -98,7 +100,7 @@ fn setup_name(stone: Stone) -> &'static [u8]
     }
 }
 
-/// The name of the property of a colour's moves.
+/// Returns the SGF property of a colour's moves: B or W.
 fn colour_name(colour: Colour) -> &'static [u8]
     ensures { result.now ≡ colour_name colour }
 {
@@ -151,7 +153,7 @@ fn push_setup_front(
     text.extend_from_slice(setup_name(stone))
 }
 
-/// Appends an action; `before` is the action before it, if there is one.
+/// Appends `action` as SGF; `before` is the action before it, if there is one.
 fn push_action(text: &mut Vec<u8>, before: Option<Action>, action: Action) -> Result<(), AllocError>
     ensures { OnOk result (text.new.items ≡ text.old.items ++ action_text before action) }
 {
@@ -195,7 +197,8 @@ fn push_mark(text: &mut Vec<u8>, point: Point) -> Result<(), AllocError>
     push_point_value(text, point)
 }
 
-/// Appends the branch that shows the position that was looked at: who is to move, and the mark.
+/// Appends the branch that shows the position before the move of `hit`: who is to move, and a mark
+/// on the hit's point.
 fn push_position(text: &mut Vec<u8>, hit: &Hit) -> Result<(), AllocError>
     ensures { OnOk result (text.new.items ≡ text.old.items ++ position_branch hit.now) }
 {
@@ -206,7 +209,7 @@ fn push_position(text: &mut Vec<u8>, hit: &Hit) -> Result<(), AllocError>
     text.extend_from_slice(b")")
 }
 
-/// Appends the branch with the first of these actions, if that is a move or a pass.
+/// Appends a branch with the first of `actions`, if that is a move or a pass; else nothing.
 fn push_played(text: &mut Vec<u8>, actions: &[Action]) -> Result<(), AllocError>
     ensures { OnOk result (text.new.items ≡ text.old.items ++ played_text actions.now) }
 {
@@ -226,8 +229,8 @@ fn push_played(text: &mut Vec<u8>, actions: &[Action]) -> Result<(), AllocError>
     }
 }
 
-/// Returns the SGF file of a hit of a game with this record: the game up to the position that was
-/// looked at, with a mark on the hit's point, and two branches. The first, in which the main line
+/// Returns the SGF file for `hit`, a hit in the game `game`: the game up to the position before the
+/// hit's move, with a mark on the hit's point, and two branches. The first, in which the main line
 /// ends, has no move: it has the mark again, and says who is to move. The other has the move that
 /// was played. It takes memory for the text.
 ///

@@ -30,7 +30,7 @@ impl Model for Wanted {
     ghost invariant = { λ w. AreWanted w.kinds w.words.items };
 }
 
-/// The kinds among these patterns: `Squares` if all are squares, else `Both`.
+/// Returns the kinds among `words`: `Squares` if all are squares, else `Both`.
 fn kinds_among(words: &[Shape]) -> Kinds
     ensures { result ≡ kinds.Squares → All (λ word. kind_of word ≡ kind.Square) words.now }
 {
@@ -48,8 +48,8 @@ impl Wanted {
     ghost use Rattle.hits_core.specs.Wanted.{is_wanted};
     ghost use Rattle.hits_core.specs.Inner.Finding.{listed};
 
-    /// Makes the set of these patterns to look for. `words` may be in any order, and have a pattern
-    /// more than once. It takes no memory.
+    /// Makes the set of the patterns in `words`, to be looked for. `words` may be in any order, and
+    /// have a pattern more than once. It takes no memory.
     pub fn new(words: Vec<Shape>) -> Wanted
         ensures { (word : ℕ) → is_wanted result word ≡ is_wanted words.items word }
     {
@@ -70,7 +70,7 @@ impl Wanted {
         Ok(Wanted::new(vec![in alloc; shape; 1]?))
     }
 
-    /// The kinds of pattern that have to be looked at: `Both` if a diamond is wanted, else
+    /// Returns the kinds of pattern that have to be looked at: `Both` if a diamond is wanted, else
     /// `Squares`.
     pub(crate) fn kinds(&self) -> Kinds
         ensures { result ≡ kinds.Squares → (word : ℕ) → kind_of word ≡ kind.Diamond

@@ -38,9 +38,9 @@ pub(crate) struct Watch {
     pub(crate) white: Vec<u64>,
 }
 
-/// Returns the square and the diamond round `point`, canonical for the player `mover`, each only if
-/// it is one of `wanted`. `field`, a board with a word for each point, must have words of the kinds
-/// that `wanted` has.
+/// Returns the wanted patterns that `point` has for the player `mover`: its square and its diamond
+/// in canonical form, each None if it is not one of `wanted`. `field`, a board with a word for each
+/// point, must have words of the kinds that `wanted` has.
 fn see_field(field: &Field, wanted: &Wanted, mover: Colour, point: Point) -> Sight
     requires on_board { IsOn field.now.board.size point }
     requires kinds { KeepsWanted field.now wanted.now }
@@ -165,8 +165,8 @@ fn see(
 }
 
 impl Watch {
-    /// Begins with the empty board of a game: every point has to be looked at. It takes memory for
-    /// each point.
+    /// Makes the `Watch` of `game` at its empty board: for both colours every point has to be
+    /// looked at. It takes memory for each point.
     fn begin(alloc: Global, wanted: &Wanted, game: &Game) -> Result<Watch, TallyFault>
         ensures watched { IfOk result (IsWatched wanted.now) }
         ensures begun { IfOk result (IsNewWatch game.now.recorded.size) }
@@ -218,8 +218,8 @@ impl Watch {
         }
     }
 
-    /// Applies an action to the board. The points whose words change have to be looked at again,
-    /// for both colours.
+    /// Applies `action` to the board, and marks the points whose words change: they have to be
+    /// looked at again, for both colours.
     fn act(&mut self, action: Action)
         requires on_board { IsActionOn self.old.field.board.size action }
         requires watched { (words : List ℕ) × IsWatched words self.old }

@@ -27,7 +27,7 @@ impl<T: Drop> From<AllocFailed<T>> for ListFault {
     }
 }
 
-/// Whether these bytes may follow a word in its line: none, or a space and any others.
+/// Whether `rest` may follow a word in its line: it is empty, or begins with a space.
 fn is_skipped(rest: &[u8]) -> bool
     ensures { MatchBool result (IsSkipped rest.now) (IsSkipped rest.now → ⊥) }
 {
@@ -50,7 +50,7 @@ fn word_of(line: &[u8]) -> Option<Shape>
     Shape::of_word(Word::new(bits)?)
 }
 
-/// Splits bytes into the first line and the others.
+/// Splits bytes into the first line, without its line feed, and what follows that.
 fn split_line(bytes: &[u8]) -> (&[u8], &[u8])
     requires { bytes.now ≢ [] }
     ensures line { result.0.now ≡ first_line bytes.now }
@@ -63,15 +63,16 @@ fn split_line(bytes: &[u8]) -> (&[u8], &[u8])
     }
 }
 
-/// The byte index of the first line feed, or None if there is none.
+/// Returns the byte index of the first line feed, or None if there is none.
 fn line_end(bytes: &[u8]) -> Option<usize>
     ensures { result ≡ position is_line_feed bytes.now }
 {
     bytes.iter().position(|byte| *byte == b'\n')
 }
 
-/// Returns the word that each line begins with, in the order of the lines. If one begins with none,
-/// the error is `BadLine` with the number of the first such line, from 1.
+/// Returns the canonical word that each line begins with, in the order of the lines. If a line
+/// begins with none, the error is `BadLine` with the number of the first such line, from 1;
+/// `Memory` if memory was refused.
 pub(crate) fn words_of(alloc: Global, bytes: &[u8]) -> Result<Vec<Shape>, ListFault>
     ensures words { IfOk result (λ words. AreWordsOf bytes.now words.items) }
     ensures fault { IfErr result (IsListFault bytes.now) }

@@ -13,7 +13,7 @@ use shape_core::Shape;
 use shape_dict::{push_number, push_word};
 use std::alloc::{AllocError, Global};
 
-/// The letter that SGF has for a column or row, `side` from 0: a to z, then A to Z.
+/// Returns the letter that SGF has for a column or row, `side` from 0: a to z, then A to Z.
 fn letter(side: u8) -> u8
     ensures { result ≡ letter_of side }
 {
@@ -31,7 +31,7 @@ pub(crate) fn push_point(text: &mut Vec<u8>, point: Point) -> Result<(), AllocEr
     text.extend_from_slice(&[letter(point.column), letter(point.row)])
 }
 
-/// The letter of a column from 0 to 24, as boards have it: there is no I.
+/// Returns the letter of a column from 0 to 24 as boards are labelled: A to Z without I.
 fn column_letter(column: u8) -> u8
     ensures { result ≡ column_letter column }
 {
@@ -42,7 +42,8 @@ fn column_letter(column: u8) -> u8
     }
 }
 
-/// Appends the letter or letters of a column, as boards have them.
+/// Appends the label of a column, from 0: a letter from A to Z without I, and from column 25 on two
+/// letters, first AA.
 fn push_column(text: &mut Vec<u8>, column: u8) -> Result<(), AllocError>
     ensures { OnOk result (text.new.items ≡ text.old.items ++ column_text column) }
 {
@@ -61,7 +62,7 @@ fn push_coordinates(text: &mut Vec<u8>, rows: u8, point: Point) -> Result<(), Al
     push_number(text, u64::from(rows.saturating_sub(point.row)))
 }
 
-/// Appends a point of a board of `rows` rows, in this `spelling`.
+/// Appends a point of a board of `rows` rows as `spelling` says: as `dp`, or as `Q16`.
 fn push_spelled(
     text: &mut Vec<u8>,
     spelling: Spelling,
@@ -76,7 +77,7 @@ fn push_spelled(
     }
 }
 
-/// Appends a colour's name.
+/// Appends `black` or `white`.
 fn push_colour(text: &mut Vec<u8>, colour: Colour) -> Result<(), AllocError>
     ensures { OnOk result (text.new.items ≡ text.old.items ++ colour_text colour) }
 {
@@ -86,7 +87,7 @@ fn push_colour(text: &mut Vec<u8>, colour: Colour) -> Result<(), AllocError>
     }
 }
 
-/// Appends the word and a space, with which a line begins if words are shown; else nothing.
+/// Appends what a line begins with: `word` and a space if `shown` asks for words, else nothing.
 fn push_front(text: &mut Vec<u8>, shown: Shown, word: Shape) -> Result<(), AllocError>
     ensures { OnOk result (text.new.items ≡ text.old.items ++ front_text shown word) }
 {
@@ -99,7 +100,7 @@ fn push_front(text: &mut Vec<u8>, shown: Shown, word: Shape) -> Result<(), Alloc
     }
 }
 
-/// Appends the number of the game and that of the move.
+/// Appends the number of the hit's game and that of its move, each with a space after it.
 fn push_turn(text: &mut Vec<u8>, hit: &Hit) -> Result<(), AllocError>
     ensures { OnOk result (text.new.items ≡ text.old.items ++ turn_text hit.now) }
 {
@@ -109,7 +110,8 @@ fn push_turn(text: &mut Vec<u8>, hit: &Hit) -> Result<(), AllocError>
     text.extend_from_slice(b" ")
 }
 
-/// Appends the point, who was to move, and the byte index at which the game's tree begins.
+/// Appends the hit's point, who was to move, and the byte index at which the game's tree begins,
+/// with a space after the first and the second.
 fn push_where(text: &mut Vec<u8>, spelling: Spelling, hit: &Hit) -> Result<(), AllocError>
     ensures { OnOk result (text.new.items ≡ text.old.items ++ where_text spelling hit.now) }
 {
@@ -120,7 +122,7 @@ fn push_where(text: &mut Vec<u8>, spelling: Spelling, hit: &Hit) -> Result<(), A
     push_number(text, hit.place as u64)
 }
 
-/// Appends the end of a line: the name of the file, if there is one.
+/// Appends the end of a line: a space and the name of the file, if there is one, and a line feed.
 fn push_ending(text: &mut Vec<u8>, name: Option<&str>) -> Result<(), AllocError>
     ensures { OnOk result (text.new.items ≡ text.old.items
         ++ ending (option_map (λ n. n.now) name.entry)) }
@@ -132,7 +134,8 @@ fn push_ending(text: &mut Vec<u8>, name: Option<&str>) -> Result<(), AllocError>
     text.extend_from_slice(b"\n")
 }
 
-/// Appends the line of a hit.
+/// Appends the line of `hit`: its word if `search` asks for it, the game, the move, the point, who
+/// was to move, the byte index of the game's tree, and the name of the file if there is one.
 fn push_line(text: &mut Vec<u8>, search: Search<'_>, hit: &Hit) -> Result<(), AllocError>
     ensures { OnOk result (text.new.items ≡ text.old.items ++ line_text search.entry hit.now) }
 {
@@ -142,7 +145,8 @@ fn push_line(text: &mut Vec<u8>, search: Search<'_>, hit: &Hit) -> Result<(), Al
     push_ending(text, search.name)
 }
 
-/// Returns the text with a line for each hit, in their order.
+/// Returns the text with a line for each of `hits`, in their order. `AllocError` if memory was
+/// refused.
 pub(crate) fn text_of(
     alloc: Global,
     search: Search<'_>,

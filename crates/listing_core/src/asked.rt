@@ -19,10 +19,10 @@ pub struct Asked<'a> {
     /// What is written of each tree that is chosen.
     pub form: Form,
     /// The conditions that a game has to meet to be chosen. If there are none, all trees are
-    /// listed, or all games are cut out, as the form says.
+    /// listed; in the form `Trees`, all games are written and no other trees.
     pub conditions: &'a [Condition<'a>],
     /// The number that the input's first game has.
     pub first: u64,
-    /// The name of the input's file, if each line is to end with it.
+    /// The name of the input's file, with which each line is to end; None if it is to have no name.
     pub name: Option<&'a str>,
 }

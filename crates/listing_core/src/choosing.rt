@@ -15,7 +15,7 @@ use sgf_core::{SgfFault, Tree};
 use std::alloc::{AllocError, Global};
 
 /// Whether trees that are no games are written too: if there are no conditions, and the form is
-/// lines or columns. Only games are cut out.
+/// lines or columns. Only games are cut out (written as they stand in the input).
 fn lists_all(asked: &Asked<'_>) -> bool
     ensures { result ≡ lists_all asked.now.form asked.now.conditions.now }
 {
@@ -25,8 +25,9 @@ fn lists_all(asked: &Asked<'_>) -> bool
     }
 }
 
-/// Whether `tree` is chosen, which its record says is `what`: a game if it meets all conditions,
-/// and any other tree if `lists_all` is true. It takes memory for the texts that are compared.
+/// Whether `tree` is chosen. `what` says what it is by its record: a game is chosen if it meets all
+/// conditions, and any other tree if `lists_all` is true. It takes memory for the texts that are
+/// compared.
 fn is_chosen(
     alloc: Global,
     asked: &Asked<'_>,
@@ -53,7 +54,8 @@ fn push_cut(text: &mut Vec<u8>, input: &[u8], from: usize, to: usize) -> Result<
     Ok(())
 }
 
-/// Appends a chosen tree in the form that is asked for: its line, its columns, or the tree itself.
+/// Appends a chosen tree in the form that is asked for: a line of words, a line of columns, or the
+/// tree itself as it stands in `input`.
 fn push_form(
     asked: &Asked<'_>,
     input: &[u8],
@@ -73,7 +75,8 @@ fn push_form(
     }
 }
 
-/// Appends what is written of a tree: nothing if it is not chosen.
+/// Appends to `text` what is written of `tree` in the form that is asked for; nothing if the tree
+/// is not chosen.
 pub(crate) fn push_piece(
     alloc: Global,
     asked: &Asked<'_>,
@@ -94,7 +97,7 @@ pub(crate) fn push_piece(
 
 /// Appends the last line of an input with a fault of syntax: no tree can be read from byte `from`
 /// on, up to `to`, the end of the input. Appends nothing if there are conditions, or if trees are
-/// cut out.
+/// cut out (written as they stand).
 pub(crate) fn push_fault_piece(
     asked: &Asked<'_>,
     from: usize,

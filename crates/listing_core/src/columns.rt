@@ -28,7 +28,7 @@ fn front_value<'a>(prop: &Prop<'a>) -> Option<Value<'a>>
     prop.values().first().copied()
 }
 
-/// The first value of the node's first property of this name.
+/// Returns the first value of the node's first property of this name, or None if it has none.
 fn first_value<'a>(node: &Node<'_, 'a>, name: &[u8]) -> Option<Value<'a>>
     ensures { option_map value_of result ≡ first_value name.now node.now }
 {
@@ -40,7 +40,8 @@ fn first_value<'a>(node: &Node<'_, 'a>, name: &[u8]) -> Option<Value<'a>>
     None
 }
 
-/// The first value of the property of this name in the first node of a main line.
+/// Returns the first value of the property of this name in the first node of a main line, or None
+/// if that node has no such property.
 fn root_value<'a>(mut line: MainLine<'_, 'a>, name: &[u8]) -> Option<Value<'a>>
     ensures { option_map value_of result ≡ first_value name.now (root_of line.entry) }
 {
@@ -48,7 +49,7 @@ fn root_value<'a>(mut line: MainLine<'_, 'a>, name: &[u8]) -> Option<Value<'a>>
     first_value(&root, name)
 }
 
-/// Appends what a value says, as simple text; nothing if there is none.
+/// Appends what a value says, as simple text (one line without escapes); nothing if there is none.
 fn push_value(text: &mut Vec<u8>, value: Option<Value<'_>>) -> Result<(), AllocError>
     ensures { OnOk result (text.new.items
         ≡ text.old.items ++ value_text (option_map value_of value.entry)) }
@@ -59,7 +60,8 @@ fn push_value(text: &mut Vec<u8>, value: Option<Value<'_>>) -> Result<(), AllocE
     }
 }
 
-/// Appends what the tree's first node says in the property of this name.
+/// Appends the first value of the property of this name in the tree's first node, as simple text;
+/// nothing if it has no such property.
 fn push_property(text: &mut Vec<u8>, name: &[u8], tree: &Tree<'_>) -> Result<(), AllocError>
     ensures { (game : GameTree) → tree.now.marks ≡ marks_of game
         → OnOk result (text.new.items
@@ -86,7 +88,7 @@ pub(crate) fn push_key_value(
     }
 }
 
-/// Appends a column with a number.
+/// Appends a tab and a number.
 fn push_count_column(text: &mut Vec<u8>, count: usize) -> Result<(), AllocError>
     ensures { OnOk result (text.new.items ≡ text.old.items ++ column (decimal count)) }
 {
@@ -94,7 +96,8 @@ fn push_count_column(text: &mut Vec<u8>, count: usize) -> Result<(), AllocError>
     push_count(text, count)
 }
 
-/// Appends the columns of what a game's first node says.
+/// Appends the columns of what a game's first node says (players, ranks, date and so on), each
+/// after a tab.
 fn push_key_columns(text: &mut Vec<u8>, tree: &Tree<'_>, size: Size) -> Result<(), AllocError>
     ensures { (game : GameTree) → tree.now.marks ≡ marks_of game
         → OnOk result (text.new.items
@@ -107,7 +110,8 @@ fn push_key_columns(text: &mut Vec<u8>, tree: &Tree<'_>, size: Size) -> Result<(
     Ok(())
 }
 
-/// Appends the columns of a tree that is refused.
+/// Appends the columns of a tree that is refused: `refused` with the fault of its record, and the
+/// tabs of columns that only a game has.
 fn push_refused_columns(text: &mut Vec<u8>, fault: RecordFault) -> Result<(), AllocError>
     ensures { OnOk result (text.new.items ≡ text.old.items ++ refused_columns fault) }
 {
@@ -116,7 +120,8 @@ fn push_refused_columns(text: &mut Vec<u8>, fault: RecordFault) -> Result<(), Al
     text.extend_from_slice(NO_COLUMNS)
 }
 
-/// Appends the columns of what the tree is.
+/// Appends the columns that say what the tree is. For a game these are also the columns of its
+/// board's size, its moves, its occasions (moves onto empty points), and what its first node says.
 fn push_what_columns(text: &mut Vec<u8>, tree: &Tree<'_>, what: What) -> Result<(), AllocError>
     ensures { (game : GameTree) → tree.now.marks ≡ marks_of game
         → OnOk result (text.new.items
@@ -142,7 +147,8 @@ fn push_what_columns(text: &mut Vec<u8>, tree: &Tree<'_>, what: What) -> Result<
     }
 }
 
-/// Appends the columns of a tree, and at the end the name of its file, if there is one.
+/// Appends the line of columns of a tree: its number, where it begins and ends, what it is, and at
+/// the end the name of its file, if there is one.
 pub(crate) fn push_columns(
     text: &mut Vec<u8>,
     name: Option<&str>,

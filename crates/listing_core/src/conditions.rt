@@ -26,7 +26,7 @@ pub struct Condition<'a> {
     pub is_front: bool,
 }
 
-/// The key of these two letters, if there is one.
+/// Returns the key that these two letters name, or None if they name none.
 fn key_of(first: u8, second: u8) -> Option<Key>
     ensures some { IfSome result (λ found. key_text found ≡ first ∷ second ∷ []) }
     ensures none { IfNone result ((found : Key) → key_text found ≢ first ∷ second ∷ []) }
@@ -72,7 +72,7 @@ pub fn condition_of(text: &str) -> Option<Condition<'_>>
     }
 }
 
-/// Whether `text` is the value of `condition`, or begins with it if that is enough.
+/// Whether `text` is the value of `condition`, or begins with it if `is_front` is set.
 fn fits(condition: &Condition<'_>, text: &[u8]) -> bool
     ensures { result ≡ fits condition.now text.now }
 {
@@ -96,7 +96,8 @@ fn side_fits(alloc: Global, condition: &Condition<'_>, size: Size) -> Result<boo
     Ok(fits(condition, &side))
 }
 
-/// Whether a game with a board of this size meets the condition.
+/// Whether the game `tree`, with a board of this size, meets the condition. It takes memory for the
+/// text that is compared.
 fn meets(
     alloc: Global,
     condition: &Condition<'_>,
@@ -117,7 +118,8 @@ fn meets(
     }
 }
 
-/// Whether a game with a board of this size meets all conditions.
+/// Whether the game `tree`, with a board of this size, meets all conditions. It takes memory for
+/// the texts that are compared.
 pub(crate) fn meets_all(
     alloc: Global,
     conditions: &[Condition<'_>],

@@ -37,7 +37,7 @@ pub(crate) const SHOWN: [Key; 8] = [
     Key::Komi,
 ];
 
-/// The two letters of a key, which are the name of the property.
+/// Returns the two letters of a key, such as `SZ`, which are the name of its property.
 pub fn key_text(key: Key) -> &'static [u8]
     ensures { result.now ≡ key_text key }
 {

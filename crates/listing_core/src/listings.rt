@@ -35,9 +35,9 @@ pub struct Summary {
     pub report: Report,
 }
 
-/// How the reading of trees ended: the byte index after the last tree (0 if there is none), how
-/// many trees of each sort there are, and the fault of syntax for which no further one was read, if
-/// there is one.
+/// How the reading of an input's trees ended: the byte index after the last tree that was read (0
+/// if there is none), how many trees of each sort were read, and the fault of syntax at which
+/// reading stopped, if there is one.
 #[derive(Clone, Copy)]
 pub(crate) struct Ending {
     pub(crate) end: usize,
@@ -45,7 +45,7 @@ pub(crate) struct Ending {
     pub(crate) fault: Option<SgfFault>,
 }
 
-/// Returns the report with one more tree in it, which is `what`.
+/// Returns `report` with one more tree in it, which is `what`.
 fn counted(report: Report, what: What) -> Report
     requires { report.games + report.others + report.refused < 2 ^ 63 }
     ensures { result ≡ counted report what }
@@ -59,8 +59,9 @@ fn counted(report: Report, what: What) -> Report
     report
 }
 
-/// Appends what is written of all trees of `input`, and returns how the reading of them ended.
-/// `trees` reads the same `input`, from its beginning.
+/// Reads all trees of `input`, appends what is written of them to `text`, and returns how the
+/// reading ended. `trees` reads the same `input`, from its beginning. The error says what memory
+/// was refused for.
 fn push_lines(
     alloc: Global,
     asked: &Asked<'_>,
@@ -97,8 +98,8 @@ fn push_lines(
     }
 }
 
-/// Returns how a listing ended, by the fault of syntax that ended it, if one did, and by the report
-/// on its trees. It takes no memory.
+/// Returns how a listing ended: `Fault` if `fault` is one, else `NoTree` if `report` has no tree,
+/// else `Done`. It takes no memory.
 pub fn listed_by(fault: Option<SgfFault>, report: Report) -> Listed
     ensures { result ≡ listed_of fault report }
 {
@@ -111,7 +112,8 @@ pub fn listed_by(fault: Option<SgfFault>, report: Report) -> Listed
     Listed::Done
 }
 
-/// Returns the text of an input's listing, and its summary.
+/// Returns the text that lists the trees of `input` as `asked`, and how the listing ended with the
+/// number of trees of each sort.
 pub(crate) fn listing_of(
     alloc: Global,
     asked: &Asked<'_>,

@@ -8,7 +8,7 @@ ghost use Rattle.listing_core.specs.Inner.Fronts.{occasions_of, HasNumberFrom};
 use go_board::{Board, Stone};
 use go_record::{Action, apply};
 
-/// How many of the actions are moves or passes.
+/// Returns how many of the actions are moves or passes.
 pub(crate) fn moves_in(actions: &[Action]) -> usize
     ensures { result ≡ moves_in actions.now }
 {

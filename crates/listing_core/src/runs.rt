@@ -12,15 +12,16 @@ use std::io::{Read, Write};
 /// The greatest number that the first game of an input may have: 2^63.
 pub const MOST_FIRST: u64 = 1 << 63;
 
-/// Reads a collection and writes what is asked for of it, tree after tree in their order. Returns
-/// how the listing ended, and how many of the trees are games, of other games, and refused. The
-/// next input's first game has the number `asked.first` plus the number of games here.
+/// Reads a collection and writes what is asked for of it: a line for each tree, or the trees that
+/// are chosen, in their order. Returns how the listing ended, and how many of the trees are games,
+/// of other games, and refused. The next input's first game has the number `asked.first` plus the
+/// number of games here.
 ///
-/// In lines and in columns a tree has the number of its game, where it begins and ends (byte
-/// indices, from 0), and what it is: a game with its board, its moves and its occasions (moves onto
-/// empty points), a tree of another game, or a tree that is refused, with the fault of its record.
-/// Columns have what the game's first node says besides. Else the trees that are chosen are cut
-/// out, each as it stands in the input.
+/// In the forms `Lines` and `Columns` a tree's line has the number of its game, where it begins and
+/// ends (byte indices, from 0), and what it is: a game with its board, its moves and its occasions
+/// (moves onto empty points), a tree of another game, or a tree that is refused, with the fault of
+/// its record. `Columns` have what the game's first node says besides. In the form `Trees` each
+/// game that is chosen is cut out: written as it stands in the input.
 ///
 /// With conditions only games that meet them all are written; their numbers stay those of all
 /// games. Without conditions, a fault of syntax has a last line, after those of the trees before

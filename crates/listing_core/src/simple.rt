@@ -30,7 +30,7 @@ fn ends_break(before: After, byte: u8) -> bool
     }
 }
 
-/// Whether a backslash before the byte takes its meaning away.
+/// Whether `before` is a backslash, which takes the next byte's meaning away.
 fn is_escaped(before: After) -> bool
     ensures { result ≡ is_escaped before }
 {
@@ -62,15 +62,16 @@ fn is_left_out(before: After, byte: u8) -> bool
     }
 }
 
-/// The byte of simple text that stands for a byte that is not left out: a space for white space.
+/// Returns the byte of simple text for a byte that is not left out: a space for white space, and
+/// else the byte itself.
 fn text_byte(byte: u8) -> u8
     ensures { result ≡ text_byte byte }
 {
     if is_white(byte) { b' ' } else { byte }
 }
 
-/// What `byte` means for the byte after it, if `byte` is not the second one of a line break.
-/// `before` is what the bytes before it mean for `byte`.
+/// Returns what `byte` means for the byte after it, if `byte` is not the second one of a line
+/// break. `before` is what the bytes before it mean for `byte`.
 fn meaning(before: After, byte: u8) -> After
     ensures { result ≡ meaning before byte }
 {
@@ -87,7 +88,8 @@ fn meaning(before: After, byte: u8) -> After
     }
 }
 
-/// What `byte` means for the byte after it; `before` is what the bytes before it mean for `byte`.
+/// Returns what `byte` means for the byte after it; `before` is what the bytes before it mean for
+/// `byte`.
 fn next(before: After, byte: u8) -> After
     ensures { result ≡ next before byte }
 {
@@ -98,7 +100,8 @@ fn next(before: After, byte: u8) -> After
     }
 }
 
-/// Appends the simple text of a value's bytes.
+/// Appends what a value's `bytes` say as simple text: on one line, without escapes, and with a
+/// space for each line break and other white space.
 pub(crate) fn push_simple(text: &mut Vec<u8>, bytes: &[u8]) -> Result<(), AllocError>
     ensures { OnOk result (text.new.items ≡ text.old.items ++ simple_text bytes.now) }
 {

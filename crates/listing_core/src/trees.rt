@@ -65,7 +65,8 @@ fn what_of(alloc: Global, recorded: Result<Kind, RecordFault>) -> Result<What, W
     }
 }
 
-/// The number of a tree, if it is a game; `next` is the number of the next game.
+/// Returns the number of a tree, which is `next`, the number of the next game, if it is a game;
+/// else None.
 fn number_of(what: &What, next: u64) -> Option<u64>
     ensures { (recorded : Result Kind RecordFault) → IsWhat recorded what.now
         → result ≡ number_of recorded next }
@@ -76,8 +77,8 @@ fn number_of(what: &What, next: u64) -> Option<u64>
     }
 }
 
-/// Returns the line that lists a tree: its number, where its bytes begin and end, and `what` was
-/// found: a game, a tree of another game, or a fault. `next` is the number of the next game.
+/// Returns the line that lists `tree`: its number if it is a game, where its bytes begin and end,
+/// and `what` it is. `next` is the number of the next game.
 fn line_of(tree: &Tree<'_>, next: u64, what: What) -> Line
     ensures line { (recorded : Result Kind RecordFault) → IsWhat recorded what
         → IsLineOf recorded next result }
@@ -91,8 +92,8 @@ fn line_of(tree: &Tree<'_>, next: u64, what: What) -> Line
     }
 }
 
-/// Appends what is written of a tree to `text`, and returns its line. `next` is the number that the
-/// tree has if it is a game.
+/// Reads what `tree` is, appends what is written of it to `text`, and returns its line. `next` is
+/// the number that the tree has if it is a game. The error says what memory was refused for.
 fn push_tree(
     alloc: Global,
     asked: &Asked<'_>,
@@ -114,9 +115,9 @@ fn push_tree(
     Ok(line)
 }
 
-/// Appends what is written of the next tree of `input`, and returns whether there was a tree, none
-/// was left, or it had a fault of syntax. `trees` reads the same `input`; `next` is the number of
-/// the next game.
+/// Reads the next tree, appends what is written of it to `text`, and returns whether there was a
+/// tree, none was left, or it had a fault of syntax. `trees` reads the bytes of `input`; `next` is
+/// the number of the next game. The error says what memory was refused for.
 pub(crate) fn push_next_tree(
     alloc: Global,
     asked: &Asked<'_>,

@@ -28,7 +28,7 @@ fn push_placed(text: &mut Vec<u8>, name: &[u8], at: usize) -> Result<(), AllocEr
     push_count(text, at)
 }
 
-/// Appends the fault of a record.
+/// Appends the text of a record's fault, such as `G2 bad point at 877`.
 pub(crate) fn push_record_fault(text: &mut Vec<u8>, fault: RecordFault) -> Result<(), AllocError>
     ensures { OnOk result (text.new.items ≡ text.old.items ++ record_fault_text fault) }
 {
@@ -40,7 +40,7 @@ pub(crate) fn push_record_fault(text: &mut Vec<u8>, fault: RecordFault) -> Resul
     }
 }
 
-/// Appends the fault of a collection.
+/// Appends the text of a collection's fault of syntax, such as `S2 bad byte at 950`.
 fn push_sgf_fault(text: &mut Vec<u8>, fault: SgfFault) -> Result<(), AllocError>
     ensures { OnOk result (text.new.items ≡ text.old.items ++ sgf_fault_text fault) }
 {
@@ -83,7 +83,7 @@ pub(crate) fn push_place(
     text.extend_from_slice(between)
 }
 
-/// Appends the size of a board.
+/// Appends the size of a board: columns and rows, such as `19x19`.
 pub(crate) fn push_size(text: &mut Vec<u8>, size: Size) -> Result<(), AllocError>
     ensures { OnOk result (text.new.items ≡ text.old.items ++ size_text size) }
 {
@@ -92,7 +92,8 @@ pub(crate) fn push_size(text: &mut Vec<u8>, size: Size) -> Result<(), AllocError
     push_count(text, usize::from(size.rows()))
 }
 
-/// Appends what a tree is.
+/// Appends what a tree is: `game` with its board, moves and occasions (moves onto empty points),
+/// `other`, or `refused` with the fault of its record.
 fn push_what(text: &mut Vec<u8>, what: What) -> Result<(), AllocError>
     ensures { OnOk result (text.new.items ≡ text.old.items ++ what_text what) }
 {
@@ -134,8 +135,8 @@ pub(crate) fn push_ending(
     Ok(())
 }
 
-/// Appends a tree's line: its number, where it begins and ends, what it is, and the name of its
-/// file if there is one.
+/// Appends a tree's line, with spaces between: its number, where it begins and ends, what it is,
+/// and the name of its file if there is one.
 pub(crate) fn push_line(
     text: &mut Vec<u8>,
     name: Option<&str>,

@@ -9,7 +9,7 @@ use std::iter::FusedIterator;
 use std::marker::Model;
 
 /// An iterator over the nodes of a tree's main line: from the root, always by the first variation.
-/// It reads the tree's marks (parentheses, semicolons and properties) as it goes, and takes no
+/// Each step reads some of the tree's marks (parentheses, semicolons and properties), and takes no
 /// memory.
 #[derive(Debug, Drop)]
 pub struct MainLine<'t, 'a> {
@@ -87,7 +87,7 @@ impl<'t, 'a> Model for Node<'t, 'a> {
 }
 
 impl<'t, 'a> Node<'t, 'a> {
-    /// The node's properties, in order. Nothing is copied.
+    /// Returns an iterator over the node's properties, in order. Nothing is copied.
     pub fn props(&self) -> Props<'t, 'a>
         ensures { result ≡ self.now }
     {
@@ -95,8 +95,8 @@ impl<'t, 'a> Node<'t, 'a> {
     }
 }
 
-/// An iterator over the properties of a node, in order. It reads the tree's marks (parentheses,
-/// semicolons and properties) as it goes, and takes no memory.
+/// An iterator over the properties of a node, in order. Each step reads one of the tree's marks
+/// (parentheses, semicolons and properties), and takes no memory.
 #[derive(Debug, Drop)]
 pub struct Props<'t, 'a> {
     marks: &'t [Mark<'a>],

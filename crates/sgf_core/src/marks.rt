@@ -49,7 +49,7 @@ impl<'a> Prop<'a> {
         is_name_of(name, self.identifier)
     }
 
-    /// The property's values, in order. Nothing is copied.
+    /// Returns the property's values, in order. Nothing is copied.
     pub fn values(&self) -> &[Value<'a>]
         ensures { map value_of result.now ≡ self.now.values }
     {
@@ -75,8 +75,8 @@ pub enum Mark<'a> {
 pub(crate) enum Expects {
     /// A node: after the tree's first parenthesis.
     Node,
-    /// Any part: in a node.
+    /// Any mark (node, property, beginning or end of a tree): within a node.
     Any,
-    /// A tree, or the end of this one: after an inner tree.
+    /// The beginning of another inner tree, or the end of the tree round it: after an inner tree.
     Tree,
 }

@@ -103,9 +103,9 @@ fn keep_mark<'a>(marks: &mut Vec<Mark<'a>>, mark: Option<Mark<'a>>, kept: bool) 
     }
 }
 
-/// Reads the tree whose first parenthesis is at the byte index `at`. If memory is refused, the rest
-/// is read all the same, but no longer stored: so `Memory` is returned only if a whole tree is
-/// there, and else the tree's fault of syntax.
+/// Reads and returns the tree whose first parenthesis is at the byte index `at`. If memory is
+/// refused, the rest is read all the same, but no longer stored: so `Memory` is returned only if a
+/// whole tree is there, and else the tree's fault of syntax.
 pub(crate) fn read_tree<'a>(alloc: Global, bytes: &'a [u8], at: usize) -> Result<Tree<'a>, SgfFault>
     requires small { length bytes.now ≤ most_bytes }
     requires begins { BeginsTree (drop at bytes.now) }

@@ -77,7 +77,7 @@ fn kept(fault: SgfFault) -> Option<SgfFault>
 }
 
 impl<'a> Trees<'a> {
-    /// A reader at the beginning of this input. It takes no memory.
+    /// Makes a reader of the trees in `bytes`, at the beginning. It takes no memory.
     ///
     /// # Errors
     ///
@@ -98,7 +98,7 @@ impl<'a> Trees<'a> {
         })
     }
 
-    /// The next tree, or `None` if no tree begins any more.
+    /// Reads and returns the next tree, or None if no tree begins any more.
     ///
     /// # Errors
     ///

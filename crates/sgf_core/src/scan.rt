@@ -38,7 +38,7 @@ pub(crate) fn letters_end(bytes: &[u8], from: usize) -> usize
 }
 
 /// Returns the index of the closing bracket that ends the value whose first byte is at `from`, or
-/// None if none ends it. A bracket that a backslash escapes does not.
+/// None if none ends it. A bracket that a backslash escapes ends no value.
 pub(crate) fn value_end(bytes: &[u8], from: usize) -> Option<usize>
     requires { from ≤ length bytes.now }
     ensures { MatchOption result

@@ -33,22 +33,22 @@ impl<'a> Model for Tree<'a> {
 }
 
 impl<'a> Tree<'a> {
-    /// The byte index, in the whole input, of the tree's first parenthesis.
+    /// Returns the byte index, in the whole input, of the tree's first parenthesis.
     pub fn at(&self) -> usize
         ensures { result ≡ self.now.at }
     {
         self.at
     }
 
-    /// The byte index, in the whole input, after the tree's last parenthesis.
+    /// Returns the byte index, in the whole input, after the tree's last parenthesis.
     pub fn end(&self) -> usize
         ensures { result ≡ self.now.end }
     {
         self.end
     }
 
-    /// The tree's parts, one after the other as the tree is written: its own `Begin` first, its own
-    /// `End` last.
+    /// Returns the tree's marks (parentheses, semicolons and properties) in the order in which the
+    /// tree is written: its own `Begin` first, its own `End` last.
     pub fn marks(&self) -> &[Mark<'a>]
         ensures marks { result.now ≡ self.now.marks }
         ensures tree { IsSomeTree self.now }
@@ -56,8 +56,8 @@ impl<'a> Tree<'a> {
         self.marks.as_slice()
     }
 
-    /// The nodes of the main line: the tree's own, then those of its first inner tree, and so on.
-    /// Nothing is copied, and no memory is taken.
+    /// Returns an iterator over the nodes of the main line: the tree's own, then those of its first
+    /// inner tree, and so on. Nothing is copied, and no memory is taken.
     pub fn main_line(&self) -> MainLine<'_, 'a>
         ensures line { (tree : GameTree) → self.now.marks ≡ marks_of tree
             → result ≡ main_line_of tree }

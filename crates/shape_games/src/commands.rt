@@ -44,7 +44,7 @@ fn where_argument<'a>(alloc: Global) -> Arg<'a>
     .action(ArgAction::Append)
 }
 
-/// The program's definition for `clap`.
+/// Makes the program's definition for `clap`, with all its arguments.
 ///
 /// # Errors
 ///

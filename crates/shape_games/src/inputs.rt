@@ -19,7 +19,8 @@ use twins_core::{Twins, run_twins};
 #[derive(Drop)]
 struct Sum {
     report: Report,
-    /// The first game of each record so far, if games that an earlier one is like are asked for.
+    /// The first game of each record so far, if a line is asked for each game whose record an
+    /// earlier one has; else no game.
     twins: Twins,
     /// Whether anything was written.
     is_written: bool,
@@ -27,14 +28,14 @@ struct Sum {
     status: u8,
 }
 
-/// The first of two exit statuses that is not 0, or 0 if both are.
+/// Returns the first of two exit statuses that is not 0, or 0 if both are.
 fn first_status(before: u8, status: u8) -> u8
     ensures { result ≡ first_status before status }
 {
     if before == 0 { status } else { before }
 }
 
-/// The number of the next input's first game, or None if that would be over 2^63.
+/// Returns the number of the next input's first game, or None if that would be over 2^63.
 fn next_first(sum: &Sum) -> Option<u64>
     ensures { IfSome result (λ first. first ≤ most_first) }
 {
@@ -44,7 +45,7 @@ fn next_first(sum: &Sum) -> Option<u64>
     Some(sum.report.games)
 }
 
-/// Adds two reports.
+/// Returns the sums of the numbers of two reports, saturating.
 fn joined(before: Report, more: Report) -> Report {
     Report {
         games: before.games.saturating_add(more.games),
@@ -53,7 +54,8 @@ fn joined(before: Report, more: Report) -> Report {
     }
 }
 
-/// Whether a run ends with this fault, and reads no further input.
+/// Whether a run ends with this fault, and reads no further input: a write failed, or memory was
+/// refused.
 fn ends_run(fault: &RunFault) -> bool {
     match fault {
         RunFault::Write { .. } => true,
@@ -61,8 +63,9 @@ fn ends_run(fault: &RunFault) -> bool {
     }
 }
 
-/// Writes to standard output what is asked for of one input, and notes in `sum` whether anything
-/// was written. `name` is that of the input's file, None for standard input.
+/// Writes to standard output what `asked` asks for of one input, and notes in `sum` whether
+/// anything was written. `name` is that of the input's file, None for standard input. Returns how
+/// many trees of each sort the input has, and how its reading ended.
 fn write_of<R: Read>(
     rt: &HostRuntime,
     asked: &Asked<'_>,
@@ -94,15 +97,15 @@ fn write_of<R: Read>(
     result
 }
 
-/// Prints to standard error what went wrong with an input. Its exit status becomes that of `sum`,
-/// unless `sum` has one of an earlier fault. A failure to print is ignored.
+/// Prints to standard error what went wrong with an input. Unless an earlier fault has set the exit
+/// status of `sum`, it becomes that of `fault`. A failure to print is ignored.
 fn tell(rt: &HostRuntime, sum: &mut Sum, name: Option<&str>, fault: &RunFault) {
     let _ = eprintln!(rt; "shape_games: {}{fault}", Named(name));
     sum.status = first_status(sum.status, status_of(fault));
 }
 
 /// Writes what is asked for of one input, and adds its trees to `sum`. What goes wrong is printed
-/// to standard error; only a fault with which the run ends is returned.
+/// to standard error; an error is returned only if the run ends with it.
 fn take_input<R: Read>(
     rt: &HostRuntime,
     asked: &Asked<'_>,
@@ -131,8 +134,8 @@ fn take_input<R: Read>(
     Ok(())
 }
 
-/// Writes what is asked for of one input, or prints to standard error what is wrong with a name.
-/// Only a fault with which the run ends is returned.
+/// Writes what is asked for of one input, or prints to standard error what is wrong with a name. An
+/// error is returned only if the run ends with it.
 fn take(
     rt: &HostRuntime,
     asked: &Asked<'_>,
@@ -157,8 +160,8 @@ fn take(
     }
 }
 
-/// Writes what is asked for of these inputs, one after another. Returns the fault that ended the
-/// run before all were read, if one did.
+/// Writes what is asked for of all `inputs`, one after another. Returns the fault that ended the
+/// run before all were read, or None if none did.
 fn take_all(
     rt: &HostRuntime,
     asked: &Asked<'_>,
@@ -180,8 +183,8 @@ fn is_in_vain(asked: &Asked<'_>, sum: &Sum) -> bool {
     !asked.conditions.is_empty() && !sum.is_written && are_some
 }
 
-/// Prints to standard error how many trees of each sort there were. Before that it prints if
-/// conditions were given and no game was chosen; the exit status is 1 then unless there was an
+/// Prints to standard error how many trees of each sort there were. If conditions were given and no
+/// game was chosen, a line before says so, and the exit status becomes 1 unless there was an
 /// earlier fault.
 fn sum_up(rt: &HostRuntime, asked: &Asked<'_>, sum: &mut Sum) {
     if is_in_vain(asked, sum) {

@@ -51,7 +51,7 @@ fn conditions_of<'a>(alloc: Global, texts: &[&'a str]) -> Result<Vec<Condition<'
 }
 
 /// Returns what is done, by the flags and whether there is a condition. None if two of the flags
-/// are set, or `twice` and a condition.
+/// are set, or `twice` and a condition, which exclude one another.
 fn work_for(info: bool, cut: bool, twice: bool, has_condition: bool) -> Option<Work>
     ensures { result ≡ work_of info cut twice has_condition }
 {
@@ -70,7 +70,7 @@ fn work_for(info: bool, cut: bool, twice: bool, has_condition: bool) -> Option<W
     }
 }
 
-/// Whether there is a text.
+/// Whether `texts` has any text.
 fn is_some_text(texts: &[&str]) -> bool
     ensures { result ≡ is_some_text (map (λ text. text.now) texts.now) }
 {
@@ -80,7 +80,7 @@ fn is_some_text(texts: &[&str]) -> bool
     }
 }
 
-/// Whether a flag is given.
+/// Whether the flag `flag` is given.
 fn has_flag(matches: &ArgMatches<'_>, flag: &str) -> bool
     ensures { IsChoiceOf flag.now true false (rows_in matches.now) result }
 {

@@ -44,7 +44,8 @@ fn most_argument<'a>(alloc: Global) -> Arg<'a>
     ))
 }
 
-/// The program with the arguments that say which patterns are looked for.
+/// Makes the program's definition for `clap` with its first arguments: those that say which
+/// patterns are looked for. `AllocError` if memory was refused.
 fn program_of_patterns<'a>(alloc: Global) -> Result<Command<'a>, AllocError>
     ensures { IfOk result (λ command. app_of command ≡ patterns_app) }
 {
@@ -64,7 +65,7 @@ fn program_of_patterns<'a>(alloc: Global) -> Result<Command<'a>, AllocError>
     Ok(command)
 }
 
-/// The program's definition for `clap`.
+/// Makes the program's definition for `clap`, with all its arguments.
 ///
 /// # Errors
 ///

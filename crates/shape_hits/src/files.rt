@@ -8,7 +8,7 @@ use std::io::{self, ErrorKind, Write};
 /// The fault that is returned if a file or folder can't be made or written.
 const UNWRITTEN: RunFault = RunFault::Write { written: 0 };
 
-/// Why a file was not made.
+/// Returns in a few words why a file or folder was not made.
 fn why_unmade(error: &io::Error) -> &'static str {
     match error.kind() {
         ErrorKind::AlreadyExists => "it is there already",
@@ -19,12 +19,13 @@ fn why_unmade(error: &io::Error) -> &'static str {
     }
 }
 
-/// Prints to standard error that a file was not written, and why.
+/// Prints to standard error that the file or folder `name` was not written, and why.
 fn tell(rt: &HostRuntime, name: &str, why: &str) {
     let _ = eprintln!(rt; "shape_hits: I2 {}: {why}", Shown(name));
 }
 
-/// Creates the file of this name for writing; an error if there is one already.
+/// Creates the file `name` for writing. An error of the system if it can't be made, `AlreadyExists`
+/// if there is one already.
 fn new_file(rt: &HostRuntime, name: &str) -> io::Result<File> {
     let mut options = OpenOptions::new();
     options.write(true).create_new(true);
@@ -48,7 +49,8 @@ fn write_file(rt: &HostRuntime, name: &str, text: &[u8]) -> Result<(), RunFault>
     Ok(())
 }
 
-/// The name of a hit's file, with that of its folder before it.
+/// Returns the name of a hit's file, with that of its folder before it. `Memory` if memory was
+/// refused.
 fn name_in(rt: &HostRuntime, folder: &str, hit: &Hit) -> Result<String, RunFault> {
     let mut name = String::from_str(rt.alloc(), folder)?;
     if !folder.ends_with('/') {
@@ -60,7 +62,8 @@ fn name_in(rt: &HostRuntime, folder: &str, hit: &Hit) -> Result<String, RunFault
     Ok(name)
 }
 
-/// Whether a hit has the same file as the one before it.
+/// Whether `hit` has the same file as `last`, the hit before it: they are at the same point before
+/// the same move.
 fn is_again(last: &Option<Hit>, hit: &Hit) -> bool {
     match last {
         Some(last) => last.game == hit.game && last.number == hit.number && last.at == hit.at,
@@ -68,12 +71,12 @@ fn is_again(last: &Option<Hit>, hit: &Hit) -> bool {
     }
 }
 
-/// Makes the folder, unless it is there.
+/// Makes the folder `folder`, unless it is there.
 ///
 /// # Errors
 ///
-/// `Write` if it is not there and can't be made, or is no folder; this is printed to standard
-/// error.
+/// `Write` if the folder is not there and can't be made, or something else has its name; this is
+/// printed to standard error.
 pub fn make_folder(rt: &HostRuntime, folder: &str) -> Result<(), RunFault> {
     if let Ok(found) = fs::metadata(rt, folder) {
         if found.is_dir() {
@@ -91,9 +94,9 @@ pub fn make_folder(rt: &HostRuntime, folder: &str) -> Result<(), RunFault> {
     }
 }
 
-/// Writes an SGF file into `folder` for each hit of an input, at most `most` files. `first` is the
-/// number of the input's first game. Hits at the same point before the same move have one file.
-/// Returns how many files were written.
+/// Writes an SGF file into `folder` for each hit of an input, at most `most` files. `results` has
+/// the input's games and hits, and `first` is the number of its first game. Hits at the same point
+/// before the same move have one file. Returns how many files were written.
 ///
 /// # Errors
 ///

@@ -41,14 +41,15 @@ struct Given<'a, T> {
     wanted: &'a Wanted,
 }
 
-/// The first of two exit statuses that is not 0, or 0 if both are.
+/// Returns the first of two exit statuses that is not 0, or 0 if both are.
 fn first_status(before: u8, status: u8) -> u8
     ensures { result ≡ first_status before status }
 {
     if before == 0 { status } else { before }
 }
 
-/// How many hits are still asked for (None for all) after `listed` of them were listed.
+/// Returns how many hits are still asked for (None for all) after `listed` more were listed, if
+/// `left` were asked for before.
 fn left_after(left: Option<u64>, listed: u64) -> Option<u64>
     ensures { result ≡ left_after left listed }
 {
@@ -71,7 +72,7 @@ impl std::fmt::Display for Named<'_> {
     }
 }
 
-/// Adds the reports on two inputs.
+/// Returns the sums of the numbers in the reports on two inputs, saturating.
 fn both_reports(one: Report, other: Report) -> Report {
     Report {
         games: one.games.saturating_add(other.games),
@@ -80,27 +81,27 @@ fn both_reports(one: Report, other: Report) -> Report {
     }
 }
 
-/// Prints to standard error what went wrong with an input. Its exit status becomes that of `sum`,
-/// unless `sum` has one of an earlier fault. A failure to print is ignored.
+/// Prints to standard error what went wrong with an input. Unless an earlier fault has set the exit
+/// status of `sum`, it becomes that of `fault`. A failure to print is ignored.
 fn tell(rt: &HostRuntime, sum: &mut Sum, name: Option<&str>, fault: &RunFault) {
     let _ = eprintln!(rt; "shape_hits: {}{fault}", Named(name));
     sum.status = first_status(sum.status, status_of(fault));
 }
 
-/// Prints to standard error what is wrong with a name. Its exit status becomes that of `sum`,
-/// unless `sum` has one of an earlier fault.
+/// Prints to standard error what is wrong with a name. Unless an earlier fault has set the exit
+/// status of `sum`, it becomes that of `why`.
 fn tell_flaw(rt: &HostRuntime, sum: &mut Sum, name: &str, why: Why) {
     let _ = eprintln!(rt; "shape_hits: {}: {why}", Shown(name));
     sum.status = first_status(sum.status, flaw_status(why));
 }
 
-/// Whether the report on an input has no tree.
+/// Whether an input has no tree, by the report on it.
 fn has_no_tree(report: Report) -> bool {
     report.games == 0 && report.others == 0 && report.refused == 0
 }
 
-/// Adds what was found in an input to `sum`, and writes a file for each hit if a folder for them is
-/// named.
+/// Adds what was found in an input, `results`, to `sum`, and writes an SGF file for each hit if the
+/// command line names a folder for them.
 fn take_up<T>(given: &Given<'_, T>, sum: &mut Sum, results: &Results) -> Result<(), RunFault> {
     let listed = results.hits.len() as u64;
     if results.outcome == Outcome::Done {
@@ -116,8 +117,8 @@ fn take_up<T>(given: &Given<'_, T>, sum: &mut Sum, results: &Results) -> Result<
 }
 
 /// Adds what was found in an input to `sum` and writes the files of its hits, by `take_up`. If that
-/// fails, the fault is printed unless it was already, its exit status becomes that of `sum` unless
-/// an earlier fault has set it, and the fault is returned.
+/// fails, the fault is returned, and printed to standard error unless it was already. The exit
+/// status of `sum` becomes that of the fault, unless an earlier fault has set it.
 fn taken_up<T>(given: &Given<'_, T>, sum: &mut Sum, results: &Results) -> Result<(), RunFault> {
     let Err(fault) = take_up(given, sum, results) else {
         return Ok(());
@@ -129,9 +130,9 @@ fn taken_up<T>(given: &Given<'_, T>, sum: &mut Sum, results: &Results) -> Result
     Err(fault)
 }
 
-/// Prints the hits of an input and adds it to `sum`. `name` is that of its file, None for standard
-/// input. What goes wrong is printed to standard error. Returned is only a fault with which the run
-/// ends: `Write` or `Memory`.
+/// Prints the hits of an input, and adds its hits and trees to `sum`. `name` is that of its file,
+/// None for standard input. What goes wrong is printed to standard error. An error is returned only
+/// if the run ends with it: `Write` or `Memory`.
 fn list_one<T: Threads + Sync, R: Read>(
     given: &Given<'_, T>,
     sum: &mut Sum,
@@ -174,8 +175,8 @@ fn list_one<T: Threads + Sync, R: Read>(
     }
 }
 
-/// Prints the hits of one input, or prints to standard error what is wrong with a name. Returned is
-/// only a fault with which the run ends.
+/// Prints the hits of one input, or prints to standard error what is wrong with a name. An error is
+/// returned only if the run ends with it: `Write` or `Memory`.
 fn list_source<T: Threads + Sync>(
     given: &Given<'_, T>,
     sum: &mut Sum,
@@ -198,8 +199,8 @@ fn list_source<T: Threads + Sync>(
     }
 }
 
-/// The exit status of a run that went to its end: that of the first fault. If there is none, 0 if a
-/// hit was found, and else 1.
+/// Returns the exit status of a run that read all its inputs: that of the first fault. If there is
+/// none, 0 if a hit was found, and else 1.
 fn exit_status(sum: &Sum) -> u8 {
     match (sum.status, sum.is_found) {
         (0, true) => 0,
@@ -208,7 +209,8 @@ fn exit_status(sum: &Sum) -> u8 {
     }
 }
 
-/// Lists the hits of all inputs, one after another. Returns the exit status.
+/// Prints the hits of `wanted` in all inputs that `asked` names, one after another, and at the end
+/// to standard error how many trees of each sort there were. Returns the exit status.
 ///
 /// # Errors
 ///

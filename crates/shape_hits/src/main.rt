@@ -17,7 +17,8 @@ use std::process::ExitCode;
 use std::thread::Threads;
 use words::Asked;
 
-/// Returns the patterns whose words are listed in the file of this name.
+/// Returns the patterns whose words are listed in the file `name`; `Unread` if it can't be opened
+/// or read, and else what is wrong with the list.
 fn listed(rt: &HostRuntime, name: &str) -> Result<Wanted, WordsFault> {
     match File::open(rt, name) {
         Ok(mut file) => read_wanted(rt.alloc(), &mut file),
@@ -25,7 +26,8 @@ fn listed(rt: &HostRuntime, name: &str) -> Result<Wanted, WordsFault> {
     }
 }
 
-/// Returns the patterns that are looked for: the one that is spelled, else those of the list.
+/// Returns the patterns that are looked for: the one that the command line spells, else those of
+/// the list of words that it names.
 fn wanted_of(rt: &HostRuntime, asked: &Asked<'_>) -> Result<Wanted, WordsFault> {
     match asked.shape {
         Some(shape) => Wanted::one(rt.alloc(), shape).map_err(|_| WordsFault::Memory),
@@ -33,8 +35,8 @@ fn wanted_of(rt: &HostRuntime, asked: &Asked<'_>) -> Result<Wanted, WordsFault> 
     }
 }
 
-/// Prints to standard error what is wrong with the list of words, and if it could not be read, its
-/// file and why.
+/// Prints to standard error what is wrong with the list of words. If the list could not be read,
+/// its file and the reason are printed too.
 fn tell(rt: &HostRuntime, asked: &Asked<'_>, fault: &WordsFault) {
     let _ = match (fault, asked.words) {
         (WordsFault::Unread, Some(name)) => {
@@ -45,8 +47,8 @@ fn tell(rt: &HostRuntime, asked: &Asked<'_>, fault: &WordsFault) {
     };
 }
 
-/// Prints the hits, and writes their files if a folder is named. The threads that find them are
-/// started through `threads`. Returns the exit status.
+/// Prints the hits that `asked` asks for, and writes their files if a folder is named. The threads
+/// that find them are started through `threads`. Returns the exit status.
 fn find<T: Threads + Sync>(
     rt: &HostRuntime,
     threads: &T,

@@ -35,7 +35,8 @@ pub struct Asked<'a> {
     pub names: Vec<&'a str>,
 }
 
-/// What the lines show: the words too, unless one pattern is spelled.
+/// Returns what the lines of hits show: if `shape` is None, also the pattern's word, since a list
+/// of words is looked for.
 fn shown_for(shape: &Option<Shape>) -> Shown
     ensures { result ≡ shown_for shape.now }
 {
@@ -57,7 +58,7 @@ fn spelled(matches: &ArgMatches<'_>) -> Result<Option<Shape>, RunFault>
     }
 }
 
-/// Whether the argument of this name is given.
+/// Whether the argument `id` is given.
 fn is_given(matches: &ArgMatches<'_>, id: &str) -> bool
     ensures { MatchBool result (first_of id.now (rows_in matches.now) ≢ None)
         (first_of id.now (rows_in matches.now) ≡ None) }
@@ -81,7 +82,9 @@ fn listed(matches: &ArgMatches<'_>) -> Result<Option<Shape>, RunFault>
     }
 }
 
-/// The pattern that is looked for, or None if a file of words is named.
+/// Returns the pattern that is looked for, or None if a file of words is named. `Usage` if that is
+/// named with `--diamond`, if the glyphs or the colour are missing, or if the colour is neither
+/// black nor white; `Glyph` if the glyphs are not those of a pattern.
 fn shape_of(matches: &ArgMatches<'_>) -> Result<Option<Shape>, RunFault>
     ensures patterns { IfOk result (ArePatterns (rows_in matches.now)) }
     ensures fault { IfErr result (IsPatternsFault (rows_in matches.now)) }
@@ -92,7 +95,7 @@ fn shape_of(matches: &ArgMatches<'_>) -> Result<Option<Shape>, RunFault>
     spelled(matches)
 }
 
-/// Appends the word of the argument of this name, if there is one.
+/// Appends the value of the argument `id` to `names`, if it is given.
 fn push_word<'a>(
     names: &mut Vec<&'a str>,
     matches: &ArgMatches<'a>,
@@ -122,7 +125,7 @@ fn first_names<'a>(alloc: Global, matches: &ArgMatches<'a>) -> Result<Vec<&'a st
     Ok(names)
 }
 
-/// Appends words.
+/// Appends all of `others` to `names`.
 fn push_all<'a>(names: &mut Vec<&'a str>, others: &[&'a str]) -> Result<(), AllocError>
     ensures { OnOk result (names.new.items ≡ names.old.items ++ others.now) }
 {
@@ -143,7 +146,8 @@ fn names_of<'a>(alloc: Global, matches: &ArgMatches<'a>) -> Result<Vec<&'a str>,
     Ok(names)
 }
 
-/// What is listed of the patterns, and how.
+/// Returns what is listed of the patterns, and how: at most `most` hits (None for all), each with
+/// its pattern's word if `shape` is None.
 fn search_of(matches: &ArgMatches<'_>, most: Option<u64>, shape: &Option<Shape>) -> Search<'static>
     ensures sought { IsSoughtOf (rows_in matches.now) result.sought }
     ensures most { result.most ≡ most }

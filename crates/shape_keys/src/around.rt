@@ -41,7 +41,8 @@ fn code_at(board: &[u8], columns: usize, x: usize, y: usize) -> u8
     }
 }
 
-/// Returns the codes of the square round the point at this column and row.
+/// Returns the codes of the square (5 by 5) round the point at this column and row: those of
+/// `board`, and `OFF_BOARD` for cells off the board.
 fn around(board: &[u8], columns: usize, column: usize, row: usize) -> [u8; 25]
     requires column { column < 2 ^ 32 }
     requires row { row < 2 ^ 32 }

@@ -11,8 +11,8 @@ use crate::statuses::Status;
 use shape_core::{Word, canonical};
 
 /// Writes to `shape` the canonical word of `word` for the player `mover`, 1 Black or 2 White. It is
-/// the key of a pattern, the same however that is turned or mirrored, and with the colours
-/// exchanged for the other mover. Takes no memory.
+/// the key of a pattern: it is the same however the pattern is turned or mirrored, and with the
+/// colours exchanged for the other mover. Takes no memory.
 ///
 /// Returns `Done` and writes the canonical word. Returns `BadWord` exactly if `word` is 2^51 or
 /// more, and else `BadMover` exactly if `mover` is neither 1 nor 2; `shape` stays as it was then.

@@ -15,8 +15,8 @@ const DIAMOND: u64 = 1 << 50;
 const OFF_BOARD: u8 = 3;
 
 /// Returns the 50 bits of a word whose cells have these codes: two bits a cell, the first cell
-/// lowest. None if a code is over 3. It goes from the last cell to the first: the sum from a cell
-/// on is its code and four times the sum after it.
+/// lowest. None if a code is over 3. The cells are added from the last to the first: the sum from a
+/// cell on is its code and four times the sum after it.
 fn sum_of_codes(codes: &[u8; 25]) -> Option<u64>
     ensures sum { SomeIff result (AreCodes codes.now) (sum_of codes.now) }
     ensures small { IfSome result (λ sum. sum < 2 ^ 50) }
@@ -32,11 +32,11 @@ fn sum_of_codes(codes: &[u8; 25]) -> Option<u64>
     Some(sum)
 }
 
-/// Writes the word of the square whose cells have these codes, row by row from the top, each row
-/// from the left: 0 empty, 1 black, 2 white, 3 off the board. Takes no memory.
+/// Writes to `word` the word of the square whose cells have these codes, row by row from the top,
+/// each row from the left: 0 empty, 1 black, 2 white, 3 off the board. Takes no memory.
 ///
-/// Returns `Done` and writes the word. Returns `BadCode` exactly if a code is over 3; the word
-/// stays as it was then.
+/// Returns `Done` and writes the word. Returns `BadCode` exactly if a code is over 3; `word` stays
+/// as it was then.
 #[unsafe(no_mangle)]
 pub extern "C" fn shapes_square(codes: &[u8; 25], word: &mut u64) -> u32
     ensures done { AreCodes codes.now → (result ≡ number_of status.Done)
@@ -53,11 +53,11 @@ pub extern "C" fn shapes_square(codes: &[u8; 25], word: &mut u64) -> u32
     }
 }
 
-/// Writes the word of the diamond whose cells have these codes, row by row from the top, each row
-/// from the left: 0 empty, 1 black, 2 white, 3 off the board. Takes no memory.
+/// Writes to `word` the word of the diamond whose cells have these codes, row by row from the top,
+/// each row from the left: 0 empty, 1 black, 2 white, 3 off the board. Takes no memory.
 ///
-/// Returns `Done` and writes the word. Returns `BadCode` exactly if a code is over 3; the word
-/// stays as it was then.
+/// Returns `Done` and writes the word. Returns `BadCode` exactly if a code is over 3; `word` stays
+/// as it was then.
 #[unsafe(no_mangle)]
 pub extern "C" fn shapes_diamond(codes: &[u8; 25], word: &mut u64) -> u32
     ensures done { AreCodes codes.now → (result ≡ number_of status.Done)

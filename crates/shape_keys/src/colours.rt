@@ -4,7 +4,7 @@ ghost use Rattle.shape_keys.specs.Mover.{mover_of};
 
 use go_board::Colour;
 
-/// The player to move: Black for 1, White for 2, None for any other number.
+/// Returns the player to move: Black for 1, White for 2, None for any other number.
 pub(crate) fn mover_of(number: u32) -> Option<Colour>
     ensures { result ≡ mover_of number }
 {

@@ -30,14 +30,15 @@ pub struct ShapesHeader {
     pub patterns: u64,
 }
 
-/// The number, or 2^64 - 1 if it is not known.
+/// Returns the number, or 2^64 - 1 if it is None.
 fn or_unknown(number: Option<u64>) -> u64
     ensures { result ≡ or_unknown number }
 {
     number.unwrap_or(u64::MAX)
 }
 
-/// Converts an entry to the struct that crosses to other languages.
+/// Returns an entry as the struct that crosses to other languages; a first game that is not known
+/// is 2^64 - 1.
 pub(crate) fn said(entry: &Entry) -> ShapesEntry
     ensures { result ≡ said entry.now }
 {
@@ -49,7 +50,8 @@ pub(crate) fn said(entry: &Entry) -> ShapesEntry
     }
 }
 
-/// Converts a header to the struct that crosses to other languages.
+/// Returns a header as the struct that crosses to other languages; a number of diamonds is 2^64 - 1
+/// if these were not counted.
 pub(crate) fn said_header(header: &Header) -> ShapesHeader
     ensures { result ≡ said_header header.now }
 {

@@ -9,12 +9,12 @@ ghost use Rattle.shape_keys.specs.Found.{IsFoundAs, IsSomeAnswer};
 use crate::entries::ShapesEntry;
 use crate::statuses::Status;
 
-/// Finds the entry whose word is `shape`, by binary search among `entries`, whose words rise, as
-/// `shapes_read` writes them. Takes no memory.
+/// Writes to `entry` the one of `entries` whose word is `shape`. It is found by binary search: the
+/// words of `entries` must rise, as they do where `shapes_read` writes them. Takes no memory.
 ///
-/// Returns `Done` and writes the entry, or `Absent` if none has `shape`; `entry` stays as it was
-/// then. If the words of `entries` do not rise, an entry that has `shape` may be missed; one that
-/// is found has it all the same.
+/// Returns `Done` and writes the entry, or `Absent` if none has the word `shape`; `entry` stays as
+/// it was then. If the words of `entries` do not rise, an entry that has `shape` may be missed; one
+/// that is found has it all the same.
 #[unsafe(no_mangle)]
 pub extern "C" fn shapes_find(entries: &[ShapesEntry], shape: u64, entry: &mut ShapesEntry) -> u32
     ensures dictionary { (contents : Contents) → IsDictionary contents

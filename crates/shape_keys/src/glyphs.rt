@@ -9,7 +9,7 @@ ghost use Rattle.shape_keys.specs.declared.statuses.Status.TheVariants as status
 use crate::statuses::Status;
 use shape_core::{GlyphFault, Word, from_diamond_glyphs, from_glyphs, glyphs};
 
-/// The status of a fault of glyphs.
+/// Returns the status for a fault of glyphs: their number is wrong, or a byte is no glyph.
 fn status_of(found: GlyphFault) -> Status
     ensures length { found ≡ fault.BadLength → result ≡ status.BadLength }
     ensures glyph { (at : ℕ) → found ≡ fault.BadGlyph at → result ≡ status.BadGlyph }
@@ -20,10 +20,11 @@ fn status_of(found: GlyphFault) -> Status
     }
 }
 
-/// Writes the word of the square of these 25 glyphs, cell 0 first. Takes no memory.
+/// Writes to `word` the word of the square with these 25 glyphs, row by row from the top. Takes no
+/// memory.
 ///
 /// Returns `Done` and writes the word. Returns `BadLength` exactly if there are not 25 bytes, and
-/// else `BadGlyph` exactly if one is no glyph; the word stays as it was then.
+/// else `BadGlyph` exactly if one is no glyph; `word` stays as it was then.
 #[unsafe(no_mangle)]
 pub extern "C" fn shapes_square_of_glyphs(glyphs: &[u8], word: &mut u64) -> u32
     ensures done { result ≡ number_of status.Done → (word.new < 2 ^ 50)
@@ -42,10 +43,11 @@ pub extern "C" fn shapes_square_of_glyphs(glyphs: &[u8], word: &mut u64) -> u32
     }
 }
 
-/// Writes the word of the diamond of these 25 glyphs, cell 0 first. Takes no memory.
+/// Writes to `word` the word of the diamond with these 25 glyphs, row by row from the top. Takes no
+/// memory.
 ///
 /// Returns `Done` and writes the word. Returns `BadLength` exactly if there are not 25 bytes, and
-/// else `BadGlyph` exactly if one is no glyph; the word stays as it was then.
+/// else `BadGlyph` exactly if one is no glyph; `word` stays as it was then.
 #[unsafe(no_mangle)]
 pub extern "C" fn shapes_diamond_of_glyphs(glyphs: &[u8], word: &mut u64) -> u32
     ensures done { result ≡ number_of status.Done → (2 ^ 50 ≤ word.new) × (word.new < 2 ^ 51)
@@ -65,7 +67,8 @@ pub extern "C" fn shapes_diamond_of_glyphs(glyphs: &[u8], word: &mut u64) -> u32
     }
 }
 
-/// Writes the 25 glyphs of a word, cell 0 first, with no byte after them. Takes no memory.
+/// Writes to `text` the 25 glyphs of `word`, row by row from the top, with no byte after them.
+/// Takes no memory.
 ///
 /// Returns `Done` and writes the glyphs. Returns `BadWord` exactly if `word` is 2^51 or more;
 /// `text` stays as it was then.

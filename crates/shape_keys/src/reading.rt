@@ -14,7 +14,8 @@ use crate::statuses::Status;
 use shape_dict::{DictFault, Dictionary, Entry, read_header};
 use std::alloc::Global;
 
-/// The number of the line that `fault` names, 1 for the header; 0 if it names none.
+/// Returns the number of the line that `fault` names, counted from 1 at the header; 0 if it is a
+/// fault without a line number.
 fn line_of(fault: DictFault) -> u64
     ensures { result ≡ line_of fault }
 {
@@ -26,8 +27,8 @@ fn line_of(fault: DictFault) -> u64
     }
 }
 
-/// Writes `entries`, as structs for other languages, to the front of `room`, which must be as long
-/// or longer.
+/// Writes `entries`, as structs for other languages, to the front of `room`, which must have room
+/// for all of them.
 fn put_entries(entries: &[Entry], room: &mut [ShapesEntry])
     requires { length entries.now ≤ length room.old }
     ensures { room.new ≡ map said entries.now ++ drop (length entries.now) room.old }
@@ -62,12 +63,15 @@ pub extern "C" fn shapes_header(text: &[u8], header: &mut ShapesHeader) -> u32
 /// of their words, to the front of `entries`. It takes memory for the entries, and frees it before
 /// it returns.
 ///
-/// Returns `Done`, and writes the entries, and to `number` how many they are. Returns `NoRoom` if
-/// `entries` is too short for them all, and writes only `number`; a line has 18 bytes or more, so a
-/// length of an entry for each 18 bytes of the text is always enough. Else returns `BadText` with
-/// the first fault of the text, X1 to X6 or X8, and writes only to `number` the line that the fault
-/// names, from 1 at the header, or 0 if it names none. X6, out of memory, comes only after a header
-/// and a first line without a fault.
+/// Returns `Done`, and writes the entries, and to `number` how many they are.
+///
+/// Returns `NoRoom` if `entries` is too short for them all, and writes only to `number` how many
+/// they are. A line has 18 bytes or more, so room for an entry for each 18 bytes of the text is
+/// always enough.
+///
+/// Else returns `BadText` with the first fault of the text, X1 to X6 or X8, and writes only to
+/// `number` the line that the fault names, from 1 at the header, or 0 if it names none. X6, out of
+/// memory, comes only after a header and a first line without a fault.
 #[unsafe(no_mangle)]
 pub extern "C" fn shapes_read(
     alloc: Global,

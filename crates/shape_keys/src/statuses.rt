@@ -53,7 +53,7 @@ impl Status {
     }
 }
 
-/// The number of a fault of a text.
+/// Returns the number for a fault of a dictionary's text: 11 to 19 for X1 to X9.
 fn number_of_fault(fault: DictFault) -> u32
     ensures { result ≡ number_of_fault fault }
 {

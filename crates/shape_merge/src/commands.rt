@@ -57,7 +57,7 @@ fn dictionaries_argument<'a>(alloc: Global) -> Arg<'a>
     names_argument(alloc, "dictionaries", "DICTIONARY", help).required(true)
 }
 
-/// The program's definition for `clap`.
+/// Makes the program's definition for `clap`, with all its arguments.
 ///
 /// # Errors
 ///

@@ -49,7 +49,7 @@ impl Sources for Dictionaries<'_> {
 
 /// Something that can make a file.
 pub trait Maker {
-    /// Makes the file, or makes it empty if it is there.
+    /// Makes the file, or makes it empty if it is there, and returns it open for writing.
     ///
     /// # Errors
     ///
@@ -123,7 +123,7 @@ pub struct Sights {
     pub dictionaries: Vec<FileIdentity>,
 }
 
-/// Asks the system which file a name stands for, and does not open it.
+/// Returns which file a name stands for, as the system says; the file is not opened.
 fn look(rt: &HostRuntime, name: &str) -> FileIdentity {
     match fs::metadata(rt, name) {
         Ok(metadata) if metadata.is_file() => FileIdentity::File {
@@ -135,7 +135,7 @@ fn look(rt: &HostRuntime, name: &str) -> FileIdentity {
     }
 }
 
-/// Asks the system which file each of these names stands for, and returns that in their order.
+/// Returns which file each of these names stands for, in their order, as the system says.
 /// `AllocError` if memory was refused.
 fn look_at_all(rt: &HostRuntime, names: &[&str]) -> Result<Vec<FileIdentity>, AllocError>
     ensures { IfOk result (λ identities. vec_len identities ≡ length names.now) }
@@ -147,8 +147,8 @@ fn look_at_all(rt: &HostRuntime, names: &[&str]) -> Result<Vec<FileIdentity>, Al
     Ok(identities)
 }
 
-/// Asks the system which files the names of a join stand for. If no output file is named, the file
-/// that is written is standard output.
+/// Returns which files the names of a join stand for, as the system says. If no output file is
+/// named, the file that is written is standard output.
 ///
 /// # Errors
 ///
@@ -195,8 +195,9 @@ fn is_barred(asked: &Asked<'_>, target: FileIdentity, name: &str, dictionary: Fi
     is_written(asked, name) || is_refused(dictionary, target)
 }
 
-/// Returns the first of the dictionaries' names that can't be joined, or None if all can be: one
-/// that is there and is no regular file, such as a pipe, which can't be read twice; or one that is
+/// Returns the first of the dictionaries' names that can't be joined, or None if all can be.
+/// `sights` says which files the names stand for. A name can't be joined if it stands for something
+/// other than a regular file, such as a pipe, which can't be read twice, or if the file is also
 /// written, under this name or another.
 pub fn which_is_barred<'a>(asked: &Asked<'a>, sights: &Sights) -> Option<&'a str>
     requires { AreOf asked.now sights.now }

@@ -21,9 +21,9 @@ use std::thread::Threads;
 use telling::{tell, tell_barred, tell_changed};
 use words::Asked;
 
-/// Writes the join of the files, to standard output or to a file that is made only after all
-/// dictionaries were checked to be well-formed. The threads that join are started through
-/// `threads`.
+/// Joins the dictionaries that `asked` names, and writes the join to standard output, or to a file
+/// that is made only after all dictionaries were checked to be well-formed. The threads that join
+/// are started through `threads`.
 fn join<T: Threads + Sync>(
     threads: &T,
     rt: &HostRuntime,
@@ -43,9 +43,9 @@ fn join<T: Threads + Sync>(
     }
 }
 
-/// Looks at the files again after a join that ended well, and says on standard error which one has
-/// another stamp (device, number, size, time) than in `before`. Returns the exit status: 0 if none
-/// has.
+/// Looks at the dictionaries' files again after a join that ended well. If one has another stamp
+/// (device, number, size, time) than in `before`, standard error says so, and the exit status for
+/// that is returned; else 0.
 fn look_again(rt: &HostRuntime, asked: &Asked<'_>, before: &[Stamp]) -> Result<u8, RunFault>
     requires { length before.now ≡ vec_len asked.now.names }
 {

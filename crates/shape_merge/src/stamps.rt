@@ -21,7 +21,7 @@ pub enum Stamp {
     },
 }
 
-/// The stamp of the file of this name.
+/// Returns the stamp of the file `name`: what the system says of it now.
 fn stamp_of(rt: &HostRuntime, name: &str) -> Stamp {
     match fs::metadata(rt, name) {
         Ok(metadata) => Stamp::Known {
@@ -57,7 +57,8 @@ fn is_same(before: Stamp, after: Stamp) -> bool
     before == after
 }
 
-/// The number, from 0, of the first file whose two stamps differ; None if all are the same.
+/// Returns the number, from 0, of the first file whose stamps in `before` and `after` differ; None
+/// if no file's do. Both are in the same order of the files.
 pub fn first_unlike(before: &[Stamp], after: &[Stamp]) -> Option<usize>
     requires { length before.now ≡ length after.now }
     ensures { MatchOption result (AreAlike before.now after.now)

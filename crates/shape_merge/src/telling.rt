@@ -1,4 +1,4 @@
-//! What is said of a fault on standard error.
+//! Lines on standard error about what went wrong with a join.
 ghost use Rattle.std.specs.Prelude.{◌≡◌, ◌+◌, ◌<◌, ℕ, Some, length, slice_get};
 ghost use Rattle.merge_core.specs.Status.{status_of};
 
@@ -59,7 +59,7 @@ pub fn tell_changed(rt: &HostRuntime, k: usize, name: &str) -> u8
     6
 }
 
-/// Says on standard error, in one line, what is wrong and with which file, and returns the exit
+/// Says on standard error, in one line, what `fault` is and with which file, and returns the exit
 /// status. If standard error takes nothing, the status still says what went wrong.
 pub fn tell(rt: &HostRuntime, asked: &Asked<'_>, fault: &MergeFault) -> u8
     ensures { result ≡ status_of fault.now }

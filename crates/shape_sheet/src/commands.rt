@@ -61,7 +61,7 @@ fn most_argument<'a>(alloc: Global) -> Arg<'a>
     .default_value("50")
 }
 
-/// The program's definition for `clap`.
+/// Makes the program's definition for `clap`, with all its arguments.
 ///
 /// # Errors
 ///

@@ -30,8 +30,8 @@ fn hits_of(rt: &HostRuntime, name: &str) -> Result<Result<Vec<u8>, u8>, RunFault
     }
 }
 
-/// Whether a page shows a line of hits below any pattern. Text from files can't look like such a
-/// list: it is escaped.
+/// Whether a page shows a line of hits below any pattern: whether it has the tag `<ul>`. Text from
+/// files has no such tag, since it is escaped.
 fn has_places(page: &[u8]) -> bool {
     for start in 0..page.len() {
         if page[start..].starts_with(b"<ul>") {
@@ -41,8 +41,8 @@ fn has_places(page: &[u8]) -> bool {
     false
 }
 
-/// Returns the lines of hits in the file `name`, none if no file is named. If it can't be read,
-/// prints that to standard error and returns the exit status in place of the lines.
+/// Returns the lines of hits in the file `name`, none if no file is named. If the file can't be
+/// read, prints that to standard error and returns the exit status in place of the lines.
 fn lines_of(rt: &HostRuntime, name: Option<&str>) -> Result<Result<Vec<u8>, u8>, RunFault> {
     match name {
         None => Ok(Ok(Vec::new(rt.alloc()))),
@@ -50,8 +50,8 @@ fn lines_of(rt: &HostRuntime, name: Option<&str>) -> Result<Result<Vec<u8>, u8>,
     }
 }
 
-/// Returns the sheet of the dictionary on standard input. On a page each pattern has the first of
-/// its lines in `hits` below it.
+/// Returns the sheet, the drawing of the first patterns, of the dictionary on standard input. On a
+/// page each pattern has the first of its lines in `hits` below it.
 fn sheet_of(rt: &HostRuntime, asked: Asked, hits: &[u8]) -> Result<Vec<u8>, RunFault> {
     let mut sheet = Vec::new(rt.alloc());
     match run_sheet(rt.alloc(), asked, hits, &mut rt.stdin(), &mut sheet) {
@@ -61,8 +61,9 @@ fn sheet_of(rt: &HostRuntime, asked: Asked, hits: &[u8]) -> Result<Vec<u8>, RunF
     }
 }
 
-/// Prints the sheet. If a file of hits is named and no pattern of a page has a line in it, that is
-/// printed to standard error. Returns the exit status.
+/// Prints the sheet (the drawing of a dictionary's first patterns). If the file of hits `name` is
+/// given and no pattern of a page has a line in it, that is printed to standard error. Returns the
+/// exit status.
 fn draw(rt: &HostRuntime, asked: Asked, name: Option<&str>) -> Result<u8, RunFault> {
     let hits = match lines_of(rt, name)? {
         Ok(hits) => hits,

@@ -14,7 +14,7 @@ use shape_core::Kind;
 use sheet_core::{Asked, Form, Order};
 use std::alloc::{AllocError, Global};
 
-/// What the words ask for.
+/// What the words ask for: a sheet, which draws the first patterns of a dictionary.
 #[derive(Debug, Drop)]
 pub struct Drawing<'a> {
     /// The sheet that is to be drawn.
@@ -23,7 +23,7 @@ pub struct Drawing<'a> {
     pub hits: Option<&'a str>,
 }
 
-/// The order of this name, if there is one.
+/// Returns the order of this name, or None if no order has it.
 fn order_named(name: &str) -> Option<Order>
     ensures found { IfSome result (λ order. name.now ≡ name_of order) }
     ensures none { IfNone result ((order : Order) → name.now ≢ name_of order) }
@@ -37,7 +37,7 @@ fn order_named(name: &str) -> Option<Order>
     }
 }
 
-/// The order that the words name, if they name one.
+/// Returns the order that the option `--by` names, or None if it names none.
 fn order_of(matches: &ArgMatches<'_>) -> Option<Order>
     ensures found { IfSome result (IsOrderOf (rows_in matches.now)) }
     ensures none { IfNone result (HasNoOrder (rows_in matches.now)) }
@@ -48,7 +48,7 @@ fn order_of(matches: &ArgMatches<'_>) -> Option<Order>
     }
 }
 
-/// The sheet that is asked for; None if no order is named, or a number is missing.
+/// Returns what the sheet is to show; None if no known order is named, or a number is missing.
 #[tactic(auto, using(crate::proofs::Asked::no_sheet_order, crate::proofs::Asked::no_sheet_least, crate::proofs::Asked::no_sheet_most))]
 fn sheet_of(matches: &ArgMatches<'_>) -> Option<Asked>
     ensures asked { IfSome result (IsAsked (rows_in matches.now)) }

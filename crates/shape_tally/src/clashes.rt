@@ -55,9 +55,10 @@ fn are_one(rt: &HostRuntime, one: &str, other: &str) -> bool {
     }
 }
 
-/// Returns the first clash between the files that are to be written and the inputs `sources`, or
-/// None if there is none: that of the dictionary with an input, then that of the report with an
-/// input, then that of dictionary and report. Standard output is not looked at.
+/// Returns why a file that `asked` names can't be written, or None if nothing is in the way.
+/// Checked in this order: the dictionary `asked.out` is one of the inputs `sources`, the report
+/// `asked.report` is one, both are one file. A dictionary for standard output (`asked.out` is None)
+/// is not looked at.
 pub fn clash_of<'a>(rt: &HostRuntime, asked: &Asked<'a>, sources: &[Source]) -> Option<Clash<'a>> {
     for name in [asked.out, asked.report].into_iter().flatten() {
         if is_input(rt, sources, name) {

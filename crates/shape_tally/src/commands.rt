@@ -79,7 +79,7 @@ fn program_of_counting<'a>(alloc: Global) -> Result<Command<'a>, AllocError>
     Ok(command)
 }
 
-/// The program's definition for `clap`.
+/// Makes the program's definition for `clap`, with all its arguments.
 ///
 /// # Errors
 ///

@@ -8,8 +8,9 @@ use std::process;
 /// How many file names are tried for one draft (a file that is to replace its target).
 const MOST_TRIES: u64 = 1000;
 
-/// A file that is written beside its target, to take the target's name once it is whole. A draft
-/// that hasn't taken the name is removed when it is dropped.
+/// A temporary file in the folder of its target (the file that it is to become or to replace). It
+/// takes the target's name once it is whole. A draft that hasn't taken the name is removed when it
+/// is dropped.
 pub struct Draft<'a> {
     rt: &'a HostRuntime,
     file: File,
@@ -28,8 +29,8 @@ fn hold(file: &File) -> io::Result<bool> {
 }
 
 /// Makes and locks an empty draft of the file `target`, beside it, under a name that no file has.
-/// Drafts of `target` that killed runs left are removed first. `AlreadyExists` if `MOST_TRIES`
-/// names gave none; else an error of the system.
+/// Drafts of `target` that killed runs left are removed first. The error is `AlreadyExists` if none
+/// of `MOST_TRIES` names gave a draft; else an error of the system.
 fn new_draft<'a>(rt: &'a HostRuntime, target: String) -> io::Result<Draft<'a>> {
     remove_left_drafts(rt, target.as_str());
     let own = process::id(rt.process());
@@ -83,7 +84,7 @@ impl Drop for Draft<'_> {
     }
 }
 
-/// Where the bytes of a named output are written.
+/// The open file that gets the bytes of a named output.
 #[derive(Drop)]
 enum Target<'a> {
     /// Something that is no regular file, such as a pipe: it is written directly.
@@ -93,8 +94,9 @@ enum Target<'a> {
 }
 
 /// Opens the output `name`: directly if something is there that is no regular file, such as a pipe,
-/// else as a draft. If a regular file is there, the draft gets its mode (the permission bits), and
-/// is made beside the file to which symbolic links lead.
+/// else as a draft (a temporary file that takes the name at the end). If a regular file is there,
+/// the draft gets its mode (the permission bits), and is made beside the file to which symbolic
+/// links lead.
 fn open_target<'a>(rt: &'a HostRuntime, name: &str) -> io::Result<Target<'a>> {
     match fs::metadata(rt, name) {
         Ok(found) if found.is_file() => {
@@ -111,12 +113,14 @@ fn open_target<'a>(rt: &'a HostRuntime, name: &str) -> io::Result<Target<'a>> {
     }
 }
 
-/// Tests whether a file of this name could be written, by making a draft, which is removed. What is
-/// no regular file is not opened.
+/// Tests whether the file `name` could be written: makes a draft (a temporary file beside it) and
+/// removes it. Something that is there and is neither a regular file nor a folder, such as a pipe,
+/// is not opened, and counts as one that could be written.
 ///
 /// # Errors
 ///
-/// An error of the system, if the file could not be written.
+/// `IsADirectory` if `name` is a folder; else the error of the system for which no draft could be
+/// made.
 pub fn try_target(rt: &HostRuntime, name: &str) -> io::Result<()> {
     match fs::metadata(rt, name) {
         Ok(found) if found.is_dir() => Err(ErrorKind::IsADirectory.into()),
@@ -140,8 +144,8 @@ pub struct Output<'a> {
 impl<'a> Output<'a> {
     ghost use Rattle.std.specs.Io.{WritesAtMost};
 
-    /// An output to the file of this name; None and `/dev/stdout` are standard output. Nothing is
-    /// touched yet.
+    /// Makes an output to the file `name`; None and `/dev/stdout` are standard output. No file is
+    /// made or opened yet.
     pub fn new(rt: &'a HostRuntime, name: Option<&'a str>) -> Output<'a> {
         let name = match name {
             Some("/dev/stdout") | None => None,
@@ -155,17 +159,17 @@ impl<'a> Output<'a> {
         }
     }
 
-    /// The name of the file; None for standard output.
+    /// Returns the name of the file that is written; None for standard output.
     pub fn name(&self) -> Option<&'a str> {
         self.name
     }
 
-    /// The kind of error of the last write that failed, if one did.
+    /// Returns the kind of error of the last write that failed, or None if none has.
     pub fn failed(&self) -> Option<ErrorKind> {
         self.failed
     }
 
-    /// Opens the file of this name, unless it is open.
+    /// Opens the file `name` as the target of this output, unless a target is open already.
     fn open(&mut self, name: &str) -> io::Result<()> {
         if self.target.is_none() {
             self.target = Some(open_target(self.rt, name)?);
@@ -189,8 +193,9 @@ impl<'a> Output<'a> {
         }
     }
 
-    /// Finishes the text once all of it is written: a draft takes the name of its target. If no
-    /// byte was written, the file is made all the same.
+    /// Finishes the output once all its bytes are written: a draft (the temporary file that has
+    /// them) takes the name of its target. If no byte was written, an empty file is made all the
+    /// same.
     ///
     /// # Errors
     ///

@@ -13,14 +13,14 @@ use tally_parts::Texts;
 /// How many of an input's first bytes are looked at to guess what an input without a tree is.
 const FRONT: usize = 8;
 
-/// What came of the inputs that were read so far.
+/// What came of the inputs so far: of each, and of all together.
 #[derive(Drop)]
 struct Taken<'a> {
     /// What came of each input, in their order; `Fate::Waiting` if it was not read yet.
     fates: Vec<Fate>,
-    /// What came of all inputs together.
+    /// What came of all inputs so far together, in numbers.
     sum: Sum,
-    /// What the input that was read last may be, if it has no tree.
+    /// What the input that was read last may be, such as packed by gzip, if it has no tree.
     cause: Cause,
     /// The progress line on the terminal; None if no terminal shows one.
     progress: Option<Progress<'a>>,
@@ -59,8 +59,8 @@ fn read_opened(file: File, room: &mut Vec<u8>) -> Result<Option<Fate>, AllocErro
     read_whole(file, room)
 }
 
-/// Reads the input `source` whole into `room`. Returns None if it was read, else the fate that says
-/// why it can't be read. `AllocError` if memory was refused.
+/// Reads the input `source` whole into `room`. Returns None if it was read, else the fate (what
+/// came of the input) that says why it can't be read. `AllocError` if memory was refused.
 fn read_source(
     rt: &HostRuntime,
     source: &Source,
@@ -98,8 +98,8 @@ impl Taken<'_> {
         }
     }
 
-    /// Notes the fate of input `n`, from 0, and adds it to the sum. If `is_told` says that the fate
-    /// needs a line on standard error, that line is written.
+    /// Notes `fate`, what came of input `n` (from 0), and adds it to the sum over all inputs. If
+    /// `is_told` says that the fate needs a line on standard error, that line is written.
     fn take(&mut self, rt: &HostRuntime, sources: &[Source], n: usize, fate: Fate) {
         if is_told(fate) {
             self.clear_progress();
@@ -146,12 +146,12 @@ impl<'a> Inputs<'a> {
         self.taken.clear_progress();
     }
 
-    /// What came of each input, in their order.
+    /// Returns what came of each input, in their order; `Fate::Waiting` if it was not read yet.
     pub fn fates(&self) -> &[Fate] {
         self.taken.fates.as_slice()
     }
 
-    /// What came of all inputs together.
+    /// Returns what came of all inputs so far together, in numbers.
     pub fn sum(&self) -> &Sum {
         &self.taken.sum
     }

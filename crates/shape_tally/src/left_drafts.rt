@@ -48,8 +48,9 @@ fn remove_left(rt: &HostRuntime, path: &str) {
     }
 }
 
-/// Removes the drafts of the file `target` that no run has locked any more. A draft that can't be
-/// opened or removed stays as it is, and no error is reported.
+/// Removes the drafts of the file `target` (unfinished files beside it that were to take its name)
+/// that no run has locked any more. A draft that can't be opened or removed stays as it is, and no
+/// error is reported.
 pub fn remove_left_drafts(rt: &HostRuntime, target: &str) {
     let (folder, own) = parts_of(target);
     let Ok(entries) = fs::read_dir(rt, folder) else {

@@ -24,7 +24,8 @@ fn read_whole<R: Read>(alloc: Global, reader: &mut R) -> Result<Vec<u8>, RunFaul
     }
 }
 
-/// Reads all bytes of a list: of this file, or of standard input if the name is `-`.
+/// Reads all bytes of a list of names: of the file `file`, or of standard input if that is `-`.
+/// `Read` if it can't be opened or read; `Memory` if memory was refused.
 fn read_list(rt: &HostRuntime, file: &str) -> Result<Vec<u8>, RunFault> {
     if file == "-" {
         return read_whole(rt.alloc(), &mut rt.stdin());
@@ -43,7 +44,8 @@ fn byte_after(end: NameEnd) -> u8 {
     }
 }
 
-/// Returns a name in a list as a word of the command line. In a list `-` is a file like any other.
+/// Returns the word of the command line that stands for `name`, a name in a list: `./-` for `-`,
+/// which in a list is a file like any other, and else the name itself.
 fn word_for(name: &str) -> &str {
     if name == "-" { "./-" } else { name }
 }

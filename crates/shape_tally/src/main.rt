@@ -48,7 +48,7 @@ fn folder_of(rt: &HostRuntime, asked: &Asked<'_>) -> Result<String, AllocError> 
 }
 
 /// Returns the inputs that the command line names, directly or by a list. `Read` if the list can't
-/// be read, which is then reported on standard error.
+/// be read, which is then reported on standard error; `Memory` if memory was refused.
 fn sources_of(rt: &HostRuntime, asked: &Asked<'_>) -> Result<Vec<Source>, RunFault> {
     match &asked.named {
         Named::Words(files) => Ok(sources(rt, files)?),
@@ -77,8 +77,8 @@ fn can_be_written(rt: &HostRuntime, name: Option<&str>) -> bool {
     }
 }
 
-/// Writes the report, if one is asked for. Returns false if it could not be written, which standard
-/// error says then; else true.
+/// Writes the report, a line for each input, to the file `asked.report`, if one is asked for.
+/// Returns false if it could not be written, and standard error says so then; else true.
 fn write_report(
     rt: &HostRuntime,
     asked: &Asked<'_>,
@@ -102,9 +102,10 @@ fn write_report(
     }
 }
 
-/// Counts the games of `inputs`, and writes their dictionary. `folder` is where the dictionaries of
-/// parts wait until they are joined. Returns the exit status: 0 if the dictionary is written, 1 if
-/// none is wanted, and a greater one after a fault, which standard error says.
+/// Counts the games of `inputs` in parts, and writes their dictionary. `folder` is where the
+/// dictionaries of parts wait until they are joined. Returns the exit status: 0 if the dictionary
+/// is written; 1 if none is wanted, since `--strict` is given and an input was left out or has no
+/// tree, or a folder has no games; a greater one after a fault, which standard error says.
 fn write_dictionary<T: Threads + Wait + Sync>(
     rt: &HostRuntime,
     threads: &T,
@@ -135,8 +136,9 @@ fn write_dictionary<T: Threads + Wait + Sync>(
     }
 }
 
-/// Does the count that is asked for: it writes the dictionary and the report, and the sum on
-/// standard error. Returns the exit status. If that is above 1, neither report nor sum is written.
+/// Does the count that `asked` describes: it writes the dictionary and the report, and on standard
+/// error a line that sums up. Returns the exit status. If that is above 1, neither report nor sum
+/// is written, and standard error says why. The error is `Memory`: memory was refused.
 fn tally<T: Threads + Wait + Sync>(
     rt: &HostRuntime,
     threads: &T,

@@ -26,8 +26,8 @@ pub struct Progress<'a> {
     is_shown: bool,
 }
 
-/// Whether a terminal shows at once what is written on standard error: it is a terminal, or the
-/// launcher has set `SHOWN`.
+/// Whether a terminal shows at once what is written on standard error: that is a terminal, or the
+/// launcher (the script that starts this program) has set `SHOWN`.
 fn is_seen(rt: &HostRuntime) -> bool {
     rt.stderr().is_terminal() || env::var(rt, SHOWN).is_ok()
 }

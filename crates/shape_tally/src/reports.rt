@@ -11,7 +11,7 @@ use std::alloc::{AllocError, Global};
 use std::io::Write;
 use std::{fmt, io};
 
-/// How many bytes of a report are written at once.
+/// How many bytes of a report are collected, at least, before they are written.
 const BLOCK: usize = 1 << 16;
 
 /// What came of one input.
@@ -23,7 +23,7 @@ pub enum Fate {
     Flawed(Why),
     /// A read of it failed.
     Unread,
-    /// It has this fault, for which it is left out.
+    /// It has this fault of syntax or size, or memory for it was refused; so it is left out.
     Faulty(SgfFault),
     /// It has no game tree. Its first bytes suggest this cause.
     Treeless(Cause),
@@ -50,8 +50,9 @@ pub struct Sum {
     pub passed_over: u64,
 }
 
-/// Returns the fate of an input: `found` is the report on its trees, or its fault; `cause` is what
-/// it may be if it has no tree; `games` is how many games were counted before it.
+/// Returns the fate of an input, which is what came of it: `found` is the report on its trees, or
+/// its fault; `cause` is what it may be if it has no tree; `games` is how many games were counted
+/// before it.
 pub fn fate_of(found: Result<Report, GamesFault>, cause: Cause, games: u64) -> Fate {
     match found {
         Ok(report) if report.games == 0 && report.others == 0 && report.refused == 0 => {
@@ -66,7 +67,7 @@ pub fn fate_of(found: Result<Report, GamesFault>, cause: Cause, games: u64) -> F
     }
 }
 
-/// Adds the numbers of two reports, saturating.
+/// Returns a report with the sums of the numbers of two reports, saturating.
 fn both_reports(one: Report, other: Report) -> Report {
     Report {
         games: one.games.saturating_add(other.games),
@@ -76,7 +77,7 @@ fn both_reports(one: Report, other: Report) -> Report {
 }
 
 impl Sum {
-    /// The sum of no inputs.
+    /// Makes the sum over no inputs: all its numbers are 0.
     pub fn new() -> Sum
         ensures { IsWhole result }
     {
@@ -94,7 +95,7 @@ impl Sum {
         }
     }
 
-    /// This sum with one more input, which is left out.
+    /// Returns this sum with one more input, which is left out.
     fn with_left_out(self) -> Sum
         ensures { IsWhole result → ⊥ }
     {
@@ -123,7 +124,7 @@ impl Sum {
         }
     }
 
-    /// This sum with one more input that has this fate.
+    /// Returns this sum with one more input, of which `fate` came. `Fate::Waiting` changes nothing.
     pub fn with(self, fate: Fate) -> Sum
         ensures { IsWhole result ↔ (IsWhole self × IsGood fate) }
     {
@@ -161,7 +162,7 @@ pub fn status_of(sum: &Sum) -> u8
     if sum.is_whole() { 0 } else { 1 }
 }
 
-/// The name of an input; None for standard input.
+/// Returns the name of an input's file, or the name that has a flaw; None for standard input.
 pub fn name_of(source: &Source) -> Option<&str> {
     match source {
         Source::Input => None,
@@ -170,7 +171,8 @@ pub fn name_of(source: &Source) -> Option<&str> {
     }
 }
 
-/// The columns of an input's line in the report, after its name.
+/// What came of an input, printed as the five columns that follow its name in its line of the
+/// report.
 #[derive(Clone, Copy)]
 struct Columns(Fate);
 
@@ -212,11 +214,12 @@ fn push_line(
     Ok(())
 }
 
-/// Writes the report: a line for each input.
+/// Writes the report to `output`: a line for each of `sources`, with its name and what came of it.
+/// `fates` has what came of each, in the order of `sources`. The output is not finished.
 ///
 /// # Errors
 ///
-/// The error of the output, or that memory was refused.
+/// An error of the output, or that memory was refused; some of the lines may be written then.
 pub fn write_lines(
     alloc: Global,
     sources: &[Source],

@@ -26,9 +26,9 @@ impl fmt::Display for Named<'_> {
     }
 }
 
-/// Whether standard error has a line about an input with this fate: not if all is as it should be.
-/// An input that was counted has one, with the numbers of its trees, if a game is refused, or if
-/// all its trees are other games than Go.
+/// Whether an input with this `fate` (what came of it) gets a line on standard error. It gets none
+/// if it was not read yet. An input that was counted gets one, with the numbers of its trees, only
+/// if a game is refused or if all its trees are other games than Go.
 pub fn is_told(fate: Fate) -> bool {
     match fate {
         Fate::Waiting => false,
@@ -57,7 +57,9 @@ pub fn tell_fate(rt: &HostRuntime, name: Option<&str>, fate: Fate) {
     };
 }
 
-/// Writes a line on standard error with the numbers of all inputs together.
+/// Writes a line on standard error with the numbers of all inputs together: how many there are,
+/// their trees of each sort, how many were left out or have no tree, and how many names were passed
+/// over.
 pub fn tell_sum(rt: &HostRuntime, sum: &Sum) {
     let Report {
         games,
@@ -81,8 +83,8 @@ pub fn tell_unlisted(rt: &HostRuntime, list: &str) {
     let _ = eprintln!(rt; "shape_tally: L3 names not read: {}: {why}", Shown(list));
 }
 
-/// Says that a file can't be written, since the run needs it for something else. Returns the exit
-/// status, 2.
+/// Writes on standard error that a file can't be written, since the run also uses it as `clash`
+/// says. Returns the exit status, 2.
 pub fn tell_clash(rt: &HostRuntime, clash: Clash<'_>) -> u8
     ensures { result ≡ 2 }
 {
@@ -95,7 +97,7 @@ pub fn tell_clash(rt: &HostRuntime, clash: Clash<'_>) -> u8
     2
 }
 
-/// Why a file could not be made or written.
+/// Returns in a few words why a file could not be made or written, by the kind of its error.
 fn why_unwritten(kind: ErrorKind) -> &'static str {
     match kind {
         ErrorKind::IsADirectory => "it is a folder",
@@ -108,13 +110,14 @@ fn why_unwritten(kind: ErrorKind) -> &'static str {
     }
 }
 
-/// Says that the file of this name could not be made or written, and why.
+/// Writes on standard error that the file `name` could not be made or written, and why.
 pub fn tell_unmade(rt: &HostRuntime, name: &str, kind: ErrorKind) {
     let why = why_unwritten(kind);
     let _ = eprintln!(rt; "shape_tally: I2 {}: {why}", Shown(name));
 }
 
-/// Says that a dictionary was not written whole, and why.
+/// Writes on standard error that a write of the dictionary failed after `written` bytes. If
+/// `output` is a named file, its name and the reason follow.
 fn tell_unwritten(rt: &HostRuntime, output: &Output<'_>, written: usize) {
     let _ = match (output.name(), output.failed()) {
         (Some(name), Some(kind)) => eprintln!(rt;
@@ -126,7 +129,8 @@ fn tell_unwritten(rt: &HostRuntime, output: &Output<'_>, written: usize) {
     };
 }
 
-/// Returns why a part's dictionary could not be stored in `folder`, judged by what is there now.
+/// Returns in a few words why the dictionary of one part of the inputs could not be stored in
+/// `folder`, judged by what is there now.
 fn why_unkept(rt: &HostRuntime, folder: &str) -> &'static str {
     match fs::metadata(rt, folder) {
         Ok(found) if found.is_dir() => "a file there could not be made or written",
@@ -135,9 +139,9 @@ fn why_unkept(rt: &HostRuntime, folder: &str) -> &'static str {
     }
 }
 
-/// Writes a line on standard error that says why a count ended, with the name of the output if a
-/// write failed, or of `folder`, where the dictionaries of parts wait to be joined. Returns the
-/// exit status.
+/// Writes a line on standard error that says why a count ended. The line has the name of `output`
+/// if a write failed, or of `folder`, where the dictionaries of parts wait to be joined, if one of
+/// these could not be stored or read. Returns the exit status.
 pub fn tell_fault(rt: &HostRuntime, fault: &PartsFault, output: &Output<'_>, folder: &str) -> u8
     ensures { result ≡ status_of fault.now }
 {

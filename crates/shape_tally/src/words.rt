@@ -38,7 +38,8 @@ pub enum Named<'a> {
     List { file: &'a str, end: NameEnd },
 }
 
-/// The count that is asked for.
+/// The count that the command line asks for: of which inputs, how, and where its results are
+/// written.
 #[derive(Debug, Drop)]
 pub struct Asked<'a> {
     /// Which text of the dictionary is written, and how the inputs are counted.
@@ -47,11 +48,14 @@ pub struct Asked<'a> {
     pub named: Named<'a>,
     /// The name of the dictionary's file; None for standard output.
     pub out: Option<&'a str>,
-    /// The name of the file that says what each input has, if it is asked for.
+    /// The name of the report's file, which says what each input has; None if no report is asked
+    /// for.
     pub report: Option<&'a str>,
-    /// The folder in which dictionaries of parts wait, if it isn't the system's.
+    /// The folder in which the dictionaries of parts wait to be joined; None for the system's
+    /// folder of temporary files.
     pub spill: Option<&'a str>,
-    /// Whether nothing is written if an input was left out or has no tree.
+    /// Whether nothing is written if an input was left out or has no tree, or a folder has no file
+    /// of games.
     pub is_strict: bool,
 }
 
@@ -67,8 +71,8 @@ fn need_of(text: Text) -> usize
     }
 }
 
-/// Returns how many bytes of game text are counted at a time, if `memory` megabytes of memory may
-/// be taken, so that the dictionary's text `text` can be made.
+/// Returns how many bytes of game text are counted at a time, by the plan of `need_of`, if `memory`
+/// megabytes of memory may be taken and the dictionary is written in the text format `text`.
 fn most_for(text: Text, memory: u64) -> usize
     requires { memory ≤ most_memory }
     ensures { result ≡ most_for text memory }

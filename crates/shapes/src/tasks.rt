@@ -1,4 +1,5 @@
-//! Does each task by the function `run_` of that name, and gives the exit status of the run.
+//! Does each task by the function `run_` of its name, such as `run_count`, and gives the exit
+//! status of the run.
 ghost use Rattle.std.specs.Prelude.{◌≡◌, IfOk, IfErr};
 ghost use Rattle.shapes.specs.Tasks.{Reads, Does, IsTaskFault, status_after};
 
@@ -34,8 +35,10 @@ impl Answer {
     }
 }
 
-/// Does a task. `board`, `count`, `find` and `join` are done by the function `run_` of that name,
-/// with the reader and the writer; it says how much of the input is read. For help the text is
+/// Does `task`, and returns whether it found what was asked for, with the report of a count.
+///
+/// `board`, `count`, `find` and `join` are done by the function `run_` of that name, with the
+/// reader and the writer; that function says how much of the input is read. For help the text is
 /// written, and nothing is read. The threads that count are started through `threads`. A count ends
 /// only if the calls of `threads` that wait for another thread keep their promise.
 ///

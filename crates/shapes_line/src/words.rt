@@ -22,9 +22,9 @@ use tally_core::Settings;
 pub enum Task {
     /// Print the final position of the first game.
     Board,
-    /// Print the dictionary of a collection, in this text format.
+    /// Print the dictionary of a collection in this text format, counted with these settings.
     Count(Settings, Text),
-    /// Print the line of this pattern by a dictionary.
+    /// Print how often this pattern was there and was played, by a dictionary.
     Find(Shape),
     /// Print the join of dictionaries, in this text format.
     Join(Text),

@@ -1,4 +1,4 @@
-//! What a sheet is asked to show.
+//! What a sheet, the drawing of a dictionary's first patterns, is asked to show.
 use crate::orders::Order;
 use shape_core::Kind;
 
@@ -11,14 +11,14 @@ pub enum Form {
     Plain,
 }
 
-/// What a sheet is asked to show.
+/// What a sheet, the drawing of a dictionary's first patterns, is asked to show.
 #[derive(Clone, Copy, Debug, PartialEq, Eq)]
 pub struct Asked {
     /// The order of the patterns, which says what comes first.
     pub order: Order,
     /// The kind of the patterns.
     pub kind: Kind,
-    /// Patterns that were there less often than this are not shown.
+    /// How often a pattern was there at least: those that were there less often are not shown.
     pub least: u64,
     /// How many patterns are shown at most.
     pub most: usize,

@@ -48,7 +48,7 @@ fn is_reached(times: u64, plays: u64, bound: u64) -> bool
     is_enough(most - least, times, bound)
 }
 
-/// Returns `bound + step` if the interval for `plays` / `times` begins there or later, else
+/// Returns `bound + step` if Wilson's interval for `plays` / `times` begins there or later, else
 /// `bound`.
 fn stepped(times: u64, plays: u64, step: u64, bound: u64) -> u64
     requires step { step ≤ 2 ^ 19 }
@@ -64,7 +64,8 @@ fn stepped(times: u64, plays: u64, step: u64, bound: u64) -> u64
     }
 }
 
-/// Returns the lower bound of the ratio `plays` / `times`, in parts, rounded down, by bisection.
+/// Returns where Wilson's interval for the ratio `plays` / `times` begins, in parts, rounded down.
+/// It is found by bisection.
 fn bound_for(times: u64, plays: u64) -> u64
     ensures { result ≡ bound_from 20 times plays (2 ^ 19) 0 }
 {
@@ -77,8 +78,8 @@ fn bound_for(times: u64, plays: u64) -> u64
     bound
 }
 
-/// The lower bound of an entry's ratio of plays, in parts, rounded down: that of Wilson's interval
-/// for a chance of 95 %. Takes no memory.
+/// Returns the lower bound of an entry's ratio of plays, in parts, rounded down: where Wilson's
+/// interval for a chance of 95 % begins. Takes no memory.
 #[tactic(auto, unfolding(crate::specs::Bounds::bound_of))]
 pub(crate) fn bound_of(entry: &Entry) -> u64
     ensures { result ≡ bound_of entry.now }

@@ -4,7 +4,7 @@ ghost use Rattle.sheet_core.specs.Cells.{cells_of, cell_places, is_on};
 
 use shape_core::{Kind, Word, glyphs};
 
-/// Where a cell is drawn. The middle of a pattern is at column 3 and row 3.
+/// Where a cell is drawn: column and row, from 0. The middle of a pattern is at column 3 and row 3.
 #[derive(Clone, Copy)]
 pub(crate) struct Place {
     pub(crate) column: u8,
@@ -77,7 +77,7 @@ const DIAMOND_PLACES: [Place; 25] = [
     Place { column: 3, row: 6 },
 ];
 
-/// Where the 25 cells of a pattern of this `kind` are drawn.
+/// Returns where the 25 cells of a pattern of this `kind` are drawn, in the order of the cells.
 fn cell_places(kind: Kind) -> [Place; 25]
     ensures { result ≡ cell_places kind }
 {
@@ -87,7 +87,8 @@ fn cell_places(kind: Kind) -> [Place; 25]
     }
 }
 
-/// Returns the cells of a pattern's word, as they are drawn. Takes no memory.
+/// Returns the 25 cells of the pattern `word` in their order, each with where it is drawn and its
+/// glyph. Takes no memory.
 pub(crate) fn cells_of(word: Word) -> [Cell; 25]
     ensures { result ≡ cells_of word }
 {
@@ -109,7 +110,7 @@ pub(crate) fn cells_of(word: Word) -> [Cell; 25]
     cells
 }
 
-/// Whether the cell is on the board.
+/// Whether `cell` is on the board: its glyph is not `#`.
 pub(crate) fn is_on(cell: Cell) -> bool
     ensures { result ≡ is_on cell }
 {

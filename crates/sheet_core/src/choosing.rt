@@ -37,7 +37,7 @@ fn qualified(
     Ok(found)
 }
 
-/// Sorts patterns into an order. Takes no memory.
+/// Sorts `entries` so that those stand first that `order` puts first. Takes no memory.
 fn sort(order: Order, entries: &mut Vec<Entry>)
     ensures same { IsPermutation entries.old.items entries.new.items }
     ensures sorted { IsSortedBy (goes_before order) entries.new.items }

@@ -50,7 +50,7 @@ fn push_move(text: &mut Vec<u8>, cell: Cell) -> Result<(), AllocError>
     push_number(text, u64::from(cell.row))
 }
 
-/// Appends the tile of a cell, if that is on the board.
+/// Appends the tile of `cell`, a square of wood, if the cell is on the board.
 fn push_tile(text: &mut Vec<u8>, cell: Cell) -> Result<(), AllocError>
     ensures { OnOk result (text.new.items ≡ text.old.items ++ tile_text cell) }
 {
@@ -61,7 +61,7 @@ fn push_tile(text: &mut Vec<u8>, cell: Cell) -> Result<(), AllocError>
     text.extend_from_slice(b"h1v1h-1z")
 }
 
-/// Appends the tiles of cells.
+/// Appends the tiles (squares of wood) of those of `cells` that are on the board.
 fn push_tiles(text: &mut Vec<u8>, cells: &[Cell]) -> Result<(), AllocError>
     ensures { OnOk result (text.new.items ≡ text.old.items ++ tiles_text cells.now) }
 {
@@ -72,7 +72,7 @@ fn push_tiles(text: &mut Vec<u8>, cells: &[Cell]) -> Result<(), AllocError>
     text.extend_from_slice(b"'/>")
 }
 
-/// The SVG command that draws a line of half a cell towards `side`.
+/// Returns the SVG command that draws a line of half a cell towards `side`.
 fn way(side: Side) -> &'static [u8]
     ensures { result.now ≡ way_text side }
 {
@@ -84,7 +84,8 @@ fn way(side: Side) -> &'static [u8]
     }
 }
 
-/// Appends the half of a line from a cell to a side, unless the board ends there.
+/// Appends the half of a line from the middle of `cell` to its `side`, unless the board ends there,
+/// as the pattern's `cells` show.
 fn push_half(text: &mut Vec<u8>, cells: &[Cell], cell: Cell, side: Side) -> Result<(), AllocError>
     ensures { OnOk result (text.new.items ≡ text.old.items ++ half_text cells.now cell side) }
 {
@@ -111,7 +112,7 @@ fn push_level(text: &mut Vec<u8>, cells: &[Cell], cell: Cell) -> Result<(), Allo
     push_half(text, cells, cell, Side::Left)
 }
 
-/// Appends both lines through a cell, if that is on the board.
+/// Appends both lines through `cell`, if it is on the board.
 fn push_cross(text: &mut Vec<u8>, cells: &[Cell], cell: Cell) -> Result<(), AllocError>
     ensures { OnOk result (text.new.items ≡ text.old.items ++ cross_text cells.now cell) }
 {
@@ -122,7 +123,7 @@ fn push_cross(text: &mut Vec<u8>, cells: &[Cell], cell: Cell) -> Result<(), Allo
     push_level(text, cells, cell)
 }
 
-/// Appends the lines through cells.
+/// Appends the lines of the board through all `cells`.
 fn push_lines(text: &mut Vec<u8>, cells: &[Cell]) -> Result<(), AllocError>
     ensures { OnOk result (text.new.items ≡ text.old.items ++ lines_text cells.now) }
 {
@@ -164,7 +165,7 @@ fn push_edge(text: &mut Vec<u8>, cells: &[Cell], cell: Cell) -> Result<(), Alloc
     push_level_edge(text, cells, cell)
 }
 
-/// Appends the edges of the board among cells.
+/// Appends the lines through `cells` that are edges of the board, thick.
 fn push_edges(text: &mut Vec<u8>, cells: &[Cell]) -> Result<(), AllocError>
     ensures { OnOk result (text.new.items ≡ text.old.items ++ edges_text cells.now) }
 {
@@ -216,7 +217,7 @@ fn push_stones(text: &mut Vec<u8>, cells: &[Cell]) -> Result<(), AllocError>
     Ok(())
 }
 
-/// Appends the next move, a stone with a 1, and the end of the drawing.
+/// Appends the next move, a black stone with a 1 in the middle, and the end of the drawing.
 fn push_next_move(text: &mut Vec<u8>) -> Result<(), AllocError>
     ensures { OnOk result (text.new.items ≡ text.old.items ++ next_text) }
 {
@@ -225,7 +226,8 @@ fn push_next_move(text: &mut Vec<u8>) -> Result<(), AllocError>
     )
 }
 
-/// Appends what is drawn of these cells, up to the end of the drawing.
+/// Appends what is drawn of `cells` (tiles, lines, edges and stones), the next move, and the end of
+/// the drawing.
 fn push_cells(text: &mut Vec<u8>, cells: &[Cell]) -> Result<(), AllocError>
     ensures { OnOk result (text.new.items ≡ text.old.items ++ picture_text cells.now) }
 {
@@ -236,7 +238,7 @@ fn push_cells(text: &mut Vec<u8>, cells: &[Cell]) -> Result<(), AllocError>
     push_next_move(text)
 }
 
-/// Appends the drawing of a pattern's word.
+/// Appends the drawing of the pattern `word` in SVG: tiles, lines, edges, stones and the next move.
 #[tactic(auto, unfolding(crate::specs::Drawing::drawing_text))]
 pub(crate) fn push_drawing(text: &mut Vec<u8>, word: Word) -> Result<(), AllocError>
     ensures { OnOk result (text.new.items ≡ text.old.items ++ drawing_text word) }

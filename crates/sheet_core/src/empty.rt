@@ -10,7 +10,7 @@ use shape_core::Kind;
 use shape_dict::{Entry, push_number};
 use std::alloc::AllocError;
 
-/// Whether a pattern is of the kind.
+/// Whether the pattern of `entry` is of this `kind`.
 fn is_of(kind: Kind, entry: &Entry) -> bool
     ensures { result ≡ is_of kind entry.now }
 {
@@ -30,7 +30,8 @@ fn most_with(kind: Kind, most: Option<u64>, entry: &Entry) -> Option<u64>
     Some(most.unwrap_or(0).max(entry.there))
 }
 
-/// The greatest number of times that any pattern of the kind was there; None if there is none.
+/// Returns the greatest number of times that any pattern of this `kind` was there; None if
+/// `entries` has none of the kind.
 fn most_there(kind: Kind, entries: &[Entry]) -> Option<u64>
     ensures { result ≡ most_after None (of_kind kind entries.now) }
 {
@@ -41,7 +42,7 @@ fn most_there(kind: Kind, entries: &[Entry]) -> Option<u64>
     most
 }
 
-/// The name of patterns of a kind.
+/// Returns the word for patterns of a kind: `squares` or `diamonds`.
 fn plural_name(kind: Kind) -> &'static [u8]
     ensures { result.now ≡ plural_name kind }
 {
@@ -51,7 +52,7 @@ fn plural_name(kind: Kind) -> &'static [u8]
     }
 }
 
-/// Appends that there is no pattern of the kind.
+/// Appends the sentence that the dictionary has no pattern of this `kind`.
 #[tactic(auto, unfolding(crate::specs::Empty::absent_text))]
 fn push_absent(text: &mut Vec<u8>, kind: Kind) -> Result<(), AllocError>
     ensures { OnOk result (text.new.items ≡ text.old.items ++ absent_text kind) }
@@ -62,7 +63,8 @@ fn push_absent(text: &mut Vec<u8>, kind: Kind) -> Result<(), AllocError>
     Ok(())
 }
 
-/// Appends that none of the patterns of the kind was there as often as is asked for.
+/// Appends the beginning of a sentence: no pattern of this `kind` was there as often as `least`
+/// times.
 #[tactic(auto, unfolding(crate::specs::Empty::rare_text))]
 fn push_rare(text: &mut Vec<u8>, kind: Kind, least: u64) -> Result<(), AllocError>
     ensures { OnOk result (text.new.items ≡ text.old.items ++ rare_text kind least) }
@@ -75,7 +77,7 @@ fn push_rare(text: &mut Vec<u8>, kind: Kind, least: u64) -> Result<(), AllocErro
     Ok(())
 }
 
-/// Appends the greatest number of times that one of the patterns was there.
+/// Appends that the most frequent pattern was there `most` times: the words `at most N times.`
 #[tactic(auto, unfolding(crate::specs::Empty::most_text))]
 fn push_most(text: &mut Vec<u8>, most: u64) -> Result<(), AllocError>
     ensures { OnOk result (text.new.items ≡ text.old.items ++ most_text most) }
@@ -87,7 +89,8 @@ fn push_most(text: &mut Vec<u8>, most: u64) -> Result<(), AllocError>
 }
 
 /// Appends that there is no pattern of this `kind`, or that none was there as often as `least`
-/// times. `most` is the greatest number of times that one was there; None if there is none.
+/// times. `most` is how often the most frequent one was there; None if there is no pattern of the
+/// kind.
 fn push_none(
     text: &mut Vec<u8>,
     kind: Kind,
@@ -105,8 +108,8 @@ fn push_none(
     }
 }
 
-/// Appends why no pattern of `entries` was chosen for what is `asked`: there is none of the kind,
-/// or none that was there often enough.
+/// Appends why no pattern of `entries` was chosen: there is none of the kind `asked.kind`, or none
+/// that was there `asked.least` times.
 #[tactic(auto, unfolding(crate::specs::Empty::empty_text))]
 pub(crate) fn push_empty(
     text: &mut Vec<u8>,

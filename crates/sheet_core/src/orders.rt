@@ -21,7 +21,7 @@ pub enum Order {
     Bound,
 }
 
-/// The number that an order compares, as a numerator and a denominator, which is not 0.
+/// Returns the number that `order` compares, as a numerator and a denominator, which is not 0.
 fn fraction(order: Order, entry: &Entry) -> (u64, u64)
     ensures worth { result.0 ≡ worth_of order entry.now }
     ensures scale { result.1 ≡ scale_of order entry.now }
@@ -34,8 +34,8 @@ fn fraction(order: Order, entry: &Entry) -> (u64, u64)
     }
 }
 
-/// `Less` if the left pattern stands before the right one. Exact fractions decide, and if these are
-/// equal the lesser word. Takes no memory.
+/// Returns `Less` if the left pattern stands before the right one: if its number by `order` is
+/// greater, or is equal and its word is less. Exact fractions are compared. Takes no memory.
 pub(crate) fn compare(order: Order, left: &Entry, right: &Entry) -> Ordering
     ensures { is_lt result ≡ goes_before order left.now right.now }
 {

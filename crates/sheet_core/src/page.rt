@@ -17,7 +17,8 @@ use shape_core::Kind;
 use shape_dict::{Dictionary, Entry, FirstGame, push_number, push_word};
 use std::alloc::{AllocError, Global};
 
-/// Appends how many times of a hundred the pattern was played, and how often it was there.
+/// Appends how many times of a hundred the pattern was played, and how often it was there, such as
+/// `48 % of 100`.
 #[tactic(auto, unfolding(crate::specs::Page::share_text))]
 fn push_share(text: &mut Vec<u8>, entry: &Entry) -> Result<(), AllocError>
     ensures { OnOk result (text.new.items ≡ text.old.items ++ share_text entry.now) }
@@ -42,7 +43,7 @@ fn push_uses(text: &mut Vec<u8>, entry: &Entry) -> Result<(), AllocError>
     Ok(())
 }
 
-/// Appends a pattern's rank and word.
+/// Appends a pattern's `rank` and its word.
 #[tactic(auto, unfolding(crate::specs::Page::name_text))]
 fn push_name(text: &mut Vec<u8>, rank: u64, entry: &Entry) -> Result<(), AllocError>
     ensures { OnOk result (text.new.items ≡ text.old.items ++ name_text rank entry.now) }
@@ -54,7 +55,7 @@ fn push_name(text: &mut Vec<u8>, rank: u64, entry: &Entry) -> Result<(), AllocEr
     text.extend_from_slice(b"</code>")
 }
 
-/// Appends the first game that had a pattern, if it is known.
+/// Appends the number of the first game that had the pattern; nothing if it is not known.
 #[tactic(auto, unfolding(crate::specs::Page::game_text))]
 fn push_game(text: &mut Vec<u8>, first: FirstGame) -> Result<(), AllocError>
     ensures { OnOk result (text.new.items ≡ text.old.items ++ game_text first) }
@@ -68,7 +69,8 @@ fn push_game(text: &mut Vec<u8>, first: FirstGame) -> Result<(), AllocError>
     }
 }
 
-/// Appends the caption below a drawing.
+/// Appends the caption below a drawing: how often the pattern was there and was played, its `rank`,
+/// its word, and the first game that had it.
 #[tactic(auto, unfolding(crate::specs::Page::caption_text))]
 fn push_caption(text: &mut Vec<u8>, rank: u64, entry: &Entry) -> Result<(), AllocError>
     ensures { OnOk result (text.new.items ≡ text.old.items ++ caption_text rank entry.now) }
@@ -81,8 +83,9 @@ fn push_caption(text: &mut Vec<u8>, rank: u64, entry: &Entry) -> Result<(), Allo
     Ok(())
 }
 
-/// Appends the figure of a pattern: its drawing, its caption with its rank, and the first three
-/// times at most that it has in `lines`, lines of hits as `shape_hits --words` prints them.
+/// Appends the figure of a pattern: its drawing, its caption with its rank, and where it was in
+/// games. `lines` are lines of hits as `shape_hits --words` prints them, of which the pattern's
+/// first three at most are shown.
 #[tactic(auto, unfolding(crate::specs::Page::figure_text))]
 fn push_figure(
     alloc: Global,
@@ -102,8 +105,8 @@ fn push_figure(
     Ok(())
 }
 
-/// Appends the figures of the `chosen` patterns, the first with rank 1, with the hits that `lines`
-/// has of each.
+/// Appends the figures of the `chosen` patterns, the first with rank 1. `lines` are lines of hits
+/// as `shape_hits --words` prints them, of which the first three at most are below each pattern.
 fn push_figures(
     alloc: Global,
     text: &mut Vec<u8>,
@@ -121,7 +124,7 @@ fn push_figures(
     Ok(())
 }
 
-/// The name of a kind, at the beginning of a sentence.
+/// Returns the word for patterns of a kind at the beginning of a sentence.
 fn kind_name(kind: Kind) -> &'static [u8]
     ensures { result.now ≡ kind_name kind }
 {
@@ -131,7 +134,7 @@ fn kind_name(kind: Kind) -> &'static [u8]
     }
 }
 
-/// The words for what comes first in an order.
+/// Returns the words for the patterns that come first in an order.
 fn order_name(order: Order) -> &'static [u8]
     ensures { result.now ≡ order_name order }
 {
@@ -151,7 +154,7 @@ fn push_head(text: &mut Vec<u8>) -> Result<(), AllocError>
     text.extend_from_slice(HEAD.as_bytes())
 }
 
-/// Appends the games and moves of a dictionary.
+/// Appends how many games and moves the dictionary counts.
 #[tactic(auto, unfolding(crate::specs::Page::counted_text))]
 fn push_counted(text: &mut Vec<u8>, dictionary: &Dictionary) -> Result<(), AllocError>
     ensures { OnOk result (text.new.items ≡ text.old.items ++ counted_text dictionary.now) }
@@ -163,7 +166,7 @@ fn push_counted(text: &mut Vec<u8>, dictionary: &Dictionary) -> Result<(), Alloc
     text.extend_from_slice(b". ")
 }
 
-/// Appends how many patterns are shown.
+/// Appends that `count` patterns of this `kind` are shown.
 #[tactic(auto, unfolding(crate::specs::Page::number_text))]
 fn push_shown(text: &mut Vec<u8>, kind: Kind, count: u64) -> Result<(), AllocError>
     ensures { OnOk result (text.new.items ≡ text.old.items ++ number_text kind count) }
@@ -173,7 +176,7 @@ fn push_shown(text: &mut Vec<u8>, kind: Kind, count: u64) -> Result<(), AllocErr
     push_number(text, count)
 }
 
-/// Appends by which `order` patterns come first, and how often each was there at `least`.
+/// Appends which patterns come first by `order`, and that each was there at least `least` times.
 #[tactic(auto, unfolding(crate::specs::Page::terms_text))]
 fn push_terms(text: &mut Vec<u8>, order: Order, least: u64) -> Result<(), AllocError>
     ensures { OnOk result (text.new.items ≡ text.old.items ++ terms_text order least) }
@@ -186,7 +189,7 @@ fn push_terms(text: &mut Vec<u8>, order: Order, least: u64) -> Result<(), AllocE
     Ok(())
 }
 
-/// Appends how a figure is read, and the beginning of the figures.
+/// Appends the paragraph that says how a figure is read, and the tag with which the figures begin.
 #[tactic(auto, unfolding(crate::specs::Page::legend_text))]
 fn push_legend(text: &mut Vec<u8>) -> Result<(), AllocError>
     ensures { OnOk result (text.new.items ≡ text.old.items ++ legend_text) }
@@ -214,8 +217,8 @@ fn push_heading(
     push_legend(text)
 }
 
-/// Appends the figures of the `chosen` patterns, with the hits that `lines` has of each; or why
-/// none was chosen, if there is none.
+/// Appends the figures of the `chosen` patterns, each with the hits that `lines` has of it. If
+/// there are none, appends a paragraph that says why none of `dictionary` was chosen.
 #[tactic(auto, unfolding(crate::specs::Page::body_text))]
 fn push_body(
     alloc: Global,
@@ -238,7 +241,7 @@ fn push_body(
     push_figures(alloc, text, lines, chosen)
 }
 
-/// Appends the end of the page.
+/// Appends the tags with which the page ends.
 #[tactic(auto, unfolding(crate::specs::Page::end_text))]
 fn push_end(text: &mut Vec<u8>) -> Result<(), AllocError>
     ensures { OnOk result (text.new.items ≡ text.old.items ++ end_text) }
@@ -246,10 +249,12 @@ fn push_end(text: &mut Vec<u8>) -> Result<(), AllocError>
     text.extend_from_slice(b"</main>\n</body>\n</html>\n")
 }
 
-/// Returns the page of the `chosen` patterns of `dictionary`. `hits` is text of `shape_hits
-/// --words`. Below each pattern stand the first three at most of the lines that begin with its word
-/// and a space, without these. The page is one file: it holds its style sheet, has no script, and
-/// loads nothing. It takes memory for the text.
+/// Returns the page of HTML that shows the `chosen` patterns of `dictionary`. The page is one file:
+/// it holds its style sheet, has no script, and loads nothing. It takes memory for the text.
+///
+/// `hits` is text of `shape_hits --words`: each line begins with a pattern's word and a space, and
+/// says where in a game that was. Below each pattern stand the first three at most of its lines,
+/// without the word and the space.
 ///
 /// # Errors
 ///

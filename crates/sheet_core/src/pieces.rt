@@ -1,4 +1,4 @@
-//! What plain text and page have in common.
+//! What a sheet's two forms, plain text and page, have in common.
 ghost use Rattle.std.specs.Prelude.{◌≡◌, ◌++◌, OnOk};
 ghost use Rattle.sheet_core.specs.Pieces.{hundredths_of, whole_percent_text, percent_text, first_text};
 
@@ -6,7 +6,7 @@ use itoa::Buffer;
 use shape_dict::{Entry, push_number};
 use std::alloc::AllocError;
 
-/// Plays for each ten thousand times that the pattern was there, rounded down.
+/// Returns the pattern's plays for each ten thousand times that it was there, rounded down.
 fn hundredths(entry: &Entry) -> u128
     ensures { result ≡ hundredths_of entry.now }
 {
@@ -40,7 +40,8 @@ pub(crate) fn push_percent(text: &mut Vec<u8>, entry: &Entry) -> Result<(), Allo
     Ok(())
 }
 
-/// Appends the first game that had the pattern, if it is known.
+/// Appends ` first ` and the number of the first game that had the pattern; nothing if it is not
+/// known.
 pub(crate) fn push_first(text: &mut Vec<u8>, first: Option<u64>) -> Result<(), AllocError>
     ensures { OnOk result (text.new.items ≡ text.old.items ++ first_text first) }
 {

@@ -14,7 +14,8 @@ const MOST: usize = 3;
 /// How many bytes a word and the space after it have in a line of hits.
 const FRONT: usize = 14;
 
-/// Splits bytes into lines; the last one may be without a line feed.
+/// Returns the lines of `bytes`, without their line feeds. What follows the last line feed is a
+/// line too, even if it is empty. It takes memory for the list, and copies no line.
 pub(crate) fn lines_of<'a>(alloc: Global, bytes: &'a [u8]) -> Result<Vec<&'a [u8]>, AllocError>
     ensures { IfOk result (λ lines. map (λ line. line.now) lines.items
         ≡ lines_after [] bytes.now) }
@@ -43,7 +44,7 @@ fn is_of(alloc: Global, word: Shape, line: &[u8]) -> Result<bool, AllocError>
 }
 
 /// Returns what follows the word and the space in a line of hits: the game, the move, the point,
-/// and so on. Nothing if the line is too short.
+/// and so on. Empty if the line is too short.
 fn place_in(line: &[u8]) -> &[u8]
     ensures { result.now ≡ place_in line.now }
 {

@@ -18,7 +18,7 @@ const SPACES: [u8; 3] = [b' '; 3];
 /// The number of the cell in the middle, which is the point itself.
 const MIDDLE: usize = 12;
 
-/// The glyphs of a word's cells, and `*` for the point itself.
+/// Returns the glyphs of a word's 25 cells, with `*` for the point in the middle.
 fn marked_glyphs(word: Word) -> [u8; 25]
     ensures { result ≡ marked_glyphs word }
 {
@@ -27,7 +27,7 @@ fn marked_glyphs(word: Word) -> [u8; 25]
     marked
 }
 
-/// Appends a row of these glyphs.
+/// Appends one row of a pattern as a line: its indentation, and its cells' part of `glyphs`.
 fn push_row(text: &mut Vec<u8>, glyphs: &[u8], row: Row) -> Result<(), AllocError>
     requires indent { row.indent ≤ 3 }
     requires cells { row.first + row.count ≤ length glyphs.now }
@@ -39,7 +39,7 @@ fn push_row(text: &mut Vec<u8>, glyphs: &[u8], row: Row) -> Result<(), AllocErro
     Ok(())
 }
 
-/// Appends a pattern's rows of glyphs.
+/// Appends the pattern `word` as rows of glyphs, a line for each row.
 fn push_board(text: &mut Vec<u8>, word: Word) -> Result<(), AllocError>
     ensures { OnOk result (text.new.items ≡ text.old.items ++ board_text word) }
 {
@@ -86,7 +86,8 @@ fn push_figure(text: &mut Vec<u8>, rank: u64, entry: &Entry) -> Result<(), Alloc
     Ok(())
 }
 
-/// Appends the figures of patterns, the first with rank 1.
+/// Appends the figures of the `chosen` patterns (line, board and empty line), the first with rank
+/// 1.
 fn push_figures(text: &mut Vec<u8>, chosen: &[Entry]) -> Result<(), AllocError>
     ensures { OnOk result (text.new.items
         ≡ text.old.items ++ ranked figure_text 1 chosen.now) }
@@ -99,8 +100,9 @@ fn push_figures(text: &mut Vec<u8>, chosen: &[Entry]) -> Result<(), AllocError>
     Ok(())
 }
 
-/// Returns the text for a terminal of the patterns that were chosen of these entries, the first
-/// with rank 1; or why none was chosen. It takes memory for the text.
+/// Returns the text for a terminal that shows the `chosen` patterns, the first with rank 1. If
+/// there are none, the text says why none of the dictionary's `entries` was chosen for what is
+/// `asked`. It takes memory for the text.
 ///
 /// # Errors
 ///

@@ -4,7 +4,8 @@ ghost use Rattle.sheet_core.specs.Plain.{rows_of};
 
 use shape_core::Kind;
 
-/// A row of a pattern: how far it is indented, its first cell, and how many cells it has.
+/// A row of a pattern: by how many spaces it is indented, the number of its first cell (from 0),
+/// and how many cells it has.
 #[derive(Clone, Copy)]
 pub(crate) struct Row {
     pub(crate) indent: usize,
@@ -80,7 +81,7 @@ const DIAMOND_ROWS: [Row; 7] = [
     },
 ];
 
-/// The rows of a kind from the top.
+/// Returns the rows of a pattern of this kind, from the top.
 pub(crate) fn rows_of(kind: Kind) -> &'static [Row]
     ensures { result.now ≡ rows_of kind }
 {

@@ -11,8 +11,8 @@ use shape_dict::Dictionary;
 use std::alloc::Global;
 use std::io::{Read, Write};
 
-/// Returns the sheet of the dictionary whose text `input` is. `hits` is text of `shape_hits
-/// --words`.
+/// Reads the dictionary whose text `input` is, and returns its sheet as `asked`. `hits` is text of
+/// `shape_hits --words`, of which a page shows some lines below each pattern.
 fn sheet_of(alloc: Global, asked: Asked, hits: &[u8], input: &[u8]) -> Result<Vec<u8>, RunFault>
     ensures text { IfOk result (λ text. IsSheetText asked hits.now input.now text.items) }
     ensures fault { IfErr result (IsFindFault input.now) }
@@ -22,11 +22,14 @@ fn sheet_of(alloc: Global, asked: Asked, hits: &[u8], input: &[u8]) -> Result<Ve
 }
 
 /// Reads one dictionary, in any of its three text formats, and writes its sheet: the patterns that
-/// are asked for, drawn on a page of HTML or as text for a terminal. `hits` is text that
-/// `shape_hits --words` prints: lines with a pattern's word and where in a game it was. On a page
-/// the first three at most of a pattern's lines stand below it. It reads up to the reader's end, or
-/// 2^28 + 1 bytes and no more, unless the reader fails or memory is refused. It takes memory for
-/// the input, the dictionary, the patterns of the kind that were there often enough, and the sheet.
+/// are asked for, drawn on a page of HTML or as text for a terminal.
+///
+/// `hits` is text that `shape_hits --words` prints: lines with a pattern's word and where in a game
+/// it was. On a page the first three at most of a pattern's lines stand below it.
+///
+/// It reads up to the reader's end, or 2^28 + 1 bytes and no more, unless the reader fails or
+/// memory is refused. It takes memory for the input, the dictionary, the patterns of the kind that
+/// were there often enough, and the sheet.
 ///
 /// # Errors
 ///

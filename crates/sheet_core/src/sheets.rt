@@ -10,7 +10,7 @@ use shape_dict::{Dictionary, Entry};
 use std::alloc::{AllocError, Global};
 
 /// Returns the text of the `chosen` patterns, a page or plain text as `asked.form` says. `hits` is
-/// text of `shape_hits --words`, which is used on a page alone.
+/// text of `shape_hits --words`, which is used on a page only.
 fn written_text(
     alloc: Global,
     asked: Asked,

@@ -20,7 +20,7 @@ fn is_next(number: u8, next: u8) -> bool
     u16::from(next) == u16::from(number) + 1
 }
 
-/// Whether `other` is the next cell on this side of a cell.
+/// Whether `other` is the next cell on this `side` of `cell`.
 fn is_beside(side: Side, cell: Cell, other: Cell) -> bool
     ensures { result ≡ is_beside side cell other }
 {
@@ -32,7 +32,7 @@ fn is_beside(side: Side, cell: Cell, other: Cell) -> bool
     }
 }
 
-/// Whether `other` is the next cell on this side of a cell, and off the board.
+/// Whether `other` is the next cell on this `side` of `cell`, and is off the board.
 fn is_end(side: Side, cell: Cell, other: Cell) -> bool
     ensures { result ≡ is_end side cell other }
 {

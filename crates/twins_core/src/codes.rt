@@ -6,7 +6,8 @@ use go_board::{Colour, Stone};
 use go_record::{Action, Record};
 use std::alloc::{AllocError, Global};
 
-/// The byte with which the code of a setup of `stone` begins; two corners of a rectangle follow.
+/// Returns the byte with which the code of a setup of `stone` begins; two corners of a rectangle
+/// follow.
 fn stone_code(stone: Stone) -> u8
     ensures { result ≡ stone_code stone }
 {
@@ -17,7 +18,8 @@ fn stone_code(stone: Stone) -> u8
     }
 }
 
-/// Appends the code of an action.
+/// Appends the code of an action: a byte for what it is, and then the column and row of its point,
+/// or of two corners for setup.
 fn push_action(code: &mut Vec<u8>, action: Action) -> Result<(), AllocError>
     ensures { OnOk result (code.new.items ≡ code.old.items ++ action_code action) }
 {
@@ -47,7 +49,8 @@ fn push_action(code: &mut Vec<u8>, action: Action) -> Result<(), AllocError>
 }
 
 /// Returns the code of a record: bytes for the size of its board and for each action, which no
-/// other record has. It takes memory for at most five bytes an action, and three a move.
+/// other record has. It takes memory for two bytes, and for five at most for each action, three if
+/// it is a move.
 pub(crate) fn code_of(alloc: Global, game: &Record) -> Result<Vec<u8>, AllocError>
     ensures { IfOk result (λ code. code.items ≡ record_code game.now) }
 {

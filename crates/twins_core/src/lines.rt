@@ -11,8 +11,8 @@ use shape_dict::push_number;
 use std::alloc::AllocError;
 
 /// Appends a tab and the byte index of the tree's first byte, and then a tab and the byte index
-/// after its last byte, both in decimal. The number of the game is not appended, nor a tab or line
-/// feed after these.
+/// after its last byte, both in decimal. `place.number` is not appended, nor a tab or line feed at
+/// the end.
 fn push_bounds(text: &mut Vec<u8>, place: Place) -> Result<(), AllocError>
     ensures { OnOk result (text.new.items ≡ text.old.items ++ bounds_text place) }
 {
@@ -22,7 +22,7 @@ fn push_bounds(text: &mut Vec<u8>, place: Place) -> Result<(), AllocError>
     push_number(text, place.to as u64)
 }
 
-/// Appends the name of a file, if there is one.
+/// Appends a tab and the name of a file, if there is one.
 fn push_file(text: &mut Vec<u8>, name: Option<&str>) -> Result<(), AllocError>
     ensures { OnOk result (text.new.items
         ≡ text.old.items ++ name_text (option_map (λ n. n.now) name.entry)) }
@@ -34,7 +34,7 @@ fn push_file(text: &mut Vec<u8>, name: Option<&str>) -> Result<(), AllocError>
     Ok(())
 }
 
-/// Appends the name of the file of a seat (where a game is), if there is one.
+/// Appends a tab and the name of the file of a seat (where a game is), if it has one.
 fn push_seat_file(text: &mut Vec<u8>, seat: &Seat) -> Result<(), AllocError>
     ensures { OnOk result (text.new.items
         ≡ text.old.items ++ name_text (option_map string_bytes seat.now.name)) }

@@ -20,7 +20,8 @@ use listing_core::Want;
 use sgf_core::{SgfFault, Tree, Trees};
 use std::alloc::Global;
 
-/// What sort of tree one is: a game, a tree of another game, or one that is refused.
+/// What a tree is: a game of Go, a tree of another game, or one that is refused for a fault in its
+/// record.
 #[derive(Clone, Copy)]
 pub(crate) enum Sort {
     Game,
@@ -39,9 +40,9 @@ pub(crate) enum Step {
     Fault(SgfFault),
 }
 
-/// How the reading of trees ended: the byte index after the last tree (0 if there is none), how
-/// many trees of each sort there are, and the fault of syntax for which no further one was read, if
-/// there is one.
+/// How the reading of an input's trees ended: the byte index after the last tree that was read (0
+/// if there is none), how many trees of each sort were read, and the fault of syntax at which
+/// reading stopped, if there is one.
 #[derive(Clone, Copy)]
 pub(crate) struct Ending {
     pub(crate) end: usize,
@@ -91,8 +92,9 @@ fn meet_tree(
     }
 }
 
-/// Reads the next tree, and returns its sort, that no tree was left, or its fault of syntax. If it
-/// is a game, its number is `number`, and it is compared with the games before, as by `meet_tree`.
+/// Reads the next tree. Returns its sort and its end, that no tree was left, or its fault of
+/// syntax. If it is a game, its number is `number`, and it is compared with the games before, as by
+/// `meet_tree`.
 fn meet_next(
     alloc: Global,
     twins: &mut Twins,
@@ -122,7 +124,7 @@ fn meet_next(
     }
 }
 
-/// Returns the report with one more tree in it, of this sort.
+/// Returns `report` with one more tree in it, of this sort.
 fn counted(report: Report, sort: Sort) -> Report
     requires { report.games + report.others + report.refused < 2 ^ 63 }
     ensures { result ≡ counted report sort }
@@ -137,7 +139,8 @@ fn counted(report: Report, sort: Sort) -> Report
 }
 
 /// Reads all trees of an input, and compares each game with the games before, as by `meet_tree`.
-/// Returns how the reading ended. The input's first game has the number `first`.
+/// Returns how the reading ended. The input's first game has the number `first`, and `name` is that
+/// of its file.
 pub(crate) fn meet_all(
     alloc: Global,
     twins: &mut Twins,

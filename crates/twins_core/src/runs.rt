@@ -41,15 +41,16 @@ fn twins_text(
 
 /// Reads a collection and writes a line for each of its games whose record an earlier game has: the
 /// number of the game, that of the first game with the record, and where the trees of both are,
-/// with their files. The record is the size of the board with the setup and the moves. Earlier
-/// games are those before it in this collection, and those of earlier runs with the same `twins`.
-/// Afterwards `twins` has all games of the collection. The collection's first game has the number
-/// `first`, and `name` is that of its file.
+/// with their files. The record is the size of the board with the setup and the moves. The
+/// collection's first game has the number `first`, and `name` is that of its file.
+///
+/// Earlier games are those before it in this collection, and those of earlier runs with the same
+/// `twins`. Afterwards `twins` has all games of the collection.
 ///
 /// Returns how the reading ended and how many trees of each sort there are; games before a fault of
 /// syntax have been compared. It takes memory for the input, the lines, and a tree with its record.
-/// For each record that is new it keeps at most five bytes an action, where its game is, and the
-/// name of the file. The time grows with the bytes of the input, and each record is looked up among
+/// For each new record `twins` keeps at most five bytes an action, where its game is, and the name
+/// of the file. The time grows with the bytes of the input; besides, each record is looked up among
 /// those that are kept.
 ///
 /// # Errors

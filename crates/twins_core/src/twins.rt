@@ -35,7 +35,7 @@ impl Model for Twins {
 }
 
 impl Twins {
-    /// Makes one that has no game. It takes no memory.
+    /// Makes a `Twins` that has no game yet. It takes no memory.
     pub fn new(alloc: Global) -> Twins
         ensures { Knows result [] }
     {
