@@ -34,9 +34,10 @@ fn told(alloc: Global, error: &Error) -> Result<String, RunFault>
     }
 }
 
-/// Returns the values that `clap` finds in the words after a program's name, or the text of help or
-/// version if they ask for one. The program must have no groups and no global arguments, and no
-/// argument with a rule on another. It takes memory.
+/// Returns the values that `clap` finds in `words`, those after the program's name, or the text of
+/// help or version if they ask for one. `program` must say that no name comes first (clap's
+/// `no_binary_name`), and have no groups, no global arguments, and no argument with a rule on
+/// another. It takes memory.
 ///
 /// # Errors
 ///

@@ -1,5 +1,5 @@
-//! Word shares: what one worker has counted by words, the patterns of its games in lists, before
-//! they have numbers.
+//! Word shares: what one worker has counted. Its lists name patterns by their words; the numbers
+//! that patterns get in the shared table come later.
 ghost use Rattle.std.specs.Prelude.{◌≡◌, ◌+◌, ◌^◌, ◌<◌, ℕ, Some, OnOk};
 ghost use Rattle.range_core.specs.Totals.{total_of, together, all_of};
 ghost use Rattle.gather_core.specs.Inner.Met.{met_entry, met_entries};

@@ -22,6 +22,7 @@ pub struct Played {
 pub struct Board {
     size: Size,
     stones: Vec<Stone>,
+    /// Memory for the group that is looked at; nothing is kept there between calls.
     group: PointSet,
     removed: PointSet,
 }

@@ -95,9 +95,10 @@ pub(crate) struct Reading<'q, 'a> {
     pub outcome: Result<(), HarvestFault>,
 }
 
-/// Reads all games and deals them out, puts an end into the queue for each thread, and counts with
-/// the others until it draws an end. Returns what it has read and counted. It waits for the
-/// workers.
+/// Reads the games and deals them out, counts with the other threads, and returns what it has read
+/// and counted. Each game becomes a job in the queue, or is counted here if the queue is full. Then
+/// an end is put into the queue for each thread, also if reading failed, and this thread counts
+/// until it draws one: others may still count then. It waits for room in the queue and for items.
 pub(crate) fn read<'q, 'a, R: Wait, G: Gate>(
     rt: &R,
     shared: &Shared<'_, 'a>,

@@ -40,7 +40,7 @@ pub(crate) fn see_board(board: &Board, wanted: &Wanted, mover: Colour, point: Po
     ensures { patterns_in result
         ≡ wanted_at wanted.now board.now.size (position_of board.now) mover point }
 {
-    // The canonical word of a square is that of a square, and of a diamond that of a diamond.
+    // For the proof: the canonical form of a square is a square, and of a diamond a diamond.
     kinds_stay();
     let square = wanted.pick(canonical(around(board, point), mover));
     let diamond = match wanted.kinds() {

@@ -20,8 +20,8 @@ use go_record::{Action, apply};
 use std::alloc::Global;
 use tally_core::TallyFault;
 
-/// Returns the number of the next move or pass after `action`, if `number` is that of the next move
-/// or pass before it: one more if `action` is a move or a pass, and `number` itself if it is setup.
+/// Returns the number that the first move or pass after `action` has. `number` is the one that was
+/// due at `action`: a move or a pass takes it, so the next has one more; setup takes no number.
 pub(crate) fn number_after(number: u64, action: Action) -> u64
     requires { number + 1 < 2 ^ 64 }
     ensures { result ≡ number_after number action }

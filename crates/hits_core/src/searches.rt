@@ -1,6 +1,6 @@
 //! What a search asks for, beside its patterns.
 
-/// Which times a pattern is listed.
+/// Which occurrences of a pattern are listed.
 #[derive(Clone, Copy, Debug, PartialEq, Eq)]
 pub enum Sought {
     /// Each time that it was played: a move onto the empty point in its middle.
@@ -32,7 +32,7 @@ pub enum Spelling {
 /// What a search asks for of an input, beside the patterns.
 #[derive(Clone, Copy, Debug, PartialEq, Eq)]
 pub struct Search<'a> {
-    /// Which times a pattern is listed.
+    /// Which occurrences of a pattern are listed.
     pub sought: Sought,
     /// How many hits are listed at most, the first of all; None for all.
     pub most: Option<u64>,

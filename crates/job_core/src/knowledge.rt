@@ -65,8 +65,8 @@ pub type Jobs<'a> = RuledArrayQueue<Item<'a>, Knowledge, InTurn>;
 /// A pass of a queue of jobs: the right of one thread to call it.
 pub type Seat<'a> = Pass<Item<'a>, Knowledge>;
 
-/// What a pass (a thread's right to call the queue) has seen after it added an item. Used in
-/// contracts only; no code makes one.
+/// The rule by which what a pass (a thread's right to call the queue) has seen changes when it adds
+/// an item. Used in contracts only; no code makes one.
 pub(crate) struct Puts;
 
 impl<'a> Outcome<Item<'a>, Knowledge> for Puts {
@@ -80,8 +80,8 @@ impl<'a> Lesson<Item<'a>, Knowledge> for Puts {
     ghost fact = { λ v items. ⊤ };
 }
 
-/// What a pass (a thread's right to call the queue) has seen after it took an item from the queue.
-/// Used in contracts only; no code makes one.
+/// The rule by which what a pass (a thread's right to call the queue) has seen changes when it
+/// takes an item from the queue. Used in contracts only; no code makes one.
 pub(crate) struct Takes;
 
 impl<'a> Outcome<Item<'a>, Knowledge> for Takes {
@@ -126,9 +126,9 @@ impl Input for Brand {
     ghost bytes = { [] };
 }
 
-/// The split of the first pass (a thread's right to call the queue) in which it becomes the
-/// reader's, for the queue and the input of `B`. The pass that is split off has no part. Used in
-/// contracts only; no code makes one.
+/// The rule for the split of a queue's first pass (a thread's right to call the queue) in two: one
+/// becomes the reader's, with the queue and the input that `B` stands for, and the other has no
+/// part of the queue. Used in contracts only; no code makes one.
 pub(crate) struct Names<B> {
     input: PhantomData<B>,
 }

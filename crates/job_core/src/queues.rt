@@ -153,9 +153,10 @@ impl<'q, 'a> Endpoint<'q, 'a> {
         self.queue.pop_as::<Takes, R>(rt, &mut self.pass)
     }
 
-    /// Lets a proof conclude what holds of the whole queue, at an endpoint with all 1024 parts (see
-    /// `Endpoint`): no game was taken more often than it was added, and once an end was taken, each
-    /// game was taken as often as it was added. It changes nothing, and takes no memory.
+    /// Lets a proof conclude what holds of the whole queue. This endpoint must have all 1024 parts
+    /// (see `Endpoint`). No game was taken more often than it was added. Once an end (the item that
+    /// says that no job is left) was taken, each game was taken as often as it was added. The call
+    /// changes nothing, and takes no memory.
     pub fn settle(&mut self)
         requires { self.old.parts ≡ all_parts }
         ensures same { self.new ≡ self.old }

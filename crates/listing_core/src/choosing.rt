@@ -76,7 +76,8 @@ fn push_form(
 }
 
 /// Appends to `text` what is written of `tree` in the form that is asked for; nothing if the tree
-/// is not chosen.
+/// is not chosen. `line` is what a listing says of the tree: what it is, and its place in `input`.
+/// It takes memory for the text, and for texts that are compared.
 pub(crate) fn push_piece(
     alloc: Global,
     asked: &Asked<'_>,

@@ -1,4 +1,4 @@
-//! The texts of lines, appended to bytes.
+//! The lines of a listing, one for each tree of a collection, appended to bytes.
 ghost use Rattle.std.specs.Prelude.{◌≡◌, ◌++◌, OnOk, option_map};
 ghost use Rattle.std.specs.Fmt.{decimal};
 ghost use Rattle.listing_core.specs.Lines.{record_fault_text, sgf_fault_text, number_text};

@@ -18,7 +18,8 @@ pub trait ProbeOrder: Copy {
     /// The slot that is probed for a key at an index of its order, from 0: order, key, index.
     ghost place_of: { Self → ℕ → ℕ → ℕ };
 
-    /// Returns the number of slots of the table. It takes no memory.
+    /// Returns the number of slots of the table, 2^k; contracts see the exponent k. It takes no
+    /// memory.
     fn capacity(&self) -> Capacity
         ensures { result ≡ exponent self.now };
 
@@ -59,7 +60,7 @@ fn start(mixed: u64, capacity: Capacity) -> usize
 /// top k bits of the key's product with a constant mod 2^64.
 #[derive(Clone, Copy, Debug, PartialEq, Eq)]
 pub struct Linear {
-    /// The number of slots of the table.
+    /// The number of slots of the table, 2^k; contracts see the exponent k.
     pub capacity: Capacity,
 }
 
@@ -98,7 +99,7 @@ fn odd_step(mixed: u64, capacity: Capacity) -> usize
 /// product over 2^20, mod N, with its lowest bit set.
 #[derive(Clone, Copy, Debug, PartialEq, Eq)]
 pub struct OddStep {
-    /// The number of slots of the table.
+    /// The number of slots of the table, 2^k; contracts see the exponent k.
     pub capacity: Capacity,
 }
 
@@ -134,7 +135,7 @@ const RUN: usize = 16;
 /// that is nearly full, a key leaves the slots that other keys with its start have taken.
 #[derive(Clone, Copy, Debug, PartialEq, Eq)]
 pub struct OddRuns {
-    /// The number of slots of the table.
+    /// The number of slots of the table, 2^k; contracts see the exponent k.
     pub capacity: Capacity,
 }
 

@@ -50,7 +50,8 @@ pub fn is_free(row: &Entry) -> bool
 }
 
 /// Returns the place of a pattern's row, or else the first free place, in a search that begins at
-/// the pattern's first place. None if it has no row and no place is free.
+/// the pattern's first place. None if it has no row and no place is free. `factor` says what first
+/// places are (see `home`): it must be that by which the rows were placed.
 #[inline(always)]
 pub fn find(factor: u64, rows: &[Entry], shape: Shape) -> Option<usize>
     requires { AreRows factor rows.now }

@@ -37,10 +37,10 @@ impl<O: ProbeOrder> TableRule<(), View<O>, O> for OneHistory {
     ghost first = { λ order. newcomer order [] };
 }
 
-/// The table's words with their memory.
+/// The table's words, two a slot, with the memory that they are in, as the table owns them.
 pub(crate) type Words<O> = Table<(), View<O>, O, OneHistory, Global>;
 
-/// The words as threads share them.
+/// The table's words as threads share them.
 pub(crate) type Shown<O> = Shared<(), View<O>, O, OneHistory>;
 
 /// A thread's seat at a table: its right to load and change the words, one atomic

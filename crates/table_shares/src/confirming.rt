@@ -89,13 +89,15 @@ fn stranger_at(shares: &[Share], number: usize, of_table: Option<Word>) -> Harve
 /// Returns the fault that says why the table had no number (no free slot) for a pattern of a game,
 /// after `Share::add` has answered `Full`. `word` is that pattern's word. It takes no memory.
 ///
-/// The answer is `HarvestFault::Full` with the game and the word if each number of the table has a
-/// key, each of these keys is the pattern of some row of the shares, and the word is the pattern of
-/// no row: then there are more patterns than numbers. Else it is `HarvestFault::Stranger` at the
-/// least number that is free, or whose key is the pattern of no row, or of which some row has the
-/// word as its pattern; a row of a larger table may have a number that this table does not have.
-/// `Stranger` has the pattern of the first row of that number, in the order of the shares, and the
-/// number's key in the table. A row is one pattern's counts in a share (what one worker counted).
+/// A share is what one worker has counted; each of its rows has the counts of one pattern, under
+/// the pattern's number in the table. The answer is `HarvestFault::Full` with the game and the word
+/// if table and shares agree: each number of the table has a pattern of which some share has a row,
+/// and no share has a row of `word`. Then there are more patterns than numbers.
+///
+/// Else the answer is `HarvestFault::Stranger` at the least number where they disagree: it is free,
+/// or has a pattern of no row, or some share has a row of `word` under it (which may be a number
+/// that this table lacks, if a larger one gave it). `Stranger` has the pattern of the first row
+/// under that number, in the order of the shares, and the table's pattern there; each may be None.
 ///
 /// Each number up to that one is looked at once, in rising order, and the table isn't changed.
 /// `pass` (the right to call the table, which notes its answers for proofs) must be of the table.
