@@ -41,9 +41,26 @@ pub(crate) struct Front {
     pub(crate) patterns: u64,
 }
 
+/// How many bytes have their line feeds counted in a byte, which holds no more.
+const CHUNK: usize = 255;
+
+/// Returns how many line feeds a chunk of at most `CHUNK` bytes has. A sum in one byte lets the
+/// processor compare sixteen bytes at once.
+fn line_feeds(chunk: &[u8]) -> u8 {
+    let mut count: u8 = 0;
+    for byte in chunk {
+        count = count.wrapping_add((*byte == b'\n') as u8);
+    }
+    count
+}
+
 /// Returns how many line feeds there are, one for each line.
 fn count_lines(lines: &[u8]) -> u64 {
-    lines.iter().filter(|byte| **byte == b'\n').count() as u64
+    let mut count: u64 = 0;
+    for chunk in lines.chunks(CHUNK) {
+        count = count.saturating_add(u64::from(line_feeds(chunk)));
+    }
+    count
 }
 
 /// Writes the header of a join, and the lines of its ranges of words in order. The lines of some
