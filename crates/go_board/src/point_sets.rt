@@ -3,8 +3,8 @@ use crate::points::{Point, Size};
 use std::alloc::{AllocError, Global};
 use std::marker::Model;
 
-/// A set of points of one board. `members` lists them in the order in which they were added, and
-/// `marks` says of each point of the board whether it is in the set.
+/// A set of points of one board. The first `count` of `members` are its points, in the order in
+/// which they were added. `marks` says of each point of the board whether it is in the set.
 #[derive(Debug, Drop)]
 pub(crate) struct PointSet {
     size: Size,

@@ -52,8 +52,8 @@ fn threads_for<R: Threads>(rt: &R, asked: u8) -> u8 {
     asked.saturating_add(1).min(processors).max(LEAST_THREADS)
 }
 
-/// Makes the dictionary of what was counted by words, once the input was read, and gives its
-/// patterns numbers in the table. Returns None if a sum passes 2^64 - 1.
+/// Makes the dictionary of `counts`, what all threads have counted by words, and gives its patterns
+/// numbers in the table of `numbering`. Returns None if a sum passes 2^64 - 1.
 ///
 /// # Errors
 ///

@@ -155,8 +155,9 @@ impl Split<Knowledge> for Cut {
     ghost right = { λ v. worker v.queue v.bytes [] };
 }
 
-/// The join in which a pass (a thread's right to call the queue) gets another one's parts, and has
-/// seen what that one took from the queue. Used in contracts only; no code makes one.
+/// The rule by which a pass (a thread's right to call the queue) takes over another one's parts of
+/// the queue, and knows from then on what that one took from it. Used in contracts only; no code
+/// makes one.
 pub(crate) struct Joined;
 
 impl Join<Knowledge> for Joined {

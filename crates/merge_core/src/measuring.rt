@@ -81,8 +81,9 @@ fn both_ranged(alloc: Global, left: &Ranged, right: &Ranged) -> Result<Ranged, N
     }
 }
 
-/// Counts the ranges of words between cut `from` and cut `to`, both counted from 0, one after
-/// another in this thread, and returns the sums of their tallies.
+/// Counts the patterns in the ranges of words from cut `from` up to cut `to`, one range after
+/// another in this thread, and returns the sums of their tallies. A range begins at a cut and ends
+/// before the next one; cuts are counted from 0.
 fn count_ranges<S: Sources>(
     alloc: Global,
     sources: &S,

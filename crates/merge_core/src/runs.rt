@@ -96,8 +96,8 @@ fn merge_ranges<T: Threads + Sync, S: Sources + Sync, W: Write>(
 /// the inputs before it.
 ///
 /// If `form.least` is a number, only the squares that were there at least that often in the join
-/// are written. The games are still all those of the join, and the moves those at which one of
-/// these squares was played.
+/// are written, and no diamonds. The games are still all those of the join, and the moves those at
+/// which one of these squares was played.
 ///
 /// Each input is read twice: first to check it and to count what the join has, and then to write.
 /// If the inputs are large, two threads for each processor, at most 16, share this work. A thread
@@ -110,12 +110,14 @@ fn merge_ranges<T: Threads + Sync, S: Sources + Sync, W: Write>(
 ///
 /// `Empty` if there is no dictionary. `Dict` with the number of the first dictionary, from 1, that
 /// is not well-formed (X1 to X5) or cannot be added to those before it (X7, X9), and its fault:
-/// nothing is written then. `Read` if a dictionary could not be opened or read, or if what it gave
-/// in the second reading is not well-formed, or has a word outside of the range of words that is
-/// read; `Changed` if the join of the second reading can't be made, or what it keeps has another
-/// number of patterns than in the first; `Memory` if memory was refused; `Write` if the writer
-/// failed. Each of these four has the number of bytes that were written. Any other change between
-/// the readings goes unseen, and what is written is then the join of neither.
+/// nothing is written then.
+///
+/// `Read` if a dictionary could not be opened or read, or if what it gave in the second reading is
+/// not well-formed, or has a word outside of the range of words that is read. `Changed` if the join
+/// of the second reading can't be made, or has another number of patterns to be written than that
+/// of the first. `Memory` if memory was refused. `Write` if the writer failed. Each of these four
+/// has the number of bytes that were written. Any other change between the readings goes unseen,
+/// and what is written is then the join of neither.
 pub fn run_merge<T: Threads + Sync, S: Sources + Sync, W: Write>(
     rt: &T,
     alloc: Global,

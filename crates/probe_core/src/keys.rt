@@ -1,7 +1,7 @@
 //! Keys: the whole numbers that are entered into a table, each of which gets a slot's index there.
 use std::marker::Model;
 
-/// A key: a whole number below 2^51. The key of a pattern is its canonical word. This is the
+/// A key: a whole number below 2^51, as the canonical word of a pattern is. The bound is this
 /// project's own.
 #[derive(Clone, Copy, Debug, PartialEq, Eq, PartialOrd, Ord)]
 pub struct Key {

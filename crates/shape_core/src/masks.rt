@@ -1,4 +1,5 @@
-//! Symmetries and the exchange of colours for one word of either kind, by masks and shifts.
+//! Symmetries and the exchange of colours for one word, of a square or of a diamond, by masks and
+//! shifts. A word has two bits for each point, row by row from the lowest bits up.
 ghost use Rattle.std.specs.Prelude.{◌≡◌, ◌<◌, ◌≤◌, ◌^◌, ◌*◌, ◌/◌, ◌%◌, bit_and, bit_or};
 ghost use Rattle.shape_core.specs.Symmetry.{image_of, exchange_of};
 ghost use Rattle.shape_core.specs.Word.{kind_of};

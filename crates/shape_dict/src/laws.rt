@@ -14,8 +14,8 @@ pub fn texts_are_distinct()
         → (text ≡ other_text) × (one ≡ other) }
 {}
 
-/// States, for proofs, that bytes read as a whole text have at most one first fault, out of memory
-/// aside, and so have bytes from whose front a text is read. It does nothing at run time.
+/// States, for proofs, that bytes have no two faults besides `Memory`: neither as a whole text, nor
+/// where a text is read from their front. It does nothing at run time.
 pub fn texts_have_one_fault()
     ensures text { (bytes : List ℕ) → (one : DictFault) → (other : DictFault)
         → IsTextFault bytes one → IsTextFault bytes other

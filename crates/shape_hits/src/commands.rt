@@ -1,4 +1,5 @@
-//! The command line, defined for `clap`.
+//! Defines the command line for `clap`. Contracts fix the names and rules of arguments; no clause
+//! speaks of the texts of help.
 ghost use Rattle.std.specs.Prelude.{◌≡◌, false, IfOk};
 ghost use Rattle.clap.specs.Words.{app_of, rule_of};
 ghost use Rattle.shape_hits.specs.Commands.{most_rule, patterns_app, program_app};

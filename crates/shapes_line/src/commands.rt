@@ -1,4 +1,5 @@
-//! Defines the command line for `clap`: one subcommand for each task.
+//! Defines the command line for `clap`: one subcommand for each task. Contracts fix the names and
+//! rules of arguments; no clause speaks of the texts of help.
 ghost use Rattle.std.specs.Prelude.{◌≡◌, false, codes, IfOk};
 ghost use Rattle.clap.specs.Words.{app_of, new_app, rule_of};
 ghost use Rattle.clap.specs.declared.Command.TheViews.{out-Command as fields_of};

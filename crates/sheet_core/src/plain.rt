@@ -1,4 +1,4 @@
-//! The text of a sheet for a terminal.
+//! The text of a sheet (patterns of a dictionary, drawn with their counts) for a terminal.
 ghost use Rattle.std.specs.Prelude.{◌≡◌, ◌+◌, ◌≤◌, ◌++◌, length, OnOk, IfOk};
 ghost use Rattle.sheet_core.specs.Plain.{marked_glyphs, row_text, board_text, uses_text};
 ghost use Rattle.sheet_core.specs.Pieces.{ranked};

@@ -1,4 +1,6 @@
-//! The steps (atomic operations) that calls take on the words of a shared table.
+//! The steps (atomic operations) that calls take on the words of a shared table. Slot n has the
+//! words 2n and 2n + 1: the first is 0 if the slot is free, else its key and 1; the second is its
+//! mark.
 ghost use Rattle.std.specs.Prelude.{◌≡◌, ◌-◌, ◌^◌, ◌<◌, [], None, slice_index_or};
 ghost use Rattle.probe_core.specs.Machine.{key_of, left_of};
 ghost use Rattle.probe_core.specs.Turn.{HasFewer};

@@ -25,15 +25,15 @@ use std::alloc::Global;
 use std::thread::Threads;
 
 /// Merges shares into one dictionary (a share is what one worker has counted, with a row of counts
-/// for each pattern). Each pattern has the sums of its rows in all shares, and its least game. A
-/// pattern that was never there is left out. The shares must together have each game below `games`
-/// once.
+/// for each pattern). Each pattern has the sums of its rows in all shares, and its least game (the
+/// least number of a game that had it). A pattern that was never there is left out. The shares must
+/// together have each game below `games` once.
 ///
-/// The table is asked for the pattern at each number (slot) once, in rising order, and for its
-/// least game until one differs from the shares' least; those after it are not checked. The table
-/// isn't changed. The calling thread asks and adds up. Then threads sort the dictionary: as many as
-/// there are shares, rounded up to a power of two, but at most 64. The answer is the same for any
-/// number.
+/// The table is asked for the pattern at each number (slot) once, in rising order. It is asked for
+/// the pattern's least game too, until one is not that of the shares: those after it are not
+/// checked. The table isn't changed. The calling thread asks and adds up. Then threads sort the
+/// dictionary: as many as there are shares, rounded up to a power of two, but at most 64. The
+/// answer is the same for any number.
 ///
 /// `pass` (the right to call the table) must be of the table. Each share must have counted these
 /// `kinds` of pattern, and each of its games must be below `games`.

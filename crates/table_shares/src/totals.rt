@@ -18,8 +18,8 @@ use harvest_faults::HarvestFault;
 use shape_dict::{Entry, FirstGame};
 use std::alloc::Global;
 
-/// Makes a dictionary's entry of a row (one pattern's counts in a share). The entry's word is
-/// canonical: the type `Shape` says so.
+/// Makes a dictionary's entry of a row (one pattern's counts in a share). The call of `word` is for
+/// the proof: it shows that the entry's word is canonical, as the type `Shape` says.
 fn entry(row: Row) -> Entry
     ensures value { result ≡ with_row None row }
     ensures shape { IsShape result }
