@@ -5,7 +5,7 @@ use shape_dict::{Entry, FirstGame, put_in_order};
 use std::process::Abort;
 use std::test::Fail;
 
-/// How many entries the tests sort: so many that threads share the work.
+/// How many entries the tests sort: enough for threads to share the work.
 const MANY: u64 = 5000;
 
 /// Returns the canonical pattern of the word with this number, with Black to move.

@@ -16,9 +16,9 @@ impl Entry {
     ghost use Rattle.std.specs.Prelude.{◌≡◌, ◌+◌, ◌^◌, ◌≤◌, ◌⊎◌, IfSome, IfNone, IsSomeAnd};
     ghost use Rattle.shape_dict.specs.Merging.{moved_entry, summed_entry};
 
-    /// Returns the entry with `games` added to the number of its first game, as if so many games
-    /// came before. An unknown first game stays unknown. None if the number would pass 2^64 - 2. It
-    /// takes no memory.
+    /// Returns the entry with `games` added to the number of its first game, as if that number of
+    /// games came before. An unknown first game stays unknown. None if the number would pass 2^64 -
+    /// 2. It takes no memory.
     #[inline(always)]
     pub fn moved(self, games: u64) -> Option<Entry>
         ensures some { IfSome result (λ moved. moved ≡ moved_entry games self) }
