@@ -12,8 +12,8 @@ use std::alloc::{AllocError, Global};
 ///
 /// # Errors
 ///
-/// `Sgf` with S4 if the text has more than 2^28 bytes, else with its first fault of syntax;
-/// `Memory` if memory was refused.
+/// `Sgf` with `TooLarge` (S4) if the text has more than 2^28 bytes, else with its first fault of
+/// syntax; `Memory` if memory was refused.
 pub fn report_of(alloc: Global, text: &[u8]) -> Result<Report, GamesFault>
     ensures read { IfOk result (HasReadAll text.now) }
     ensures fault { IfErr result (IsGamesFault text.now) }

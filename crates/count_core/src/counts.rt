@@ -45,8 +45,8 @@ fn counted_text<T: Threads + Wait + Sync, G: Gate>(
     Ok((written, counted.report))
 }
 
-/// Reads a collection, writes a text of the dictionary of its games, and returns how many trees it
-/// has of each sort: games of Go, other games, and refused trees.
+/// Reads a collection, writes a text of the dictionary of its games, and returns how many of its
+/// trees are games of Go, are of other games, and are refused.
 ///
 /// The kinds of pattern that are counted are those of the settings: if diamonds are not counted,
 /// texts 2 and 3 say so, and text 1 is that of the squares. The text is the same for every number
@@ -60,14 +60,15 @@ fn counted_text<T: Threads + Wait + Sync, G: Gate>(
 ///
 /// # Errors
 ///
-/// `Read` if the reader failed. `Memory` if memory for the input was refused, `Harvest` with F6 if
-/// memory for counting was, and `Dict` with X6 if memory for the text of a collection that was
-/// counted was. Else `Harvest` with S4 if the collection has more than 2^28 bytes, else with its
-/// first fault of syntax (S1 to S3), else with F1 if it has more than 2^k patterns: F1 names the
-/// pattern with which they first become more, in the order of the games and of their walks, and the
-/// first game that has it. The input and the settings alone determine which of these comes. Nothing
-/// is written then. `Write` if the writer failed: exactly as many bytes of the text are written as
-/// the fault says. F2 to F4, F8 and F9 are never returned.
+/// `Read` if the reader failed. `Memory` if memory for the input was refused, `Harvest` with
+/// `Memory` (F6) if memory for counting was, and `Dict` with 1 and `Memory` (X6) if memory for the
+/// text of a collection that was counted was. Else `Harvest` with `TooLarge` (S4) if the collection
+/// has more than 2^28 bytes, else with its first fault of syntax (S1 to S3), else with `Full` (F1)
+/// if it has more than 2^k patterns, k being in the settings: it names the pattern with which they
+/// first become more, in the order in which the replays of the games meet them, and the first game
+/// that has it. The input and the settings alone determine which of these comes. Nothing is written
+/// then. `Write` if the writer failed: exactly as many bytes of the text are written as the fault
+/// says. No other fault comes.
 pub fn run_count<T: Threads + Wait + Sync, G: Gate, R: Read, W: Write>(
     rt: &T,
     alloc: Global,

@@ -19,7 +19,7 @@ use sgf_core::Trees;
 use std::alloc::Global;
 use std::io::{Read, Write};
 
-/// Whether a run found what it was asked for.
+/// Whether a run found what it was asked for: `Done` if it did, else `NotFound`.
 #[derive(Clone, Copy, Debug, PartialEq, Eq)]
 pub enum Outcome {
     Done,
@@ -64,9 +64,12 @@ fn first_text(alloc: Global, input: &[u8]) -> Result<Option<Vec<u8>>, RunFault>
 ///
 /// # Errors
 ///
-/// The fault of the collection (S1 to S5), of the record (G1 to G4) or of the board (B1), `Read` if
-/// the reader failed, `Memory` if memory for the input or the text was refused: nothing is written
-/// then. `Write` if the writer failed: exactly `written` bytes of the text were written.
+/// `Sgf` if the collection has more than 2^28 bytes (S4), its first tree has a fault of syntax (S1
+/// to S3), or memory for the tree was refused (S5). `Record` if the game's size or one of its
+/// points is bad (G1 to G3), or memory for its record was refused (G4). `Board` if memory for the
+/// board was refused (B1). `Read` if the reader failed, `Memory` if memory for the input or the
+/// text was refused. Nothing is written in these cases. `Write` if the writer failed: exactly
+/// `written` bytes of the text were written.
 pub fn run_board<R: Read, W: Write>(
     alloc: Global,
     reader: &mut R,

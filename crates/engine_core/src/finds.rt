@@ -65,9 +65,10 @@ fn answer(alloc: Global, input: &[u8], shape: Shape) -> Result<(Vec<u8>, Outcome
 ///
 /// # Errors
 ///
-/// `Dict` with 1 and the first fault of the text (X1 to X6, X8), `Read` if the reader failed,
-/// `Memory` if memory for the input or the line was refused: nothing is written then. `Write` if
-/// the writer failed: exactly `written` bytes of the line were written.
+/// `Dict` with 1 and the fault of the text: more than 2^28 bytes (X8), or not well-formed (X1 to
+/// X5), or memory for the dictionary was refused (X6). `Read` if the reader failed, `Memory` if
+/// memory for the input or the line was refused: nothing is written then. `Write` if the writer
+/// failed: exactly `written` bytes of the line were written.
 pub fn run_find<R: Read, W: Write>(
     alloc: Global,
     shape: Shape,

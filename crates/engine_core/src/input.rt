@@ -1,4 +1,4 @@
-//! Reads the whole input, up to one byte more than a run may have.
+//! Reads the whole input, up to one byte more than the 2^28 that a run may have.
 ghost use Rattle.std.specs.Prelude.{◌≡◌, ◌+◌, ◌<◌, ◌≤◌, ◌⊎◌, [], length, take, IfOk, IfErr};
 ghost use Rattle.std.specs.Prelude.{IfSome, OnOk};
 ghost use Rattle.std.specs.Io.KnownBytes.{Consumes, IsAtEnd};

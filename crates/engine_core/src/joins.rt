@@ -69,8 +69,8 @@ fn add_joined(alloc: Global, input: &[u8], before: &Batch, end: usize) -> Option
 
 /// Adds to a batch (the joined dictionaries at the front of the input) the dictionaries that follow
 /// it, up to byte index `end` at least. If they cannot be joined with one another first, those of
-/// the first half of the bytes are added, and then the others. So the error is the first fault, and
-/// each time only half of the bytes are read again.
+/// the first half of the bytes are added, and then the others. So the error is that of the first
+/// dictionary that cannot be read or added, and each time only half of the bytes are read again.
 fn add_up_to(alloc: Global, input: &[u8], before: Batch, end: usize) -> Result<Batch, RunFault>
     requires few { length input.now ≤ most_bytes }
     requires before { IsBatch input.now before }
@@ -142,12 +142,13 @@ fn joined_text(alloc: Global, text: Text, input: &[u8]) -> Result<Vec<u8>, RunFa
 ///
 /// # Errors
 ///
-/// `Dict` with the number of the first dictionary, from 1, that cannot be read (X1 to X5) or added
-/// to those before it (X7, X9), and its fault; an input without a byte is X1 of dictionary 1.
-/// `Dict` with X8 if the whole input has more than 2^28 bytes, and with X6 if memory for a
-/// dictionary, a join or the text was refused. `Read` if the reader failed, `Memory` if memory for
-/// the input was refused. Nothing is written then. `Write` if the writer failed: exactly `written`
-/// bytes of the text were written.
+/// `Dict` with the number of the first dictionary, from 1, that is not well-formed (X1 to X5), or
+/// cannot be added to those before it since a sum is too large (X7) or only some count diamonds
+/// (X9), and its fault; an input without a byte is `BadHeader` (X1) of dictionary 1. `Dict` with
+/// `TooLarge` (X8) if the whole input has more than 2^28 bytes, and with `Memory` (X6) if memory
+/// for a dictionary, a join or the text was refused. `Read` if the reader failed, `Memory` if
+/// memory for the input was refused. Nothing is written then. `Write` if the writer failed: exactly
+/// `written` bytes of the text were written.
 pub fn run_join<R: Read, W: Write>(
     alloc: Global,
     text: Text,

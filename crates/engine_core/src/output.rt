@@ -42,7 +42,7 @@ pub fn write_output<W: Write>(writer: &mut W, text: &[u8]) -> Result<(), RunFaul
     Ok(())
 }
 
-/// Writes a text that is in parts, one part after another. It takes no memory.
+/// Writes a text that is in parts (lists of bytes), one part after another. It takes no memory.
 ///
 /// # Errors
 ///

@@ -38,9 +38,9 @@ fn word_of(kind: Kind, glyphs: &str) -> Result<Word, GlyphFault>
     }
 }
 
-/// Returns the canonical form of the pattern with these glyphs when `mover`, `black` or `white`, is
-/// to move. It is the same however the pattern is turned or mirrored, and with the colours
-/// exchanged.
+/// Returns the canonical form of the pattern with these glyphs, a square or a diamond as `kind`
+/// says, when `mover`, `black` or `white`, is to move. It is the same however the pattern is turned
+/// or mirrored, and with the colours exchanged.
 ///
 /// # Errors
 ///

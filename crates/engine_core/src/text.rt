@@ -17,7 +17,7 @@ fn glyph(stone: Stone) -> u8
     }
 }
 
-/// Appends the glyphs of row `row` of the board, and a line feed.
+/// Appends the glyphs of row `row` of the board, counted from 0 at the top, and a line feed.
 fn push_row(text: &mut Vec<u8>, board: &Board, row: u8) -> Result<(), AllocError>
     requires { row < board.now.size.rows }
     ensures { OnOk result (text.new.items

@@ -1,4 +1,5 @@
-//! Makes a dictionary of what workers count by words, and gives its patterns numbers in a table.
+//! Makes a dictionary of what workers count by words (the codes of patterns), and gives its
+//! patterns numbers in a table.
 #![tactic(auto)]
 
 // what one worker has counted

@@ -1,4 +1,5 @@
-//! Gives patterns their numbers in a table, and marks their first games there.
+//! Gives patterns their numbers (the indices of their slots) in a table, and marks their first
+//! games there.
 ghost use Rattle.std.specs.Prelude.{◌≡◌, ℕ, ◌∷◌, [], All, IfErr, IfSome, OnOk};
 ghost use Rattle.slot_table.specs.Passes.{IsPassOf};
 ghost use Rattle.gather_core.specs.Entering.{CallsOnly};

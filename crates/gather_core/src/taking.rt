@@ -1,5 +1,5 @@
 //! Threads take ranges of patterns by places (slots of a hash table): each range is added up, its
-//! patterns get their numbers and are dealt to ranges of words.
+//! patterns get their numbers (indices of slots of a table) and are dealt to ranges of words.
 ghost use Rattle.std.specs.Prelude.{◌≡◌, ◌++◌, ◌∷◌, [], true, List, length, IfOk, IfErr, IfSome};
 ghost use Rattle.std.specs.Prelude.{OnOk};
 ghost use Rattle.std.specs.Bool.{OnTrue};
@@ -45,8 +45,11 @@ pub(crate) struct Taken<O: ProbeOrder> {
 /// The memory in which a thread works on one range after another.
 #[derive(Drop)]
 struct Workspace {
+    /// The sums of the range that is added up.
     sums: Sums,
+    /// The summed entries of that range.
     entries: EntryList,
+    /// The entries of all ranges so far, in a list for each range of words.
     words: Lists,
     /// Whether each pattern so far has its number in the table.
     numbered: bool,
@@ -73,7 +76,7 @@ fn number_more<O: ProbeOrder>(
     number_entries(table, pass, entries).is_ok()
 }
 
-/// Adds a range up, gives its patterns numbers while there are any, and deals them to the ranges of
+/// Adds a range up, gives its patterns numbers while any are free, and deals them to the ranges of
 /// words in `work`. Returns false if a sum passes 2^64 - 1, else true.
 ///
 /// # Errors
@@ -191,7 +194,7 @@ fn both_taken<O: ProbeOrder>(
 }
 
 /// Makes of the ranges `low` and `high` what `take_ranges` makes of all, each of the two in a
-/// thread of its own if one can be started.
+/// thread of its own if one can be started. `depth` is how often each is halved again.
 #[cycle(taking)]
 fn take_both<R: Threads + Sync, O: ProbeOrder + Send + Sync>(
     rt: &R,

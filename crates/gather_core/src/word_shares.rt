@@ -1,5 +1,5 @@
-//! Word shares: what one worker has counted. Its lists name patterns by their words; the numbers
-//! that patterns get in the shared table come later.
+//! Word shares: what one worker has counted. Its lists name patterns by their words (their codes);
+//! the numbers that patterns get in the shared table come later.
 ghost use Rattle.std.specs.Prelude.{◌≡◌, ◌+◌, ◌^◌, ◌<◌, ℕ, Some, OnOk};
 ghost use Rattle.range_core.specs.Totals.{total_of, together, all_of};
 ghost use Rattle.gather_core.specs.Inner.Met.{met_entry, met_entries};
@@ -33,8 +33,8 @@ fn append_one(lists: &mut PlaceLists, meeting: &Meeting, first: FirstGame) -> Re
     Ok(())
 }
 
-/// Appends what the game numbered `game` has met of all patterns to `lists`, except what counts
-/// nothing. It takes memory if lists have no room.
+/// Appends what the game numbered `game` has met of all patterns to `lists`, except those whose
+/// counts are both 0. It takes memory if lists have no room.
 ///
 /// # Errors
 ///
@@ -54,7 +54,8 @@ fn append_all(lists: &mut PlaceLists, meetings: &[Meeting], game: u64) -> Result
 
 /// What one worker has counted: games, each with all its patterns, which have no numbers yet.
 ///
-/// Contracts see it as a share. A pattern may have several rows, all with the number 0.
+/// Contracts see it as a share, with rows: what it has for a pattern. A pattern may have several
+/// rows, all with the number 0.
 #[derive(Drop)]
 pub struct WordShare {
     worker: usize,
@@ -91,8 +92,9 @@ impl WordShare {
     ghost use Rattle.gather_core.specs.Adding.{IsAdded};
     ghost use Rattle.gather_core.specs.WordShares.{unnumbered, IsWordFault};
 
-    /// Makes an empty share (what a worker has counted) for the worker with this number. Each of
-    /// its lists has room for `room` entries. It takes memory for that.
+    /// Makes an empty share (what a worker has counted) for the worker with this number, which
+    /// counts these kinds of pattern. Each of its lists, one for each range of places, has room for
+    /// `room` entries. It takes memory for that.
     ///
     /// # Errors
     ///

@@ -1,5 +1,5 @@
-//! Several threads count a collection by words (the numbers of patterns), and one dictionary is
-//! made of what they have met.
+//! Several threads count a collection by words (the codes of patterns), and one dictionary is made
+//! of what they have met.
 ghost use Rattle.std.specs.Prelude.{◌≡◌, ◌⊎◌, ◌<◌, ◌≤◌, ℕ, List, length, IfOk, IfErr};
 ghost use Rattle.std.specs.Prelude.{IfSome, IsErrAnd};
 ghost use Rattle.sgf_core.specs.Limit.{most_bytes};
@@ -33,7 +33,7 @@ const LEAST_THREADS: u8 = 2;
 /// The most games that the queue holds.
 const PLACES: usize = 128;
 
-/// What was counted, and whether each pattern has its number in the table.
+/// What was counted, and whether each pattern has its number (the index of its slot) in the table.
 #[derive(Drop)]
 pub(crate) struct Harvested {
     pub counted: Counted,
@@ -106,13 +106,14 @@ fn both_of(
         (λ both. AreThreadCounts shared.now.bytes.now shared.now.kinds both.1) }
     ensures fault { IfErr result (IsThreadFault shared.now.bytes.now) }
 {
+    // For the proof alone: the contract speaks of `shared`.
     let _ = shared;
     let counts = counts?;
     Ok((made?, counts))
 }
 
-/// Counts all games of an input, and makes a table of this capacity meanwhile, in one more thread
-/// if one can be started. Returns the table and what all threads have counted.
+/// Counts all games of an input, and makes a table of this capacity (number of slots) meanwhile, in
+/// one more thread if one can be started. Returns the table and what all threads have counted.
 ///
 /// # Errors
 ///
@@ -157,16 +158,16 @@ fn count_beside_table<'q, 'a, R: Threads + Wait + Sync, G: Gate>(
 /// As many threads count as there are workers, and this one, but no more than there are processors,
 /// and at least two. This thread reads, and puts a job for each game into a queue, from which the
 /// others draw. It counts what the queue has no room for, and draws too when all is read. The
-/// patterns get numbers in one new table of 2^exponent slots, which one more thread makes
-/// meanwhile.
+/// patterns get numbers, the indices of slots, in one new table of 2^exponent slots, which one more
+/// thread makes meanwhile. `gate` is called before each game is counted.
 ///
 /// It takes memory for the queue, for the records of the games in it, for the table, for each
 /// thread for what its games meet and for the board, and for the dictionary.
 ///
 /// # Errors
 ///
-/// `Sgf` with S4 if the input has more than 2^28 bytes, else with its first fault of syntax;
-/// `Overflow` if a count of one thread might be too large; `Memory` if memory was refused.
+/// `Sgf` with `TooLarge` (S4) if the input has more than 2^28 bytes, else with its first fault of
+/// syntax; `Overflow` if a count of one thread might be too large; `Memory` if memory was refused.
 pub(crate) fn count_by_words<R: Threads + Wait + Sync, G: Gate>(
     rt: &R,
     alloc: Global,
@@ -187,6 +188,7 @@ pub(crate) fn count_by_words<R: Threads + Wait + Sync, G: Gate>(
         return Err(HarvestFault::BadSettings);
     };
     let games = Games::new(bytes)?;
+    // `seat` is the right of this thread to call the queue.
     let (queue, seat) = new_queue(alloc, PLACES)?;
     let shared = Shared {
         alloc,
@@ -206,8 +208,8 @@ pub(crate) fn count_by_words<R: Threads + Wait + Sync, G: Gate>(
 ///
 /// # Errors
 ///
-/// `Sgf` with S4 if the input has more than 2^28 bytes, else with its first fault of syntax;
-/// `Memory` if memory was refused.
+/// `Sgf` with `TooLarge` (S4) if the input has more than 2^28 bytes, else with its first fault of
+/// syntax; `Memory` if memory was refused.
 pub(crate) fn count_in_threads<R: Threads + Wait + Sync, G: Gate>(
     rt: &R,
     alloc: Global,

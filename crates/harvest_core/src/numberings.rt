@@ -15,7 +15,8 @@ pub(crate) struct Numbering {
     pub pass: Pass<OddRuns>,
 }
 
-/// Makes a table of this capacity in which no number is taken, and its first pass.
+/// Makes a table of this capacity (number of slots) in which no number is taken, and its first
+/// pass.
 ///
 /// # Errors
 ///

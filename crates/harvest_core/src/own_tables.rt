@@ -1,4 +1,5 @@
-//! Counts a whole collection with a table and a queue made for this count alone.
+//! Counts a whole collection with a table and a queue made for this count alone. A pattern's number
+//! is the index of its slot in the table.
 ghost use Rattle.std.specs.Prelude.{◌≡◌, ◌⊎◌, ◌^◌, ◌<◌, ◌≤◌, length, IfOk, IfErr, IsErrAnd};
 ghost use Rattle.sgf_core.specs.Limit.{most_bytes};
 ghost use Rattle.slot_table.specs.Passes.{IsPassOf};
@@ -60,7 +61,7 @@ fn within(
 }
 
 /// Gives the patterns of lists numbers in the table, list after list, until no number is free for
-/// one.
+/// one. `pass` is the right to call the table.
 fn number_pieces<O: ProbeOrder>(table: &SlotTable<O>, pass: &mut Pass<O>, pieces: &[Vec<Entry>])
     requires { IsPassOf table.now pass.old }
 {
@@ -101,25 +102,25 @@ fn number_again(alloc: Global, k: u32, dictionary: &PieceDictionary) -> Result<(
 /// thread cannot be started, the others draw its games.
 ///
 /// Each thread appends what its games meet to lists of its own; the gate is called before each
-/// game. Each game is counted once, as the contracts of all ends of the queue prove together. When
-/// no game is left, threads add the lists up, give the patterns numbers in one table, which has 2^k
-/// slots, or fewer for a small input, and put them in order. If that table had no number for a
-/// pattern, this thread numbers all of them once more, in a table of 2^k slots; nothing is counted
-/// twice.
+/// game. Each game is counted once, as the contracts of all endpoints of the queue prove together.
+/// When no game is left, threads add the lists up, give the patterns numbers in one table, which
+/// has 2^k slots, or fewer for a small input, and put them in order. If that table had no number
+/// for a pattern, this thread numbers all of them once more, in a table of 2^k slots; nothing is
+/// counted twice.
 ///
 /// Calls at the queue may wait for a thread that is in the middle of one, and each thread waits for
-/// items until it has drawn an end: that this call ends rests on the calls that wait keeping their
-/// promise, which no clause says. It takes memory for the tables, for the queue and the records of
-/// the games in it, 128 at most, for each thread for what its games meet and for a board, and for
-/// the dictionary.
+/// items (jobs and ends) until it has drawn an end, the sign that no game is left: that this call
+/// returns rests on the calls that wait keeping their promise, which no clause says. It takes
+/// memory for the tables, for the queue and the records of the games in it, 128 at most, for each
+/// thread for what its games meet and for a board, and for the dictionary.
 ///
 /// # Errors
 ///
 /// `Memory` if memory was refused. Else the result is determined by the input and the settings:
-/// `Sgf` with S4 if the input has more than 2^28 bytes, else with its first fault of syntax; else
-/// `Full` if it has more than 2^k patterns. `Full` names the pattern with which the patterns, in
-/// the order of the games and of their walks, are first more than 2^k, and the first game that has
-/// it. No other fault comes.
+/// `Sgf` with `TooLarge` (S4) if the input has more than 2^28 bytes, else with its first fault of
+/// syntax; else `Full` if it has more than 2^k patterns. `Full` names the pattern with which the
+/// patterns, in the order in which the replays of the games meet them, are first more than 2^k, and
+/// the first game that has it. No other fault comes.
 pub fn harvest<R: Threads + Wait + Sync, G: Gate>(
     rt: &R,
     alloc: Global,
@@ -153,15 +154,15 @@ pub fn harvest<R: Threads + Wait + Sync, G: Gate>(
     Ok(counted)
 }
 
-/// Counts a whole collection, `bytes`, by workers, however many patterns it has, and gives no
-/// pattern a number. Returns what `count_plain` returns, whatever the gate, the number of workers
-/// and their turns. Threads, waiting and memory are those of `harvest`, except for the table. This
-/// is the project's own.
+/// Counts a whole collection, `bytes`, by this number of workers, however many patterns of these
+/// kinds it has, and gives no pattern a number. Returns what `count_plain` returns, whatever the
+/// gate, the number of workers and their turns. Threads, waiting and memory are those of `harvest`,
+/// except for the table. This is the project's own.
 ///
 /// # Errors
 ///
-/// `Memory` if memory was refused; `Sgf` with S4 if the input has more than 2^28 bytes, else with
-/// its first fault of syntax. No other fault comes.
+/// `Memory` if memory was refused; `Sgf` with `TooLarge` (S4) if the input has more than 2^28
+/// bytes, else with its first fault of syntax. No other fault comes.
 pub fn harvest_all<R: Threads + Wait + Sync, G: Gate>(
     rt: &R,
     alloc: Global,

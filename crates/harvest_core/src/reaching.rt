@@ -1,5 +1,6 @@
 //! Finds the game with which a counted collection first has more patterns than some number, from
-//! the first games in its dictionary alone.
+//! the first games in its dictionary alone. `pieces` are the lists in which the dictionary has its
+//! entries.
 ghost use Rattle.std.specs.Prelude.{◌≡◌, ◌+◌, ◌<◌, ◌≤◌, ◌^◌, ℕ, cond, length, get_or, IfOk, IfErr};
 ghost use Rattle.harvest_faults.specs.declared.faults.HarvestFault.TheVariants as fault;
 ghost use Rattle.shape_dict.specs.Pieces.{entries_in};

@@ -1,4 +1,5 @@
-//! The thread that reads: it puts a job for each game into the queue, and counts too.
+//! The thread that reads: it puts a job for each game into the queue, and counts too. An end in the
+//! queue is the sign for one thread that no job is left.
 ghost use Rattle.std.specs.Prelude.{◌≡◌, true, ℕ, List, IfErr, OnOk};
 ghost use Rattle.game_core.specs.Games.{HasReadAll};
 ghost use Rattle.job_core.specs.declared.items.Item.TheVariants as item;
@@ -15,7 +16,8 @@ use job_core::{Games, Item, Job};
 use std::sync::Wait;
 use tally_core::Report;
 
-/// Puts a job into the queue, or counts its game in this thread if the queue is full.
+/// Puts a job into the queue, or counts its game in this thread, as the worker `own`, if the queue
+/// is full.
 fn offer<'a, R: Wait, G: Gate>(
     rt: &R,
     shared: &Shared<'_, 'a>,
@@ -84,10 +86,11 @@ fn close<R: Wait, G: Gate>(rt: &R, shared: &Shared<'_, '_>, gate: &G, own: &mut 
     }
 }
 
-/// What the thread that reads the input returns: what it has counted itself, how many trees of each
-/// sort it read, and why it stopped before the last tree, if it did.
+/// What the thread that reads the input returns: what it has counted itself, a report on the trees
+/// that it read, and why it stopped before the last tree, if it did.
 #[derive(Drop)]
 pub(crate) struct Reading<'q, 'a> {
+    /// The worker of this thread, with what it has counted.
     pub own: Worker<'q, 'a>,
     /// How many of the trees that were read are games of Go, are of other games, and are refused.
     pub report: Report,

@@ -29,8 +29,8 @@ pub(crate) struct ThreadCounts {
     pub report: Report,
 }
 
-/// What a worker has before its thread begins: its number and its end of the queue. The thread then
-/// takes memory for what it counts.
+/// What a worker has before its thread begins: its number and its endpoint, at which it draws from
+/// the queue. The thread then takes memory for what it counts.
 #[derive(Drop)]
 struct Seat<'q, 'a> {
     number: usize,
@@ -56,9 +56,10 @@ fn worker_seats<'q, 'a>(
     Ok(seats)
 }
 
-/// Starts a worker on each of `seats` (its number and its end of the queue), in a thread of its own
-/// if one can be started, and returns the workers when each has drawn an end. A worker for which no
-/// thread can be started draws only its end, after another worker has drawn one.
+/// Starts a worker on each of `seats` (its number and its endpoint of the queue), in a thread of
+/// its own if one can be started, and returns the workers when each has drawn an end (the sign that
+/// no job is left). A worker for which no thread can be started draws only its end, after another
+/// worker has drawn one.
 fn count_beside<'q, 'a, R: Threads + Wait + Sync, G: Gate>(
     rt: &R,
     shared: &Shared<'_, '_>,
@@ -140,6 +141,7 @@ fn joined<'q, 'a>(
     let mut endpoint = endpoint;
     let mut shares = take_up(shared, &mut endpoint, all)?;
     shares.push(counted?)?;
+    // For the proof alone: no job is left in the queue, so each game was drawn once.
     endpoint.settle();
     Ok(ThreadCounts { shares, report })
 }

@@ -1,5 +1,6 @@
 //! Finds the pattern with which a counted collection first has more patterns than some number: its
-//! dictionary tells the game, and that game alone is walked again.
+//! dictionary tells the game, and that game alone is walked (replayed, and its patterns listed)
+//! again.
 ghost use Rattle.std.specs.Prelude.{◌≡◌, ◌<◌, length, nat_eq, IfOk, IfErr, OnOk, filter, slice_get};
 ghost use Rattle.std.specs.HashSet.{contains};
 ghost use Rattle.harvest_faults.specs.declared.faults.HarvestFault.TheVariants as fault;
@@ -41,7 +42,8 @@ fn is_new(entry: &Entry, game: u64) -> bool
     }
 }
 
-/// Puts into `words` the words of those patterns of a list which `game` is the first game to have.
+/// Puts into `words` the words (the codes) of those patterns of a list which `game` is the first
+/// game to have.
 fn put_new(words: &mut HashSet<u64>, entries: &[Entry], game: u64) -> Result<(), HarvestFault>
     ensures put { OnOk result (HasPut words.old (new_words game entries.now) words.new) }
     ensures fault { IfErr result (λ found. found ≡ fault.Memory) }
@@ -92,7 +94,7 @@ fn walk_game(alloc: Global, walk: &mut Walk, bytes: &[u8], game: u64) -> Result<
     ensures met { OnOk result (HasMet walk.old.kinds bytes.now game walk.new.meetings) }
     ensures fault { IfErr result (IsCountRefused bytes.now) }
 {
-    // No input has as many actions as a walk refuses.
+    // For the proof alone: no input has as many actions as a walk refuses.
     few_actions();
     few_values();
     let job = job_of(alloc, bytes, game)?;
@@ -173,7 +175,7 @@ fn first_of(
         (λ first. IsFirstBeyond kinds bytes.now most first.game first.shape) }
     ensures fault { IfErr result (IsCountRefused bytes.now) }
 {
-    // Two replays of a game have the same patterns.
+    // For the proof alone: two replays of a game have the same patterns.
     replays_have_one_result();
     let pieces = counted.dictionary.pieces();
     let reached = game_of(alloc, &counted.dictionary, most)?;
@@ -184,9 +186,9 @@ fn first_of(
     }
 }
 
-/// Returns why a counted collection with more patterns than `most` is refused: F1 with the pattern
-/// with which there are first more, and the first game that has it; or `Memory` if memory was
-/// refused.
+/// Returns why a counted collection with more patterns than `most` is refused: `Full` (F1) with the
+/// pattern with which there are first more, and the first game that has it; or `Memory` if memory
+/// was refused.
 ///
 /// The games up to that one are read, and it alone is walked. It takes memory for the largest tree
 /// of those games and its record, and for the board and the patterns of the one that is walked.

@@ -1,5 +1,5 @@
 //! A worker: it draws jobs (a game's number and record) from the queue and counts their games by
-//! words, until it draws an end.
+//! words (the codes of patterns), until it draws an end (the sign that no job is left).
 use crate::gates::Gate;
 use gather_core::WordShare;
 use harvest_faults::HarvestFault;
@@ -24,7 +24,7 @@ pub(crate) struct Shared<'q, 'a> {
     pub queue: &'q Jobs<'a>,
 }
 
-/// What one thread counts with: its number, its end of the queue and its share.
+/// What one thread counts with: its number, its endpoint of the queue and its share.
 #[derive(Drop)]
 pub(crate) struct Worker<'q, 'a> {
     /// The worker's number, from 0, which is the thread that reads.
@@ -80,6 +80,7 @@ impl<'q, 'a> Worker<'q, 'a> {
         ensures endpoint { self.new.endpoint ≡ self.old.endpoint }
         ensures counted { CountsGame shared.now job.now.game self.old self.new }
     {
+        // For the proof alone: the contract speaks of `shared`.
         let _ = shared;
         let Ok(words) = &mut self.counted else {
             return;

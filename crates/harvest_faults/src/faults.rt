@@ -13,8 +13,9 @@ use thiserror::Error;
 /// Why no dictionary was made.
 #[derive(Clone, Copy, Debug, PartialEq, Eq, Error)]
 pub enum HarvestFault {
-    /// The shared table has no free slot left for the pattern `word`. `game` is the number of a
-    /// game that has it.
+    /// No number is left for the pattern `word`: the shared table has no free slot, or the
+    /// collection has more patterns than may be counted. `game` is the number of a game that has
+    /// it, or 0 if none is known.
     #[error("F1 full in game {game} at {:013x}", word.bits())]
     Full {
         game: u64,
@@ -29,15 +30,15 @@ pub enum HarvestFault {
     /// The shares (what each worker has counted, listed by the slots that the patterns have in the
     /// shared table) and that table disagree on the slot `number`. `of_share` is the pattern that a
     /// share has under that number, None if no share has one. `of_table` is the table's pattern in
-    /// that slot, None if the slot is free. From `confirm_full` both may be the same: then a share
-    /// has counts of the pattern that was refused.
+    /// that slot, None if the slot is free. From `confirm_full` of `table_shares` both may be the
+    /// same: then a share has counts of the pattern that was refused.
     #[error("F4 stranger at number {number}")]
     Stranger {
         number: usize,
         of_share: Option<Word>,
         of_table: Option<Word>,
     },
-    /// The numbers of workers or of slots are outside their limits.
+    /// There are not 1 to 64 workers, or there are to be more than 2^22 slots.
     #[error("F5 bad settings")]
     BadSettings,
     /// Memory was refused.

@@ -51,7 +51,9 @@ pub(crate) fn tally_of_kept<E: Entries>(
 /// or stored. Returns the totals of the dictionaries (their games and moves), and how many
 /// different squares and diamonds the join keeps and how often these were played. It keeps all
 /// patterns if `least` is None, else only squares that were there at least `least` times. Each
-/// dictionary is read to its end: `Ok` means that all are well-formed.
+/// dictionary is read to its end: `Ok` means that all are well-formed. `Overflow` if a pattern's
+/// sum is over 2^64 - 1, `Changed` if the totals or the counts of patterns can't be added up,
+/// `Memory` if memory was refused, else `Read`.
 pub(crate) fn count_join<S: Sources>(
     alloc: Global,
     sources: &S,

@@ -1,4 +1,5 @@
-//! Builds the tree that joins dictionaries which follow one another.
+//! Builds the tree that joins dictionaries which follow one another: at each leaf are the lines of
+//! one, and each node joins two.
 ghost use Rattle.std.specs.Prelude.{◌≡◌, ◌≤◌, ◌<◌, ◌+◌, ◌^◌, ℕ, List, Bool, length, MatchResult};
 ghost use Rattle.std.specs.Prelude.{IfOk};
 ghost use Rattle.shape_dict.specs.Contents.{Contents};

@@ -1,4 +1,4 @@
-//! The next entries of two lists that are joined.
+//! Heads: the next entries of two lists that are joined.
 ghost use Rattle.std.specs.Prelude.{◌≡◌, ◌<◌, ◌≤◌, ◌+◌, ◌^◌, ◌⊎◌, IfOk, IfErr, Some};
 ghost use Rattle.shape_dict.specs.Merging.{moved_entry, summed_entry};
 ghost use Rattle.merge_core.specs.Inner.Trees.{IsFirst};

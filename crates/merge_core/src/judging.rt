@@ -57,7 +57,9 @@ fn numbered(fault: StreamFault, n: usize) -> MergeFault
 }
 
 /// Reads dictionary `n`, counted from 0, to its end, to check that it is well-formed. Returns its
-/// totals and how often its patterns were there in all, or 2^64 - 1 if that is more.
+/// totals and how often its patterns were there in all, or 2^64 - 1 if that is more. `Dict` with
+/// `n` + 1 if it is not well-formed, `Read` if it can't be opened or read, `Memory` if memory was
+/// refused.
 fn judge_one<S: Sources>(alloc: Global, sources: &S, n: usize) -> Result<Judged, MergeFault>
     requires few { n + 1 < 2 ^ 64 }
     requires within { n < S.number sources.now }
@@ -159,9 +161,9 @@ fn judge_each<S: Sources>(alloc: Global, sources: &S, count: usize) -> Result<Ju
 /// Checks that all dictionaries are well-formed and can be joined. Returns the totals of their join
 /// (its games and moves), and how many different squares and diamonds it keeps and how often these
 /// were played. It keeps all patterns if `least` is None, else only squares that were there at
-/// least `least` times. If one pass over all of them gives no join, they are checked one after
-/// another, and the error is the first fault found then, or else that of the pass. `Empty` if there
-/// is no dictionary.
+/// least `least` times. If reading all of them at once gives no join, they are checked one after
+/// another. The error is then the first fault that this finds, or else that of reading them at
+/// once. `Empty` if there is no dictionary.
 pub(crate) fn judge_all<S: Sources>(
     alloc: Global,
     sources: &S,

@@ -1,4 +1,4 @@
-//! Reads the lines that one dictionary has in a range of words.
+//! Reads pieces: the lines that one dictionary has in a range of words (the numbers of patterns).
 ghost use Rattle.std.specs.Prelude.{◌≡◌, ◌≤◌, ◌<◌, ◌+◌, ◌^◌, ℕ, List, Some, IfOk, IsTrue, length};
 ghost use Rattle.std.specs.Io.KnownBytes.{Consumes};
 ghost use Rattle.merge_core.specs.Inner.Ranges.{IsWithin, IsPiece, Piece};

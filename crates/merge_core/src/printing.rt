@@ -1,4 +1,5 @@
-//! Makes the lines of the join of dictionaries, range by range, in threads.
+//! Makes the lines of the join of dictionaries in threads, range by range (a range has the words,
+//! the numbers of patterns, from one cut up to the next).
 ghost use Rattle.std.specs.Prelude.{◌≡◌, ◌<◌, ◌+◌, ◌^◌, IfOk, vec_len};
 ghost use Rattle.std.specs.Thread.{IsSend, IsSync};
 ghost use Rattle.merge_core.specs.Inner.Printing.{ArePrinted, IsPrinted};

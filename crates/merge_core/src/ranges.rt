@@ -1,4 +1,5 @@
-//! Joins what all dictionaries have in a range of words (lines are in the order of their words).
+//! Joins what all dictionaries have in a range of words, from one cut up to the next (lines are in
+//! the order of their words).
 ghost use Rattle.std.specs.Prelude.{◌≡◌, ◌≤◌, ◌<◌, ◌+◌, ◌++◌, ◌∷◌, [], ◌^◌, List, IfOk, length, vec_len};
 ghost use Rattle.merge_core.specs.declared.tallies.Tally.{Tally as Sums};
 ghost use Rattle.shape_dict.specs.Inner.Merging.{merged};

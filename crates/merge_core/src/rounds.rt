@@ -1,4 +1,5 @@
-//! Writes the text of a join range by range.
+//! Writes the text of a join range by range: the lines whose words (the numbers of patterns) lie
+//! between two cuts, range after range.
 ghost use Rattle.std.specs.Prelude.{◌≡◌, ◌≤◌, ◌+◌, ◌++◌, ℕ, List, length, vec_len, IfErr, MatchResult};
 ghost use Rattle.std.specs.Io.KnownBytes.{Appends};
 ghost use Rattle.shape_dict.specs.declared.entries.Entry.{Entry as One};
@@ -18,12 +19,12 @@ use std::alloc::Global;
 use std::io::Write;
 use std::thread::{Threads, available_parallelism};
 
-/// The most ranges that are made at a time.
+/// The most ranges of words that are counted or made at a time.
 const MOST_THREADS: usize = 16;
 
-/// Returns how many ranges are counted or made at a time: twice as many as there are processors, so
-/// that no processor waits for the longest range, and at most 16. It is 1 if the number of
-/// processors isn't known.
+/// Returns how many ranges of words are counted or made at a time: twice as many as there are
+/// processors, so that no processor waits for the longest range, and at most 16. It is 1 if the
+/// number of processors isn't known.
 pub(crate) fn ranges_at_once<T: Threads>(rt: &T) -> usize
     ensures some { 1 ≤ result }
     ensures few { result ≤ 16 }
@@ -41,7 +42,8 @@ pub(crate) struct Front {
     pub(crate) patterns: u64,
 }
 
-/// How many bytes have their line feeds counted in a byte, which holds no more.
+/// In how many bytes line feeds are counted at once: no count is over 255, the most that one byte
+/// holds.
 const CHUNK: usize = 255;
 
 /// Returns how many line feeds a chunk of at most `CHUNK` bytes has. A sum in one byte lets the

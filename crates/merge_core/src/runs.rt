@@ -1,4 +1,6 @@
-//! Joins the dictionaries of some sources and writes the join to a writer.
+//! Joins the dictionaries of some sources and writes the join to a writer: large ones range by
+//! range (a range of words is a stretch of the lines, which are in the order of their words), small
+//! ones line by line.
 ghost use Rattle.std.specs.Prelude.{◌≡◌, ℕ, List, length, vec_len, OnOk, IfErr};
 ghost use Rattle.std.specs.Io.KnownBytes.{Appends};
 ghost use Rattle.merge_core.specs.Merge.{AreInputs, IsMergeText, IsMergeFault, Took, written_of};
@@ -54,8 +56,8 @@ fn merge_lines<S: Sources, W: Write>(
     write_lines(tree, form, counts, header, writer)
 }
 
-/// Writes the join of dictionaries that were checked range by range. `joined` has the join's totals
-/// and the tally of the patterns that it keeps, as the check found them.
+/// Writes, range by range, the join of dictionaries that were checked. `joined` has the join's
+/// totals and the tally of the patterns that it keeps, as the check found them.
 fn merge_ranges<T: Threads + Sync, S: Sources + Sync, W: Write>(
     rt: &T,
     alloc: Global,
@@ -104,13 +106,14 @@ fn merge_ranges<T: Threads + Sync, S: Sources + Sync, W: Write>(
 /// takes a range of words at a time (lines are in the order of their words), and memory for its
 /// lines, about half a megabyte. If the inputs are small, or can't be checked by ranges, the
 /// calling thread reads them line by line, with a block of 65,536 bytes of each in memory, and one
-/// more. If there is a fault, it then checks them again, one after another.
+/// block of the text. If it finds a fault when it checks them, it checks them again, one after
+/// another.
 ///
 /// # Errors
 ///
 /// `Empty` if there is no dictionary. `Dict` with the number of the first dictionary, from 1, that
-/// is not well-formed (X1 to X5) or cannot be added to those before it (X7, X9), and its fault:
-/// nothing is written then.
+/// is not well-formed (X1 to X5), or cannot be added to those before it since a sum is too large
+/// (X7) or some count diamonds and others do not (X9), and its fault: nothing is written then.
 ///
 /// `Read` if a dictionary could not be opened or read, or if what it gave in the second reading is
 /// not well-formed, or has a word outside of the range of words that is read. `Changed` if the join

@@ -38,7 +38,8 @@ pub trait Sources {
     fn size(&self, n: usize) -> io::Result<usize>
         requires { n < number self.now };
 
-    /// Opens text `n`, counted from 0, and returns a reader at byte index `place`.
+    /// Opens text `n`, counted from 0, and returns a reader at byte index `place`. No byte is left
+    /// to read if that is at the text's end or after it.
     ///
     /// # Errors
     ///

@@ -1,5 +1,6 @@
-//! Checks dictionaries range by range: either all are found to be well-formed and are joined, or
-//! nothing is found out about them, and they are joined line by line instead.
+//! Checks dictionaries by ranges of words (lines are in the order of their words): either all are
+//! found to be well-formed and are joined, or nothing is found out about them, and they are joined
+//! line by line instead.
 ghost use Rattle.std.specs.Prelude.{◌≡◌, ◌≤◌, ◌<◌, ◌+◌, ◌^◌, ℕ, List, Some, IfOk, IfSome, IsTrue};
 ghost use Rattle.std.specs.Prelude.{length, vec_len, slice_get};
 ghost use Rattle.merge_core.specs.declared.tallies.Tally.{Tally as Sums};

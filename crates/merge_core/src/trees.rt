@@ -9,7 +9,8 @@ use crate::heads::{First, Heads, moved, summed};
 use shape_dict::Entry;
 use std::alloc::Global;
 
-/// One list of entries, or the join of the two lists that two trees give.
+/// One list of entries, or the join of the two lists that the trees `left` and `right` give.
+/// `heads` has the entry of each that comes next.
 #[derive(Drop)]
 pub(crate) enum Tree<E> {
     Leaf(E),

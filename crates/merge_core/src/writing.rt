@@ -90,8 +90,8 @@ fn push_one(out: &mut Vec<u8>, text: Text, entry: &Entry) -> Result<(), AllocErr
     }
 }
 
-/// Appends the line of `entry` to `out` if the form asks for it: if the entry passes `form.least`,
-/// and the text has its kind of pattern (text 1 has squares alone).
+/// Appends the line of `entry` to `out` if the form asks for it: if the join keeps the entry by
+/// `form.least`, and the text has its kind of pattern (text 1 has squares alone).
 pub(crate) fn push_entry(out: &mut Vec<u8>, form: Form, entry: &Entry) -> Result<(), AllocError>
     ensures line { OnOk result (out.new.items
         ≡ out.old.items ++ lines_of form (entry.now ∷ [])) }
@@ -116,8 +116,8 @@ pub(crate) fn stopped(fault: NextFault, written: usize) -> MergeFault
 }
 
 /// Writes the header, which is in `pending`, and a line for each entry of the join that the form
-/// asks for. Before the last block is written, the entries' tally is compared with `counts`, that
-/// of the first reading: `Changed` if they differ.
+/// asks for. Before the last block is written, the tally of the entries that the join keeps is
+/// compared with `counts`, that of the first reading: `Changed` if they differ.
 pub(crate) fn write_lines<E: Entries, W: Write>(
     mut tree: Tree<E>,
     form: Form,

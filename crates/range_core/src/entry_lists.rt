@@ -5,10 +5,11 @@ use shape_dict::Entry;
 use std::alloc::{AllocError, Global};
 use std::marker::Model;
 
-/// A list of entries, each of which counts something. A pattern may have several entries. Contracts
-/// see the list.
+/// A list of entries, each with a count above 0. A pattern may have several entries. Contracts see
+/// the list.
 #[derive(Drop)]
 pub struct EntryList {
+    /// The entries, in the order in which they were appended.
     entries: Vec<Entry>,
 }
 
@@ -68,7 +69,7 @@ impl EntryList {
         self.entries
     }
 
-    /// Appends an entry, which must count something. It takes memory if the list is full.
+    /// Appends an entry, one of whose counts must be above 0. It takes memory if the list is full.
     ///
     /// # Errors
     ///
@@ -79,7 +80,7 @@ impl EntryList {
         ensures ok { OnOk result (self.new ≡ self.old ++ entry ∷ []) }
         ensures err { OnErr result (self.new ≡ self.old) }
     {
-        // Its word is the least of its images.
+        // For the proof alone: its word is the least of its images.
         let _ = entry.shape.word();
         self.entries.push(entry)?;
         Ok(())

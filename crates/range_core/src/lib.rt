@@ -1,4 +1,5 @@
-//! Entries of patterns in lists by ranges, regrouped, added up range by range, and put in order.
+//! Entries of patterns in lists by ranges (of words, or of places in a table), regrouped, added up
+//! range by range, and put in order.
 #![tactic(auto)]
 
 mod cuts;

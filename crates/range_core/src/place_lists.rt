@@ -14,7 +14,7 @@ use std::marker::Model;
 /// shared table at which a search for it begins. Each list has the patterns of one range of places.
 pub const PLACE_LISTS: usize = 512;
 
-/// How many entries a list has room for at least.
+/// How many entries a list has room for at least, once it was full.
 const LEAST_ROOM: usize = 16;
 
 /// Makes a list of the entries of `sums`, with room for `room` entries at first.
@@ -47,8 +47,8 @@ fn make_room(alloc: Global, sums: &mut Sums, list: &mut RecordList)
     }
 }
 
-/// Appends `entry`, which must count something, to `list`. If the list is full, room is made first,
-/// with `sums` as memory to work in.
+/// Appends `entry`, one of whose counts must be above 0, to `list`. If the list is full, room is
+/// made first, with `sums` as memory to work in.
 #[inline(always)]
 fn append_to(
     alloc: Global,
@@ -73,7 +73,9 @@ fn append_to(
 #[derive(Drop)]
 pub struct PlaceLists {
     alloc: Global,
+    /// A list for each range of places, in their order.
     lists: Vec<RecordList>,
+    /// Memory in which a full list is added up.
     sums: Sums,
 }
 
@@ -112,15 +114,15 @@ impl PlaceLists {
         })
     }
 
-    /// Appends an entry, which must count something, to the list of its pattern's range. It takes
-    /// memory if that list is full: its entries are first added up into a new list, which has twice
-    /// the room if they then fill more than half. If memory for that is refused, or a sum passes
-    /// 2^64 - 1, the old list grows instead. An entry that doesn't fit in 16 bytes may take memory
-    /// too.
+    /// Appends an entry, one of whose counts must be above 0, to the list of its pattern's range.
+    /// It takes memory if that list is full: its entries are first added up into a new list, which
+    /// has twice the room if they then fill more than half. If memory for that is refused, or a sum
+    /// passes 2^64 - 1, the old list grows instead. An entry that doesn't fit in 16 bytes may take
+    /// memory too.
     ///
     /// # Errors
     ///
-    /// `AllocError` if memory was refused: each pattern counts what it counted before.
+    /// `AllocError` if memory was refused: the sums of each pattern are then as they were.
     #[inline(always)]
     pub fn append(&mut self, entry: Entry) -> Result<(), AllocError>
         requires { 0 < entry.there + entry.played }

@@ -1,4 +1,5 @@
-//! Finds the row of a pattern in a list of rows, by open addressing from place to next place.
+//! Finds the row of a pattern in a list of rows (an entry for each pattern, or a free one), by open
+//! addressing from place to next place.
 ghost use Rattle.std.specs.Prelude.{◌≡◌, ◌+◌, ◌<◌, ℕ, [], not, length, IfSome, OnOk};
 ghost use Rattle.range_core.specs.Entries.{IsShape};
 ghost use Rattle.range_core.specs.Places.{mixed_of, home_of};
@@ -22,6 +23,7 @@ fn mixed(factor: u64, shape: Shape) -> u64
 }
 
 /// Returns the place, counted from 0, at which a search for a pattern begins among `places` places.
+/// `factor` is the number by which its word is multiplied for that, such as `MULTIPLIER`.
 #[inline(always)]
 pub fn home(factor: u64, shape: Shape, places: usize) -> usize
     requires { 0 < places }
@@ -41,7 +43,7 @@ fn next(place: usize, places: usize) -> usize
     if place + 1 == places { 0 } else { place + 1 }
 }
 
-/// Whether a row counts nothing, and so its place is free.
+/// Whether both counts of a row are 0, and so its place is free.
 #[inline(always)]
 pub fn is_free(row: &Entry) -> bool
     ensures { result ≡ not (is_taken row.now) }
@@ -50,8 +52,8 @@ pub fn is_free(row: &Entry) -> bool
 }
 
 /// Returns the place of a pattern's row, or else the first free place, in a search that begins at
-/// the pattern's first place. None if it has no row and no place is free. `factor` says what first
-/// places are (see `home`): it must be that by which the rows were placed.
+/// the pattern's first place. None if it has no row and no place is free. `factor`, by which words
+/// are multiplied (see `home`), must be that by which the rows were placed.
 #[inline(always)]
 pub fn find(factor: u64, rows: &[Entry], shape: Shape) -> Option<usize>
     requires { AreRows factor rows.now }
@@ -72,7 +74,7 @@ pub fn find(factor: u64, rows: &[Entry], shape: Shape) -> Option<usize>
     None
 }
 
-/// Returns a row that counts nothing, for a free place.
+/// Returns a row whose counts are 0, for a free place.
 fn free_row() -> Entry
     ensures shape { IsShape result }
     ensures free { result.there + result.played ≡ 0 }
@@ -81,7 +83,7 @@ fn free_row() -> Entry
         unreachable!()
     };
     let shape = canonical(word, Colour::Black);
-    // Its word is the least of its images.
+    // For the proof alone: its word is the least of its images.
     let _ = shape.word();
     Entry {
         shape,

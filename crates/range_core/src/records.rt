@@ -1,4 +1,5 @@
-//! Packs an entry into 16 bytes, if what it counts is small enough for that.
+//! Packs an entry into a record of 16 bytes, if its counts and first game are small enough for
+//! that.
 ghost use Rattle.std.specs.Prelude.{◌≡◌, IfSome};
 ghost use Rattle.range_core.specs.Inner.Records.{entry_of};
 
@@ -19,6 +20,8 @@ const THERES: u64 = 1 << 24;
 #[derive(Clone, Copy)]
 pub(crate) struct Record {
     shape: Shape,
+    /// From the highest bits down: how often it was there, how often it was played (12 bits), and
+    /// its first game (28 bits).
     sums: u64,
 }
 

@@ -1,5 +1,5 @@
-//! Adds up the entries of each pattern: a row for each pattern, in a map that is small enough for a
-//! near cache.
+//! Adds up the entries of each pattern: a row (its summed entry) for each pattern, in a map that is
+//! small enough for a near cache.
 ghost use Rattle.std.specs.Prelude.{◌≡◌, ◌+◌, ◌^◌, ◌≤◌, IfSome, IfNone};
 ghost use Rattle.range_core.specs.Totals.{earlier};
 ghost use Rattle.range_core.specs.Inner.Sums.{summed_row};
@@ -12,8 +12,8 @@ use shape_dict::{Entry, FirstGame};
 use std::alloc::{AllocError, Global};
 use std::marker::Model;
 
-/// The factor by which words are multiplied here: the patterns of one range of places differ in the
-/// bits that are left.
+/// The factor by which words are multiplied here. Of the product with `MULTIPLIER` it drops the
+/// highest 9 bits, which say the range of places: the patterns of one range differ in the others.
 const FACTOR: u64 = MULTIPLIER.wrapping_mul(PLACE_LISTS as u64);
 
 /// Returns the lesser of two first games, or the known one if only one is known.
@@ -69,10 +69,11 @@ pub(crate) fn places_for(entries: usize) -> usize {
 /// see the summed entries, in the order of their places.
 #[derive(Drop)]
 pub struct Sums {
+    /// The row at each place: a pattern's summed entry, or a free row.
     rows: Vec<Entry>,
-    /// How many rows count something.
+    /// How many rows are taken: one of their counts is above 0.
     taken: usize,
-    /// How many rows may count something: with more, finding a row takes long.
+    /// How many rows may be taken, seven eighths of all: with more, finding a row takes long.
     most: usize,
 }
 
@@ -124,8 +125,9 @@ impl Sums {
         self.taken
     }
 
-    /// Adds an entry to the sums of its pattern. Returns whether it was added: false if it counts
-    /// nothing, if a sum would pass 2^64 - 1, or if no place is left.
+    /// Adds an entry to the sums of its pattern. Returns whether it was added: false if both its
+    /// counts are 0, if a sum would pass 2^64 - 1, or if seven eighths of the places are taken,
+    /// even if one of them is the pattern's.
     #[inline(always)]
     pub(crate) fn add(&mut self, entry: &Entry) -> bool
         ensures { OnTrue result ((shape : ℕ) → total_of shape self.new
@@ -145,7 +147,7 @@ impl Sums {
             return false;
         };
         self.taken = self.taken.wrapping_add(is_free(&row) as usize);
-        // Its word is the least of its images.
+        // For the proof alone: its word is the least of its images.
         let _ = more.shape.word();
         self.rows[place] = more;
         true

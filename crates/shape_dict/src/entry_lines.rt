@@ -66,8 +66,8 @@ fn slow_entry<'a>(
 ///
 /// `BadLine` if the bytes don't begin with a well-formed line, or if its kind, counts or first game
 /// can't come after `place` entries in a dictionary with this header; else `NotRising` if its word
-/// is not above `last`; else `NotCanonical` if its word is not the least of its images under
-/// symmetries and exchange of colours.
+/// is not above that of `last`; else `NotCanonical` if its word is not the least of its images
+/// under symmetries and exchange of colours.
 #[inline(always)]
 pub fn read_entry<'a>(
     header: &Header,

@@ -40,7 +40,7 @@ fn summed(left: Entry, right: Entry) -> Result<Entry, DictFault>
     left.with(right).ok_or(DictFault::Overflow)
 }
 
-/// Appends `entry` to `entries`.
+/// Appends `entry` to `entries`. For proofs, its count `there` is below 2^64.
 pub(crate) fn push(entries: &mut Vec<Entry>, entry: Entry) -> Result<(), AllocError>
     ensures ok { OnOk result (entries.new.items ≡ entries.old.items ++ entry ∷ []) }
     ensures small { entry.there < 2 ^ 64 }

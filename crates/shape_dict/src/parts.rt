@@ -1,4 +1,4 @@
-//! The text of a dictionary in parts, which threads make.
+//! The text of a dictionary in parts (bytes of whole lines, part after part), which threads make.
 ghost use Rattle.std.specs.Prelude.{◌≡◌, ◌<◌, ◌++◌, [], All, IsOk, IfOk, OnOk};
 ghost use Rattle.std.specs.List.{flat_map};
 ghost use Rattle.shape_dict.specs.Parts.{joined};

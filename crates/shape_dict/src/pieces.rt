@@ -1,4 +1,4 @@
-//! A dictionary whose patterns lie in several lists, as threads that count make them.
+//! A dictionary whose patterns lie in several lists, its pieces, as threads that count make them.
 ghost use Rattle.std.specs.Prelude.{◌≡◌, ◌<◌, ◌^◌, ◌++◌, OnOk, IfOk, length};
 ghost use Rattle.shape_dict.specs.Contents.{squares_of};
 ghost use Rattle.shape_dict.specs.Pieces.{entries_in};

@@ -111,7 +111,7 @@ impl<R: Read> Block<R> {
     }
 
     /// Moves the unread bytes to the front of the block, and reads until there are `LONGEST` of
-    /// them, or the reader ends.
+    /// them, or the reader ends. `Read` if a read failed.
     fn refill(&mut self) -> Result<(), StreamFault>
         ensures same { Keeps (bytes_of self.old) (bytes_of self.new) }
         ensures enough { OnOk result (HasEnough self.new) }

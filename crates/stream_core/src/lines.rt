@@ -15,7 +15,9 @@ use std::marker::Model;
 pub struct Lines<R: Read> {
     block: Block<R>,
     header: Header,
+    /// What is remembered of the entries that were read.
     progress: Progress,
+    /// Whether more entries may come.
     standing: Standing,
 }
 

@@ -7,8 +7,9 @@ ghost use Rattle.stream_core.specs.Inner.Counting.{CountedTo, added};
 use shape_core::{Kind, Shape};
 use shape_dict::{Entry, Header};
 
-/// What is remembered of the entries that were read: how many they are, the last one's shape, and
-/// how often the squares and the diamonds were played in all, or None if that is over 2^64 - 1.
+/// What is remembered of the entries that were read: how many they are (`given`), the last one's
+/// shape, and how often the squares and the diamonds were played in all, or None if that is over
+/// 2^64 - 1.
 #[derive(Clone, Copy, Debug)]
 pub struct Progress {
     pub given: u64,

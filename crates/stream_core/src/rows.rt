@@ -1,4 +1,4 @@
-//! Reads some lines out of a text, whose words lie in a range.
+//! Reads rows: some lines out of a text, whose words (the numbers of patterns) lie in a range.
 ghost use Rattle.std.specs.Prelude.{◌≡◌, ◌++◌, ◌≤◌, IfOk, IfSome};
 ghost use Rattle.std.specs.List.{flat_map};
 ghost use Rattle.shape_dict.specs.Text.{line_text};
@@ -23,8 +23,9 @@ fn of_one_kind(header: &Header, low: u64) -> Header
 }
 
 /// Reads the line at the front of the bytes, and returns its entry and the bytes after it. None if
-/// its word is below `least`, or if `quick_entry` returns None: the line is not well-formed or not
-/// of the kind that `kinds` says, or one of its numbers has more than 18 digits.
+/// its word is below `least`, or if `quick_entry` returns None: the line is not well-formed, its
+/// counts or its first game are not possible, it is not of the kind of all lines under the header
+/// `kinds`, or one of its numbers has more than 18 digits.
 #[inline(always)]
 fn next_row<'a>(kinds: &Header, least: u64, bytes: &'a [u8]) -> Option<(Entry, &'a [u8])>
     ensures row { IfSome result (λ p. IsRow kinds.now p.0) }

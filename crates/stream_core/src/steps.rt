@@ -40,7 +40,8 @@ pub(crate) fn take_header<R: Read>(block: &mut Block<R>) -> Result<Header, Strea
 }
 
 /// Reads the line at the front of a block, passes over it, and returns its entry. `progress` says
-/// what came before it. If the line has a fault, that is the error, and the block stays as it is.
+/// which entries came before it. If the line has a fault, that is the error, and the block stays as
+/// it is.
 fn take_line<R: Read>(
     block: &mut Block<R>,
     header: &Header,
@@ -70,7 +71,8 @@ fn take_line<R: Read>(
 }
 
 /// Checks the end of a text after its last line: `WrongTotals` if the entries were not played as
-/// often in all as the header has moves, `BadLine` if bytes follow the text.
+/// often in all as the header has moves, or if there are moves and no games; else `BadLine` if
+/// bytes follow the text.
 fn end<R: Read>(block: &Block<R>, header: &Header, progress: &Progress) -> Result<(), DictFault>
     requires counted { CountedTo progress.now.given progress.now.last }
     requires enough { HasEnough block.now }

@@ -57,12 +57,13 @@ fn numbers_fit(dictionary: &PieceDictionary)
     }
 }
 
-/// Counts the games of `part`, whose bytes are the texts one after another, and returns their
-/// dictionary. The games are numbered from 0 in the order of the texts.
+/// Counts the games of `part`, whose bytes are the texts one after another, by `plan.workers`
+/// workers, and returns their dictionary. The games are numbered from 0 in the order of the texts.
 ///
 /// # Errors
 ///
-/// `Count` with F6 if memory was refused. No other fault comes, since each text can be read.
+/// `Count` with `Memory` (F6) if memory was refused. No other fault comes, since each text can be
+/// read.
 pub(crate) fn count_part<R: Threads + Wait + Sync>(
     rt: &R,
     alloc: Global,
@@ -73,7 +74,7 @@ pub(crate) fn count_part<R: Threads + Wait + Sync>(
         → IfOk result (IsDictionaryOfTexts (kinds_for plan.text) texts) }
     ensures small { IfOk result IsSmall }
 {
-    // The games of the part are those of its texts.
+    // For the proof alone: the games of the part are those of its texts.
     games_of_joined();
     match harvest_all(
         rt,

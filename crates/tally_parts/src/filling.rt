@@ -44,8 +44,8 @@ impl Feed {
 ///
 /// # Errors
 ///
-/// `Sgf` with S4 if the text has 2^28 bytes or more, since in a part one more byte stands after it.
-/// Else `Sgf` with its first fault of syntax. `Memory` if memory was refused.
+/// `Sgf` with `TooLarge` (S4) if the text has 2^28 bytes or more, since in a part one more byte
+/// stands after it. Else `Sgf` with its first fault of syntax. `Memory` if memory was refused.
 fn judge(alloc: Global, text: &[u8]) -> Result<Report, GamesFault>
     ensures { IsJudgement text.now result }
 {

@@ -1,4 +1,4 @@
-//! Collections of any number and size, counted in parts.
+//! Collections of any number and size, counted in parts (texts of games that are counted together).
 #![tactic(auto)]
 
 mod counting;

@@ -1,4 +1,5 @@
-//! From texts of games to a text of the dictionary of all their games.
+//! From texts of games to a text of the dictionary of all their games. A part is the texts that are
+//! counted together; a text that did not fit into one waits in a feed for the next.
 ghost use Rattle.std.specs.Prelude.{◌≡◌, ◌≤◌, ℕ, List, false, length, OnOk, IfErr};
 ghost use Rattle.std.specs.Io.KnownBytes.{Appends};
 ghost use Rattle.merge_core.specs.Merge.{AreInputs};
@@ -105,8 +106,8 @@ fn write_joined<R: Threads + Sync, S: Spills + Sync, W: Write>(
         → IfErr result (λ _.
         IsTextCut plan.text texts (W.contents writer.old) (W.contents writer.new)) }
 {
-    // A text is that of one dictionary only, and the dictionary of two lists of games is the join
-    // of the two lists' dictionaries.
+    // For the proof alone: a text is that of one dictionary only, and the dictionary of two lists
+    // of games is the join of the two lists' dictionaries.
     texts_are_distinct();
     dictionaries_join();
     games_come_together();
@@ -126,20 +127,20 @@ fn write_joined<R: Threads + Sync, S: Spills + Sync, W: Write>(
 /// more, or a fault of syntax, is left out whole, and `Texts::judged` gets its fault.
 ///
 /// The texts are counted in parts. A part has as many texts as `plan.most` bytes allow, or one text
-/// that is larger. `harvest_all` counts a part, on at most `plan.workers` threads and the calling
-/// one. If there is more than one part, the dictionary of each is stored in `spills`, which must be
-/// empty at first, and `run_merge` joins them. What is written is the same for each `plan.workers`
-/// and `plan.most`. It takes memory for one part and one text more, and for what `harvest_all` and
-/// `run_merge` take. This project's own.
+/// that is larger. `harvest_all` counts a part by `plan.workers` workers, and says on how many
+/// threads. If there is more than one part, the dictionary of each is stored in `spills`, which
+/// must be empty at first, and `run_merge` joins them. What is written is the same for each
+/// `plan.workers` and `plan.most`. It takes memory for one part and one text more, and for what
+/// `harvest_all` and `run_merge` take. This project's own.
 ///
 /// # Errors
 ///
-/// Nothing is written in these cases: `Memory`, or `Count` with F6, if memory was refused.
-/// `Unwanted` if `Texts::is_wanted` is false once all texts were checked. `Spill` if a part's
-/// dictionary could not be stored. `Merge` if a stored dictionary can't be read, or is not what was
-/// stored, or if memory for the join was refused before its text began. Else the beginning of the
-/// text is written, and the fault has its number of bytes: `Write` if the writer failed, or `Merge`
-/// if it failed or memory was refused while the join was written.
+/// Nothing is written in these cases: `Memory`, or `Count` with `Memory` (F6), if memory was
+/// refused. `Unwanted` if `Texts::is_wanted` is false once all texts were checked. `Spill` if a
+/// part's dictionary could not be stored. `Merge` if a stored dictionary can't be read, or is not
+/// what was stored, or if memory for the join was refused before its text began. Else the beginning
+/// of the text is written, and the fault has its number of bytes: `Write` if the writer failed, or
+/// `Merge` if it failed or memory was refused while the join was written.
 pub fn run_tally<R: Threads + Wait + Sync, T: Texts, S: Spills + Sync, W: Write>(
     rt: &R,
     alloc: Global,

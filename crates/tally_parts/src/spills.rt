@@ -1,4 +1,4 @@
-//! A store for texts of dictionaries until they are joined.
+//! Spills: a store for texts of dictionaries until they are joined.
 use merge_core::Sources;
 use std::alloc::AllocError;
 use std::io;
