@@ -147,8 +147,8 @@ fn next_record(alloc: Global, trees: &mut Trees<'_>) -> Result<Option<Recorded>,
     }))
 }
 
-/// Counts a tree in the report by its record, and returns the record if the tree is a game of Go.
-/// None if it is of another game, or its record has a fault.
+/// Counts a tree in the report by `recorded`, its record or the record's fault, and returns the
+/// record if the tree is a game of Go. None if it is of another game, or its record has a fault.
 fn count(report: &mut Report, recorded: Result<Kind, RecordFault>) -> Option<Record>
     requires { (report.old.games < most_bytes) × (report.old.others < most_bytes)
         × (report.old.refused < most_bytes) }
@@ -249,7 +249,7 @@ impl<'a> Games<'a> {
     /// # Errors
     ///
     /// `Sgf` if the tree after those that were skipped has a fault of syntax. `Memory` if memory
-    /// was refused, which is asked for only if that tree is whole, so never in place of a fault of
+    /// was refused; it is returned only if that tree is whole, so never in place of a fault of
     /// syntax. The report is then that of the trees before the faulty one. Each later call returns
     /// the same fault, even out of memory, and changes nothing.
     pub fn next_job(&mut self, alloc: Global) -> Result<Option<Job<'a>>, GamesFault>

@@ -21,9 +21,11 @@ pub struct Played {
 #[derive(Debug, Drop)]
 pub struct Board {
     size: Size,
+    /// What stands on each point, row by row from the top, each row from the left.
     stones: Vec<Stone>,
     /// Memory for the group that is looked at; nothing is kept there between calls.
     group: PointSet,
+    /// The points that the last `play` emptied.
     removed: PointSet,
 }
 

@@ -1,4 +1,4 @@
-//! Points, sizes, colours and stones.
+//! Points, sizes, colours and stones of a board.
 use std::marker::Model;
 
 /// A point of a board: its column from the left and its row from the top, both from 0.
@@ -48,8 +48,8 @@ pub enum Stone {
     White,
 }
 
-/// The size of a board: its columns and rows, each from 1 to 52 (GM[1] of SGF FF[4] has letters for
-/// as many).
+/// The size of a board: its columns and rows, each from 1 to 52 (the file format SGF FF[4] has
+/// letters for as many).
 #[derive(Clone, Copy, Debug, PartialEq, Eq)]
 pub struct Size {
     columns: u8,

@@ -8,7 +8,7 @@ ghost use Rattle.go_board.specs.Point.{IsOn};
 use crate::boards::{Board, Played};
 use crate::points::{Colour, Point, Stone};
 
-/// A board on which a game can be replayed, or something that keeps a board and more.
+/// A board on which a game can be replayed, or a type that keeps such a board and more.
 pub trait Replayable {
     /// The board as it is now.
     ghost board_of: { Self → Stones };

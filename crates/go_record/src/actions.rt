@@ -1,4 +1,5 @@
-//! The actions of a game's record: points set, stones played and passes.
+//! The actions of a game's record: points set (stones put or removed without a move), stones played
+//! and passes.
 use go_board::{Colour, Point, Stone};
 
 /// One action of a game's record.

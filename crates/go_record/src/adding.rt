@@ -1,4 +1,5 @@
-//! The actions of a main line, node by node: of each node all setups first, then all moves.
+//! The actions of a main line, node by node: of each node all setups (stones put or removed without
+//! a move) first, then all moves.
 ghost use Rattle.std.specs.Prelude.{map, All, OnOk};
 ghost use Rattle.std.specs.List.{flat_map};
 ghost use Rattle.sgf_core.specs.Values.{value_of};

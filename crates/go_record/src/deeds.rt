@@ -1,4 +1,5 @@
-//! What one value of a move or a setup property does.
+//! What one value of a move or a setup property does. A setup puts stones or removes them, and
+//! captures nothing.
 ghost use Rattle.std.specs.Prelude.{◌≡◌, ◌≢◌, ◌<◌, ℕ, IfOk, IfErr, IfSome};
 ghost use Rattle.sgf_core.specs.Values.{value_of};
 ghost use Rattle.go_record.specs.Actions.{IsActionOn};
@@ -11,6 +12,8 @@ use crate::spelling::{point, split_colon, trimmed};
 use go_board::{Colour, Point, Size, Stone};
 use sgf_core::Value;
 
+/// Whether the `text` of a move's value spells a pass: it is empty, or `tt` if no side of the board
+/// is over 19.
 fn is_pass(size: Size, text: &[u8]) -> bool
     ensures { result ≡ is_pass size text.now }
 {
@@ -81,8 +84,9 @@ fn spanned(
     }
 }
 
-/// Returns the setup of a point or a rectangle that a value spells, or None if the value is empty
-/// and sets nothing. `BadPoint` if it is misspelled, `OffBoard` if a corner is off the board.
+/// Returns the setup that puts `stone` on the point or the rectangle that a value spells, or None
+/// if the value is empty and sets nothing. `BadPoint` if it is misspelled, `OffBoard` if a corner
+/// is off the board.
 fn setup_of(size: Size, stone: Stone, value: Value<'_>) -> Result<Option<Action>, RecordFault>
     ensures value { result ≡ setup_of size stone (value_of value.entry) }
     ensures on_board { IfOk result (λ deed. IfSome deed (IsActionOn size)) }

@@ -11,6 +11,7 @@ use crate::deeds::Deed;
 use go_board::{Colour, Stone};
 use sgf_core::{Node, Prop, Value};
 
+/// Whether the property has this `name`, as `Prop::is` says.
 fn is_named(prop: &Prop<'_>, name: &[u8]) -> bool
     ensures { result ≡ is_named name.now prop.now }
 {
@@ -46,6 +47,7 @@ fn move_colour(prop: &Prop<'_>) -> Option<Colour>
     }
 }
 
+/// Returns the property's first value, or None if it has no value.
 fn front_value<'a>(prop: &Prop<'a>) -> Option<Value<'a>>
     ensures { option_map value_of result ≡ front_value prop.now.values }
 {

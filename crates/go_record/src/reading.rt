@@ -31,8 +31,8 @@ fn root_value<'a>(mut line: MainLine<'_, 'a>, name: &[u8]) -> Option<Value<'a>>
     first_value(&root, name)
 }
 
-/// Returns whether a tree with this `value` of GM is a game of Go: it has no GM, or the value is
-/// empty or the number 1.
+/// Returns whether a tree with this `value` of GM, the property for the kind of game, is a game of
+/// Go: it has no GM, or the value is empty or the number 1.
 fn is_go(value: Option<Value<'_>>) -> bool
     ensures { result ≡ is_go (option_map value_of value.entry) }
 {
@@ -43,8 +43,8 @@ fn is_go(value: Option<Value<'_>>) -> bool
     text.is_empty() || number(text) == Some(1)
 }
 
-/// Returns the board's size by the `value` of SZ: 19 by 19 if there is none or it is empty.
-/// `BadSize` if it is no size from 1 to 52 by 1 to 52.
+/// Returns the board's size by the `value` of SZ, the property for it: 19 by 19 if there is none or
+/// it is empty. `BadSize` if it is no size from 1 to 52 by 1 to 52.
 fn board_of(value: Option<Value<'_>>) -> Result<Size, RecordFault>
     ensures { result ≡ board_of (option_map value_of value.entry) }
 {
@@ -54,8 +54,9 @@ fn board_of(value: Option<Value<'_>>) -> Result<Size, RecordFault>
     }
 }
 
-/// Returns the actions of a main line, on a board of this `size`. It takes memory for them. It
-/// returns the first fault instead if there is one, or `Memory` if memory was refused before that.
+/// Returns the actions of a main line, on a board of this `size`. It takes memory for them. If
+/// values have faults, it returns the fault of the first of these instead, or `Memory` if memory
+/// was refused before that.
 fn actions_of(alloc: Global, size: Size, line: MainLine<'_, '_>) -> Result<Vec<Action>, RecordFault>
     ensures actions { IfOk result (λ actions. collected (flat_map (node_deeds size) line.entry)
         ≡ Ok actions.items) }
@@ -69,11 +70,11 @@ fn actions_of(alloc: Global, size: Size, line: MainLine<'_, '_>) -> Result<Vec<A
 
 /// Returns the record of a tree's main line, or `Other` if the tree is of another game.
 ///
-/// Only the first GM and the first SZ of the first node count, each by its first value. No GM, an
-/// empty value and the number 1 are Go; no SZ and an empty value are 19 by 19. In each node all
-/// setup properties come first, in their order, and then all moves, in theirs; each value is an
-/// action of its own, except an empty setup value, which does nothing (this project's reading of
-/// SGF FF[4]).
+/// Only the first GM (kind of game) and the first SZ (size of the board) of the first node count,
+/// each by its first value. No GM, an empty value and the number 1 are Go; no SZ and an empty value
+/// are 19 by 19. In each node all setup properties come first, in their order, and then all moves,
+/// in theirs; each value is an action of its own, except an empty setup value, which does nothing
+/// (this project's reading of SGF FF[4]).
 ///
 /// # Errors
 ///

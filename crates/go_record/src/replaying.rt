@@ -57,6 +57,7 @@ pub fn apply<B: Replayable>(board: &mut B, action: Action)
     match action {
         Action::Set { low, high, stone } => fill(board, low, high, stone),
         Action::Move { colour, at } => {
+            // How many stones the move removed is not needed.
             let _ = board.play_move(colour, at);
         }
         Action::Pass { .. } => {}

@@ -16,6 +16,7 @@ use sgf_core::is_white;
 /// for a side up to 52.
 const CAP: u32 = 100;
 
+/// Returns the bytes without the white space at their beginning.
 fn without_white_front(bytes: &[u8]) -> &[u8]
     ensures { result.now ≡ without_white_front bytes.now }
 {
@@ -29,6 +30,7 @@ fn without_white_front(bytes: &[u8]) -> &[u8]
     rest
 }
 
+/// Returns the bytes without the white space at their end.
 fn without_white_back(bytes: &[u8]) -> &[u8]
     ensures { result.now ≡ reverse (without_white_front (reverse bytes.now)) }
 {
@@ -49,6 +51,7 @@ pub(crate) fn trimmed(bytes: &[u8]) -> &[u8]
     without_white_back(without_white_front(bytes))
 }
 
+/// Whether this byte is a decimal digit in ASCII.
 fn is_digit(byte: u8) -> bool
     ensures { result ≡ is_digit byte }
 {
@@ -112,6 +115,8 @@ pub(crate) fn split_colon(text: &[u8]) -> Option<(&[u8], &[u8])>
     Some((&text[..at], &text[at + 1..]))
 }
 
+/// Returns the column or row of a letter: 0 to 25 for `a` to `z`, 26 to 51 for `A` to `Z`. None for
+/// any other byte.
 fn coordinate(letter: u8) -> Option<u8>
     ensures { result ≡ coordinate_of letter }
 {

@@ -1,4 +1,5 @@
-//! The items that the queue of jobs holds: jobs, and ends for workers.
+//! The items that the queue of jobs holds: jobs (games to count), and ends (signs that no job is
+//! left).
 use game_core::Job;
 
 /// An item of the queue: a job, or the sign for one worker that no job is left.

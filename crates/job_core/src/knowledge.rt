@@ -1,5 +1,5 @@
 //! For contracts: what each pass (a thread's right to call the queue) has seen, and the queue's
-//! rule.
+//! rule. In proofs a queue has 1024 parts, and each of them belongs to one pass at most.
 ghost use Rattle.std.specs.Prelude.{◌≡◌, ⊤};
 
 use crate::items::Item;
@@ -26,10 +26,11 @@ impl Model for QueueName {
 /// What a pass (a thread's right to call the queue) has seen of the queue's calls. Used in
 /// contracts only; no code makes one. It has the `queue` and the input's `bytes`, once these are
 /// `named`, and whether it may add items (`writes`). It has the games that it added (`put`), those
-/// that it took from the queue (`drawn`) and, in no order, those that passes took which were merged
-/// into it (`taken`). It has how many ends (signs that no job is left) it added (`ends_put`), and
-/// how many it and these passes took (`ends_drawn`). Only a pass with all `parts` may conclude that
-/// it has seen all that was added and taken.
+/// that it took from the queue (`drawn`), and those that other passes took, appended when these
+/// passes were merged into it (`taken`). It has how many ends (signs that no job is left) it added
+/// (`ends_put`), and how many it and these passes took (`ends_drawn`). `parts` is how many of the
+/// queue's 1024 parts it has; only a pass with all of them is known to have seen all that was added
+/// and taken.
 pub struct Knowledge {
     pub queue: QueueName,
     pub parts: u64,
@@ -95,10 +96,10 @@ impl<'a> Lesson<Item<'a>, Knowledge> for Takes {
     ghost fact = { λ v items. ⊤ };
 }
 
-/// The rule by which a pass (a thread's right to call the queue) learns what holds of the whole
-/// queue, for example that no game was taken more often than it was added. It asks for all 1024
-/// parts of the queue's endpoints: then no other endpoint is left. Used in contracts only; no code
-/// makes one.
+/// The rule by which a pass (a thread's right to call the queue) learns, in proofs, what holds of
+/// the whole queue, for example that no game was taken more often than it was added. It asks for
+/// all 1024 parts of the queue's endpoints: then no other endpoint is left. Used in contracts only;
+/// no code makes one.
 pub(crate) struct Settles;
 
 impl<'a> Lesson<Item<'a>, Knowledge> for Settles {

@@ -1,4 +1,5 @@
-//! The queue of jobs, as a reader and its workers call it.
+//! The queue of jobs (games to count), as a reader and its workers call it, each by an endpoint of
+//! its own.
 ghost use Rattle.std.specs.Prelude.{◌≡◌, ◌-◌, ◌<◌, ◌≤◌, ℕ, false, [], IfOk, IfErr};
 ghost use Rattle.std.specs.Prelude.{MatchOption, MatchResult};
 ghost use Rattle.crossbeam_queue.specs.Passes.{view, IsPassOf, IsSamePass, ruled_capacity};
@@ -55,7 +56,7 @@ fn open<'a>(queue: &Jobs<'a>, pass: &mut Seat<'a>, bytes: &[u8])
     let _spent = name::<Brand>(queue, pass, bytes);
 }
 
-/// One thread's end of a queue of jobs. It has a pass, which is the right of one thread to add
+/// One thread's access to a queue of jobs. It has a pass, which is the right of one thread to add
 /// items to the queue or to take them from it.
 ///
 /// Contracts see at which `queue` it is, and what the pass has seen: its `parts`, the `bytes` of
@@ -129,7 +130,8 @@ impl<'q, 'a> Endpoint<'q, 'a> {
     /// middle of a call.
     ///
     /// The reader's endpoint alone may add items. A job must be of the queue's input, the number of
-    /// its game above those of all jobs added before, and no end may have been added before it.
+    /// its game above those of all jobs added before, and no end (sign that no job is left) may
+    /// have been added before it.
     ///
     /// # Errors
     ///
@@ -153,10 +155,10 @@ impl<'q, 'a> Endpoint<'q, 'a> {
         self.queue.pop_as::<Takes, R>(rt, &mut self.pass)
     }
 
-    /// Lets a proof conclude what holds of the whole queue. This endpoint must have all 1024 parts
-    /// (see `Endpoint`). No game was taken more often than it was added. Once an end (the item that
-    /// says that no job is left) was taken, each game was taken as often as it was added. The call
-    /// changes nothing, and takes no memory.
+    /// For proofs: its contract says what holds of the whole queue. This endpoint must have all
+    /// 1024 parts (see `Endpoint`). No game was taken more often than it was added. If an end (the
+    /// item that says that no job is left) was taken from the queue, each game was taken as often
+    /// as it was added. The call changes nothing, and takes no memory.
     pub fn settle(&mut self)
         requires { self.old.parts ≡ all_parts }
         ensures same { self.new ≡ self.old }

@@ -1,7 +1,7 @@
 //! Capacities: how many slots a table has.
 use std::marker::Model;
 
-/// How many slots a table has: a power of two, up to 2^22. This is the project's own.
+/// How many slots a table has: a power of two, up to 2^22. The bound is the project's own.
 ///
 /// Contracts see it as the exponent of 2, a number up to 22.
 #[derive(Clone, Copy, Debug, PartialEq, Eq, PartialOrd, Ord)]

@@ -1,4 +1,5 @@
-//! Halls: a simulated table with its callers, and what each event does.
+//! Halls: a simulated table with its callers (each makes one call at a time), and what each event
+//! does.
 ghost use Rattle.std.specs.Prelude.{◌≡◌, ℕ, ◌+◌, ◌<◌, ◌≤◌, ◌^◌, ◌↔◌, [], ◌∷◌, replicate, IsTrue};
 ghost use Rattle.std.specs.Prelude.{IfOk, Some, None, slice_get, count_by, vec_len, vec_capacity};
 ghost use Rattle.probe_core.specs.World.{new_world, began, stepped, happened, counted};
@@ -11,7 +12,7 @@ use crate::probes::{Probe, Turn};
 use crate::steps::advance;
 use std::alloc::{AllocError, Global};
 
-/// A call under way, and the number of the event that began it.
+/// A call under way (`probe`), and the number of the event that began it (`since`).
 #[derive(Drop)]
 pub(crate) struct UnderWay<O: ProbeOrder> {
     probe: Probe<O>,

@@ -1,6 +1,7 @@
-//! Laws of the definitions, for proofs in the crates that use this one. Each is a function that
-//! does nothing, and its contract is the law. In them the words of a table's slots are a plain
-//! list.
+//! Laws of calls and their histories (the calls that have ended, with their answers), for proofs in
+//! the crates that use this one. Each is a function that does nothing, and its contract is the law.
+//! In them the words of a table's slots are a plain list. A sequential table is one that takes
+//! whole calls one after another.
 ghost use Rattle.std.specs.Prelude.{◌≡◌, ℕ, ◌^◌, None, List, [], ◌∷◌, ◌++◌, slice_index_or};
 ghost use Rattle.probe_core.specs.Machine.{Machine, follows, place_in};
 ghost use Rattle.probe_core.specs.Sequential.{Table, Step, IsNumber};
@@ -13,11 +14,11 @@ ghost use Rattle.probe_core.specs.Way.{IsOnWay, Tells};
 use crate::orders::ProbeOrder;
 
 /// Law of one step (a load or a compare-exchange) of a call. The words must be orderly: no key
-/// comes after a free slot in its probe order. The slots that the call has passed must hold other
-/// keys. After the step either the call goes on and the words are as they were, or its answer is
-/// right for a sequential table with the content that the words showed before, and leaves the
-/// content that they show after it. The words are orderly again, and each other call still has
-/// passed other keys alone. It takes no memory.
+/// comes after a free slot in its probe order. The slots that the call has probed before must hold
+/// other keys. After the step either the call goes on and the words are as they were, or its answer
+/// is right for a sequential table with the content that the words showed before, and leaves the
+/// content that they show after it. The words are orderly again, and the slots that any other call
+/// has probed before still hold other keys than its own. It takes no memory.
 pub fn steps_tell_of_the_key<O: ProbeOrder>(_order: &O)
     ensures tells { (words : List ℕ) (machine : Machine) →
         IsOrderly (2 ^ O.exponent _order.now) (O.place_of _order.now) words →

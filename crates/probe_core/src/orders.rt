@@ -45,8 +45,8 @@ fn mixed(key: Key) -> u64
     key.bits().wrapping_mul(MULTIPLIER)
 }
 
-/// Returns the slot that is probed first for a key, from its hash `mixed`: the top k bits, for 2^k
-/// slots.
+/// Returns the slot that is probed first for a key, from its hash `mixed`: the top k bits, if the
+/// `capacity` is 2^k slots.
 fn start(mixed: u64, capacity: Capacity) -> usize
     ensures value { result ≡ start_of capacity mixed }
     ensures small { result < 2 ^ 22 }
@@ -83,7 +83,7 @@ impl ProbeOrder for Linear {
 }
 
 /// Returns the odd step of a key, from its hash `mixed`: the hash over 2^20, mod the number of
-/// slots, with the lowest bit set.
+/// slots (`capacity`), with the lowest bit set.
 fn odd_step(mixed: u64, capacity: Capacity) -> usize
     ensures value { result ≡ step_of capacity mixed }
     ensures small { result ≤ 2 ^ 22 }
@@ -91,7 +91,7 @@ fn odd_step(mixed: u64, capacity: Capacity) -> usize
     ((mixed >> 20) as usize & (capacity.slots() - 1)) | 1
 }
 
-/// Double hashing: from slot to slot by an odd step, which depends on the key. This is the
+/// Double hashing: from slot to slot by an odd step, which depends on the key. This order is the
 /// project's own.
 ///
 /// The slot at index i of a key's order is `(start + i * s) mod N` for N slots. The start is that
@@ -127,7 +127,7 @@ impl ProbeOrder for OddStep {
 const RUN: usize = 16;
 
 /// Probes runs of 16 neighbouring slots, and goes from run to run by a jump of 16 times an odd
-/// step, which depends on the key. This is the project's own.
+/// step, which depends on the key. This order is the project's own.
 ///
 /// The slot at index i of a key's order is `(start + i mod 16 + (i / 16) * 16 * s) mod N` for N
 /// slots. The start and the step s are those of `OddStep`: both come from a hash of the key. So a

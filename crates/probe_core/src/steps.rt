@@ -9,7 +9,8 @@ use crate::calls::Want;
 use crate::orders::ProbeOrder;
 use crate::probes::{Probe, Turn};
 
-/// Takes the step `want` on the words, and returns what the slot's word held before it.
+/// Takes the step `want` on the words, and returns what the slot's word held before it. A
+/// compare-exchange stores its value only if that was 0.
 fn take_step(words: &mut [u64], want: Want) -> u64
     requires { place_wanted want < length words.old }
     ensures held { result ≡ slice_index words.old (place_wanted want) }

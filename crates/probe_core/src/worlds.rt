@@ -1,4 +1,5 @@
-//! Worlds: simulations of any number of callers at one table, one step at a time in any order.
+//! Worlds: simulations of any number of callers at one table, whose calls take their steps one at a
+//! time, in any order.
 ghost use Rattle.std.specs.Prelude.{◌≡◌, ◌+◌, ◌<◌, ◌^◌, ◌↔◌, IfOk, OnOk, OnErr, IsOkUnless};
 ghost use Rattle.std.specs.Prelude.{IsErrOf, length, count_by};
 ghost use Rattle.probe_core.specs.World.{new_world, after_events};

@@ -1,5 +1,5 @@
 //! Laws on what a collection is: its bytes have one reading, and its trees no more values than
-//! bytes.
+//! bytes. Each is the contract of a function that does nothing.
 ghost use Rattle.std.specs.Prelude.{◌≡◌, ◌+◌, ◌<◌, ℕ, List};
 ghost use Rattle.sgf_core.specs.Tree.{GameTree, main_line_of};
 ghost use Rattle.sgf_core.specs.Counts.{value_count};

@@ -8,11 +8,12 @@ use crate::marks::{Mark, Prop};
 use std::iter::FusedIterator;
 use std::marker::Model;
 
-/// An iterator over the nodes of a tree's main line: from the root, always by the first variation.
-/// Each step reads some of the tree's marks (parentheses, semicolons and properties), and takes no
-/// memory.
+/// An iterator over the nodes of a tree's main line: from the root, at each branch into the first
+/// variation (inner tree). Each step reads some of the tree's marks (parentheses, semicolons and
+/// properties), and takes no memory.
 #[derive(Debug, Drop)]
 pub struct MainLine<'t, 'a> {
+    /// The marks that are still to be read.
     marks: &'t [Mark<'a>],
 }
 
@@ -59,6 +60,8 @@ impl<'t, 'a> Iterator for MainLine<'t, 'a> {
 
     ghost remaining = { item_count (λ line. line) };
 
+    /// Returns the next node of the main line. If none is left, it returns None, now and at all
+    /// later calls.
     fn next(&mut self) -> Option<Node<'t, 'a>> {
         let marks = self.marks;
         let place = node_place(marks)?;
@@ -74,6 +77,8 @@ impl<'t, 'a> FusedIterator for MainLine<'t, 'a> {}
 /// A node, as SGF FF[4] has it: its properties, in order.
 #[derive(Debug, Drop)]
 pub struct Node<'t, 'a> {
+    /// All marks after the node's semicolon. The node's properties are those before the first other
+    /// mark.
     marks: &'t [Mark<'a>],
 }
 
@@ -99,6 +104,7 @@ impl<'t, 'a> Node<'t, 'a> {
 /// (parentheses, semicolons and properties), and takes no memory.
 #[derive(Debug, Drop)]
 pub struct Props<'t, 'a> {
+    /// The marks that are still to be read; the properties end before the first other mark.
     marks: &'t [Mark<'a>],
 }
 
@@ -119,6 +125,8 @@ impl<'t, 'a> Iterator for Props<'t, 'a> {
 
     ghost remaining = { item_count (λ props. props) };
 
+    /// Returns the next property of the node. If none is left, it returns None, now and at all
+    /// later calls.
     fn next(&mut self) -> Option<&'t Prop<'a>> {
         let marks = self.marks;
         match marks.first()? {

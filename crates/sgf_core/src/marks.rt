@@ -22,7 +22,9 @@ pub struct Value<'a> {
 /// A property, as SGF FF[4] has it: an identifier and its values, one or more.
 #[derive(Debug, Drop)]
 pub struct Prop<'a> {
+    /// The letters of the identifier, as they are written.
     pub(crate) identifier: &'a [u8],
+    /// The values, in order. The first takes no memory of its own.
     pub(crate) values: SmallVec<Value<'a>, 1>,
 }
 

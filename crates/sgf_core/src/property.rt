@@ -1,4 +1,4 @@
-//! Reads a property: an identifier and its values.
+//! Reads a property: an identifier (letters) and its values (bytes in brackets).
 ghost use Rattle.std.specs.Prelude.{◌≡◌, ◌<◌, ◌++◌, ◌∷◌, [], IfOk, IfErr, IfSome, IsTrue, map, true};
 ghost use Rattle.std.specs.Prelude.{length, slice_index};
 ghost use Rattle.sgf_core.specs.Bytes.{is_letter};

@@ -26,7 +26,9 @@ pub const MOST_BYTES: usize = 1 << 28;
 #[derive(Debug, Drop)]
 pub struct Trees<'a> {
     bytes: &'a [u8],
+    /// The byte index from which on the next tree is looked for.
     from: usize,
+    /// The fault of syntax that was met, if any, which each later call returns.
     fault: Option<SgfFault>,
 }
 
@@ -102,9 +104,9 @@ impl<'a> Trees<'a> {
     ///
     /// # Errors
     ///
-    /// `Truncated` if the input ends within the next tree, `NoValue` if something else comes in
-    /// place of an identifier's first value, and `BadByte` at any other byte that can't come where
-    /// it is. The reader keeps such a fault, and each later call returns it again.
+    /// `Truncated` if the input ends within the next tree, `NoValue` if another byte comes where
+    /// the first value of an identifier has to begin, and `BadByte` at any other byte that can't
+    /// come where it is. The reader keeps such a fault, and each later call returns it again.
     ///
     /// `Memory` if memory was refused for the tree's marks or for a property's values other than
     /// its first: only if a tree is next, and never in place of a fault of syntax. The reader is

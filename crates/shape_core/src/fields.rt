@@ -15,7 +15,9 @@ use std::marker::Model;
 #[derive(Drop)]
 pub struct Field {
     board: Board,
+    /// The words of all points, and the marks of those whose words have changed.
     kept: KeptWords,
+    /// The empty points, as bits of the rows.
     empties: EmptyPoints,
 }
 

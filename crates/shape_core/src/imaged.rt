@@ -42,8 +42,8 @@ impl Model for ImagedWord {
     } };
 }
 
-/// The number with code 1 in each of the 25 cells. Multiplied by a code, it has that code in each
-/// cell.
+/// The number with code 1 in each of the 25 cells (a code is the two bits for what stands there).
+/// Multiplied by a code, it has that code in each cell.
 const ONES: u64 = 0x1555555555555;
 
 /// Changes both words (one in each lane of the vector) by exclusive or with `changes`, but only in

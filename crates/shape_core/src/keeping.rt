@@ -1,5 +1,6 @@
-//! Updates the pattern words of a board as a stone changes: one code in each word that has the
-//! point among its cells, and the marks of the points whose words change.
+//! Updates the pattern words of a board as a stone changes: the code (two bits for what stands
+//! there) of one cell in each word that has the point among its cells, and the marks of the points
+//! whose words change.
 ghost use Rattle.std.specs.Prelude.{◌≡◌, ◌<◌, ◌≤◌, ◌+◌, ◌*◌, ◌^◌, ◌⊎◌, ℕ, length, map, slice_index};
 ghost use Rattle.std.specs.Prelude.{◌-◌, bit_xor, All, [], ◌∷◌, true};
 ghost use Rattle.std.specs.List.{list_all};

@@ -1,5 +1,5 @@
-//! Marks of points whose words have changed: for each row of the board a number with a bit for each
-//! column.
+//! Marks of points whose words have changed (a word codes the pattern round its point): for each
+//! row of the board a number with a bit for each column.
 ghost use Rattle.std.specs.Prelude.{◌≡◌, ◌<◌, ◌≤◌, length, slice_index};
 ghost use Rattle.std.specs.Prelude.{◌⊎◌, EachIndex};
 ghost use Rattle.go_board.specs.declared.points.Point.{Point};

@@ -28,7 +28,7 @@ pub fn glyphs(word: Word) -> [u8; 25]
     glyphs
 }
 
-/// Returns the glyph of a code: `.`, `X`, `O` and `#` for 0 to 3.
+/// Returns the glyph of a cell's code: `.`, `X`, `O` and `#` for 0 to 3.
 fn glyph(code: u8) -> u8
     ensures { result ≡ glyph_of code }
 {

@@ -1,4 +1,5 @@
-//! Pattern words: 25 cells of two bits each, and a bit for the kind.
+//! Pattern words: numbers with two bits for each of 25 cells, and a bit for the kind (square or
+//! diamond).
 use std::marker::Model;
 
 /// The two kinds of pattern: the five-by-five square, and the diamond of the 25 points at most
@@ -25,7 +26,7 @@ pub enum Kinds {
 ///
 /// It is the sum over its 25 cells of the cell's code times 4 to the power of the cell's number,
 /// and 2^50 more for a diamond. Codes are 0 for empty, 1 for black, 2 for white and 3 for off the
-/// board. This is the project's own.
+/// board. This code is the project's own.
 #[derive(Clone, Copy, Debug, PartialEq, Eq, PartialOrd, Ord)]
 pub struct Word {
     bits: u64,

@@ -1,4 +1,5 @@
-//! Enters many keys at once, so that the cache lines of their slots are loaded at the same time.
+//! Enters many keys at once, so that the cache lines of their slots are loaded at the same time. A
+//! pass is the right to call the table.
 ghost use Rattle.std.specs.Prelude.{◌≡◌, ℕ, ◌^◌, ◌<◌, ◌≤◌, true, length};
 ghost use Rattle.probe_core.specs.declared.calls.Answer.TheVariants as answer;
 ghost use Rattle.slot_table.specs.Batches.{entered, answer_at, AreMade, AreTold};
@@ -19,8 +20,8 @@ const BLOCK: usize = 128;
 /// nearly full some keys find their slot only later: their calls then go on one by one.
 const ROUNDS: usize = 64;
 
-/// The last load of a slot for a key: the slot's index in the order in which slots are probed for
-/// the key, and the word found there.
+/// The last load of a slot for a key: the slot's index in the order in which slots are probed
+/// (looked at) for the key, and the word found there.
 #[derive(Clone, Copy)]
 pub(crate) struct Look {
     /// The index of the slot in the key's probe order, from 0.
@@ -70,9 +71,10 @@ fn all_places() -> [usize; BLOCK]
     places
 }
 
-/// Keeps, of the first `count` indices in `left`, those of keys whose last load found another key
-/// and that have a further slot to probe. Moves them to the front of `left`, and returns how many
-/// they are. It has no branch that depends on a slot's word. `slots` is the number of slots.
+/// Keeps, of the first `count` indices in `left`, those of keys whose last load, in `looks`, found
+/// another key and that have a further slot to probe. Moves them to the front of `left`, and
+/// returns how many they are. It has no branch that depends on a slot's word. `slots` is the number
+/// of slots.
 fn keep_passed(
     keys: &[Key],
     looks: &[Look],
@@ -184,9 +186,9 @@ impl<O: ProbeOrder> SlotTable<O> {
     }
 
     /// Finishes the entering of the keys, in their order, each from its last load in `looks`, and
-    /// sets `answers`. Returns whether no slot was free for some key. After the first such key,
-    /// only keys whose last load gave an answer get one; the others get `Absent` and are not
-    /// entered.
+    /// sets `answers[i]` to the answer for `keys[i]`. Returns whether no slot was free for some
+    /// key. After the first such key, only keys whose last load gave an answer get one; the others
+    /// get `Absent` and are not entered.
     fn end_all(
         &self,
         pass: &mut Pass<O>,
@@ -220,7 +222,8 @@ impl<O: ProbeOrder> SlotTable<O> {
     }
 
     /// Enters the keys of a block, at most `BLOCK`, up to the first for which no slot is free, and
-    /// a few after it, and sets `answers`. Returns whether there is such a key.
+    /// those after it that a load had found, and sets `answers[i]` to the answer for `keys[i]`.
+    /// Returns whether there is such a key.
     fn enter_block(&self, pass: &mut Pass<O>, keys: &[Key], answers: &mut [Answer]) -> bool
         requires pass { IsPassOf self.now pass.old }
         requires block { length keys.now ≤ BLOCK }

@@ -5,14 +5,15 @@ use std::marker::Model;
 
 /// The right of one caller to call a table. It takes no memory.
 ///
-/// Contracts see which table and order it is of, a history of the table as far as the pass has
-/// `seen` it, `mine`, the indices in that history of the pass's own calls, and its `stake`, how
-/// much of the whole right to call the table it has. Passes are made by the table's `new`, `split`
-/// and `meet` alone. The stakes of all passes of a table, with those that were dropped, are the
-/// whole right. So a pass with the whole right has made all calls, and a pass that was split has
-/// the whole again only once what it gave away was merged into it.
+/// Contracts see which table and order it is of, a history of the table (its calls with their
+/// answers) as far as the pass has `seen` it, `mine`, the indices in that history of the pass's own
+/// calls, and its `stake`, how much of the whole right to call the table it has. Passes are made by
+/// the table's `new`, `split` and `meet` alone. The stakes of all passes of a table, with those
+/// that were dropped, are the whole right. So a pass with the whole right has made all calls, and a
+/// pass that was split has the whole again only once what it gave away was merged into it.
 #[derive(Drop)]
 pub struct Pass<O> {
+    /// The right to load and change the table's words, and, for proofs, what was seen by it.
     pub(crate) seat: Place<O>,
 }
 

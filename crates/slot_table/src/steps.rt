@@ -1,6 +1,6 @@
-//! The steps (atomic operations) that calls take on the words of a shared table. Slot n has the
-//! words 2n and 2n + 1: the first is 0 if the slot is free, else its key and 1; the second is its
-//! mark.
+//! The steps (atomic operations) that calls take on the words of a shared table, `shared`. Slot n
+//! has the words 2n and 2n + 1: the first is 0 if the slot is free, else its key plus 1; the second
+//! is its mark, the least game noted there, or 2^64 - 1 if there is none.
 ghost use Rattle.std.specs.Prelude.{◌≡◌, ◌-◌, ◌^◌, ◌<◌, [], None, slice_index_or};
 ghost use Rattle.probe_core.specs.Machine.{key_of, left_of};
 ghost use Rattle.probe_core.specs.Turn.{HasFewer};
@@ -17,7 +17,8 @@ use probe_core::{Answer, Call, Key, Probe, ProbeOrder, Turn, Want};
 use std::marker::Brand;
 
 /// Takes the next step of a probe (a call under way) on the shared words, and returns the probe
-/// after it, or the call's answer. `seat` is the thread's right to load and change the words.
+/// after it, or the call's answer. `seat` is the thread's right to load and change the words. `A`
+/// names the call, for proofs alone.
 fn turn<A: Ask, O: ProbeOrder>(shared: &Shown<O>, seat: &mut Place<O>, probe: Probe<O>) -> Turn<O>
     requires seat { IsSeatAt O.exponent shared.now seat.old }
     requires probe { (probe.order ≡ shared.now.key) × (probe.machine ≡ A.machine) }
@@ -60,8 +61,8 @@ pub(crate) fn run<O: ProbeOrder>(shared: &Shown<O>, seat: &mut Place<O>, probe: 
     }
 }
 
-/// Makes a call (enters or looks up a key), takes all its steps and returns the answer. `seat` is
-/// the thread's right to load and change the words.
+/// Makes a call (enters or looks up a key), takes all its steps and returns the answer. Slots are
+/// probed in the table's `order`. `seat` is the thread's right to load and change the words.
 pub(crate) fn asked<O: ProbeOrder>(
     shared: &Shown<O>,
     seat: &mut Place<O>,
@@ -80,7 +81,8 @@ pub(crate) fn asked<O: ProbeOrder>(
 }
 
 /// Loads the slot at this `index` of the key's probe order, and returns its word. For proofs that
-/// load is a step of the key's `Enter`. `seat` is the thread's right to load and change the words.
+/// load is a step of the key's `Enter`, which `A` names. `seat` is the thread's right to load and
+/// change the words.
 pub(crate) fn look<A: Ask, O: ProbeOrder>(
     shared: &Shown<O>,
     seat: &mut Place<O>,
@@ -146,6 +148,7 @@ pub(crate) fn meet<O: ProbeOrder>(shared: &Shown<O>, seat: &mut Place<O>, other:
     ensures joined { Joined (2 ^ O.exponent shared.now.key) seat.old.me.0 other.me.0 seat.new.me.0 }
 {
     shared.join_seat::<Glue>(seat, other);
+    // For the proof: at its next step, this load, the seat takes over what the other one has seen.
     shared.load::<Looked>(seat, 0);
 }
 

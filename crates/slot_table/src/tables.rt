@@ -1,4 +1,5 @@
-//! The table that gives numbers (indices of slots) to keys, with its calls for threads.
+//! The table that gives numbers (indices of slots) to keys, with its calls for threads. The least
+//! game of a number is the least of the games (by their numbers) that were marked there.
 ghost use Rattle.std.specs.Prelude.{◌≡◌, ◌-◌, ◌*◌, ◌^◌, ◌<◌, [], ◌∷◌, IfOk, None, true, length};
 ghost use Rattle.std.specs.Prelude.{slice_index_or};
 ghost use Rattle.std.specs.List.{repeat};
@@ -24,7 +25,8 @@ use std::alloc::{AllocError, Global};
 use std::marker::{Brand, Model};
 
 /// A hash table, shared by threads, that gives a number (the index of a slot) to each key that is
-/// entered, and keeps the least game that was marked at each number. This is the project's own.
+/// entered, and keeps the least game that was marked at each number (noted there by `mark`). This
+/// table is the project's own design.
 ///
 /// Each key gets a number when it is first entered, and keeps it for ever. The word of a number's
 /// key and that of its least game lie side by side, so mostly in one cache line. Contracts see
@@ -98,9 +100,10 @@ impl<O: ProbeOrder> SlotTable<O> {
     /// proofs the new pass has seen the calls that `pass` has seen, and has made no call. It takes
     /// no memory.
     ///
-    /// The new pass has a half of the first piece of the stake of `pass` (how much of the whole
-    /// right it is), and `pass` keeps the rest. Only `meet` and `absorb` give the half back, with
-    /// the calls that were made by the new pass.
+    /// The stake of `pass` (how much of the whole right it is) is a list of pieces, each 1/2^e of
+    /// that right for some e. The new pass has a half of its first piece, and `pass` keeps the
+    /// rest. Only `meet` and `absorb` give the half back, with the calls that were made by the new
+    /// pass.
     ///
     /// The pass must be of this table.
     pub fn split(&self, pass: &mut Pass<O>) -> Pass<O>
@@ -118,7 +121,8 @@ impl<O: ProbeOrder> SlotTable<O> {
         }
     }
 
-    /// Makes a call (enters or looks up a key), takes all its steps and returns the answer.
+    /// Makes a call (enters or looks up a key), takes all its steps and returns the answer. `pass`,
+    /// the right to call the table, must be of this table.
     fn ask(&self, pass: &mut Pass<O>, call: Call) -> Answer
         requires pass { IsPassOf self.now pass.old }
         requires small { key_of call < 2 ^ 51 }
@@ -135,7 +139,7 @@ impl<O: ProbeOrder> SlotTable<O> {
     /// and keeps it; if none is free, the answer is `Full`. It takes no memory and waits for no
     /// other thread.
     ///
-    /// The pass must be of this table.
+    /// The pass (the right to call the table) must be of this table.
     pub fn enter(&self, pass: &mut Pass<O>, key: Key) -> Answer
         requires { IsPassOf self.now pass.old }
         ensures pass { IsPassOf self.now pass.new }
@@ -152,7 +156,7 @@ impl<O: ProbeOrder> SlotTable<O> {
     /// the answer is `Absent` if some number is free, else `Full`. It takes no memory and waits for
     /// no other thread.
     ///
-    /// The pass must be of this table.
+    /// The pass (the right to call the table) must be of this table.
     pub fn look_up(&self, pass: &mut Pass<O>, key: Key) -> Answer
         requires { IsPassOf self.now pass.old }
         ensures pass { IsPassOf self.now pass.new }
@@ -166,8 +170,9 @@ impl<O: ProbeOrder> SlotTable<O> {
         self.ask(pass, Call::LookUp(key))
     }
 
-    /// Loads the slot at this index of the key's probe order, as a step of the key's `enter`, and
-    /// returns the index with the word found there.
+    /// Loads the slot at this `index` of the key's probe order, as a step of the key's `enter`, and
+    /// returns the index with the word found there. The slots at lesser indices must have other
+    /// keys.
     pub(crate) fn look(&self, pass: &mut Pass<O>, key: Key, index: usize) -> Look
         requires pass { IsPassOf self.now pass.old }
         requires index { index < self.now.slots }
@@ -218,7 +223,8 @@ impl<O: ProbeOrder> SlotTable<O> {
     /// Returns the key that has this number, or None if the number is free, by one load. It takes
     /// no memory and waits for no other thread.
     ///
-    /// The pass must be of this table, and the number below the number of slots.
+    /// The pass (the right to call the table) must be of this table, and the number below the
+    /// number of slots.
     pub fn word_at(&self, pass: &mut Pass<O>, number: usize) -> Option<Key>
         requires pass { IsPassOf self.now pass.old }
         requires number { number < self.now.slots }
@@ -269,8 +275,8 @@ impl<O: ProbeOrder> SlotTable<O> {
     /// Marks a game at a number (a slot), by one atomic step: the number's least game becomes
     /// `game` if it had none or a greater one. It takes no memory and waits for no other thread.
     ///
-    /// The pass must be of this table, the number below the number of slots, and the game not
-    /// 2^64 - 1. The number need not be taken.
+    /// The pass (the right to call the table) must be of this table, the number below the number of
+    /// slots, and the game not 2^64 - 1. The number need not be taken.
     pub fn mark(&self, pass: &mut Pass<O>, number: usize, game: u64)
         requires pass { IsPassOf self.now pass.old }
         requires number { number < self.now.slots }
@@ -287,8 +293,8 @@ impl<O: ProbeOrder> SlotTable<O> {
     /// Returns the least game that was marked at the number (a slot) by `mark`, or None if none
     /// was, by one load. It takes no memory and waits for no other thread.
     ///
-    /// The pass must be of this table, and the number below the number of slots. The number need
-    /// not be taken.
+    /// The pass (the right to call the table) must be of this table, and the number below the
+    /// number of slots. The number need not be taken.
     pub fn first(&self, pass: &mut Pass<O>, number: usize) -> Option<u64>
         requires pass { IsPassOf self.now pass.old }
         requires number { number < self.now.slots }

@@ -12,7 +12,7 @@ use std::marker::{Brand, PhantomData};
 pub struct View<O> {
     /// The order in which slots are probed; None once this view was merged into another.
     pub order: Option<O>,
-    /// A history of the table, as far as the seat has seen it.
+    /// A history of the table (its calls with their answers), as far as the seat has seen it.
     pub seen: LinkedList<Happened>,
     /// The indices, in `seen`, of the seat's own calls.
     pub mine: LinkedList<usize>,

@@ -1,4 +1,6 @@
-//! Counts an input by several workers over one table, and makes its dictionary.
+//! Counts an input by several workers over one table, and makes its dictionary. A pass is the right
+//! to call the table, a share is what one worker has counted, and a row of it the counts of one
+//! pattern.
 ghost use Rattle.std.specs.Prelude.{◌≡◌, ◌≢◌, ◌⊎◌, ◌*◌, ◌<◌, ◌≤◌, ◌++◌, ◌∷◌, [], ℕ, List};
 ghost use Rattle.std.specs.Prelude.{length, max, min, All, Contains, MatchResult, IfOk, IfErr, IfSome};
 ghost use Rattle.std.specs.Prelude.{Some};
@@ -148,8 +150,8 @@ fn conclude<R: Threads + Sync, O: ProbeOrder>(
     }
 }
 
-/// Returns the capacity of the job queue for this number of workers: 16 jobs for each, but at least
-/// 16 and at most 128.
+/// Returns the capacity of the queue of jobs (games to count) for this number of workers: 16 jobs
+/// for each, but at least 16 and at most 128.
 fn places_for(workers: u8) -> usize
     ensures places { result ≡ min 128 (16 * max 1 workers) }
     ensures least { 16 ≤ result }
@@ -176,13 +178,13 @@ fn stakes_come_together()
 /// Returns the dictionary of its games, which are numbered from 0 in their order, and the report on
 /// its trees. `count_plain`, which counts in one thread, returns the same, whatever the table, the
 /// gate (what is called before each game), the number of workers and the order in which their steps
-/// happen. This is the project's own.
+/// happen. This way to count is the project's own.
 ///
 /// The calling thread reads, and counts the games for which the job queue has no room. As many
-/// workers as the settings say count the games that they take from the queue. The number of slots
-/// in the settings is ignored: the table has its own. It takes memory for a queue of at most 128
-/// games, for each thread for the largest tree and its record, the board and the patterns of its
-/// games, and for the dictionary.
+/// workers as the settings say, in threads that `rt` starts, count the games that they take from
+/// the queue. The number of slots in the settings is ignored: the table has its own. It takes
+/// memory for a queue of at most 128 games, for each thread for the largest tree and its record,
+/// the board and the patterns of its games, and for the dictionary.
 ///
 /// `pass` (the right to call the table) must be of the table, which may have numbers already.
 /// Afterwards `pass` has made the calls of all threads: they entered patterns of the input alone,
@@ -191,16 +193,16 @@ fn stakes_come_together()
 ///
 /// # Errors
 ///
-/// `Sgf` with S4 if the input has more than 2^28 bytes, and then nothing was done to the table.
-/// Else `Memory` if memory was refused or a worker was not started. Else `Sgf` with the first fault
-/// of syntax. Else `Full` with a game and one of its patterns for which no number (slot) was free,
-/// if the input has as many other patterns as the table has numbers. If nobody else uses the table,
-/// there is no other fault.
+/// `Sgf` with `SgfFault::TooLarge` if the input has more than 2^28 bytes, and then nothing was done
+/// to the table. Else `Memory` if memory was refused or a worker was not started. Else `Sgf` with
+/// the first fault of syntax. Else `Full` with a game and one of its patterns for which no number
+/// (slot) was free, if the input has as many other patterns as the table has numbers. If nobody
+/// else uses the table, there is no other fault.
 ///
 /// If somebody else uses it, there are two more. `Stranger` if the table is full: it names the
-/// least number whose key is no pattern that was counted, so that somebody else entered it and no
-/// share has a row of it. `Marks` if all games were counted: it names a number with a least game
-/// that somebody else marked, and the shares' least game there, which is another.
+/// least number whose key is not the word of a pattern of which a share has a row: somebody else
+/// entered it. `Marks` if all games were counted: it names a number with a least game that somebody
+/// else marked, and the shares' least game there, which is another.
 ///
 /// After each fault the table keeps the numbers and marks that it got.
 pub fn harvest_on<R: Threads + Wait + Sync, O: ProbeOrder, G: Gate>(
@@ -227,6 +229,8 @@ where
     ensures alone { IsWhole pass.old.stake → calls_of pass.old ≡ []
         → IfErr result (IsRefusedAlone table.now.slots bytes.now settings.kinds) }
 {
+    // For the proof: once all passes that were split off are merged again, `pass` has the stake
+    // that it had.
     stakes_come_together();
     let games = Games::new(bytes)?;
     let (queue, seat) = new_queue(alloc, places_for(settings.workers()))?;

@@ -1,4 +1,5 @@
-//! Several workers count a collection, game by game, over a table that somebody else made.
+//! Several workers count a collection, game by game, over a hash table that numbers patterns by its
+//! slots, and that the caller made.
 //!
 //! Faults are reported in this order: out of memory, of the thread that reads or of any worker;
 //! faults of the input; among the games that were refused `Full` of the least game, then

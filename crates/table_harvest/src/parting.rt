@@ -10,7 +10,7 @@ use std::alloc::{AllocError, Global};
 use table_shares::Share;
 
 /// The shares of all workers (what each has counted), and for each worker that refused a game the
-/// fault of the first one.
+/// fault of the first game that it refused.
 #[derive(Drop)]
 pub(crate) struct Parted {
     pub shares: Vec<Share>,

@@ -1,5 +1,6 @@
-//! The thread that reads: it makes a job for each game and adds it to the job queue. If the queue
-//! is full, it counts the game itself.
+//! The thread that reads: it makes a job (a game to count) for each game and adds it to the queue.
+//! If the queue is full, it counts the game itself. An endpoint is a thread's access to the queue;
+//! an end is the item at which one worker stops.
 ghost use Rattle.std.specs.Prelude.{◌≡◌, ◌+◌, ◌≤◌, ◌⊎◌, ◌↔◌, [], true, None};
 ghost use Rattle.std.specs.Prelude.{IsTrue, IfErr, OnOk};
 ghost use Rattle.job_core.specs.declared.items.Item.TheVariants as item;
@@ -29,7 +30,7 @@ use std::thread;
 use tally_core::Report;
 
 /// Adds a job to the queue, or counts its game in this thread, into `worked`, if the queue is full.
-/// `own` is this thread's end of the queue, with the table.
+/// `own` is this thread's endpoint at the queue, with the table and the right to call it.
 fn offer<'a, R: Wait, O: ProbeOrder, G: Gate>(
     rt: &R,
     own: &mut Worker<'_, 'a, '_, O, G>,
@@ -59,6 +60,7 @@ fn offer<'a, R: Wait, O: ProbeOrder, G: Gate>(
     match own.endpoint.put(rt, Item::Job(job)) {
         Ok(()) => (),
         Err(Item::Job(back)) => worked.count(own.table, &mut own.pass, own.gate, &back),
+        // `put` gives back the item that it was given, a job, so this does not occur.
         Err(Item::End) => (),
     }
 }
@@ -71,8 +73,9 @@ fn wants_memory(worked: &Worked) -> bool
 }
 
 /// Reads all games of an input, from the first. Each is added to the queue for the workers, or
-/// counted here, into `worked`, if the queue is full. `Memory` if memory was refused, also for a
-/// game that was counted here; else `Sgf` with the first fault of syntax. Reading ends at either.
+/// counted here, into `worked`, if the queue is full. `own` is this thread's endpoint at the queue,
+/// with the table. `Memory` if memory was refused, also for a game that was counted here; else
+/// `Sgf` with the first fault of syntax. Reading ends at either.
 fn read_all<'a, R: Wait, O: ProbeOrder, G: Gate>(
     rt: &R,
     alloc: Global,
@@ -138,8 +141,8 @@ pub(crate) fn close<R: Wait>(rt: &R, endpoint: &mut Endpoint<'_, '_>, workers: u
 }
 
 /// What `read_games` returns: what the reading thread has counted itself (`worked`), the report on
-/// the input's trees, the `fault` that ended the reading, if any, and the thread's end of the queue
-/// with its pass, its right to call the table (`own`).
+/// the input's trees, the `fault` that ended the reading, if any, and the thread's endpoint at the
+/// queue with its pass, its right to call the table (`own`).
 #[derive(Drop)]
 pub(crate) struct Reading<'q, 'a, 't, O: ProbeOrder, G: Gate> {
     pub worked: Worked,
@@ -149,8 +152,9 @@ pub(crate) struct Reading<'q, 'a, 't, O: ProbeOrder, G: Gate> {
 }
 
 /// Reads all games, each of which is added to the queue or counted here, and then adds an end for
-/// each of the `workers` workers that were started. It waits for the workers to take items while
-/// the queue has no room for an end. A fault is in the result: the ends are added then too.
+/// each of the `workers` workers that were started. While the queue has no room for an end, it
+/// waits until workers have taken items. A fault is returned in the result; the ends are added then
+/// too.
 pub(crate) fn read_games<'q, 'a, 't, R: Wait, O: ProbeOrder, G: Gate>(
     rt: &R,
     alloc: Global,

@@ -23,9 +23,9 @@ pub(crate) struct Results<O> {
     pub pass: Pass<O>,
 }
 
-/// Appends what each worker has counted to `worked`, in the order of `all`. The workers' ends of
-/// the queue and their passes (parts of the right to call the table) become parts of those of
-/// `own`. `AllocError` if memory was refused.
+/// Appends what each worker has counted to `worked`, in the order of `all`. The workers' endpoints
+/// (their accesses to the queue) and passes (their rights to call the table) are merged into those
+/// of `own`. `AllocError` if memory was refused.
 pub(crate) fn take_up<'q, 'a, O: ProbeOrder, G: Gate>(
     own: &mut Worker<'q, 'a, '_, O, G>,
     worked: &mut Vec<Worked>,

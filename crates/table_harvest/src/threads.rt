@@ -28,8 +28,9 @@ use std::thread;
 use std::thread::{Promise, PromisedHandle, Threads};
 
 /// What the reading thread holds before it starts workers: the reader of the input's games
-/// (`games`), its end of the queue and the table (`own`), and, for the proof alone, its pass (its
-/// right to call the table) before parts of it were given to workers (`begun`).
+/// (`games`), its endpoint at the queue (its access to it) and the table (`own`), and, for the
+/// proof alone, its pass (its right to call the table) before parts of it were given to workers
+/// (`begun`).
 #[derive(Drop)]
 pub(crate) struct Caller<'q, 'a, 't, O: ProbeOrder, G: Gate> {
     pub games: Games<'a>,
@@ -100,8 +101,8 @@ impl<'q, 'a, 't, O: ProbeOrder, G: Gate> Caller<'q, 'a, 't, O, G> {
         Caller { games, own, begun }
     }
 
-    /// Makes the worker with this number. It gets an end of the job queue, and a half of this
-    /// thread's pass (its right to call the table).
+    /// Makes the worker with this number. It gets an endpoint at the job queue (access to it), and
+    /// a pass (a right to call the table) that is split off this thread's.
     fn another(&mut self, number: usize) -> Worker<'q, 'a, 't, O, G>
         requires pass { IsPassOf self.old.own.table.now self.old.own.pass }
         requires parts { 1 < self.old.own.endpoint.parts }
@@ -132,8 +133,8 @@ impl<'q, 'a, 't, O: ProbeOrder, G: Gate> Caller<'q, 'a, 't, O, G> {
 }
 
 /// Reads all games while `started` workers count. If fewer were started than `own.workers`, nothing
-/// is read: an end, at which a worker stops, is added to the queue for each, and the fault is
-/// `Memory`.
+/// is read: an end, at which a worker stops, is added to the queue for each that was started, and
+/// the fault is `Memory`.
 fn finish<'q, 'a, 't, R: Wait, O: ProbeOrder, G: Gate>(
     rt: &R,
     alloc: Global,
@@ -184,8 +185,9 @@ fn theirs<'q, 'a, 't, R: Threads, O: ProbeOrder, G: Gate>(
     }
 }
 
-/// Waits for all workers, and returns their results, followed by `reading`, that of the thread that
-/// reads. `AllocError` if memory was refused. `begun` is used in contracts only.
+/// Waits for all workers, by the `handles` of their threads, and returns their results, followed by
+/// `reading`, that of the thread that reads. `AllocError` if memory was refused. `begun` is used in
+/// contracts only.
 fn joined<'q, 'a, 't, R: Threads, O: ProbeOrder, G: Gate>(
     rt: &R,
     alloc: Global,
@@ -217,6 +219,8 @@ fn joined<'q, 'a, 't, R: Threads, O: ProbeOrder, G: Gate>(
     let mut worked = Vec::new(alloc);
     take_up(&mut own, &mut worked, all)?;
     if fault.is_none() {
+        // For the proof: all endpoints are merged into this one, so each game was taken from the
+        // queue as often as it was added.
         own.endpoint.settle();
     }
     worked.push(mine)?;
@@ -234,11 +238,11 @@ impl<'q, 'a, 't, O: ProbeOrder, G: Gate> Caller<'q, 'a, 't, O, G> {
     ghost use Rattle.table_harvest.specs.Working.{IsReturned};
     ghost use Rattle.table_harvest.specs.Inner.Threads.{IsCaller, AreResults, AreAsked};
 
-    /// Starts the workers, reads all games, and waits for the workers. Returns what each thread has
-    /// counted, one entry for each: those of the workers in the order of their numbers, and then
-    /// that of this thread. `fault` of the results is why this thread did not read all games, or
-    /// None: it is `Memory`, and nothing was read, if fewer workers than were asked for could be
-    /// started. `AllocError` if memory was refused for the results.
+    /// Starts the workers, in threads of `rt`, reads all games, and waits for the workers to end.
+    /// Returns what each thread has counted, one entry for each: those of the workers in the order
+    /// of their numbers, and then that of this thread. `fault` of the results is why this thread
+    /// did not read all games, or None: it is `Memory`, and nothing was read, if fewer workers than
+    /// were asked for could be started. `AllocError` if memory was refused for the results.
     pub(crate) fn run<R: Threads + Wait + Sync>(
         self,
         rt: &R,
@@ -270,6 +274,8 @@ impl<'q, 'a, 't, O: ProbeOrder, G: Gate> Caller<'q, 'a, 't, O, G> {
                     if handles.reserve(1).is_err() {
                         break;
                     }
+                    // For the proof alone: the next split loses nothing of the right to call the
+                    // table.
                     splits_lose_no_stake();
                     let worker = caller.another(started + 1);
                     let promise = back_to(&worker);

@@ -1,4 +1,5 @@
-//! A worker: it takes jobs from the queue and counts their games until it takes an end.
+//! A worker: it takes jobs from the queue and counts their games until it takes an end, the sign
+//! that no job is left. An endpoint is a thread's access to the queue.
 ghost use Rattle.slot_table.specs.Passes.{IsPassOf};
 ghost use Rattle.table_harvest.specs.Working.{IsReturned};
 
@@ -12,12 +13,12 @@ use std::alloc::Global;
 use std::sync::Wait;
 use std::thread;
 
-/// What one thread works with: its end of the job queue, the table with a pass (the right to call
-/// it), and the gate (what is called before each game).
+/// What one thread works with: its endpoint at the job queue, the table with a pass (the right to
+/// call it), and the gate (what is called before each game).
 #[derive(Drop)]
 pub struct Worker<'q, 'a, 't, O: ProbeOrder, G: Gate> {
-    /// The end of the job queue from which the worker takes jobs, or to which the thread that reads
-    /// adds them.
+    /// The access to the job queue: by it the worker takes jobs, or the thread that reads adds
+    /// them.
     pub endpoint: Endpoint<'q, 'a>,
     /// The table that numbers the patterns.
     pub table: &'t SlotTable<O>,
@@ -33,8 +34,8 @@ pub struct Worker<'q, 'a, 't, O: ProbeOrder, G: Gate> {
     pub kinds: Kinds,
 }
 
-/// What a worker hands back: what it has counted, its end of the job queue, and its pass (its right
-/// to call the table).
+/// What a worker hands back: what it has counted, its endpoint at the job queue, and its pass (its
+/// right to call the table).
 #[derive(Drop)]
 pub struct Returned<'q, 'a, O> {
     pub worked: Worked,
@@ -43,10 +44,10 @@ pub struct Returned<'q, 'a, O> {
 }
 
 /// Runs a worker: it takes jobs from the queue and counts their games, until it takes an end, and
-/// then returns what it has counted, with its end of the queue and its pass. It adds nothing to the
-/// queue, and enters into the table and marks there nothing except for the games that it took. It
-/// waits while the queue is empty, and lets other threads run. Once a game was refused it still
-/// takes jobs, and drops them.
+/// then returns what it has counted, with its endpoint at the queue and its pass. It adds nothing
+/// to the queue. It enters into the table only patterns of the games that it took, and marks only
+/// these games there (notes them as the least of their patterns). It waits while the queue is
+/// empty, and lets other threads run. Once a game was refused it still takes jobs, and drops them.
 ///
 /// The worker's pass (its right to call the table) must be of its table. It takes memory for what
 /// it counts, and for the board and the patterns of one game.

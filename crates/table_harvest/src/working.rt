@@ -46,9 +46,10 @@ impl Worked {
 
     /// Counts the game of a job, after a call of the `gate` (what is called before each game). By
     /// `pass`, the right to call the table, it enters patterns of this game alone into the table,
-    /// and marks this game alone, at numbers of its own patterns. If the game can't be counted,
-    /// `refused` gets the fault. Once a game was refused nothing changes: the job is ignored. The
-    /// jobs' games must have rising numbers, so that the share has each once.
+    /// and marks this game alone (notes it as the least), at numbers (slots) of its own patterns.
+    /// If the game can't be counted, `refused` gets the fault. Once a game was refused nothing
+    /// changes: the job is ignored, and the gate is not called. The jobs' games must have rising
+    /// numbers, so that the share has each once.
     pub fn count<O: ProbeOrder, G: Gate>(
         &mut self,
         table: &SlotTable<O>,

@@ -14,7 +14,8 @@ use shape_dict::{Dictionary, Entry, put_in_order};
 use std::thread::Threads;
 use tally_core::has_diamonds;
 
-/// Returns the moves of all shares together, or `Overflow` if they pass 2^64 - 1.
+/// Returns how many moves onto empty points the games of all shares have together, or `Overflow` if
+/// they pass 2^64 - 1.
 fn moves_of(shares: &[Share]) -> Result<u64, HarvestFault>
     ensures ok { IfOk result (λ moves. moves ≡ all_moves shares.now) }
     ensures shares { OnOk result (All IsShare shares.now) }
@@ -23,6 +24,8 @@ fn moves_of(shares: &[Share]) -> Result<u64, HarvestFault>
 {
     let mut moves: u64 = 0;
     for share in shares {
+        // For the proof alone: by the contract of `games` the sums of a share are those of its
+        // games.
         let _ = share.games();
         let Some(more) = moves.checked_add(share.moves()) else {
             return Err(HarvestFault::Overflow);
@@ -33,9 +36,9 @@ fn moves_of(shares: &[Share]) -> Result<u64, HarvestFault>
 }
 
 /// Makes the dictionary of all shares (a share is what one worker has counted). `listed` are the
-/// dictionary's entries, in any order: the sums of the shares' counts by pattern. Threads put them
-/// in order. Each share must have counted patterns of these `kinds`, and the shares must together
-/// have each game below `games` once. It takes no memory.
+/// dictionary's entries, in any order: the sums of the shares' counts by pattern. Threads that `rt`
+/// starts put them in order. Each share must have counted patterns of these `kinds`, and the shares
+/// must together have each game below `games` once. It takes no memory.
 ///
 /// # Errors
 ///
@@ -55,7 +58,7 @@ pub(crate) fn add_up<R: Threads + Sync>(
     ensures fault { IfErr result (λ found. (found ≡ fault.Overflow)
         × (2 ^ 64 ≤ all_moves shares.now)) }
 {
-    // A canonical word is of the kind that was looked at.
+    // For the proof: a canonical word is of the kind (square or diamond) of the word it is made of.
     kinds_stay();
     let moves = moves_of(shares)?;
     let entries = put_in_order(rt, shares.len(), listed);

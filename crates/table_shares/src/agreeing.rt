@@ -1,4 +1,5 @@
-//! Whether the least game that the table has for each pattern is the least that workers counted.
+//! Compares, for each pattern, the least game (the least number of a game) that the table has for
+//! it with the least game in which workers counted it.
 ghost use Rattle.std.specs.Prelude.{◌≡◌, ◌+◌, ◌<◌, List};
 ghost use Rattle.slot_table.specs.Passes.{Known, IsPassOf};
 ghost use Rattle.gather_core.specs.declared.rows.Row.{Row};
@@ -21,7 +22,8 @@ pub(crate) struct Differs {
     pub of_table: Option<u64>,
 }
 
-/// Returns the fault `Marks` with the pattern's number and the two least games of `differs`.
+/// Returns the fault `Marks` (the least games of a pattern differ) with the pattern's number and
+/// the two least games of `differs`.
 pub(crate) fn marks_fault(differs: Differs) -> HarvestFault
     ensures { result ≡ fault.Marks differs.number differs.of_shares differs.of_table }
 {
@@ -33,8 +35,9 @@ pub(crate) fn marks_fault(differs: Differs) -> HarvestFault
 }
 
 /// Compares the least game that the table has for the pattern in slot `number` with `of_shares`,
-/// the least one that workers counted. If they differ, `differs` is set to this number and both
-/// games. If `differs` is set already, by a lesser number, nothing is done.
+/// the least one that workers counted. `pass` is the right to call the table. If the games differ,
+/// `differs` is set to this number and both games. If `differs` is set already, by a lesser number,
+/// nothing is done.
 #[tactic(auto, using(gather_core::proofs::Calls::calls_self))]
 pub(crate) fn compare<O: ProbeOrder>(
     table: &SlotTable<O>,

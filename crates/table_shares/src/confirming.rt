@@ -1,4 +1,5 @@
-//! Finds out why the table had no number for a pattern.
+//! Finds out why the table had no number (no free slot) for a pattern, from the rows of all shares
+//! (what each worker has counted).
 ghost use Rattle.std.specs.Prelude.{◌≡◌, ◌⊎◌, [], Some};
 ghost use Rattle.std.specs.Bool.{OnTrue, OnFalse};
 ghost use Rattle.slot_table.specs.Passes.{IsPassOf, IsLater};

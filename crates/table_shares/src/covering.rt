@@ -65,7 +65,7 @@ fn seen_of(alloc: Global, games: u64, shares: &[Share]) -> Result<Seen, HarvestF
 }
 
 /// Checks that each game below `games` was seen once. `Twice` with the least game that was seen
-/// more often; else `Missing` with the least one that was not seen.
+/// more than once; else `Missing` with the least one that was not seen.
 fn judge(seen: &Seen, games: u64) -> Result<(), HarvestFault>
     requires { length seen.now.games.items ≡ games }
     ensures ok { OnOk result ((list : List ℕ) → AreNoted list seen.now → Covers games list) }
@@ -84,7 +84,7 @@ fn judge(seen: &Seen, games: u64) -> Result<(), HarvestFault>
 }
 
 /// Checks that each game below `games` is in one share, once. `Twice` with the least game that the
-/// shares have more often; else `Missing` with the least one that they don't have. `Memory` if
+/// shares have more than once; else `Missing` with the least one that they don't have. `Memory` if
 /// memory was refused.
 pub(crate) fn check_games(alloc: Global, games: u64, shares: &[Share]) -> Result<(), HarvestFault>
     requires { All (λ share. All (λ game. game < games) share.games) shares.now }

@@ -1,4 +1,5 @@
-//! Enters a game's patterns into the table, and at last notes the game at each pattern's number.
+//! Enters a game's patterns into the table, each by its key (the pattern's word), and at last notes
+//! the game at each pattern's number (slot). A pass is the right to call the table.
 ghost use Rattle.std.specs.Prelude.{◌≡◌, ◌-◌, ◌^◌, ◌<◌, length, IfSome, IfNone, IfErr, OnOk, OnErr};
 ghost use Rattle.slot_table.specs.Batches.{entered, AreMade, AreTold, AreEnteredUntil};
 ghost use Rattle.slot_table.specs.Passes.{IsPassOf};

@@ -1,4 +1,5 @@
-//! Merges shares (what each worker has counted) into a dictionary.
+//! Merges shares (what each worker has counted) into a dictionary, and checks them against the
+//! table.
 ghost use Rattle.std.specs.Prelude.{◌≡◌, ◌<◌, All, OnOk, IfOk, IfErr};
 ghost use Rattle.slot_table.specs.Passes.{IsPassOf};
 ghost use Rattle.table_shares.specs.Agreeing.{AskedAll};
@@ -31,9 +32,9 @@ use std::thread::Threads;
 ///
 /// The table is asked for the pattern at each number (slot) once, in rising order. It is asked for
 /// the pattern's least game too, until one is not that of the shares: those after it are not
-/// checked. The table isn't changed. The calling thread asks and adds up. Then threads sort the
-/// dictionary: as many as there are shares, rounded up to a power of two, but at most 64. The
-/// answer is the same for any number.
+/// checked. The table isn't changed. The calling thread asks and adds up. Then threads that `rt`
+/// starts sort the dictionary: as many as there are shares, rounded up to a power of two, but at
+/// most 64. The answer is the same for any number.
 ///
 /// `pass` (the right to call the table) must be of the table. Each share must have counted these
 /// `kinds` of pattern, and each of its games must be below `games`.

@@ -1,5 +1,6 @@
-//! Laws of shares over a table, for proofs in the crates above. Each is a function that does
-//! nothing, and its contract is the law.
+//! Laws of shares (what workers have counted) over a table, for proofs in crates that use this one.
+//! Each is a function that does nothing, and its contract is the law. In contracts `seen` and
+//! `history` are lists of calls of the table with their answers.
 ghost use Rattle.std.specs.Prelude.{◌≡◌, ◌≢◌, ℕ, List, AllPairs, All, Contains, length, Option};
 ghost use Rattle.go_record.specs.Actions.{Actions};
 ghost use Rattle.slot_table.specs.declared.entries.Happened.{Happened};

@@ -1,4 +1,5 @@
-//! Finds the row of the least number (slot of the table) among the rows that meet a condition.
+//! Finds the row of the least number (slot of the table) among all shares' rows that meet a
+//! condition. A share is what one worker has counted, and a row of it the counts of one pattern.
 ghost use Rattle.std.specs.Prelude.{◌++◌, ◌∷◌, [], List};
 ghost use Rattle.std.specs.Bool.{OnTrue, OnFalse};
 ghost use Rattle.gather_core.specs.declared.rows.Row.{Row};
@@ -12,7 +13,7 @@ use gather_core::Row;
 /// table).
 #[derive(Clone, Copy)]
 pub(crate) enum Sought {
-    /// The rows of the pattern with these bits.
+    /// The rows of the pattern whose word has these bits.
     Pattern(u64),
     /// The rows of this number and of greater ones.
     From(usize),
@@ -30,7 +31,7 @@ fn is_sought(sought: Sought, number: usize, bits: u64) -> bool
     }
 }
 
-/// Returns `row` if it is looked for and its number is below that of `least`, or `least` is None.
+/// Returns `row` if `sought` asks for it, and `least` is None or has a greater number than `row`.
 /// Else it returns `least`, which was found before.
 fn lesser(least: Option<Row>, row: Row, sought: Sought) -> Option<Row>
     ensures { (rows : List Row) → IsLeastSought sought rows least
@@ -52,7 +53,7 @@ fn lesser(least: Option<Row>, row: Row, sought: Sought) -> Option<Row>
 }
 
 /// Returns the row of the least number among `least`, the one found so far, and the rows of `more`
-/// that are looked for. If several have that number, it is the first.
+/// that `sought` asks for. If several have that number, it is the first.
 fn least_in(least: Option<Row>, more: &[Row], sought: Sought) -> Option<Row>
     ensures { (rows : List Row) → IsLeastSought sought rows least
         → IsLeastSought sought (rows ++ more.now) result }
@@ -64,8 +65,8 @@ fn least_in(least: Option<Row>, more: &[Row], sought: Sought) -> Option<Row>
     found
 }
 
-/// Returns, of the rows of all shares that are looked for, the one of the least number, and the
-/// first one if several have it. None if no row is looked for.
+/// Returns, of the rows of all shares that `sought` asks for, the one of the least number, and the
+/// first one if several have it. None if it asks for no row that they have.
 pub(crate) fn least_of(shares: &[Share], sought: Sought) -> Option<Row>
     ensures { IsLeastSought sought (all_rows shares.now) result }
 {

@@ -33,7 +33,8 @@ fn weight(meetings: &[Meeting]) -> Option<u64>
 }
 
 /// Adds the counts of each meeting (a pattern that the game has, with its counts) to the row of
-/// that pattern. `answers[i]` is the table's answer for `meetings[i]`: the number of its row.
+/// that pattern. `answers[i]` is the table's answer for `meetings[i]`: the number (slot) of its
+/// row. `game` is the number of the game.
 fn raise_all(rows: &mut Rows, meetings: &[Meeting], answers: &[Answer], game: u64)
     requires rows { AreRowed meetings.now answers.now rows.old }
     requires game { game < most_bytes }

@@ -1,5 +1,6 @@
 //! Sums up all shares' rows under one number (slot of the table): their least game, and a pattern
-//! that differs, if any.
+//! that differs, if any. A share is what one worker has counted, and a row of it the counts of one
+//! pattern.
 ghost use Rattle.std.specs.Prelude.{◌≡◌, ◌++◌, ℕ, List, Some};
 ghost use Rattle.gather_core.specs.declared.rows.Row.{Row};
 ghost use Rattle.gather_core.specs.Rows.{earlier};

@@ -15,7 +15,8 @@ use std::collections::BTreeMap;
 use std::marker::Model;
 use tally_core::Meeting;
 
-/// Returns a row whose counts are 0 and which has no game yet.
+/// Returns a row of the pattern `shape` under this `number` (slot), whose counts are 0 and which
+/// has no game yet.
 fn blank_row(number: usize, shape: Shape) -> Row
     ensures { result ≡ blank number shape }
 {
@@ -184,8 +185,9 @@ impl Rows {
         Ok(())
     }
 
-    /// Adds a game's `meeting` (a pattern with its counts) to the row of the number in `found`, the
-    /// table's answer for that pattern. If the answer is no number, nothing is done.
+    /// Adds the counts of a `meeting` (a pattern of the game with number `game`) to the row of the
+    /// number in `found`, the table's answer for that pattern. If the answer is no number, nothing
+    /// is done.
     pub fn raise(&mut self, found: Answer, meeting: Meeting, game: u64)
         requires row { HasRowFor self.old found meeting.shape }
         requires fits { weight_of self.old + (meeting.there + meeting.played) < 2 ^ 64 }

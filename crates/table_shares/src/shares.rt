@@ -25,7 +25,9 @@ use std::marker::Model;
 #[derive(Drop)]
 pub struct Share {
     worker: usize,
+    /// Buffers for the game that is being added, with the kinds of pattern.
     workings: Workings,
+    /// The games, their moves and the rows.
     ledger: Ledger,
 }
 
@@ -131,7 +133,7 @@ impl Share {
         ensures rows { result ≡ record { rows = self.now.rows; from = 0 } }
         ensures numbers { AreOfNumbers self.now.rows }
     {
-        // The contract of `made_rows` says that no two rows are of one number.
+        // For the proof alone: by the contract of `made_rows` no two rows are of one number.
         let _ = self.made_rows();
         ShareRows::new(&self.ledger.rows)
     }

@@ -1,5 +1,5 @@
-//! Finds rows whose numbers are beyond the table, and turns the table's keys into words of
-//! patterns.
+//! Finds rows of shares (one pattern's counts each) whose numbers (slots) are beyond the table, and
+//! turns the table's keys into words of patterns.
 ghost use Rattle.std.specs.Prelude.{◌≡◌, ◌^◌, ◌<◌, IfSome, OnOk, IfErr};
 ghost use Rattle.gather_core.specs.Gathering.{all_rows};
 ghost use Rattle.table_shares.specs.Inner.Checking.{IsBeyondFault};
@@ -28,7 +28,7 @@ pub(crate) fn word_of(bits: Option<u64>) -> Option<Word>
 }
 
 /// Checks that the numbers of all shares' rows are below `slots`, the number of the table's slots.
-/// If some are not, it returns `Stranger` with the least of these.
+/// If some are not, it returns `Stranger` with the least of these and its pattern.
 pub(crate) fn check_beyond(shares: &[Share], slots: usize) -> Result<(), HarvestFault>
     ensures ok { OnOk result (AreBelow slots (all_rows shares.now)) }
     ensures fault { IfErr result (IsBeyondFault slots (all_rows shares.now)) }

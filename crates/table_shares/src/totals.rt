@@ -1,4 +1,5 @@
-//! Adds up each pattern's rows in all shares, and lists the totals of all patterns.
+//! Adds up each pattern's rows in all shares, and lists the totals of all patterns. A share is what
+//! one worker has counted, and a row of it the counts of one pattern.
 ghost use Rattle.std.specs.Prelude.{◌≡◌, ◌^◌, ◌<◌, ◌≤◌, ◌++◌, ℕ, List, None, Some, IfSome, IfNone};
 ghost use Rattle.std.specs.Prelude.{IfOk, IfErr};
 ghost use Rattle.range_core.specs.Entries.{IsShape};

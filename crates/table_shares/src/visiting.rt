@@ -1,5 +1,6 @@
 //! Visits each number (slot) of a table once, in rising order, and compares the table's pattern and
-//! least game with those of the shares' rows (one pattern's counts each).
+//! least game with those of the shares' rows (a share is what one worker has counted, a row of it
+//! one pattern's counts). A pass is the right to call the table.
 ghost use Rattle.std.specs.Prelude.{◌+◌, ◌<◌, IfErr, IfOk, OnOk};
 ghost use Rattle.slot_table.specs.Passes.{Known, IsPassOf};
 ghost use Rattle.table_shares.specs.Asking.{AsksOnly};
@@ -17,8 +18,9 @@ use probe_core::ProbeOrder;
 use slot_table::{Pass, SlotTable};
 
 /// Compares the pattern and the least game that the table has in slot `number` with those of the
-/// shares' rows of that number. `Stranger` if a row is of another pattern. If the least games
-/// differ, `differs` is set, unless a lesser number has set it.
+/// shares' rows of that number. `Stranger` if a row is of another pattern than the table's, or the
+/// slot is free and there is a row. If the least games differ, `differs` is set, unless a lesser
+/// number has set it.
 fn visit<O: ProbeOrder>(
     table: &SlotTable<O>,
     pass: &mut Pass<O>,
@@ -49,7 +51,8 @@ fn visit<O: ProbeOrder>(
 
 /// Compares the pattern in each slot of the table with the shares' rows of that number, in rising
 /// order, and its least game too, until one differs. Returns that number with both games, or None
-/// if none differs. `Stranger` at the first number of which a row is of another pattern.
+/// if none differs. `Stranger` at the first number of which a row is of another pattern than the
+/// table's, or whose slot is free though there is a row.
 #[tactic(auto, using(gather_core::proofs::Calls::calls_self))]
 pub(crate) fn visit_all<O: ProbeOrder>(
     table: &SlotTable<O>,

@@ -1,4 +1,5 @@
-//! Buffers that a share needs to count a game, used again for each game.
+//! Buffers that a share (what one worker has counted) needs to count a game, used again for each
+//! game. A pass is the right to call the table.
 ghost use Rattle.std.specs.Prelude.{◌≡◌, ◌^◌, length, OnOk, IfErr};
 ghost use Rattle.table_shares.specs.Inner.Making.{AreBelow, HaveRows, Gained, IsMakingFault};
 
@@ -31,8 +32,8 @@ fn make_all(rows: &mut Rows, meetings: &[Meeting], answers: &[Answer]) -> Result
     Ok(())
 }
 
-/// What is worked out for one game: its walk, the keys of its meetings (its patterns) and the
-/// table's answers for them.
+/// What is worked out for one game: its walk (its replay, with the patterns that it met), the keys
+/// of these patterns and the table's answers for them.
 #[derive(Drop)]
 pub(crate) struct Workings {
     pub walk: Walk,
@@ -47,7 +48,7 @@ impl Workings {
     ghost use Rattle.gather_core.specs.Entering.{EntersOnly};
     ghost use Rattle.table_shares.specs.Inner.Adding.{HasFresh, IsPrepared};
 
-    /// Makes workings before any game. It takes no memory.
+    /// Makes workings before any game, for patterns of these `kinds`. It takes no memory.
     pub fn begin(alloc: Global, kinds: Kinds) -> Workings
         ensures { result.walk.kinds ≡ kinds }
     {
@@ -59,8 +60,8 @@ impl Workings {
     }
 
     /// Replays a game to list its patterns with their counts, enters them into the table, and makes
-    /// a row in `rows` for each number that they got and that has none. Returns how many moves onto
-    /// empty points the game has.
+    /// a row in `rows` for each number that they got and that has none. `game` is the number of the
+    /// game, which `Full` names. Returns how many moves onto empty points the game has.
     ///
     /// # Errors
     ///
@@ -95,7 +96,7 @@ impl Workings {
         list_keys(&mut self.keys, meetings)?;
         enter_keys(table, pass, self.keys.as_slice(), &mut self.answers)?;
         let answers = self.answers.as_slice();
-        // A table has 2^22 numbers at most.
+        // For the proof alone: a table has at most 2^22 numbers (slots).
         let _ = table.capacity().slots();
         make_all(rows, meetings, answers)?;
         match refused(answers) {

@@ -66,9 +66,10 @@ fn counted_of(
 ///
 /// # Errors
 ///
-/// `TallyFault::Sgf` with S4 if there are more than 2^28 bytes, else with the first fault of syntax
-/// in the input; `TallyFault::Memory` if memory was refused. `TallyFault::Overflow` is never
-/// returned: no count of an input that is not too large passes 2^64 - 1.
+/// `TallyFault::Sgf` with `SgfFault::TooLarge` if there are more than 2^28 bytes, else with the
+/// first fault of syntax in the input; `TallyFault::Memory` if memory was refused.
+/// `TallyFault::Overflow` is never returned: no count of an input that is not too large passes
+/// 2^64 - 1.
 pub fn count_plain(alloc: Global, kinds: Kinds, bytes: &[u8]) -> Result<Counted, TallyFault>
     ensures counted { IfOk result (IsCounted kinds bytes.now) }
     ensures fault { IfErr result (IsCountFault bytes.now) }

@@ -18,7 +18,9 @@ use std::alloc::Global;
 /// The counts of the games read so far, and how many moves onto empty points these have.
 #[derive(Drop)]
 pub struct Counter {
+    /// How often each of their patterns was there and was played, and its first game.
     pub counts: Counts,
+    /// How many moves onto empty points these games have together.
     pub moves: u64,
 }
 
@@ -42,7 +44,7 @@ impl Counter {
 
 /// Adds a game that was walked (replayed, and its patterns listed) to `counter`: the counts of its
 /// patterns, and its moves onto empty points. `TallyFault::Memory` if memory was refused; some of
-/// its patterns may be counted then.
+/// its patterns may be counted then. No count can pass 2^64 - 1, as the input is small enough.
 fn count_walked(counter: &mut Counter, walked: &WalkedGame<'_>) -> Result<(), TallyFault>
     requires small { length walked.now.job.bytes ≤ most_bytes }
     requires walked { (kinds : Kinds) × IsWalked kinds walked.now }

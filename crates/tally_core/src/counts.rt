@@ -80,7 +80,8 @@ fn counted(row: &Entry, entry: &Entry) -> Option<Entry>
 #[derive(Drop)]
 pub struct Counts {
     alloc: Global,
-    /// The slots of the hash table: rows that count something, and free rows in all other slots.
+    /// The slots of the hash table: each has the row of a pattern with its counts, or a free row,
+    /// whose counts are both 0.
     rows: Vec<Entry>,
     /// How many slots are taken, which is how many patterns have counts.
     taken: usize,
@@ -208,16 +209,19 @@ impl Counts {
         let Some(more) = counted(&row, entry) else {
             return Err(TallyFault::Overflow);
         };
-        // Its word is the least of its images.
+        // For the proof alone: the word of a shape is the least of its images (the word turned and
+        // mirrored).
         let _ = entry.shape.word();
         self.taken += is_free(&row) as usize;
         self.rows[place] = more;
         Ok(())
     }
 
-    /// Adds the counts of `rows` to `self`, which must be empty. It takes no memory. `AllocError`
-    /// means that a row was not added, for either reason: no slot is free for its pattern, or a
-    /// count would pass 2^64 - 1. The rows before it stay added.
+    /// Adds the counts of `rows`, the slots of another hash table (with free ones among them), to
+    /// `self`, which must be empty. The contract holds whatever `factor` the hash of that table
+    /// multiplies words by. It takes no memory. `AllocError` means that a row was not added, for
+    /// either reason: no slot is free for its pattern, or a count would pass 2^64 - 1. The rows
+    /// before it stay added.
     fn enter_all(&mut self, rows: &[Entry]) -> Result<(), AllocError>
         requires none { self.old ≡ [] }
         requires rows { (factor : ℕ) × AreRows factor rows.now }

@@ -91,8 +91,8 @@ impl GameWalk {
         Ok(1)
     }
 
-    /// Does an action on the board, and adds the points whose pattern words change to the points
-    /// that each colour's next move onto an empty point looks at again. It counts nothing.
+    /// Does an action on the board. The points whose pattern words it changes are noted for both
+    /// colours: the next move of each onto an empty point looks at them again. It counts nothing.
     pub fn act(&mut self, action: Action)
         requires on_board { IsActionOn self.old.field.board.size action }
         requires sides { AreSides self.old }
@@ -108,8 +108,9 @@ impl GameWalk {
             .move_changed(&mut self.black.changed, &mut self.white.changed);
     }
 
-    /// Ends the walk: adds how often the patterns that empty points have at the end were there
-    /// since they came. Returns all patterns of the game with their counts.
+    /// Ends the walk: adds, for each colour, how often the patterns that points had at its last
+    /// move onto an empty point were there since the points got them. Returns all patterns of the
+    /// game with their counts.
     pub fn finish(self) -> Meetings
         requires sides { AreSides self }
         requires few { Fit (there_both self) }

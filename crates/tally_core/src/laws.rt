@@ -24,7 +24,7 @@ pub fn dictionaries_join()
         → IsDictionaryOf kinds left of_left → IsDictionaryOf kinds right of_right
         → IsJoin of_left of_right both → IsDictionaryOf kinds (left ++ right) both }
 {
-    // A canonical word is of the kind (square or diamond) of the word it is made of.
+    // For the proof: a canonical word is of the kind (square or diamond) of the word it is made of.
     kinds_stay();
 }
 
@@ -41,6 +41,6 @@ pub fn one_first_beyond()
     ensures few { (kinds : Kinds) → (bytes : List ℕ) → (most : ℕ)
         → HasAtMost kinds bytes most → HasMore kinds bytes most → ⊥ }
 {
-    // Two replays of a game have the same positions on the board.
+    // For the proof: two replays of a game have the same positions on the board.
     replays_have_one_result();
 }

@@ -1,4 +1,5 @@
-//! The patterns that a game was found to have, in the order in which they were first met.
+//! The meetings of a game: the patterns that it was found to have, each with its counts, in the
+//! order in which they were first met.
 ghost use Rattle.std.specs.Prelude.{◌≡◌, ◌<◌, ◌+◌, ◌^◌, ℕ, length, [], ◌∷◌, IfOk, IfErr, IfSome};
 ghost use Rattle.std.specs.Prelude.{slice_index, OnOk};
 ghost use Rattle.tally_core.specs.Walk.{shapes_of, there_among, played_among};

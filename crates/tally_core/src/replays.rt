@@ -1,4 +1,5 @@
-//! Walks a game and adds what it met to counts.
+//! Walks a game (replays it and lists its patterns), and adds its patterns to the counts of all
+//! games.
 ghost use Rattle.std.specs.Prelude.{◌≡◌, ◌*◌, ◌≤◌, length, IfOk, IfErr, OnOk};
 ghost use Rattle.tally_core.specs.Inner.Counter.{count_in, CountsGame, CountsMeetings, IsMeetingsFault};
 ghost use Rattle.tally_core.specs.Inner.Counter.{GrowsBy, IsCountingFault};
@@ -38,7 +39,7 @@ pub(crate) fn count_meetings(
 /// Walks a game (replays it and lists its patterns), adds its patterns to `counts`, and returns how
 /// many moves onto empty points it has. A pattern without counts gets `game` as its first game.
 /// `TallyFault::Memory` if memory was refused, `TallyFault::Overflow` if a count would pass
-/// 2^64 - 1 or the game has more actions than any input.
+/// 2^64 - 1 or the game has more actions than any input; some of its patterns may be counted then.
 pub(crate) fn count_game(
     counts: &mut Counts,
     walk: &mut Walk,

@@ -1,4 +1,4 @@
-//! What a walk of a game stores for one colour to move.
+//! Sides: what a walk of a game (its replay, move by move) stores for one colour to move.
 ghost use Rattle.std.specs.Prelude.{◌≡◌, ◌<◌, ℕ, length, All, IfOk, IfErr};
 ghost use Rattle.tally_core.specs.Walk.{shapes_of, there_among};
 ghost use Rattle.tally_core.specs.Inner.Sight.{Fit, PlayedStays};

@@ -1,5 +1,5 @@
 //! Counts a move of one colour onto an empty point (an occasion): only the points that have changed
-//! since the last one are looked at.
+//! since the last one are looked at. A field is a board that keeps the pattern words of its points.
 ghost use Rattle.std.specs.Prelude.{◌≡◌, ◌+◌, ◌<◌, ◌^◌, ℕ, [], length, slice_index, IfErr, OnOk};
 ghost use Rattle.go_board.specs.Point.{IsOn};
 ghost use Rattle.go_board.specs.Board.{position_of};
@@ -92,11 +92,11 @@ impl Side {
         }
     }
 
-    /// Brings the points of a row that have changed up to date, and takes them out of the set
-    /// `changed`. First the pattern of each point that has a stone now ends, and its counts are
-    /// added in `meetings`. Then the pattern of each point that is empty now, from the left, is
-    /// found and begins. A point that had a stone and has one still has no pattern, so it is not
-    /// looked at. `TallyFault::Memory` if memory was refused.
+    /// Brings the points of a `row` that have changed up to date, for `mover`, whose side this is,
+    /// and takes them out of the set `changed`. First the pattern of each point that has a stone
+    /// now ends, and its counts are added in `meetings`. Then the pattern of each point that is
+    /// empty now, from the left, is found and begins. A point that had a stone and has one still
+    /// has no pattern, so it is not looked at. `TallyFault::Memory` if memory was refused.
     fn see_row(
         &mut self,
         meetings: &mut Meetings,

@@ -57,8 +57,8 @@ impl Tally {
 
 /// Counts the patterns of a game. In the position before each move onto an empty point, the
 /// canonical pattern of each empty point, with the mover to move, counts as there once, and that of
-/// the move's point counts as played too (this project's own). `kinds` says which kinds of pattern
-/// are counted.
+/// the move's point counts as played too; this definition is the project's own. `kinds` says which
+/// kinds of pattern are counted.
 ///
 /// # Errors
 ///

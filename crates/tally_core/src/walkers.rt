@@ -33,13 +33,15 @@ pub struct WalkedGame<'a> {
 #[derive(Drop)]
 pub struct Walker<'a> {
     pub alloc: Global,
+    /// The reader of the input's games.
     pub games: Games<'a>,
+    /// Replays each game, and keeps the patterns of the last one.
     pub walk: Walk,
 }
 
 impl<'a> Walker<'a> {
     /// Makes a walker at the beginning of the input `bytes`, for patterns of these `kinds`. It
-    /// takes no memory. `TallyFault::Sgf` with S4 (too large) if the input has more than 2^28
+    /// takes no memory. `TallyFault::Sgf` with `SgfFault::TooLarge` if the input has more than 2^28
     /// bytes.
     pub fn begin(alloc: Global, kinds: Kinds, bytes: &'a [u8]) -> Result<Walker<'a>, TallyFault>
         ensures kinds { IfOk result (λ walker. walker.walk.kinds ≡ kinds) }
@@ -90,8 +92,8 @@ impl<'a> Walker<'a> {
         ensures met { IfErr result (λ found. IfSome self.new.games.fault
             (λ met. found ≡ reading_fault met)) }
     {
-        // A record has no more actions than its main line has values, and that has fewer than the
-        // tree has bytes.
+        // For the proof: a record has no more actions than its main line has values, and the main
+        // line has fewer values than the tree has bytes.
         few_actions();
         few_values();
         let Some(job) = self.games.next_job(self.alloc)? else {

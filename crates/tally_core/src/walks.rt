@@ -22,7 +22,9 @@ const MOST_ACTIONS: usize = 3_409_749_366_674_594;
 #[derive(Drop)]
 pub struct Walk {
     alloc: Global,
+    /// Makes the empty field for each game. Contracts see it as the kinds of pattern.
     blank: Blank,
+    /// The patterns of the last game with their counts; its memory is used again.
     meetings: Meetings,
 }
 
