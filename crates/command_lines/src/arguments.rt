@@ -7,8 +7,8 @@ ghost use Rattle.command_lines.specs.Arguments.{text_rule, workers_rule};
 use clap::{Arg, ArgAction, value_parser};
 use std::alloc::Global;
 
-/// Defines an option of this name that takes a value, which help calls `value_name`. It takes no
-/// memory.
+/// Defines an option of this name that takes a value, which help calls `value_name`; `help` is what
+/// help says of the option. It takes no memory.
 pub fn option_argument<'a>(
     alloc: Global,
     name: &'a str,
@@ -24,7 +24,7 @@ pub fn option_argument<'a>(
         .help(help)
 }
 
-/// Defines a flag of this name. It takes no memory.
+/// Defines a flag of this name; `help` is what help says of it. It takes no memory.
 pub fn flag_argument<'a>(alloc: Global, name: &'a str, help: &'a str) -> Arg<'a>
     ensures rule { rule_of result ≡ flag_rule name.entry.now }
     ensures local { result.global ≡ false }
@@ -35,7 +35,8 @@ pub fn flag_argument<'a>(alloc: Global, name: &'a str, help: &'a str) -> Arg<'a>
         .help(help)
 }
 
-/// Defines `--text`: a number from 1 to 3, which is 1 if none is given. It takes no memory.
+/// Defines `--text`: a number from 1 to 3, which is 1 if none is given; `help` is what help says of
+/// it. It takes no memory.
 pub fn text_argument<'a>(alloc: Global, help: &'a str) -> Arg<'a>
     ensures rule { rule_of result ≡ text_rule }
     ensures local { result.global ≡ false }
@@ -45,7 +46,8 @@ pub fn text_argument<'a>(alloc: Global, help: &'a str) -> Arg<'a>
         .default_value("1")
 }
 
-/// Defines `--workers`: a number from 1 to 64, which is 4 if none is given. It takes no memory.
+/// Defines `--workers`: a number from 1 to 64, which is 4 if none is given; `help` is what help
+/// says of it. It takes no memory.
 pub fn workers_argument<'a>(alloc: Global, help: &'a str) -> Arg<'a>
     ensures rule { rule_of result ≡ workers_rule }
     ensures local { result.global ≡ false }
@@ -88,7 +90,7 @@ pub fn diamond_argument<'a>(alloc: Global) -> Arg<'a>
 }
 
 /// Defines a positional argument of this name, with any number of values, which help calls
-/// `value_name`. It takes no memory.
+/// `value_name`; `help` is what help says of the argument. It takes no memory.
 pub fn names_argument<'a>(
     alloc: Global,
     name: &'a str,

@@ -1,4 +1,5 @@
-//! What the words of a command line ask for, by a program's definition for `clap` and its values.
+//! What the words of a command line ask for, by a program's definition for `clap` and the values
+//! that `clap` finds in the words.
 ghost use Rattle.std.specs.Prelude.{◌≡◌, ◌⊎◌, List, true, map, string_bytes, IfOk, IfErr};
 ghost use Rattle.clap.specs.Words.{App, Row, app_of, is_simple_and_free, matches_of};
 ghost use Rattle.command_lines.specs.Lines.{IsAskingFault, IsLineOf};

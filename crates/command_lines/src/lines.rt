@@ -11,7 +11,7 @@ use clap::{ArgMatches, Command, Error};
 use engine_core::RunFault;
 use std::alloc::Global;
 
-/// What a line asks for.
+/// What a command line asks for.
 #[derive(Debug, Drop)]
 pub enum Line<T> {
     /// What the words ask for; `clap` takes them.

@@ -1,4 +1,4 @@
-//! Why a file that a word names was not read.
+//! Why a file that a word of the command line names was not read.
 use std::fs::File;
 use std::io::ErrorKind;
 

@@ -1,4 +1,4 @@
-//! Looks up the value or values of one option, word or flag.
+//! Looks up the value or values of one option, word (positional argument) or flag.
 ghost use Rattle.std.specs.Prelude.{◌≡◌, ◌^◌, map, option_map, IfOk, IfSome, IfNone};
 ghost use Rattle.clap.specs.Words.{first_of};
 ghost use Rattle.command_lines.specs.Values.{HasNoNumber, HasNoOptionalNumber, IsChoiceOf, IsNumberOf};

@@ -1,4 +1,5 @@
-//! Why a name gives no file that is read, or not all of them, and the exit status for it.
+//! Flaws of names: why a name gives no file that is read, or not all of them, and the exit status
+//! for it.
 ghost use Rattle.std.specs.Prelude.{◌≡◌};
 ghost use Rattle.game_files.specs.Flaws.{status_of};
 
@@ -40,8 +41,7 @@ impl fmt::Display for Why {
 /// A name, and what is wrong with it.
 #[derive(Debug, Drop)]
 pub struct Flaw {
-    /// The name as it stands in the command line; for a name below a folder, that of the folder
-    /// stands before it.
+    /// The name as it was given; for a name below a folder, that of the folder stands before it.
     pub name: String,
     /// What is wrong with it.
     pub why: Why,

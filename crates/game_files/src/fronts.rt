@@ -11,7 +11,9 @@ const KEPT: usize = 8;
 #[derive(Drop)]
 pub struct Fronted<'a, R: Read> {
     reader: &'a mut R,
+    /// The bytes that are kept, the first `kept` of these eight; those after them mean nothing.
     front: [u8; 8],
+    /// How many bytes are kept so far.
     kept: usize,
 }
 

@@ -20,6 +20,7 @@ pub(crate) struct Place {
 /// What a name stands for.
 #[derive(Clone, Copy)]
 pub(crate) enum Seen {
+    /// A folder, with its identity.
     Folder(Place),
     /// A regular file.
     File,

@@ -55,8 +55,9 @@ impl Walk<'_> {
         }
     }
 
-    /// Adds the names in `folder` to those that are yet to be looked at. Names that are not UTF-8
-    /// are only counted. If reading the folder fails, that is noted in `below.flaws`.
+    /// Adds the names in `folder`, which `entries` reads, to those that are yet to be looked at.
+    /// Names that are not UTF-8 are only counted. If reading the folder fails, that is noted in
+    /// `below.flaws`.
     fn wait_for(&mut self, entries: fs::ReadDir, folder: String) -> Result<(), AllocError>
         ensures { self.new.below.files ≡ self.old.below.files }
     {

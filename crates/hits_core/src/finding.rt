@@ -1,4 +1,5 @@
-//! The hits of games, one game after another, up to as many as are asked for.
+//! The hits of games (times that a pattern was played or was there), one game after another, up to
+//! as many as are asked for.
 ghost use Rattle.std.specs.Prelude.{◌≡◌, IfOk, IfErr, OnOk};
 ghost use Rattle.tally_core.specs.declared.faults.TallyFault.TheVariants as fault;
 ghost use Rattle.hits_core.specs.Inner.Finding.{AddsGame};

@@ -1,4 +1,4 @@
-//! The hits that were found so far.
+//! The hits (times that a pattern was played or was there) that were found so far.
 ghost use Rattle.std.specs.Prelude.{◌≡◌, ◌∷◌, ◌<◌, [], IfErr, OnOk, MatchBool};
 ghost use Rattle.tally_core.specs.declared.faults.TallyFault.TheVariants as fault;
 ghost use Rattle.hits_core.specs.Inner.Finding.{IsFull, GrowsBy};
@@ -9,6 +9,7 @@ use tally_core::TallyFault;
 /// The first hits that were found, no more than are asked for.
 #[derive(Drop)]
 pub(crate) struct Found {
+    /// The hits, in the order in which they were found.
     pub(crate) hits: Vec<Hit>,
     /// How many hits are asked for; None for all.
     pub(crate) most: Option<u64>,

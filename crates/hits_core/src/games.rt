@@ -8,6 +8,6 @@ pub struct Game {
     pub number: u64,
     /// The byte index in the input, from 0, of the parenthesis with which the game's tree begins.
     pub place: usize,
-    /// The game's record.
+    /// The game's record: the size of its board, and its setup, moves and passes in their order.
     pub recorded: Record,
 }

@@ -34,6 +34,7 @@ pub fn hits_agree_with_counts()
         → (word : ℕ) → is_wanted words word ≡ true → Includes kinds (kind_of word)
         → times_hit word hits ≡ times_counted what (entry_of word counted.dictionary.entries) }
 {
+    // These laws are called for the proof alone.
     kinds_stay();
     replays_have_one_result();
 }

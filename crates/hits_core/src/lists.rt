@@ -1,4 +1,5 @@
-//! The patterns that a list of words asks for, and what can go wrong.
+//! The patterns that a list of canonical words (the numbers of patterns, in hexadecimal) asks for,
+//! and why such a list may not be read.
 ghost use Rattle.std.specs.Prelude.{◌≡◌, IfOk, IfErr};
 ghost use Rattle.hits_core.specs.Lists.{HasReadList, IsWantedOf, IsWantedFault, status_of};
 

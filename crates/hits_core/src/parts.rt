@@ -1,4 +1,5 @@
-//! The hits of all games, which threads find in parts.
+//! The hits of all games (times that a pattern was played or was there), which threads find in
+//! parts.
 ghost use Rattle.std.specs.Prelude.{◌≡◌, ◌<◌, IsOk, All, IfOk, IfErr, OnOk};
 ghost use Rattle.std.specs.List.{flat_map};
 ghost use Rattle.tally_core.specs.declared.faults.TallyFault.TheVariants as fault;
@@ -27,8 +28,9 @@ fn part_length(games: usize, threads: usize) -> usize
 
 /// Divides `games` into parts of consecutive games, one for each of at most `threads` threads, and
 /// returns the first hits of each part, at most `most` (None for all), in the order of the parts. A
-/// part for which memory was refused has the error in its place. `AllocError` if memory for the
-/// parts themselves was refused.
+/// hit is a time that a pattern of `wanted` was played, or was there, as `sought` says. A part for
+/// which memory was refused has the error in its place. `AllocError` if memory for the parts
+/// themselves was refused.
 fn made_parts<T: Threads + Sync>(
     rt: &T,
     alloc: Global,
@@ -51,7 +53,8 @@ fn made_parts<T: Threads + Sync>(
     )
 }
 
-/// Adds `hits` to `found`, up to as many as are asked for. The only error is `Memory`.
+/// Adds `hits` to `found`, up to as many as are asked for. The only error is `Memory`: memory was
+/// refused.
 fn push_all(found: &mut Found, hits: &[Hit]) -> Result<(), TallyFault>
     ensures grown { OnOk result (GrowsBy found.old found.new hits.now) }
     ensures fault { IfErr result (λ found. found ≡ fault.Memory) }

@@ -13,6 +13,6 @@ pub struct Results {
     pub report: Report,
     /// The games of the input, in order.
     pub games: Vec<Game>,
-    /// The first hits, as many as are asked for.
+    /// The first hits, at most as many as are asked for.
     pub hits: Vec<Hit>,
 }

@@ -1,4 +1,5 @@
-//! From a reader to a writer: the hits of patterns in a collection.
+//! From a reader to a writer: the hits of patterns in a collection, which are the times that they
+//! were played or were there.
 ghost use Rattle.std.specs.Prelude.{◌≡◌, ℕ, List, IfOk, IfErr};
 ghost use Rattle.engine_core.specs.Runs.{HasRead, Wrote, IsRunFault};
 ghost use Rattle.hits_core.specs.Hits.{first_of};
@@ -132,8 +133,9 @@ fn hits_text<T: Threads + Sync>(
 ///
 /// `Read` if the reader failed. `Memory` if memory was refused: the collection may be well-formed
 /// or not, since memory is asked for first. Else `Sgf` with S4 if the collection has more than 2^28
-/// bytes, else with its first fault of syntax (S1 to S3). Nothing is written then. `Write` if the
-/// writer failed: it has the exact number of bytes of the text that were written.
+/// bytes, else with its first fault of syntax (S1 truncated tree, S2 bad byte, S3 no value).
+/// Nothing is written then. `Write` if the writer failed: it has the exact number of bytes of the
+/// text that were written.
 pub fn run_hits<T: Threads + Sync, R: Read, W: Write>(
     rt: &T,
     alloc: Global,

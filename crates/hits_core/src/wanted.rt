@@ -10,7 +10,7 @@ use std::marker::Model;
 
 /// The patterns that a search looks for.
 ///
-/// Contracts see their words, in some order.
+/// Contracts see the list of their canonical words, the numbers of the patterns.
 #[derive(Debug, Drop)]
 pub struct Wanted {
     /// The patterns, in rising order.

@@ -47,7 +47,7 @@ fn see_field(field: &Field, wanted: &Wanted, mover: Colour, point: Point) -> Sig
     ensures { patterns_in result ≡ wanted_at wanted.now field.now.board.size
         (position_of field.now.board) mover point }
 {
-    // A canonical word is of the kind that was looked at.
+    // For the proof: a canonical word is of the kind that was looked at.
     kinds_stay();
     let square = wanted.pick(field.canonical(point, mover));
     let diamond = match field.kinds() {
@@ -228,7 +228,7 @@ impl Watch {
         ensures does { Does self.old.field.board.size action (position_of self.old.field.board)
             (position_of self.new.field.board) }
     {
-        // A canonical word is of the kind that was looked at.
+        // For the proof: a canonical word is of the kind that was looked at.
         kinds_stay();
         apply(&mut self.field, action);
         self.field.move_changed(&mut self.black, &mut self.white);

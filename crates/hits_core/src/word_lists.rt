@@ -1,4 +1,5 @@
-//! The words that stand first in the lines of a list.
+//! The canonical words (the numbers of patterns, in hexadecimal) with which the lines of a list
+//! begin.
 ghost use Rattle.std.specs.Prelude.{◌≡◌, ◌≢◌, ◌<◌, ℕ, [], length, position, MatchBool, IfOk, IfErr, IfSome, IfNone};
 ghost use Rattle.hits_core.specs.WordLists.{is_line_feed, first_line, other_lines, IsSkipped};
 ghost use Rattle.hits_core.specs.WordLists.{HasWord, AreWordsOf};

@@ -1,4 +1,4 @@
-//! The lines of hits, appended to bytes.
+//! The lines of hits (times that a pattern was played or was there), appended to bytes.
 ghost use Rattle.std.specs.Prelude.{◌≡◌, ◌++◌, OnOk, IfOk, option_map};
 ghost use Rattle.std.specs.List.{flat_map};
 ghost use Rattle.hits_core.specs.Lines.{letter_of, point_text, colour_text, front_text};

@@ -22,6 +22,7 @@ use std::alloc::AllocError;
 /// The tabs in place of the columns that only a game has.
 pub(crate) const NO_COLUMNS: &[u8] = b"\t\t\t\t\t\t\t\t\t\t\t";
 
+/// Returns the first value of a property, or None if it has none.
 fn front_value<'a>(prop: &Prop<'a>) -> Option<Value<'a>>
     ensures { option_map value_of result ≡ front_value prop.now.values }
 {

@@ -34,6 +34,7 @@ pub fn listings_agree_with_counts()
         → HasNoTree input end → IsCounted kinds input counted
         → sum_by (λ line. occasions_in line.what) lines ≡ counted.dictionary.moves }
 {
+    // This law is called for the proof alone.
     replays_have_one_result();
 }
 

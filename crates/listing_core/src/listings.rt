@@ -26,7 +26,7 @@ pub enum Listed {
     Fault(SgfFault),
 }
 
-/// How a listing ended, and how many trees of each sort it met.
+/// How a listing ended, and how many games, trees of other games and refused trees it met.
 #[derive(Clone, Copy, Debug, PartialEq, Eq)]
 pub struct Summary {
     /// How the listing ended.
@@ -36,8 +36,8 @@ pub struct Summary {
 }
 
 /// How the reading of an input's trees ended: the byte index after the last tree that was read (0
-/// if there is none), how many trees of each sort were read, and the fault of syntax at which
-/// reading stopped, if there is one.
+/// if there is none); how many of the trees that were read are games, of other games, and refused;
+/// and the fault of syntax at which reading stopped, if there is one.
 #[derive(Clone, Copy)]
 pub(crate) struct Ending {
     pub(crate) end: usize,
@@ -112,8 +112,8 @@ pub fn listed_by(fault: Option<SgfFault>, report: Report) -> Listed
     Listed::Done
 }
 
-/// Returns the text that lists the trees of `input` as `asked`, and how the listing ended with the
-/// number of trees of each sort.
+/// Returns the text that lists the trees of `input` as `asked`, and the summary: how the listing
+/// ended, and how many of the trees are games, of other games, and refused.
 pub(crate) fn listing_of(
     alloc: Global,
     asked: &Asked<'_>,

@@ -1,4 +1,4 @@
-//! The command line, defined for `clap`.
+//! The command line of `shape_games`, defined for `clap`.
 ghost use Rattle.std.specs.Prelude.{◌≡◌, false, IfOk};
 ghost use Rattle.clap.specs.Words.{app_of, rule_of};
 ghost use Rattle.shape_games.specs.Commands.{where_rule, program_app};
@@ -31,6 +31,7 @@ begins and ends, and the names of both files.
 Exit status: 0 done, 1 no tree, 2 wrong words, 3 input refused, 5 no memory, 6 a read or a write failed;
 of several files that of the first fault";
 
+/// Defines `--where`: a condition `KEY=VALUE` for games; it may be given several times.
 fn where_argument<'a>(alloc: Global) -> Arg<'a>
     ensures rule { rule_of result ≡ where_rule }
     ensures local { result.global ≡ false }

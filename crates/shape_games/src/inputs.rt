@@ -1,5 +1,6 @@
-//! The inputs of a run, one after another, and what is kept over all of them: how many trees of
-//! each sort there were, the games met so far (to find those that are there twice), and the status.
+//! The inputs of a run, one after another, and what is kept over all of them: how many trees were
+//! games, of other games, and refused; the games met so far (to find those that are there twice);
+//! and the exit status. A failure to print to standard error is ignored.
 ghost use Rattle.std.specs.Prelude.{◌≡◌, ◌≤◌, IfSome};
 ghost use Rattle.listing_core.specs.Listing.{most_first};
 ghost use Rattle.shape_games.specs.Inputs.{first_status};
@@ -18,6 +19,7 @@ use twins_core::{Twins, run_twins};
 /// The sums over the inputs so far.
 #[derive(Drop)]
 struct Sum {
+    /// How many of their trees are games, of other games, and refused.
     report: Report,
     /// The first game of each record so far, if a line is asked for each game whose record an
     /// earlier one has; else no game.
@@ -65,7 +67,9 @@ fn ends_run(fault: &RunFault) -> bool {
 
 /// Writes to standard output what `asked` asks for of one input, and notes in `sum` whether
 /// anything was written. `name` is that of the input's file, None for standard input. Returns how
-/// many trees of each sort the input has, and how its reading ended.
+/// many trees of the input are games, of other games, and refused, and how its reading ended. The
+/// error is that of the listing or of the search for twins, or `Sgf` with S4 (input too large) if
+/// the number of the input's first game would be over 2^63.
 fn write_of<R: Read>(
     rt: &HostRuntime,
     asked: &Asked<'_>,
@@ -183,9 +187,10 @@ fn is_in_vain(asked: &Asked<'_>, sum: &Sum) -> bool {
     !asked.conditions.is_empty() && !sum.is_written && are_some
 }
 
-/// Prints to standard error how many trees of each sort there were. If conditions were given and no
-/// game was chosen, a line before says so, and the exit status becomes 1 unless there was an
-/// earlier fault.
+/// Prints to standard error how many trees were games, of other games, and refused. If conditions
+/// were given and no game was chosen, a line before says so, and the exit status becomes 1 unless
+/// there was an earlier fault; but if no input had a game and there was a fault, there is no such
+/// line.
 fn sum_up(rt: &HostRuntime, asked: &Asked<'_>, sum: &mut Sum) {
     if is_in_vain(asked, sum) {
         let _ = eprintln!(rt; "shape_games: no game is chosen");
@@ -199,8 +204,8 @@ fn sum_up(rt: &HostRuntime, asked: &Asked<'_>, sum: &mut Sum) {
 }
 
 /// Writes what is asked for of all inputs that the command line names. Prints to standard error
-/// what went wrong and, at the end, how many trees of each sort there were. It returns the exit
-/// status.
+/// what went wrong and, at the end, how many trees were games, of other games, and refused. It
+/// returns the exit status.
 ///
 /// # Errors
 ///

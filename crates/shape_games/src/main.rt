@@ -13,7 +13,8 @@ use inputs::list_all;
 use std::io;
 use std::process::ExitCode;
 
-/// Does what the words of the command line say. Returns the exit status.
+/// Does what the words of the command line ask for, or prints help or version. Returns the exit
+/// status.
 fn run(rt: &HostRuntime) -> Result<u8, RunFault> {
     let words = own_words(rt)?;
     match read_arguments(rt.alloc(), &words)? {

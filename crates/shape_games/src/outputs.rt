@@ -5,6 +5,7 @@ use std::io::{self, Write};
 #[derive(Drop)]
 pub struct Output<'a> {
     pub rt: &'a HostRuntime,
+    /// Whether a byte was written.
     pub is_written: bool,
 }
 

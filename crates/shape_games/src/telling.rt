@@ -1,4 +1,4 @@
-//! What is printed to standard error about an input.
+//! What is printed to standard error about an input. A failure to print is ignored.
 use game_files::{Cause, Shown, Why};
 use std::{fmt, io};
 

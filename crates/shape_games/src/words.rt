@@ -1,4 +1,4 @@
-//! The words of the command line, and what they ask for.
+//! The words of the command line of `shape_games`, and the listing that they ask for.
 ghost use Rattle.std.specs.Prelude.{◌≡◌, ◌⊎◌, refl, true, false, map, IfOk, IfErr};
 ghost use Rattle.command_lines.specs.Values.{IsChoiceOf, rows_in};
 ghost use Rattle.engine_core.specs.declared.faults.RunFault.TheVariants as fault;
@@ -16,7 +16,7 @@ use std::alloc::{AllocError, Global};
 /// What is done with the collections.
 #[derive(Clone, Copy, Debug, PartialEq, Eq)]
 pub enum Work {
-    /// Each tree that is chosen is written, in this form.
+    /// Each tree that is chosen is written in this form: a line, columns, or the tree itself.
     List(Form),
     /// A line is written for each game whose board, setup and moves an earlier game has.
     Twins,
@@ -50,8 +50,8 @@ fn conditions_of<'a>(alloc: Global, texts: &[&'a str]) -> Result<Vec<Condition<'
     Ok(conditions)
 }
 
-/// Returns what is done, by the flags and whether there is a condition. None if two of the flags
-/// are set, or `twice` and a condition, which exclude one another.
+/// Returns what is done, by the flags of these names and whether there is a condition. None if two
+/// of the flags are set, or `twice` and a condition, which exclude one another.
 fn work_for(info: bool, cut: bool, twice: bool, has_condition: bool) -> Option<Work>
     ensures { result ≡ work_of info cut twice has_condition }
 {
@@ -102,7 +102,8 @@ impl<'a> FromArguments<'a> for Asked<'a> {
 
     /// Returns what the values ask for; no values at all ask for the lines of standard input.
     /// `Usage` if a text spells no condition, or if what is asked for does not go together: two of
-    /// `--info`, `--cut` and `--twice`, or `--twice` and a condition.
+    /// `--info`, `--cut` and `--twice`, or `--twice` and a condition. `Memory` if memory was
+    /// refused.
     fn from_values(alloc: Global, matches: &ArgMatches<'a>) -> Result<Asked<'a>, RunFault> {
         let files = words_of(alloc, matches, "files")?;
         let texts = words_of(alloc, matches, "where")?;

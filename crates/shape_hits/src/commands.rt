@@ -1,5 +1,5 @@
-//! Defines the command line for `clap`. Contracts fix the names and rules of arguments; no clause
-//! speaks of the texts of help.
+//! Defines the command line of `shape_hits` for `clap`. Contracts fix the names and rules of
+//! arguments; no clause speaks of the texts of help.
 ghost use Rattle.std.specs.Prelude.{◌≡◌, false, IfOk};
 ghost use Rattle.clap.specs.Words.{app_of, rule_of};
 ghost use Rattle.shape_hits.specs.Commands.{most_rule, patterns_app, program_app};
@@ -36,6 +36,7 @@ before the move with a mark on the point, and the move as a branch. None is writ
 Exit status: 0 found, 1 not found, 2 wrong words, 3 input refused, 5 no memory, 6 a read or a write failed,
 7 no tree in an input; of several inputs that of the first fault";
 
+/// Defines `--most`: how many lines are printed at most, a number; without it all are.
 fn most_argument<'a>(alloc: Global) -> Arg<'a>
     ensures rule { rule_of result ≡ most_rule }
     ensures local { result.global ≡ false }

@@ -1,4 +1,4 @@
-//! The SGF files of hits, written into a folder.
+//! The SGF files of hits (times that a pattern was played or was there), written into a folder.
 use engine_core::RunFault;
 use game_files::Shown;
 use hits_core::{Hit, Results, file_name, sgf_of};
@@ -19,7 +19,8 @@ fn why_unmade(error: &io::Error) -> &'static str {
     }
 }
 
-/// Prints to standard error that the file or folder `name` was not written, and why.
+/// Prints to standard error that the file or folder `name` was not written, and why. A failure to
+/// print is ignored.
 fn tell(rt: &HostRuntime, name: &str, why: &str) {
     let _ = eprintln!(rt; "shape_hits: I2 {}: {why}", Shown(name));
 }

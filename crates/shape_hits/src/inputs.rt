@@ -1,4 +1,5 @@
-//! The inputs of a run that lists hits, one after another, and the sums over them.
+//! The inputs of a run that lists hits (times that a pattern was played or was there), one after
+//! another, and the sums over them. A failure to print to standard error is ignored.
 ghost use Rattle.std.specs.Prelude.{◌≡◌};
 ghost use Rattle.shape_hits.specs.Inputs.{first_status, left_after};
 
@@ -14,7 +15,7 @@ use std::thread::Threads;
 /// The exit status if an input has no tree.
 const NO_TREE: u8 = 7;
 
-/// The most files that are written if the words don't say how many.
+/// The most SGF files that are written if the command line doesn't say how many.
 const MOST_FILES: u64 = 1000;
 
 /// The sums over the inputs so far.
@@ -26,7 +27,7 @@ struct Sum {
     is_found: bool,
     /// How many hits are still asked for; None for all.
     left: Option<u64>,
-    /// How many files may still be written.
+    /// How many SGF files may still be written.
     files: u64,
     /// The exit status: that of the first fault, 0 if there is none.
     status: u8,
@@ -209,13 +210,15 @@ fn exit_status(sum: &Sum) -> u8 {
     }
 }
 
-/// Prints the hits of `wanted` in all inputs that `asked` names, one after another, and at the end
-/// to standard error how many trees of each sort there were. Returns the exit status.
+/// Prints the hits of `wanted` in all inputs that `asked` names, one after another. At the end it
+/// prints to standard error how many trees were games, of other games, and refused, unless a fault
+/// ended the run before. Returns the exit status.
 ///
 /// # Errors
 ///
 /// `Memory` if memory for the names was refused. What else goes wrong is printed to standard error,
-/// and is in the exit status.
+/// and is in the exit status. If memory is refused when a file is opened, the run ends, but that is
+/// not printed, and the exit status stays as it was.
 pub fn list_all<T: Threads + Sync>(
     rt: &HostRuntime,
     threads: &T,

@@ -36,7 +36,7 @@ fn wanted_of(rt: &HostRuntime, asked: &Asked<'_>) -> Result<Wanted, WordsFault> 
 }
 
 /// Prints to standard error what is wrong with the list of words. If the list could not be read,
-/// its file and the reason are printed too.
+/// its file and the reason are printed too. A failure to print is ignored.
 fn tell(rt: &HostRuntime, asked: &Asked<'_>, fault: &WordsFault) {
     let _ = match (fault, asked.words) {
         (WordsFault::Unread, Some(name)) => {
@@ -69,7 +69,8 @@ fn find<T: Threads + Sync>(
     list_all(rt, threads, asked, &wanted)
 }
 
-/// Does what the words of the command line say. Returns the exit status.
+/// Does what the words of the command line ask for, or prints help or version. Returns the exit
+/// status.
 fn run<T: Threads + Sync>(rt: &HostRuntime, threads: &T) -> Result<u8, RunFault> {
     let words = own_words(rt)?;
     match read_arguments(rt.alloc(), &words)? {

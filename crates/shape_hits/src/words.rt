@@ -1,4 +1,5 @@
-//! The words of the command line, and what they ask for.
+//! The words of the command line of `shape_hits`, and the search that they ask for. A file of words
+//! is something else: each of its lines begins with the canonical word (the number) of a pattern.
 ghost use Rattle.std.specs.Prelude.{◌≡◌, ◌≢◌, ◌++◌, codes, map, IfOk, IfErr, None, MatchBool, OnOk};
 ghost use Rattle.std.specs.Prelude.{option_to_list, refl};
 ghost use Rattle.clap.specs.Words.{first_of};
@@ -23,7 +24,8 @@ use std::alloc::{AllocError, Global};
 pub struct Asked<'a> {
     /// The pattern that is looked for, if one is spelled.
     pub shape: Option<Shape>,
-    /// The name of the file with the words that are looked for, if no pattern is spelled.
+    /// The name of the file with the canonical words of the patterns that are looked for, if no
+    /// pattern is spelled.
     pub words: Option<&'a str>,
     /// What is listed of the patterns, and how.
     pub search: Search<'static>,
@@ -31,12 +33,12 @@ pub struct Asked<'a> {
     pub workers: u8,
     /// The folder in which a file for each hit is written, if one is named.
     pub folder: Option<&'a str>,
-    /// The words that name collections and folders of collections.
+    /// The words of the command line that name collections and folders of collections.
     pub names: Vec<&'a str>,
 }
 
-/// Returns what the lines of hits show: if `shape` is None, also the pattern's word, since a list
-/// of words is looked for.
+/// Returns what the lines of hits show: if `shape` is None, also the pattern's word, since the
+/// patterns of a file of words are looked for.
 fn shown_for(shape: &Option<Shape>) -> Shown
     ensures { result ≡ shown_for shape.now }
 {
@@ -111,8 +113,9 @@ fn push_word<'a>(
     Ok(())
 }
 
-/// If a file of words is named, returns the first two words at most as names of collections: `clap`
-/// has them as the glyphs and the colour, but no pattern is spelled. Else returns no name.
+/// If a file of words is named, returns the first two names of collections, or as many as there
+/// are: `clap` has them as the glyphs and the colour, but no pattern is spelled then. Else returns
+/// no name.
 fn first_names<'a>(alloc: Global, matches: &ArgMatches<'a>) -> Result<Vec<&'a str>, AllocError>
     ensures { IfOk result (λ names. map (λ name. name.now) names.items
         ≡ first_names (first_of (codes "words") (rows_in matches.now)) (rows_in matches.now)) }
@@ -135,7 +138,7 @@ fn push_all<'a>(names: &mut Vec<&'a str>, others: &[&'a str]) -> Result<(), Allo
     Ok(())
 }
 
-/// Returns the words that name collections and folders of collections.
+/// Returns the words of the command line that name collections and folders of collections.
 fn names_of<'a>(alloc: Global, matches: &ArgMatches<'a>) -> Result<Vec<&'a str>, AllocError>
     ensures { IfOk result (λ names. map (λ name. name.now) names.items
         ≡ names_of (rows_in matches.now)) }
@@ -187,7 +190,7 @@ impl<'a> FromArguments<'a> for Asked<'a> {
     /// Returns the search that the values ask for. `Usage` if they name no file of words and the
     /// colour or the glyphs are missing, or the colour is neither black nor white; if they name one
     /// with `--diamond`; and if a number is missing or too large. `Glyph` if the glyphs are not
-    /// those of a pattern.
+    /// those of a pattern. `Memory` if memory was refused.
     fn from_values(alloc: Global, matches: &ArgMatches<'a>) -> Result<Asked<'a>, RunFault> {
         let shape = shape_of(matches)?;
         let Some(most) = optional_number(matches, "most") else {

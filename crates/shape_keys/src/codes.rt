@@ -1,4 +1,4 @@
-//! Words from the codes of their cells.
+//! Words, which are the numbers of patterns, from the codes of their 25 cells.
 ghost use Rattle.std.specs.Prelude.{◌≡◌, ◌<◌, ◌^◌, SomeIff, IfSome};
 ghost use Rattle.shape_core.specs.Word.{sum_of, word_of};
 ghost use Rattle.shape_core.specs.declared.words.Kind.TheVariants as kind;

@@ -41,8 +41,9 @@ fn put_entries(entries: &[Entry], room: &mut [ShapesEntry])
 /// Writes to `header` what the first line of a dictionary's text says; the lines after it are not
 /// looked at. Takes no memory.
 ///
-/// Returns `Done` and writes the header. Returns `BadText` with X1 exactly if the bytes do not
-/// begin with a header of one of the three text formats; `header` stays as it was then.
+/// Returns `Done` and writes the header. Returns `BadText` with X1, bad header, exactly if the
+/// bytes do not begin with a header of one of the three text formats; `header` stays as it was
+/// then.
 #[unsafe(no_mangle)]
 pub extern "C" fn shapes_header(text: &[u8], header: &mut ShapesHeader) -> u32
     ensures done { result ≡ number_of status.Done → IsHeaderSaid text.now header.new }
@@ -69,9 +70,10 @@ pub extern "C" fn shapes_header(text: &[u8], header: &mut ShapesHeader) -> u32
 /// they are. A line has 18 bytes or more, so room for an entry for each 18 bytes of the text is
 /// always enough.
 ///
-/// Else returns `BadText` with the first fault of the text, X1 to X6 or X8, and writes only to
-/// `number` the line that the fault names, from 1 at the header, or 0 if it names none. X6, out of
-/// memory, comes only after a header and a first line without a fault.
+/// Else returns `BadText` with the first fault of the text, and writes only to `number` the line
+/// that the fault names, from 1 at the header, or 0 if it names none. The fault is X1 to X5 if the
+/// text is not well-formed, X6 if memory was refused, and X8 if the text is too large. X6 comes
+/// only after a header and a first line without a fault.
 #[unsafe(no_mangle)]
 pub extern "C" fn shapes_read(
     alloc: Global,

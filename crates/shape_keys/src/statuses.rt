@@ -34,7 +34,8 @@ impl Status {
     ghost use Rattle.shape_keys.specs.Status.{number_of};
 
     /// Returns the number that a call returns for this status: 0 for `Done`, 1 to 8 for the others
-    /// in their order, and 11 to 19 for the faults X1 to X9 of a dictionary's text.
+    /// in their order, and 11 to 19 for the faults X1 (`BadHeader`) to X9 (`MixedKinds`) of a
+    /// dictionary's text.
     pub fn number(self) -> u32
         ensures { result ≡ number_of self }
     {
@@ -53,7 +54,8 @@ impl Status {
     }
 }
 
-/// Returns the number for a fault of a dictionary's text: 11 to 19 for X1 to X9.
+/// Returns the number for a fault of a dictionary's text: 11 to 19 for the faults that are printed
+/// as X1 to X9, in that order.
 fn number_of_fault(fault: DictFault) -> u32
     ensures { result ≡ number_of_fault fault }
 {

@@ -1,4 +1,4 @@
-//! The command line, defined for `clap`.
+//! The command line of `shape_merge`, defined for `clap`.
 ghost use Rattle.std.specs.Prelude.{◌≡◌, false, IfOk};
 ghost use Rattle.clap.specs.Words.{app_of, rule_of};
 ghost use Rattle.shape_merge.specs.Commands.{least_rule, out_rule, dictionaries_rule, program_app};
@@ -23,6 +23,8 @@ Examples:
 
 Exit status: 0 done, 2 wrong words, 3 input refused, 5 no memory, 6 a read or a write failed";
 
+/// Defines `--least`: a number from 1 on. Only squares that were there at least that often in the
+/// join are written.
 fn least_argument<'a>(alloc: Global) -> Arg<'a>
     ensures rule { rule_of result ≡ least_rule }
     ensures local { result.global ≡ false }
@@ -36,6 +38,7 @@ fn least_argument<'a>(alloc: Global) -> Arg<'a>
     .value_parser(value_parser!(u64).range(1..))
 }
 
+/// Defines `--out` and `-o`: the name of the file in which the join is written.
 fn out_argument<'a>(alloc: Global) -> Arg<'a>
     ensures rule { rule_of result ≡ out_rule }
     ensures local { result.global ≡ false }
@@ -49,6 +52,7 @@ fn out_argument<'a>(alloc: Global) -> Arg<'a>
     .short('o')
 }
 
+/// Defines the positional argument DICTIONARY, with one value or more: the names of the files.
 fn dictionaries_argument<'a>(alloc: Global) -> Arg<'a>
     ensures rule { rule_of result ≡ dictionaries_rule }
     ensures local { result.global ≡ false }

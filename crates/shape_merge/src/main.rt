@@ -74,7 +74,8 @@ fn join_files<T: Threads + Sync>(
     }
 }
 
-/// Does what the words of the command line say. Returns the exit status.
+/// Does what the words of the command line ask for, or prints help or version. Returns the exit
+/// status.
 fn run<T: Threads + Sync>(rt: &HostRuntime, threads: &T) -> Result<u8, RunFault> {
     let words = own_words(rt)?;
     match read_arguments(rt.alloc(), &words)? {

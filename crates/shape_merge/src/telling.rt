@@ -1,4 +1,5 @@
-//! Lines on standard error about what went wrong with a join.
+//! Lines on standard error about what went wrong with a join. If a line can't be written, that is
+//! ignored.
 ghost use Rattle.std.specs.Prelude.{◌≡◌, ◌+◌, ◌<◌, ℕ, Some, length, slice_get};
 ghost use Rattle.merge_core.specs.Status.{status_of};
 
@@ -28,8 +29,8 @@ fn tell_unwritten(rt: &HostRuntime, name: &str, written: usize) {
     let _ = eprintln!(rt; "shape_merge: I2 write failed after {written} bytes: {name}: {why}");
 }
 
-/// Says on standard error that the file `name`, dictionary `n`, was not read, and why, if the
-/// system shows it. `written` is how many bytes of the join were written.
+/// Says on standard error that the file `name`, dictionary `n` from 1, was not read, and why, if
+/// the system shows it. `written` is how many bytes of the join were written.
 fn tell_unread(rt: &HostRuntime, n: usize, name: &str, written: usize) {
     let why = why_unread(rt, name).unwrap_or("read failed or changed");
     let _ = eprintln!(rt; "shape_merge: dictionary {n}, {name}: I1 {why}, {written} bytes written");

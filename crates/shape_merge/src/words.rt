@@ -1,4 +1,4 @@
-//! The words of the command line, and what they ask for.
+//! The words of the command line of `shape_merge`, and the join that they ask for.
 ghost use Rattle.std.specs.Prelude.{◌≡◌, refl};
 ghost use Rattle.engine_core.specs.declared.faults.RunFault.TheVariants as fault;
 ghost use Rattle.shape_merge.specs.Commands.{program_app};
@@ -36,7 +36,7 @@ impl<'a> FromArguments<'a> for Asked<'a> {
     }
 
     /// Returns the join that the values ask for. `Usage` if they name no dictionary, or a number is
-    /// missing or too large.
+    /// missing or too large; `Memory` if memory was refused.
     fn from_values(alloc: Global, matches: &ArgMatches<'a>) -> Result<Asked<'a>, RunFault> {
         let Some(text) = text_of(matches) else {
             return Err(RunFault::Usage);

@@ -1,4 +1,4 @@
-//! The command line, defined for `clap`.
+//! The command line of `shape_sheet`, defined for `clap`.
 ghost use Rattle.std.specs.Prelude.{◌≡◌, false, IfOk};
 ghost use Rattle.clap.specs.Words.{app_of, rule_of};
 ghost use Rattle.shape_sheet.specs.Commands.{by_rule, least_rule, most_rule, program_app};
@@ -20,6 +20,7 @@ Examples:
 
 Exit status: 0 done, 2 wrong words, 3 input refused, 5 no memory, 6 a read or a write failed";
 
+/// Defines `--by`: the name of an order of patterns, which is `played` if none is given.
 fn by_argument<'a>(alloc: Global) -> Arg<'a>
     ensures rule { rule_of result ≡ by_rule }
     ensures local { result.global ≡ false }
@@ -33,6 +34,8 @@ fn by_argument<'a>(alloc: Global) -> Arg<'a>
     .default_value("played")
 }
 
+/// Defines `--least`: how often a pattern that is shown was there at least; a number from 1 on,
+/// which is 1 if none is given.
 fn least_argument<'a>(alloc: Global) -> Arg<'a>
     ensures rule { rule_of result ≡ least_rule }
     ensures local { result.global ≡ false }
@@ -47,6 +50,7 @@ fn least_argument<'a>(alloc: Global) -> Arg<'a>
     .default_value("1")
 }
 
+/// Defines `--most`: a number from 1 to 10000, which is 50 if none is given.
 fn most_argument<'a>(alloc: Global) -> Arg<'a>
     ensures rule { rule_of result ≡ most_rule }
     ensures local { result.global ≡ false }

@@ -23,6 +23,7 @@ fn hits_of(rt: &HostRuntime, name: &str) -> Result<Result<Vec<u8>, u8>, RunFault
         Ok(hits) => Ok(Ok(hits)),
         Err(RunFault::Read) => {
             let why = why_unread(rt, name).unwrap_or("a read failed");
+            // If standard error takes nothing, the status still says it.
             let _ = eprintln!(rt; "shape_sheet: L3 hits not read: {name}: {why}");
             Ok(Err(6))
         }
@@ -75,6 +76,7 @@ fn draw(rt: &HostRuntime, asked: Asked, name: Option<&str>) -> Result<u8, RunFau
         return Ok(0);
     };
     if asked.form == Form::Page && !has_places(&sheet) {
+        // If standard error takes nothing, the sheet is written all the same.
         let _ = eprintln!(rt;
             "shape_sheet: no line of {name} is of a pattern here, as shape_hits --words has them"
         );
@@ -82,7 +84,8 @@ fn draw(rt: &HostRuntime, asked: Asked, name: Option<&str>) -> Result<u8, RunFau
     Ok(0)
 }
 
-/// Does what the words of the command line say. Returns the exit status.
+/// Does what the words of the command line ask for, or prints help or version. Returns the exit
+/// status.
 fn run(rt: &HostRuntime) -> Result<u8, RunFault> {
     let words = own_words(rt)?;
     match read_arguments(rt.alloc(), &words)? {

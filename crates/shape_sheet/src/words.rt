@@ -1,4 +1,5 @@
-//! The words of the command line, and what they ask for.
+//! The words of the command line of `shape_sheet`, and the sheet (the drawing of a dictionary's
+//! first patterns) that they ask for.
 ghost use Rattle.std.specs.Prelude.{◌≡◌, ◌≢◌, refl, IfSome, IfNone};
 ghost use Rattle.command_lines.specs.Values.{rows_in};
 ghost use Rattle.engine_core.specs.declared.faults.RunFault.TheVariants as fault;

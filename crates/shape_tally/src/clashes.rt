@@ -55,7 +55,7 @@ fn are_one(rt: &HostRuntime, one: &str, other: &str) -> bool {
     }
 }
 
-/// Returns why a file that `asked` names can't be written, or None if nothing is in the way.
+/// Returns why a file that `asked` names can't be written, or None if no file has such a clash.
 /// Checked in this order: the dictionary `asked.out` is one of the inputs `sources`, the report
 /// `asked.report` is one, both are one file. A dictionary for standard output (`asked.out` is None)
 /// is not looked at.

@@ -1,4 +1,4 @@
-//! The command line, defined for `clap`.
+//! The command line of `shape_tally`, defined for `clap`.
 ghost use Rattle.std.specs.Prelude.{◌≡◌, false, IfOk};
 ghost use Rattle.clap.specs.Words.{app_of, rule_of};
 ghost use Rattle.shape_tally.specs.Commands.{counting_app, memory_rule, out_rule, program_app};
@@ -31,6 +31,7 @@ Examples:
 Exit status: 0 done, 1 done but an input was left out or has no tree, 2 wrong words, 5 no memory, 6 a
 read or a write failed";
 
+/// Defines `--memory`: a number of megabytes from 64 to 1000000, which is 1024 if none is given.
 fn memory_argument<'a>(alloc: Global) -> Arg<'a>
     ensures rule { rule_of result ≡ memory_rule }
     ensures local { result.global ≡ false }
@@ -45,6 +46,7 @@ fn memory_argument<'a>(alloc: Global) -> Arg<'a>
     .default_value("1024")
 }
 
+/// Defines `--out` and `-o`: the name of the file in which the dictionary is written.
 fn out_argument<'a>(alloc: Global) -> Arg<'a>
     ensures rule { rule_of result ≡ out_rule }
     ensures local { result.global ≡ false }

@@ -14,8 +14,11 @@ const MOST_TRIES: u64 = 1000;
 pub struct Draft<'a> {
     rt: &'a HostRuntime,
     file: File,
+    /// The path of the draft itself.
     name: String,
+    /// The path of the target.
     target: String,
+    /// Whether the draft has taken the name of its target.
     is_done: bool,
 }
 
@@ -136,8 +139,11 @@ pub fn try_target(rt: &HostRuntime, name: &str) -> io::Result<()> {
 #[derive(Drop)]
 pub struct Output<'a> {
     rt: &'a HostRuntime,
+    /// The name of the file; None for standard output.
     name: Option<&'a str>,
+    /// What is open for writing; None before the first byte, and for standard output.
     target: Option<Target<'a>>,
+    /// The kind of error of the last write that failed; None if none has.
     failed: Option<ErrorKind>,
 }
 

@@ -1,4 +1,4 @@
-//! The inputs of a count, each read whole when its turn comes.
+//! The inputs of a count, each read whole when its turn comes, and the fate (what came) of each.
 use crate::progress::Progress;
 use crate::reports::{Fate, Sum, fate_of, name_of};
 use crate::telling::{is_told, tell_fate};
@@ -32,6 +32,8 @@ pub struct Inputs<'a> {
     rt: &'a HostRuntime,
     sources: &'a [Source],
     taken: Taken<'a>,
+    /// Whether no dictionary is wanted once an input was left out or has no tree, or a folder has
+    /// no file of games.
     is_strict: bool,
 }
 

@@ -1,4 +1,4 @@
-//! Drafts that earlier runs left beside a target, when they were killed.
+//! Drafts (unfinished files that were to take their target's name) that killed runs left.
 use std::fs::{self, File};
 
 /// What a draft's name ends in.
@@ -44,6 +44,7 @@ fn remove_left(rt: &HostRuntime, path: &str) {
         return;
     };
     if file.try_lock().is_ok() {
+        // A draft that can't be removed stays, and does no harm to this run.
         let _ = fs::remove_file(rt, path);
     }
 }

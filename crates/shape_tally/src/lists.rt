@@ -77,7 +77,7 @@ fn meant(rt: &HostRuntime, names: &[&str]) -> Result<Vec<Source>, AllocError> {
 /// Reads a list of names, and returns the inputs that they stand for. Each name stands for what it
 /// stands for on the command line, but `-` for a file of that name. The names are read from the
 /// file `file`, or from standard input if it is `-`; each ends in the byte that `end` says. If some
-/// names are not UTF-8, a last `Flaw` says how many.
+/// names are not UTF-8, the last of what is returned is a `Flaw` of the list that says how many.
 ///
 /// # Errors
 ///

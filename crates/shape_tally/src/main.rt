@@ -138,7 +138,8 @@ fn write_dictionary<T: Threads + Wait + Sync>(
 
 /// Does the count that `asked` describes: it writes the dictionary and the report, and on standard
 /// error a line that sums up. Returns the exit status. If that is above 1, neither report nor sum
-/// is written, and standard error says why. The error is `Memory`: memory was refused.
+/// is written, and standard error says why; if only the report failed, the dictionary is written
+/// all the same. The error is `Memory`: memory was refused.
 fn tally<T: Threads + Wait + Sync>(
     rt: &HostRuntime,
     threads: &T,
@@ -168,7 +169,8 @@ fn tally<T: Threads + Wait + Sync>(
     Ok(status_after(inputs.sum()))
 }
 
-/// Does what the words of the command line say. Returns the exit status.
+/// Does what the words of the command line ask for, or prints help or version. Returns the exit
+/// status.
 fn run<T: Threads + Wait + Sync>(rt: &HostRuntime, threads: &T) -> Result<u8, RunFault> {
     let words = own_words(rt)?;
     match read_arguments(rt.alloc(), &words)? {

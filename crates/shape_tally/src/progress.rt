@@ -85,6 +85,7 @@ impl<'a> Progress<'a> {
         self.is_shown = true;
         let share = self.read.saturating_mul(100) / self.all.max(1);
         let left = seconds_left(gone, self.read, self.all);
+        // If standard error takes nothing, the count goes on without the line.
         let _ = eprint!(*self.rt;
             "\r\x1b[Kshape_tally: {} % read, {games} games, {left} s until all is read",
             share.min(100)
@@ -95,6 +96,7 @@ impl<'a> Progress<'a> {
     pub fn clear(&mut self) {
         if self.is_shown {
             self.is_shown = false;
+            // If standard error takes nothing, the count goes on.
             let _ = eprint!(*self.rt; "\r\x1b[K");
         }
     }

@@ -1,4 +1,5 @@
-//! What has become of each input and of all of them, and the lines of the report.
+//! The fate of each input (what came of it), what came of all together, and the lines of the
+//! report.
 ghost use Rattle.std.specs.Prelude.{◌≡◌, ◌↔◌, IsTrue};
 ghost use Rattle.shape_tally.specs.Sums.{IsGood, IsWhole, status_of};
 ghost use Rattle.shape_tally.specs.declared.reports.Fate.TheVariants as fate;
@@ -25,7 +26,7 @@ pub enum Fate {
     Unread,
     /// It has this fault of syntax or size, or memory for it was refused; so it is left out.
     Faulty(SgfFault),
-    /// It has no game tree. Its first bytes suggest this cause.
+    /// It has no game tree. Its first bytes suggest this cause, such as that it is packed by gzip.
     Treeless(Cause),
     /// It has game trees, which are counted in `report`. Its first game has the number `first` in
     /// the dictionary, from 0.

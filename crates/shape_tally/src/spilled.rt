@@ -1,4 +1,5 @@
-//! The dictionaries of parts, one after another in a file that has no name.
+//! The dictionaries of parts (inputs are counted in parts), one after another in a file without a
+//! name, where they wait to be joined.
 use merge_core::Sources;
 use std::alloc::{AllocError, Global};
 use std::fs::{self, File};
@@ -25,7 +26,9 @@ struct Place {
 pub struct Spilled<'a> {
     rt: &'a HostRuntime,
     folder: &'a str,
+    /// The file; None before the first text is begun.
     file: Option<Arc<File, Global>>,
+    /// Where each text is that was kept, in their order.
     places: Vec<Place>,
     /// The byte index after the last text that was kept.
     end: u64,
@@ -36,6 +39,7 @@ pub struct Spilled<'a> {
 #[derive(Drop)]
 pub struct Spilling {
     file: Arc<File, Global>,
+    /// Where the text is in the file; its length is that of what was written so far.
     place: Place,
 }
 
@@ -43,7 +47,9 @@ pub struct Spilling {
 #[derive(Drop)]
 pub struct Piece {
     file: Arc<File, Global>,
+    /// The index in the file of the byte that is read next.
     next: u64,
+    /// The index in the file after the text's last byte.
     end: u64,
 }
 

@@ -1,4 +1,5 @@
-//! Lines on standard error about inputs and faults, and the sum at the end.
+//! Lines on standard error about inputs and faults, and the sum at the end. If a line can't be
+//! written, that is ignored.
 ghost use Rattle.std.specs.Prelude.{◌≡◌};
 ghost use Rattle.tally_parts.specs.Status.{status_of};
 
@@ -57,9 +58,9 @@ pub fn tell_fate(rt: &HostRuntime, name: Option<&str>, fate: Fate) {
     };
 }
 
-/// Writes a line on standard error with the numbers of all inputs together: how many there are,
-/// their trees of each sort, how many were left out or have no tree, and how many names were passed
-/// over.
+/// Writes a line on standard error with the numbers of all inputs together: how many there are; how
+/// many of their trees are games of Go, are other games, and are refused; how many inputs were left
+/// out or have no tree; and how many names were passed over, since they are not UTF-8.
 pub fn tell_sum(rt: &HostRuntime, sum: &Sum) {
     let Report {
         games,
@@ -72,8 +73,8 @@ pub fn tell_sum(rt: &HostRuntime, sum: &Sum) {
     );
 }
 
-/// Writes on standard error that the list of names `list` was not read, and why, as far as a look
-/// at the file shows it.
+/// Writes on standard error that the list of names in the file `list` was not read, and why, as far
+/// as a look at the file shows it. `-` stands for standard input, which is not looked at.
 pub fn tell_unlisted(rt: &HostRuntime, list: &str) {
     let why = match list {
         "-" => None,
@@ -110,7 +111,8 @@ fn why_unwritten(kind: ErrorKind) -> &'static str {
     }
 }
 
-/// Writes on standard error that the file `name` could not be made or written, and why.
+/// Writes on standard error that the file `name` could not be made or written, and why, by the
+/// `kind` of the error.
 pub fn tell_unmade(rt: &HostRuntime, name: &str, kind: ErrorKind) {
     let why = why_unwritten(kind);
     let _ = eprintln!(rt; "shape_tally: I2 {}: {why}", Shown(name));

@@ -1,4 +1,4 @@
-//! The words of the command line, and what they ask for.
+//! The words of the command line of `shape_tally`, and the count that they ask for.
 ghost use Rattle.std.specs.Prelude.{◌≡◌, ◌≤◌, ◌⊎◌, refl, true, false, map, IfOk, IfErr};
 ghost use Rattle.command_lines.specs.Values.{rows_in};
 ghost use Rattle.engine_core.specs.declared.faults.RunFault.TheVariants as fault;
@@ -32,9 +32,9 @@ pub enum NameEnd {
 /// How the inputs are named.
 #[derive(Debug, Drop)]
 pub enum Named<'a> {
-    /// These words, which are files and folders.
+    /// These words of the command line, which are files and folders; none ask for standard input.
     Words(Vec<&'a str>),
-    /// The names in this file, or in standard input if it is `-`.
+    /// The names in this `file`, or in standard input if it is `-`; `end` says what ends each.
     List { file: &'a str, end: NameEnd },
 }
 

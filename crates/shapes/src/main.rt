@@ -12,7 +12,8 @@ use std::thread::Threads;
 use tasks::{Answer, do_task, status_after};
 
 /// Reads the words of the command line and does what they ask for. The threads that count are
-/// started through `threads`.
+/// started through `threads`. Returns whether what was asked for was found, and the report of a
+/// count.
 fn run<T: Threads + Wait + Sync>(rt: &HostRuntime, threads: &T) -> Result<Answer, RunFault> {
     let words = own_words(rt)?;
     let task = read_arguments(rt.alloc(), &words)?;

@@ -40,7 +40,7 @@ impl Answer {
 /// `board`, `count`, `find` and `join` are done by the function `run_` of that name, with the
 /// reader and the writer; that function says how much of the input is read. For help the text is
 /// written, and nothing is read. The threads that count are started through `threads`. A count ends
-/// only if the calls of `threads` that wait for another thread keep their promise.
+/// only if each call of `threads` that waits for another thread ends.
 ///
 /// # Errors
 ///

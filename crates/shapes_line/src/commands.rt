@@ -1,5 +1,5 @@
-//! Defines the command line for `clap`: one subcommand for each task. Contracts fix the names and
-//! rules of arguments; no clause speaks of the texts of help.
+//! Defines the command line of `shapes` for `clap`: one subcommand for each task. Contracts fix the
+//! names and rules of arguments; no clause speaks of the texts of help.
 ghost use Rattle.std.specs.Prelude.{◌≡◌, false, codes, IfOk};
 ghost use Rattle.clap.specs.Words.{app_of, new_app, rule_of};
 ghost use Rattle.clap.specs.declared.Command.TheViews.{out-Command as fields_of};
@@ -55,6 +55,7 @@ Exit status: 0 done, 2 wrong words, 3 input refused, 5 no memory, 6 a read or a 
 const TEXT_HELP: &str =
     "1: squares; 2: squares and diamonds; 3: both, with the first game of each pattern";
 
+/// Defines the subcommand `board`, which has no arguments.
 fn board_command<'a>(alloc: Global) -> Command<'a>
     ensures app { app_of result ≡ new_app (codes "board") }
     ensures local { (fields_of result).has_globals ≡ false }
@@ -64,6 +65,7 @@ fn board_command<'a>(alloc: Global) -> Command<'a>
         .override_usage("shapes board < GAMES.sgf")
 }
 
+/// Defines `--bits`: a number from 0 to 22, which is 20 if none is given.
 fn bits_argument<'a>(alloc: Global) -> Arg<'a>
     ensures rule { rule_of result ≡ bits_rule }
     ensures local { result.global ≡ false }
@@ -78,6 +80,7 @@ fn bits_argument<'a>(alloc: Global) -> Arg<'a>
     .default_value("20")
 }
 
+/// Defines the subcommand `count` with its options. `AllocError` if memory was refused.
 fn count_command<'a>(alloc: Global) -> Result<Command<'a>, AllocError>
     ensures app { IfOk result (λ command. app_of command ≡ count_app) }
     ensures local { IfOk result (λ command. (fields_of command).has_globals ≡ false) }
@@ -112,6 +115,7 @@ fn needed_colour<'a>(alloc: Global) -> Arg<'a>
     colour_argument(alloc).required(true)
 }
 
+/// Defines the subcommand `find` with its arguments. `AllocError` if memory was refused.
 fn find_command<'a>(alloc: Global) -> Result<Command<'a>, AllocError>
     ensures app { IfOk result (λ command. app_of command ≡ find_app) }
     ensures local { IfOk result (λ command. (fields_of command).has_globals ≡ false) }
@@ -129,6 +133,7 @@ fn find_command<'a>(alloc: Global) -> Result<Command<'a>, AllocError>
     Ok(command)
 }
 
+/// Defines the subcommand `join` with its option. `AllocError` if memory was refused.
 fn join_command<'a>(alloc: Global) -> Result<Command<'a>, AllocError>
     ensures app { IfOk result (λ command. app_of command ≡ join_app) }
     ensures local { IfOk result (λ command. (fields_of command).has_globals ≡ false) }

@@ -1,4 +1,4 @@
-//! Reads the words of the command line, and returns the task that they ask for.
+//! Reads the words of the command line of `shapes`, and returns the task that they ask for.
 ghost use Rattle.std.specs.Prelude.{◌≡◌, Some, codes, map, string_bytes, IfOk, IfErr};
 ghost use Rattle.clap.specs.Words.{subcommand_rows_of};
 ghost use Rattle.command_lines.specs.Lines.{IsAskingFault};
@@ -42,6 +42,8 @@ fn kinds_for(text: Text) -> Kinds
     }
 }
 
+/// Returns the task that the values of `count` ask for; `Usage` if a number is missing or out of
+/// its range.
 fn count_task(matches: &ArgMatches<'_>) -> Result<Task, RunFault>
     ensures task { IfOk result (IsTaskOf (Some (codes "count", rows_in matches.now))) }
     ensures fault { IfErr result (λ found. (found ≡ fault.Usage)
@@ -60,6 +62,9 @@ fn count_task(matches: &ArgMatches<'_>) -> Result<Task, RunFault>
     Ok(Task::Count(settings.with(kinds_for(text)), text))
 }
 
+/// Returns the task that the values of `find` ask for. `Usage` if the glyphs or the colour are
+/// missing, or if the colour is neither black nor white; else `Glyph` if the glyphs are not those
+/// of a pattern.
 fn find_task(matches: &ArgMatches<'_>) -> Result<Task, RunFault>
     ensures task { IfOk result (IsTaskOf (Some (codes "find", rows_in matches.now))) }
     ensures fault { IfErr result (IsWordsFault (Some (codes "find", rows_in matches.now))) }
@@ -70,6 +75,8 @@ fn find_task(matches: &ArgMatches<'_>) -> Result<Task, RunFault>
     }
 }
 
+/// Returns the task that the values of `join` ask for; `Usage` if there is no text format of the
+/// number that `--text` has.
 fn join_task(matches: &ArgMatches<'_>) -> Result<Task, RunFault>
     ensures task { IfOk result (IsTaskOf (Some (codes "join", rows_in matches.now))) }
     ensures fault { IfErr result (λ found. (found ≡ fault.Usage)
@@ -81,7 +88,8 @@ fn join_task(matches: &ArgMatches<'_>) -> Result<Task, RunFault>
     }
 }
 
-/// Returns the task of the subcommand in the words, or `Board` if there is none.
+/// Returns the task that the subcommand and its values ask for, or `Board` if no subcommand is
+/// given.
 fn task_of(matches: &ArgMatches<'_>) -> Result<Task, RunFault>
     ensures task { IfOk result (IsTaskOf (subcommand_rows_of matches.now)) }
     ensures fault { IfErr result (IsWordsFault (subcommand_rows_of matches.now)) }

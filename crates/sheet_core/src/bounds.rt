@@ -1,4 +1,5 @@
-//! The lower bound of a pattern's ratio of plays, which is played / there.
+//! The lower bound of a pattern's ratio of plays: how often it was played, divided by how often it
+//! was there.
 ghost use Rattle.std.specs.Prelude.{◌≡◌, ◌<◌, ◌≤◌, ◌^◌, IsTrue};
 ghost use Rattle.sheet_core.specs.Bounds.{is_enough, is_reached, stepped, bound_from, bound_of};
 
@@ -27,6 +28,7 @@ fn is_enough(excess: u128, times: u64, bound: u64) -> bool
     }
     let spread = bound * (PARTS - bound);
     let needed = u128::from(times) * u128::from(spread);
+    // For 95 % the interval reaches 49 / 25 = 1.96 standard deviations. Both sides are squared.
     2401 * needed <= 625 * (excess * excess)
 }
 

@@ -11,7 +11,8 @@ pub(crate) struct Place {
     pub(crate) row: u8,
 }
 
-/// A cell as it is drawn: the column and row at which it is drawn, and its glyph.
+/// A cell as it is drawn: the column and row at which it is drawn, both from 0, and its glyph (`.`
+/// empty, `X` black, `O` white, `#` off the board).
 #[derive(Clone, Copy)]
 pub(crate) struct Cell {
     pub(crate) column: u8,

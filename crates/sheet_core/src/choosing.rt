@@ -1,4 +1,4 @@
-//! The first patterns of a dictionary in an order.
+//! Chooses the first patterns of a dictionary in the order that is asked for.
 ghost use Rattle.std.specs.Prelude.{◌≡◌, IfOk};
 ghost use Rattle.std.specs.List.{filter};
 ghost use Rattle.std.specs.List.Sorted.{IsPermutation, IsSortedBy};

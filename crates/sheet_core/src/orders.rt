@@ -11,7 +11,7 @@ use std::cmp::Ordering;
 /// The order of a sheet's patterns: what the first of them have most of.
 #[derive(Clone, Copy, Debug, PartialEq, Eq)]
 pub enum Order {
-    /// Plays.
+    /// Plays: times that the pattern was played.
     Played,
     /// Plays for each time that the pattern was there.
     Urgency,

@@ -15,7 +15,7 @@ use std::alloc::{AllocError, Global};
 /// As many spaces as the row has that is indented most.
 const SPACES: [u8; 3] = [b' '; 3];
 
-/// The number of the cell in the middle, which is the point itself.
+/// The number, from 0, of the cell in the middle, which is the point itself.
 const MIDDLE: usize = 12;
 
 /// Returns the glyphs of a word's 25 cells, with `*` for the point in the middle.

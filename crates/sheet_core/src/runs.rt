@@ -1,4 +1,4 @@
-//! From a reader of a dictionary to a writer of its sheet.
+//! From a reader of a dictionary to a writer of its sheet, the drawing of its first patterns.
 ghost use Rattle.std.specs.Prelude.{OnOk, IfOk, IfErr};
 ghost use Rattle.engine_core.specs.Finds.{IsFindFault};
 ghost use Rattle.engine_core.specs.Runs.{HasRead, Wrote, IsRunFault};
@@ -33,9 +33,11 @@ fn sheet_of(alloc: Global, asked: Asked, hits: &[u8], input: &[u8]) -> Result<Ve
 ///
 /// # Errors
 ///
-/// `Dict` with 1 and the first fault of the text (X1 to X6, X8); `Read` if the reader failed;
-/// `Memory` if memory for the input or the sheet was refused. Nothing is written then. `Write` if
-/// the writer failed: it has the exact number of bytes of the sheet that were written.
+/// `Dict` with the dictionary's number, which is 1, and the first fault of the text: X1 to X5 if it
+/// is not well-formed, X6 if memory for its entries was refused, X8 if it has more than 2^28 bytes.
+/// `Read` if the reader failed; `Memory` if memory for the input or the sheet was refused. Nothing
+/// is written then. `Write` if the writer failed: it has the exact number of bytes of the sheet
+/// that were written.
 pub fn run_sheet<R: Read, W: Write>(
     alloc: Global,
     asked: Asked,

@@ -1,4 +1,4 @@
-//! Games whose board, setup and moves an earlier game has.
+//! Twins: games whose board, setup and moves an earlier game has.
 #![tactic(auto)]
 
 // a game, and where it is

@@ -1,4 +1,4 @@
-//! The line of a game, with the first game that has its record.
+//! The line of a twin (a game whose record an earlier game has), with the first game that has it.
 ghost use Rattle.std.specs.Prelude.{◌≡◌, ◌++◌, OnOk, option_map, string_bytes};
 ghost use Rattle.std.specs.Fmt.{decimal};
 ghost use Rattle.go_record.specs.Actions.{Actions};
@@ -46,7 +46,7 @@ fn push_seat_file(text: &mut Vec<u8>, seat: &Seat) -> Result<(), AllocError>
 }
 
 /// Appends the line of a game whose record an earlier game has. The game is at `place`, in the file
-/// `name`; `first` is where the first game with the same record is.
+/// `name` (None for no named file); `first` is where the first game with the same record is.
 pub(crate) fn push_line(
     text: &mut Vec<u8>,
     place: Place,

@@ -1,4 +1,5 @@
-//! The trees of an input, read one after another, and each game compared with the games before it.
+//! Reads the trees of an input one after another, and compares each game with the games before it.
+//! A twin is a game whose record (board size and actions) an earlier game has.
 ghost use Rattle.std.specs.Prelude.{◌≡◌, ◌≤◌, ◌<◌, ◌+◌, ◌^◌, ◌≢◌, [], List, length, option_map, IfOk, IfErr};
 ghost use Rattle.sgf_core.specs.Limit.{most_bytes};
 ghost use Rattle.sgf_core.specs.Tree.{GameTree, main_line_of};
@@ -41,7 +42,7 @@ pub(crate) enum Step {
 }
 
 /// How the reading of an input's trees ended: the byte index after the last tree that was read (0
-/// if there is none), how many trees of each sort were read, and the fault of syntax at which
+/// if there is none), how many trees of each `Sort` were read, and the fault of syntax at which
 /// reading stopped, if there is one.
 #[derive(Clone, Copy)]
 pub(crate) struct Ending {

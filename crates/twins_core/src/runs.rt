@@ -47,11 +47,11 @@ fn twins_text(
 /// Earlier games are those before it in this collection, and those of earlier runs with the same
 /// `twins`. Afterwards `twins` has all games of the collection.
 ///
-/// Returns how the reading ended and how many trees of each sort there are; games before a fault of
-/// syntax have been compared. It takes memory for the input, the lines, and a tree with its record.
-/// For each new record `twins` keeps at most five bytes an action, where its game is, and the name
-/// of the file. The time grows with the bytes of the input; besides, each record is looked up among
-/// those that are kept.
+/// Returns how the reading ended, and how many trees are games, of other games, and refused; games
+/// before a fault of syntax have been compared. It takes memory for the input, the lines, and a
+/// tree with its record. For each new record `twins` keeps at most five bytes an action, where its
+/// game is, and the name of the file. The time grows with the bytes of the input; besides, each
+/// record is looked up among those that are kept.
 ///
 /// # Errors
 ///
