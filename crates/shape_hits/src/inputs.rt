@@ -186,11 +186,15 @@ fn list_source<T: Threads + Sync>(
     let rt = given.rt;
     match source {
         Source::Input => list_one(given, sum, None, &mut rt.stdin()),
-        Source::File(name) => match open_file(rt, name)? {
-            Ok(mut file) => list_one(given, sum, Some(name), &mut file),
-            Err(why) => {
+        Source::File(name) => match open_file(rt, name) {
+            Ok(Ok(mut file)) => list_one(given, sum, Some(name), &mut file),
+            Ok(Err(why)) => {
                 tell_flaw(rt, sum, name, why);
                 Ok(())
+            }
+            Err(_refused) => {
+                tell(rt, sum, Some(name), &RunFault::Memory);
+                Err(RunFault::Memory)
             }
         },
         Source::Flaw(flaw) => {
@@ -217,8 +221,7 @@ fn exit_status(sum: &Sum) -> u8 {
 /// # Errors
 ///
 /// `Memory` if memory for the names was refused. What else goes wrong is printed to standard error,
-/// and is in the exit status. If memory is refused when a file is opened, the run ends, but that is
-/// not printed, and the exit status stays as it was.
+/// and is in the exit status.
 pub fn list_all<T: Threads + Sync>(
     rt: &HostRuntime,
     threads: &T,
