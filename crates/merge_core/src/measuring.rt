@@ -134,10 +134,10 @@ fn count_block<S: Sources>(
     count_ranges(alloc, sources, plan, from, last.min(from + size))
 }
 
-/// Counts the `last` ranges of words between cut 0 and cut `last`, in blocks of `size` ranges: each
-/// block in a thread of its own if one can be started. The last block may have fewer ranges.
-/// Returns, in their order, the tallies of each block, or its fault. `AllocError` if memory for
-/// this list was refused.
+/// Counts the patterns in all ranges of words from cut 0 up to cut `last`, in blocks of `size`
+/// ranges: each block in a thread of its own if one can be started. The final block may have fewer
+/// ranges. Returns, in their order, the tallies of each block, or its fault. `AllocError` if memory
+/// for this list was refused.
 fn blocks_of<T: Threads + Sync, S: Sources + Sync>(
     rt: &T,
     alloc: Global,

@@ -80,9 +80,9 @@ pub(crate) fn asked<O: ProbeOrder>(
     run(shared, seat, Probe::begin(order, call))
 }
 
-/// Loads the slot at this `index` of the key's probe order, and returns its word. For proofs that
-/// load is a step of the key's `Enter`, which `A` names. `seat` is the thread's right to load and
-/// change the words.
+/// Loads the first word of the slot at this `index` of the key's probe order, and returns it: 0 if
+/// the slot is free, else its key and 1. In proofs the load is a step of a call that enters `key`,
+/// which `A` stands for (see `Ask`). `seat` is the thread's right to load and change the words.
 pub(crate) fn look<A: Ask, O: ProbeOrder>(
     shared: &Shown<O>,
     seat: &mut Place<O>,

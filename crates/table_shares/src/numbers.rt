@@ -60,9 +60,10 @@ fn add(sums: NumberSums, row: Row, found: Option<u64>) -> NumberSums
     }
 }
 
-/// Sums up the rows that the shares have under the table's slot `number`: their least game, and the
-/// first pattern among them whose word's bits are not `found`. If `found` is None, that is the
-/// first row's pattern. It takes no memory.
+/// Sums up the rows that the shares have under `number`, a slot of the table: returns their least
+/// game, and the first pattern among them that is not the slot's. `found` has the bits of the
+/// slot's word, or is None if the slot has no pattern: then that is the first row's pattern. It
+/// takes no memory.
 pub(crate) fn sums_at(shares: &[Share], number: usize, found: Option<u64>) -> NumberSums
     ensures { AreSums (all_rows shares.now) number found result }
 {

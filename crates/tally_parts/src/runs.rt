@@ -121,17 +121,18 @@ fn write_joined<R: Threads + Sync, S: Spills + Sync, W: Write>(
     }
 }
 
-/// Reads texts of games one after another, counts the games of those that can be read, and writes a
-/// text of the dictionary of all these games. The games are numbered from 0 in the order of the
-/// texts. Text 1 has squares alone, and the others have diamonds too. A text that has 2^28 bytes or
-/// more, or a fault of syntax, is left out whole, and `Texts::judged` gets its fault.
+/// Reads texts of games one after another, counts the games of those that can be read, and writes
+/// the dictionary of all these games in the format `plan.text`. Format 1 has squares alone, and the
+/// others have diamonds too. The games are numbered from 0 in the order of the texts. A text of
+/// games that has 2^28 bytes or more, or a fault of syntax, is left out whole, and `Texts::judged`
+/// gets its fault.
 ///
 /// The texts are counted in parts. A part has as many texts as `plan.most` bytes allow, or one text
-/// that is larger. `harvest_all` counts a part by `plan.workers` workers, and says on how many
-/// threads. If there is more than one part, the dictionary of each is stored in `spills`, which
-/// must be empty at first, and `run_merge` joins them. What is written is the same for each
+/// that is larger. `harvest_all` counts a part by `plan.workers` workers; its comment says on how
+/// many threads. If there is more than one part, the dictionary of each is stored in `spills`,
+/// which must be empty at first, and `run_merge` joins them. What is written is the same for each
 /// `plan.workers` and `plan.most`. It takes memory for one part and one text more, and for what
-/// `harvest_all` and `run_merge` take. This project's own.
+/// `harvest_all` and `run_merge` take. The method is this project's own.
 ///
 /// # Errors
 ///
