@@ -81,7 +81,7 @@ pub(crate) fn asked<O: ProbeOrder>(
 }
 
 /// Loads the first word of the slot at this `index` of the key's probe order, and returns it: 0 if
-/// the slot is free, else its key and 1. In proofs the load is a step of a call that enters `key`,
+/// the slot is free, else its key plus 1. In proofs the load is a step of a call that enters `key`,
 /// which `A` stands for (see `Ask`). `seat` is the thread's right to load and change the words.
 pub(crate) fn look<A: Ask, O: ProbeOrder>(
     shared: &Shown<O>,
