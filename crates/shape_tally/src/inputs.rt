@@ -160,11 +160,14 @@ impl<'a> Inputs<'a> {
 }
 
 impl Texts for Inputs<'_> {
-    ghost use Rattle.std.specs.Prelude.{length, None};
+    ghost use Rattle.std.specs.Prelude.{◌≡◌, length, true, None};
+    ghost use Rattle.shape_tally.specs.Sums.{IsWhole};
 
     ghost number = { λ i. length i.sources.now };
 
     ghost bytes = { λ _ _. None };
+
+    ghost IsWanted = { λ i. i.is_strict ≡ true → IsWhole i.taken.sum };
 
     fn count(&self) -> usize {
         self.sources.len()

@@ -1,5 +1,6 @@
 //! Counts one part (texts that are counted together), and stores its dictionary as a text.
-ghost use Rattle.std.specs.Prelude.{◌≡◌, ◌^◌, ◌<◌, ℕ, List, All, OnOk, IfOk};
+ghost use Rattle.std.specs.Prelude.{◌≡◌, ◌≢◌, ◌^◌, ◌<◌, ℕ, List, All, OnOk, IfOk, IfErr};
+ghost use Rattle.tally_parts.specs.declared.faults.PartsFault.TheVariants as fault;
 ghost use Rattle.shape_dict.specs.Text.{IsSmall};
 ghost use Rattle.batch_core.specs.Batch.{joined};
 ghost use Rattle.tally_parts.specs.Parts.{kinds_for, IsDictionaryOfTexts};
@@ -73,6 +74,7 @@ pub(crate) fn count_part<R: Threads + Wait + Sync>(
     ensures counted { (texts : List (List ℕ)) → AreAllGood texts → part.now ≡ joined texts
         → IfOk result (IsDictionaryOfTexts (kinds_for plan.text) texts) }
     ensures small { IfOk result IsSmall }
+    ensures wanted { IfErr result (λ found. found ≢ fault.Unwanted) }
 {
     // For the proof alone: the games of the part are those of its texts.
     games_of_joined();
@@ -107,6 +109,7 @@ pub(crate) fn spill<R: Threads + Sync, S: Spills>(
 ) -> Result<(), PartsFault>
     ensures kept { OnOk result (IsKept (S.number spills.old) (S.bytes spills.old) (S.number spills.new)
         (S.bytes spills.new) dictionary.now) }
+    ensures wanted { IfErr result (λ found. found ≢ fault.Unwanted) }
 {
     let Ok(parts) = dictionary.parts(rt, alloc, Text::Three, threads_for(plan)) else {
         return Err(PartsFault::Memory);

@@ -1,6 +1,7 @@
 //! From texts of games to a text of the dictionary of all their games. A part is the texts that are
 //! counted together; a text that did not fit into one waits in a feed for the next.
-ghost use Rattle.std.specs.Prelude.{◌≡◌, ◌≤◌, ℕ, List, false, length, OnOk, IfErr};
+ghost use Rattle.std.specs.Prelude.{◌≡◌, ◌≢◌, ◌≤◌, ℕ, List, false, length, OnOk, IfErr, Err};
+ghost use Rattle.tally_parts.specs.declared.faults.PartsFault.TheVariants as fault;
 ghost use Rattle.std.specs.Io.KnownBytes.{Appends};
 ghost use Rattle.merge_core.specs.Merge.{AreInputs};
 ghost use Rattle.shape_dict.specs.Text.{text_of};
@@ -40,6 +41,7 @@ fn write_alone<R: Threads + Sync, W: Write>(
         (text_of plan.text dictionary.now)) }
     ensures fault { IfErr result (λ _. IsCut (text_of plan.text dictionary.now)
         (W.contents writer.old) (W.contents writer.new)) }
+    ensures wanted { IfErr result (λ found. found ≢ fault.Unwanted) }
 {
     let Ok(parts) = dictionary.parts(rt, alloc, plan.text, threads_for(plan)) else {
         return Err(PartsFault::Memory);
@@ -67,6 +69,7 @@ fn spill_more<R: Threads + Wait + Sync, T: Texts, S: Spills>(
     part: &mut Vec<u8>,
 ) -> Result<(), PartsFault>
     requires within { feed.old.next ≤ T.number texts.old }
+    ensures wanted { IfErr result (λ found. found ≢ fault.Unwanted) }
     ensures ended { OnOk result (feed.new.waits ≡ false) }
     ensures spilled { (all : List (List ℕ)) → AreInputs (T.bytes texts.old) 0 all
         → length all ≡ T.number texts.old
@@ -105,6 +108,7 @@ fn write_joined<R: Threads + Sync, S: Spills + Sync, W: Write>(
         → AreInputs (S.bytes spills.now) 0 inputs → length inputs ≡ S.number spills.now
         → IfErr result (λ _.
         IsTextCut plan.text texts (W.contents writer.old) (W.contents writer.new)) }
+    ensures wanted { IfErr result (λ found. found ≢ fault.Unwanted) }
 {
     // For the proof alone: a text is that of one dictionary only, and the dictionary of two lists
     // of games is the join of the two lists' dictionaries.
@@ -151,6 +155,7 @@ pub fn run_tally<R: Threads + Wait + Sync, T: Texts, S: Spills + Sync, W: Write>
     writer: &mut W,
 ) -> Result<(), PartsFault>
     requires none_kept { S.number spills.old ≡ 0 }
+    ensures unwanted { result ≡ Err fault.Unwanted → T.IsWanted texts.new → ⊥ }
     ensures done { (all inputs : List (List ℕ)) → AreInputs (T.bytes texts.old) 0 all
         → length all ≡ T.number texts.old → AreInputs (S.bytes spills.new) 0 inputs
         → length inputs ≡ S.number spills.new → OnOk result ((written : List ℕ)

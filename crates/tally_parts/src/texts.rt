@@ -4,13 +4,16 @@ use std::alloc::AllocError;
 
 /// Texts of games, each of which is read once, whole.
 pub trait Texts {
-    ghost use Rattle.std.specs.Prelude.{◌≡◌, ◌<◌, ℕ, List, Option, Some, [], true, IfOk};
+    ghost use Rattle.std.specs.Prelude.{◌≡◌, ◌<◌, ℕ, List, Option, Some, [], true, ◌↔◌, IfOk, IsTrue};
 
     /// How many texts there are.
     ghost number: { Self → ℕ };
 
     /// The bytes of each text, by its number from 0; None if contracts can't say them.
     ghost bytes: { Self → ℕ → Option (List ℕ) };
+
+    /// What `is_wanted` says of the texts that were checked so far.
+    ghost IsWanted: { Self → Type 0 };
 
     /// How many texts there are.
     fn count(&self) -> usize
@@ -38,5 +41,6 @@ pub trait Texts {
         ensures bytes { bytes self.new ≡ bytes self.old };
 
     /// Whether a dictionary is to be written. It is called once all texts were read and checked.
-    fn is_wanted(&self) -> bool;
+    fn is_wanted(&self) -> bool
+        ensures { IsTrue result ↔ IsWanted self.now };
 }

@@ -19,4 +19,5 @@ returns-in-Ok-keep g c =
         others = λ n lt. keep.others n (omega (arith, lt, begun.number)) ∙ ap (λ (f : ℕ → Option (List ℕ)). f n) begun.bytes;
         last = subst (λ (n : ℕ). IsTextThere (kept n) c.args.dictionary.now) begun.number last;
       };
+      wanted = record {};
     }
