@@ -1,11 +1,12 @@
 //! Worked games, and each public call once.
 use go_record::{Kind, Record, read_record};
+use plain_core::{count_plain, tally_plain};
 use sgf_core::{SgfFault, Tree, Trees};
 use shape_core::Kinds;
 use shape_dict::{Dictionary, Entry, Text};
 use std::alloc::Global;
 use std::test::Fail;
-use tally_core::{Report, Settings, TallyFault, count_plain, has_diamonds, tally_plain};
+use tally_core::{Report, Settings, TallyFault, has_diamonds};
 
 /// A game of one black and one white move, on a board of two points.
 pub(crate) const TWO_STONES: &[u8] = b"(;SZ[2:1];B[aa];W[ba])";

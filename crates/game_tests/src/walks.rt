@@ -3,13 +3,14 @@
 use crate::tallies::{TWO_STONES, game_of};
 use go_board::{Board, Colour, Point, Stone};
 use go_record::{Action, Record};
+use plain_core::tally_plain;
 use shape_core::{Kinds, Shape, around, canonical, diamond};
 use shape_dict::Entry;
 use std::alloc::{AllocError, Global};
 use std::collections::BTreeMap;
 use std::process::Abort;
 use std::test::Fail;
-use tally_core::{Meeting, TallyFault, Walk, tally_plain};
+use tally_core::{Meeting, TallyFault, Walk};
 
 /// A generator of numbers that look random.
 #[derive(Clone, Copy)]

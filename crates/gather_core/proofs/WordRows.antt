@@ -8,7 +8,7 @@ use Rattle.range_core.proofs.Adding.{together_assoc, total_append, total_one}
 use Rattle.range_core.proofs.Joining.{there_together, played_together, first_together, there_one, played_one, first_one, there_sums, played_sums}
 use Rattle.tally_core.specs.declared.faults.TallyFault.{TallyFault}
 use Rattle.tally_core.specs.declared.faults.TallyFault.TheVariants as tally
-use Rattle.tally_core.specs.Tally.{IsTallyFault}
+use Rattle.tally_core.specs.Faults.{IsTallyFault}
 use Rattle.tally_core.specs.Walk.{played_among, IsAmong}
 use Rattle.harvest_faults.specs.Faults.{same_fault}
 use Rattle.gather_core.specs.Rows.{there_of, played_of}

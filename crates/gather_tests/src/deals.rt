@@ -7,6 +7,7 @@ ghost use Rattle.sgf_core.specs.Limit.{most_bytes};
 
 use go_record::Record;
 use harvest_faults::HarvestFault;
+use plain_core::count_plain;
 use probe_core::ProbeOrder;
 use shape_core::Kinds;
 use shape_dict::Dictionary;
@@ -16,7 +17,6 @@ use std::alloc::Global;
 use std::test::Fail;
 use std::thread::Threads;
 use table_shares::{Share, gather};
-use tally_core::count_plain;
 
 /// Six games that have patterns in common, so that the first game of a pattern is often not the
 /// first of a share.

@@ -23,9 +23,8 @@ use Rattle.tally_core.specs.Walk.{once_each, shapes_of}
 use Rattle.tally_core.specs.declared.collections.Counted.{Counted}
 use Rattle.tally_core.specs.declared.faults.TallyFault.{TallyFault}
 use Rattle.tally_core.specs.declared.faults.TallyFault.TheVariants as tally
-use Rattle.tally_core.proofs.Games.{first_of, first-some}
+use Rattle.tally_core.proofs.Games.{first_of, first-some, replayed-length}
 use Rattle.tally_core.proofs.GamesMet.{patterns_of_game}
-use Rattle.tally_core.proofs.NextGame.{replayed-length}
 use Rattle.tally_core.proofs.SamePositions.{HaveOneResult}
 use Rattle.tally_core.proofs.Once.{has, has-is}
 use Rattle.harvest_faults.specs.Faults.{same_fault}

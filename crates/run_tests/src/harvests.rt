@@ -7,6 +7,7 @@ use crate::jobs::{put_until_full, puts_an_end};
 use harvest_core::{FreeGate, Gate, harvest};
 use harvest_faults::HarvestFault;
 use job_core::{Endpoint, Games, new_queue};
+use plain_core::count_plain;
 use probe_core::{Capacity, Linear, OddRuns, OddStep, ProbeOrder};
 use sgf_core::SgfFault;
 use shape_core::{Kinds, Word};
@@ -18,7 +19,7 @@ use std::sync::Wait;
 use std::test::Fail;
 use std::thread::Threads;
 use table_harvest::{Returned, Worker, harvest_on, work};
-use tally_core::{Counted, Report, Settings, count_plain};
+use tally_core::{Counted, Report, Settings};
 
 /// One move on a board of one point: one pattern.
 const ONE_POINT: &[u8] = b"(;SZ[1];B[aa])";

@@ -16,7 +16,7 @@ use Rattle.go_record.specs.declared.actions.Action.{Action}
 use Rattle.go_record.specs.declared.actions.Action.TheVariants as deed
 use Rattle.tally_core.specs.Occasions.{Occasion, is_empty, occasion_of}
 use Rattle.tally_core.specs.Counts.{row_of, points_of, patterns_at, patterns_there, patterns_played}
-use Rattle.tally_core.specs.Inner.Counter.{AreAmong}
+use Rattle.tally_core.specs.Inner.Times.{AreAmong}
 
 pub IsIn : {X : Type 0} → X → List X → Type 0
 IsIn x [] = ⊥

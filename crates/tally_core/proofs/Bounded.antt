@@ -13,7 +13,7 @@ use Rattle.shape_core.specs.declared.words.Kinds.TheVariants as which
 use Rattle.shape_core.specs.Word.{count_from}
 use Rattle.tally_core.specs.Occasions.{Occasion, is_empty}
 use Rattle.tally_core.specs.Counts.{kinds_of, row_of, points_of, patterns_at, patterns_there, patterns_played}
-use Rattle.tally_core.specs.Inner.Counter.{times_in}
+use Rattle.tally_core.specs.Inner.Times.{times_in}
 
 few-at : (kinds : Kinds) (size : Extent) (position : Position) (mover : Colour) (point : Point) → length (patterns_at (kinds_of kinds) size position mover point) ≤ 2
 few-at which.Squares size position mover point = omega arith

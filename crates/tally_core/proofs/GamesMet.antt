@@ -8,7 +8,7 @@ use Rattle.std.proofs.lemmas.List.Sums.{sum_by-cons}
 use Rattle.shape_core.specs.declared.words.Kinds.{Kinds}
 use Rattle.tally_core.specs.Beyond.{patterns_in}
 use Rattle.tally_core.specs.Counts.{Replayed, kinds_of, patterns_there, there_in}
-use Rattle.tally_core.specs.Inner.Counter.{times_in}
+use Rattle.tally_core.specs.Inner.Times.{times_in}
 use Rattle.tally_core.proofs.Once.{has}
 
 -- those of one game

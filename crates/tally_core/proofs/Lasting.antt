@@ -5,7 +5,7 @@ use Rattle.std.proofs.lemmas.Bool.Decides.{nat_tests}
 use Rattle.std.proofs.lemmas.List.{get_or_append_left, get_or-map, get_or_default, length-map, map-set, set-get_or}
 use Rattle.std.proofs.lemmas.List.Sums.{get_or-le-sum_by, sum_by-cons, sum_by-append}
 use Rattle.std.proofs.lemmas.List.Elements.{All-head, All-tail}
-use Rattle.tally_core.specs.Inner.Counter.{one_pattern, times_in}
+use Rattle.tally_core.specs.Inner.Times.{one_pattern, times_in}
 use Rattle.tally_core.specs.Walk.{there_among, played_among, shapes_of}
 use Rattle.tally_core.specs.Inner.Meeting.{Extends}
 use Rattle.tally_core.specs.Inner.Standing.{IsStay, AreStays, patterns_of, patterns_staying, waits, waits_at, waiting}

@@ -29,7 +29,7 @@ use Rattle.tally_core.specs.Counts.{Replayed, kinds_of, patterns_at, patterns_th
 use Rattle.tally_core.specs.Games.{there_sum, first_game}
 use Rattle.tally_core.specs.Occasions.{Occasion, is_empty, occasion_of, HasOccasions, AreOccasions}
 use Rattle.tally_core.specs.Walk.{once_each}
-use Rattle.tally_core.specs.Inner.Counter.{times_in}
+use Rattle.tally_core.specs.Inner.Times.{times_in}
 use Rattle.tally_core.proofs.Different.{different_few}
 use Rattle.tally_core.proofs.GamesMet.{there-none}
 use Rattle.tally_core.proofs.Once.{is_in, in_once, once_append, has, has-is}

@@ -17,7 +17,7 @@ use Rattle.shape_core.specs.Field.{Kept, IsMarked}
 use Rattle.go_board.specs.Board.{position_of}
 use Rattle.tally_core.specs.Occasions.{Occasion, is_empty, occasion_of}
 use Rattle.tally_core.specs.Counts.{kinds_of, points_of, patterns_at, patterns_there, patterns_played}
-use Rattle.tally_core.specs.Inner.Counter.{times_in}
+use Rattle.tally_core.specs.Inner.Times.{times_in}
 use Rattle.tally_core.specs.Walk.{shapes_of}
 use Rattle.tally_core.specs.Inner.Meeting.{Extends, Meets}
 use Rattle.tally_core.specs.Inner.Standing.{AreStays, StayThere, waiting, patterns_seen, IsSide, IsSeen, CountsOccasions}

@@ -1,11 +1,12 @@
 -- Rising entries that are, shape by shape, what games count are those of a dictionary.
-use Rattle.std.proofs.Common.{◌≡◌, ℕ, ◌<◌, ◌≤◌, ◌==◌, nat_lt, Bool, true, false, not, cond, List, [], ◌∷◌, filter, length, Some, None, IfSome, refl, ap, sym, subst, ◌∙◌, arith, All}
+use Rattle.std.proofs.Common.{◌≡◌, ℕ, ◌^◌, ◌<◌, ◌≤◌, ◌==◌, nat_lt, Bool, true, false, not, cond, List, [], ◌∷◌, filter, length, Some, None, IfSome, refl, ap, sym, subst, ◌∙◌, arith, All}
 use Rattle.std.specs.Prelude.{sum_by, count_by}
 use Rattle.std.specs.List.{AllByRecursion, position_or_len}
 use Rattle.std.specs.List.Sorted.{IsStrictlyIncreasing}
 use Rattle.std.proofs.lemmas.Bool.Decides.{nat_tests}
 use Rattle.std.proofs.lemmas.List.Elements.{All-from_recursion, recursion_from_All}
 use Rattle.go_board.specs.Extent.{Extent}
+use Rattle.shape_core.specs.Symmetry.{least_image}
 use Rattle.shape_core.specs.declared.words.Kinds.{Kinds}
 use Rattle.shape_core.specs.declared.words.Kinds.TheVariants as which
 use Rattle.shape_dict.specs.declared.entries.Entry.{Entry}
@@ -13,7 +14,6 @@ use Rattle.shape_dict.specs.Contents.{IsDictionary, diamonds_of, played_in, IsEn
 use Rattle.tally_core.specs.Occasions.{Occasion}
 use Rattle.tally_core.specs.Counts.{Replayed, kinds_of, there_in, patterns_played}
 use Rattle.tally_core.specs.Games.{there_sum, played_sum, counts_diamonds}
-use Rattle.range_core.specs.Entries.{IsShape}
 use Rattle.tally_core.proofs.DoubleCounting.{counted_twice}
 use Rattle.tally_core.specs.Inner.Entries.{shapes_of}
 use Rattle.tally_core.proofs.RisingEntries.{stands_once}
@@ -21,11 +21,15 @@ use Rattle.tally_core.proofs.CountedEntries.{AreCounted, IsCounted, entry_there,
 use Rattle.tally_core.proofs.PlayedPatterns.{CanonicalStays, AroundStays, is_low, one_square, one_diamond, no_diamonds, all_played, played_among_all, one_each}
 
 -- ---- each entry
+-- an entry's word is the least of its images
+abbrev pub IsLeast : Entry → Type 0
+IsLeast entry = (entry.shape < 2 ^ 51) × (least_image entry.shape ≡ entry.shape)
+
 place_within : (n m : ℕ) → IfSome (cond (nat_lt n m) (Some n) None) (λ game. game < m)
 place_within n m = elim (nat_lt n m) as (λ b. nat_lt n m ≡ b → IfSome (cond b (Some n) None) (λ game. game < m))
     [ true ↦ λ test. Prim.grind (arith, nat_tests) | false ↦ λ test. tt ] refl
 
-is_entry : (kinds : Kinds) (games : List Replayed) (e : Entry) → played_sum kinds games e.shape ≤ there_sum kinds games e.shape → IsShape e → IsCounted kinds games e →
+is_entry : (kinds : Kinds) (games : List Replayed) (e : Entry) → played_sum kinds games e.shape ≤ there_sum kinds games e.shape → IsLeast e → IsCounted kinds games e →
     IsEntry (length games) e
 is_entry kinds games e few shape counted =
     let some = counted.some in
@@ -41,7 +45,7 @@ is_entry kinds games e few shape counted =
     }
 
 are_entries : (kinds : Kinds) (games : List Replayed) (entries : List Entry) → ((shape : ℕ) → played_sum kinds games shape ≤ there_sum kinds games shape) →
-    AllByRecursion IsShape entries → AllByRecursion (IsCounted kinds games) entries → AllByRecursion (IsEntry (length games)) entries
+    AllByRecursion IsLeast entries → AllByRecursion (IsCounted kinds games) entries → AllByRecursion (IsEntry (length games)) entries
 are_entries kinds games [] few shapes counted = tt
 are_entries kinds games (e ∷ entries) few shapes counted =
     (is_entry kinds games e (few e.shape) shapes.0 counted.0, are_entries kinds games entries few shapes.1 counted.1)
@@ -98,13 +102,13 @@ module _ (canonical : CanonicalStays) (around : AroundStays) (games : List Repla
   }
 
   -- ---- the dictionary
-  pub is_dictionary : (kinds : Kinds) → All IsShape entries → AreCounted kinds games entries → ((shape : ℕ) → played_sum kinds games shape ≤ there_sum kinds games shape) →
+  pub is_dictionary : (kinds : Kinds) → All IsLeast entries → AreCounted kinds games entries → ((shape : ℕ) → played_sum kinds games shape ≤ there_sum kinds games shape) →
       IsDictionary (record { games = length games; moves = sum_by (λ game. length game.occasions) games; entries = entries; counts_diamonds = counts_diamonds kinds })
   is_dictionary kinds shapes counted few =
       let each = each_counted kinds games entries rises counted in
       record {
         rises = rises;
-        each = All-from_recursion (IsEntry (length games)) entries (are_entries kinds games entries few (recursion_from_All IsShape entries shapes) each);
+        each = All-from_recursion (IsEntry (length games)) entries (are_entries kinds games entries few (recursion_from_All IsLeast entries shapes) each);
         totals = totals_of kinds counted few;
         uncounted = uncounted_of canonical around kinds games entries each;
       }

@@ -14,7 +14,7 @@ use Rattle.go_board.specs.declared.points.Colour.{Colour}
 use Rattle.shape_core.specs.declared.words.Kinds.{Kinds}
 use Rattle.shape_core.specs.Word.{count_from}
 use Rattle.tally_core.specs.Counts.{row_of}
-use Rattle.tally_core.specs.Inner.Counter.{times_in}
+use Rattle.tally_core.specs.Inner.Times.{times_in}
 use Rattle.tally_core.specs.Inner.Standing.{patterns_staying, patterns_here, patterns_seen, no_stays, IsSeen}
 use Rattle.tally_core.specs.declared.stays.Stays.{Stays}
 use Rattle.tally_core.specs.declared.sides.Side.{Side}

@@ -11,7 +11,7 @@ use Rattle.go_record.specs.declared.actions.Action.{Action}
 use Rattle.shape_core.specs.declared.words.Kinds.{Kinds}
 use Rattle.tally_core.specs.Occasions.{HasOccasions, occasion_of}
 use Rattle.tally_core.specs.Counts.{kinds_of, patterns_there, patterns_played}
-use Rattle.tally_core.specs.Inner.Counter.{times_in}
+use Rattle.tally_core.specs.Inner.Times.{times_in}
 use Rattle.tally_core.specs.Walk.{there_among, played_among, shapes_of, once_each}
 use Rattle.tally_core.specs.Inner.Standing.{waiting, there_both, HaveRoom, CountsOccasions, KeepsCounts, IsNewSide, IsFront, IsWalkOf}
 use Rattle.tally_core.specs.declared.meetings.Meeting.{Meeting}

@@ -4,7 +4,7 @@ ghost use Rattle.std.specs.Prelude.{◌≡◌, ◌<◌, ◌+◌, ◌^◌, ℕ, l
 ghost use Rattle.std.specs.Prelude.{slice_index, OnOk};
 ghost use Rattle.tally_core.specs.Walk.{shapes_of, there_among, played_among};
 ghost use Rattle.tally_core.specs.Inner.Meeting.{Meets, CountsStay, IsMet};
-ghost use Rattle.tally_core.specs.Inner.Counter.{one_pattern};
+ghost use Rattle.tally_core.specs.Inner.Times.{one_pattern};
 ghost use Rattle.tally_core.specs.Inner.Place.{IsPlaceOf};
 ghost use Rattle.tally_core.specs.declared.faults.TallyFault.TheVariants as fault;
 

@@ -1,5 +1,8 @@
 //! How a collection is counted: by how many workers, in how large a table, and which kinds of
 //! pattern.
+ghost use Rattle.std.specs.Prelude.{◌≡◌};
+ghost use Rattle.tally_core.specs.Games.{counts_diamonds};
+
 use crate::faults::TallyFault;
 use shape_core::Kinds;
 use std::marker::Model;
@@ -87,5 +90,16 @@ impl Settings {
         ensures { result ≡ self.kinds }
     {
         self.kinds
+    }
+}
+
+/// Returns whether `kinds` has diamonds (the patterns of all points at most three steps away)
+/// besides squares.
+pub fn has_diamonds(kinds: Kinds) -> bool
+    ensures { result ≡ counts_diamonds kinds }
+{
+    match kinds {
+        Kinds::Squares => false,
+        Kinds::Both => true,
     }
 }

@@ -1,7 +1,7 @@
 //! Stays: the patterns that points have while a game is walked, and since when. Most stay from move
 //! to move, and only what changes is looked up.
 ghost use Rattle.std.specs.Prelude.{◌≡◌, ◌+◌, ◌<◌, ◌^◌, ◌∷◌, ℕ, [], length, IfOk, IfErr, OnOk};
-ghost use Rattle.tally_core.specs.Inner.Counter.{times_in};
+ghost use Rattle.tally_core.specs.Inner.Times.{times_in};
 ghost use Rattle.tally_core.specs.Walk.{shapes_of, there_among, played_among};
 ghost use Rattle.tally_core.specs.Inner.Meeting.{Meets, CountsStay};
 ghost use Rattle.tally_core.specs.Inner.Packing.{BeginsAt};

@@ -1,6 +1,6 @@
 //! A walk of a game: the patterns that it met, in the order in which they were first met.
 ghost use Rattle.std.specs.Prelude.{◌≡◌, ◌≤◌, ◌*◌, [], length, IfOk, IfErr, OnOk};
-ghost use Rattle.tally_core.specs.Tally.{IsTallyFault};
+ghost use Rattle.tally_core.specs.Faults.{IsTallyFault};
 ghost use Rattle.tally_core.specs.Walk.{IsWalk, IsAmong, IsSmall};
 
 use crate::blanks::Blank;

@@ -1,14 +1,15 @@
-//! The examples of the pages of `sgf_core`, `go_board`, `go_record`, `game_core`, `batch_core` and
-//! `tally_core`.
+//! The examples of the pages of `sgf_core`, `go_board`, `go_record`, `game_core`, `batch_core`,
+//! `tally_core` and `plain_core`.
 use batch_core::{push_text, report_of};
 use game_core::{Games, GamesFault};
 use go_board::{Board, Colour, Point, Size, Stone};
 use go_record::{Kind, Record, read_record, replay};
+use plain_core::count_plain;
 use sgf_core::{Tree, Trees};
 use shape_core::Kinds;
 use std::alloc::Global;
 use std::test::Fail;
-use tally_core::{TallyFault, Walk, count_plain};
+use tally_core::{TallyFault, Walk};
 
 /// How many values the main line of a tree has.
 fn values(tree: &Tree<'_>) -> usize {
@@ -100,11 +101,22 @@ fn walk(alloc: Global, record: &Record) -> Result<(u64, usize), TallyFault> {
 #[test]
 fn tally_core(rt: HostRuntime) -> Result<(), Fail> {
     let alloc = rt.alloc();
-    let input = b"(;SZ[1];B[aa])(;SZ[2:1];B[aa];W[ba])";
-    assert!(rt; count_plain(alloc, Kinds::Squares, input)?.report.games == 2);
-    let tree = Trees::new(input)?.next_tree(alloc)?.ok_or("no tree")?;
+    let mut trees = Trees::new(b"(;SZ[2:1];B[aa];W[ba])")?;
+    let tree = trees.next_tree(alloc)?.ok_or("no tree")?;
     if let Kind::Go(record) = read_record(alloc, &tree)? {
-        assert!(rt; walk(alloc, &record) == Ok((1, 2)));
+        assert!(rt; walk(alloc, &record) == Ok((2, 4)));
     }
+    Ok(())
+}
+
+/// How many games a collection has, and how many patterns.
+fn count(alloc: Global, input: &[u8]) -> Result<(u64, usize), TallyFault> {
+    let counted = count_plain(alloc, Kinds::Squares, input)?;
+    Ok((counted.report.games, counted.dictionary.len()))
+}
+
+#[test]
+fn plain_core(rt: HostRuntime) -> Result<(), Fail> {
+    assert!(rt; count(rt.alloc(), b"(;SZ[1];B[aa])(;SZ[2:1];B[aa];W[ba])") == Ok((2, 3)));
     Ok(())
 }

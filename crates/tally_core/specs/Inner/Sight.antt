@@ -13,7 +13,7 @@ use Rattle.go_record.specs.declared.actions.Action.{Action}
 use Rattle.shape_core.specs.Field.{Kept}
 use Rattle.tally_core.specs.Occasions.{occasion_of}
 use Rattle.tally_core.specs.Counts.{kinds_of, patterns_at, row_of}
-use Rattle.tally_core.specs.Inner.Counter.{times_in}
+use Rattle.tally_core.specs.Inner.Times.{times_in}
 use Rattle.tally_core.specs.Walk.{there_among, played_among, shapes_of}
 use Rattle.tally_core.specs.Inner.Standing.{waits_at, there_with, patterns_here, patterns_seen, StayThere, AreStanding, IsSide, IsSeen, CountsOccasions}
 use Rattle.tally_core.specs.declared.meetings.Meeting.{Meeting}

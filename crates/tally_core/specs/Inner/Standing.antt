@@ -13,7 +13,7 @@ use Rattle.shape_core.specs.KeptLists.{AreMarks}
 use Rattle.tally_core.specs.Occasions.{Occasion, is_empty, HasOccasions}
 use Rattle.tally_core.specs.Inner.Meeting.{Meets}
 use Rattle.tally_core.specs.Counts.{kinds_of, points_of, patterns_at, patterns_there, patterns_played}
-use Rattle.tally_core.specs.Inner.Counter.{one_pattern, times_in}
+use Rattle.tally_core.specs.Inner.Times.{one_pattern, times_in}
 use Rattle.tally_core.specs.declared.stays.Stay.{Stay}
 use Rattle.tally_core.specs.declared.stays.Stays.{Stays}
 use Rattle.tally_core.specs.declared.sides.Side.{Side}

@@ -1,7 +1,6 @@
 use Rattle.std.proofs.Common.{length, ap, arith}
 use Rattle.sgf_core.specs.Tree.{main_line_of}
-use Rattle.tally_core.proofs.Used.{passed_up}
-use Rattle.tally_core.proofs.WalkedGames.{walk_fault}
+use Rattle.tally_core.proofs.HandedOn.{passed_up, walk_fault}
 use Rattle.harvest_faults.specs.Faults.{same_fault}
 use Rattle.harvest_core.specs.Harvest.{IsCountRefused}
 use Rattle.harvest_core.proofs.TooMany.{count_refused}

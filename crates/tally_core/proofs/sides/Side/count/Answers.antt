@@ -13,7 +13,7 @@ use Rattle.shape_core.specs.Field.{Kept, IsMarked}
 use Rattle.shape_core.specs.Word.{count_from}
 use Rattle.tally_core.specs.Counts.{points_of, row_of}
 use Rattle.tally_core.specs.Walk.{shapes_of}
-use Rattle.tally_core.specs.Inner.Counter.{times_in}
+use Rattle.tally_core.specs.Inner.Times.{times_in}
 use Rattle.tally_core.specs.Inner.Meeting.{Meets}
 use Rattle.tally_core.specs.Inner.Standing.{AreStays, IsSeen, waiting, is_in_set, no_stays, patterns_of, patterns_staying}
 use Rattle.tally_core.specs.Inner.Sight.{here_on, seen_on, played_on, changed_in, HasLooked, StayOn, IsSideOn, IsSeenOn}

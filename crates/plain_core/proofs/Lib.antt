@@ -1,0 +1,11 @@
+pub mod Used
+pub mod Adding
+pub mod Walked
+pub mod Entered
+pub mod Lookups
+pub mod InOrder
+pub mod Games
+pub mod Gathered
+pub mod NextGame
+pub mod RowLookups
+pub mod WalkedGames
