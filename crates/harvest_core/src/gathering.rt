@@ -19,13 +19,14 @@ use crate::workers::Shared;
 use gather_core::{GatheredWords, gather_words};
 use harvest_faults::HarvestFault;
 use job_core::{Endpoint, Games, new_queue};
+use plain_core::count_plain;
 use probe_core::Capacity;
 use shape_core::Kinds;
 use std::alloc::Global;
 use std::sync::Wait;
 use std::thread;
 use std::thread::Threads;
-use tally_core::{Counted, count_plain};
+use tally_core::Counted;
 
 /// The least number of threads that count: one reads, and the other counts meanwhile.
 const LEAST_THREADS: u8 = 2;
