@@ -92,28 +92,32 @@ fn linear_goes_on_from_these_starts(rt: HostRuntime) {
     assert_places(&rt, &one, 6, &[0]);
 }
 
-/// Asserts that `order` tries the slots of a table of 64 for `key` in runs of 16 neighbours, which
-/// begin at these slots.
-fn assert_runs<O: ProbeOrder>(rt: &impl Abort, order: &O, key: u64, firsts: &[usize]) {
-    let key = key_of_bits(rt, key);
-    let slots = order.capacity().slots();
-    assert_eq!(rt; slots, 64);
-    assert_eq!(rt; firsts.len(), 4);
-    for i in 0..slots {
-        assert_eq!(rt;
-            order.place(key, i),
-            firsts[i / 16].wrapping_add(i % 16) % 64
-        );
-    }
-}
-
 #[test]
 fn odd_runs_go_through_these_places(rt: HostRuntime) {
     let many = OddRuns {
         capacity: capacity_of(&rt, 6),
     };
-    assert_runs(&rt, &many, 1, &[39, 55, 7, 23]);
-    assert_runs(&rt, &many, 5, &[5, 53, 37, 21]);
+    // Runs of sixteen neighbours, from these slots on: 39, 55, 7 and 23; and 5, 53, 37 and 21.
+    assert_places(
+        &rt,
+        &many,
+        1,
+        &[
+            39, 40, 41, 42, 43, 44, 45, 46, 47, 48, 49, 50, 51, 52, 53, 54, 55, 56, 57, 58, 59, 60,
+            61, 62, 63, 0, 1, 2, 3, 4, 5, 6, 7, 8, 9, 10, 11, 12, 13, 14, 15, 16, 17, 18, 19, 20,
+            21, 22, 23, 24, 25, 26, 27, 28, 29, 30, 31, 32, 33, 34, 35, 36, 37, 38,
+        ],
+    );
+    assert_places(
+        &rt,
+        &many,
+        5,
+        &[
+            5, 6, 7, 8, 9, 10, 11, 12, 13, 14, 15, 16, 17, 18, 19, 20, 53, 54, 55, 56, 57, 58, 59,
+            60, 61, 62, 63, 0, 1, 2, 3, 4, 37, 38, 39, 40, 41, 42, 43, 44, 45, 46, 47, 48, 49, 50,
+            51, 52, 21, 22, 23, 24, 25, 26, 27, 28, 29, 30, 31, 32, 33, 34, 35, 36,
+        ],
+    );
     let sixteen = OddRuns {
         capacity: capacity_of(&rt, 4),
     };

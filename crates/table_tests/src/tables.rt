@@ -56,15 +56,28 @@ fn two_numbers_of_each_order(rt: HostRuntime) -> Result<(), Fail> {
     Ok(())
 }
 
+/// Whether in an empty table of two slots a look-up of `five`, whose first slot is 0, leaves that
+/// slot free, and `six` gets slot 1.
+fn takes_no_number<O: ProbeOrder>(
+    table: &SlotTable<O>,
+    pass: &mut Pass<O>,
+    five: Key,
+    six: Key,
+) -> bool
+    requires { IsPassOf table.now pass.old }
+{
+    table.capacity().slots() == 2
+        && table.look_up(pass, five) == Answer::Absent
+        && table.word_at(pass, 0) == None
+        && table.enter(pass, six) == Answer::Number(1)
+}
+
 #[test]
 fn an_absent_key_takes_no_number(rt: HostRuntime) -> Result<(), Fail> {
+    let (five, six) = (key_of(&rt, 5), key_of(&rt, 6));
     let capacity = capacity_of(&rt, 1);
     let (table, mut pass) = SlotTable::new(rt.alloc(), Linear { capacity })?;
-    let (five, six) = (key_of(&rt, 5), key_of(&rt, 6));
-    assert!(&rt; table.look_up(&mut pass, five) == Answer::Absent);
-    assert!(&rt; table.word_at(&mut pass, 0) == None);
-    assert!(&rt; table.enter(&mut pass, six) == Answer::Number(1));
-    assert!(&rt; table.look_up(&mut pass, five) == Answer::Absent);
+    assert!(&rt; takes_no_number(&table, &mut pass, five, six));
     Ok(())
 }
 
@@ -84,109 +97,129 @@ fn enter_four<O: ProbeOrder>(
 
 #[test]
 fn keys_are_entered_together(rt: HostRuntime) -> Result<(), Fail> {
+    let (five, six, seven) = (key_of(&rt, 5), key_of(&rt, 6), key_of(&rt, 7));
     let capacity = capacity_of(&rt, 1);
     let (table, mut pass) = SlotTable::new(rt.alloc(), Linear { capacity })?;
-    let (five, six, seven) = (key_of(&rt, 5), key_of(&rt, 6), key_of(&rt, 7));
-    let [first, second, again, full] = enter_four(&table, &mut pass, &[five, six, five, seven]);
-    assert!(&rt; first == Answer::Number(0));
-    assert!(&rt; (second, again, full) == (Answer::Number(1), first, Answer::Full));
-    assert!(&rt; table.look_up(&mut pass, six) == second);
+    let answers = enter_four(&table, &mut pass, &[five, six, five, seven]);
+    let (zero, one) = (Answer::Number(0), Answer::Number(1));
+    assert!(&rt; answers == [zero, one, zero, Answer::Full]);
     Ok(())
 }
 
 #[test]
 fn a_new_key_after_a_full_one_is_left(rt: HostRuntime) -> Result<(), Fail> {
+    let (five, six) = (key_of(&rt, 5), key_of(&rt, 6));
+    let keys = [five, six, key_of(&rt, 7), key_of(&rt, 8)];
     let capacity = capacity_of(&rt, 1);
     let (table, mut pass) = SlotTable::new(rt.alloc(), Linear { capacity })?;
-    let keys = [
-        key_of(&rt, 5),
-        key_of(&rt, 6),
-        key_of(&rt, 7),
-        key_of(&rt, 8),
-    ];
     let answers = enter_four(&table, &mut pass, &keys);
-    assert!(&rt; (answers[0], answers[1]) == (Answer::Number(0), Answer::Number(1)));
-    assert!(&rt; (answers[2], answers[3]) == (Answer::Full, Answer::Absent));
+    let (zero, one) = (Answer::Number(0), Answer::Number(1));
+    assert!(&rt; answers == [zero, one, Answer::Full, Answer::Absent]);
     Ok(())
+}
+
+/// Whether in a table of two slots without games the least game that is noted at a slot is first
+/// there, whatever is noted at the other.
+fn is_least_first<O: ProbeOrder>(table: &SlotTable<O>, pass: &mut Pass<O>) -> bool
+    requires { IsPassOf table.now pass.old }
+{
+    if table.capacity().slots() != 2 {
+        return false;
+    }
+    table.mark(pass, 1, 4);
+    let before = table.first(pass, 0);
+    table.mark(pass, 0, 7);
+    table.mark(pass, 0, 3);
+    table.mark(pass, 0, 5);
+    let least = (table.first(pass, 0), table.first(pass, 1));
+    before == None && least == (Some(3), Some(4))
 }
 
 #[test]
 fn the_least_game_is_first(rt: HostRuntime) -> Result<(), Fail> {
     let capacity = capacity_of(&rt, 1);
     let (table, mut pass) = SlotTable::new(rt.alloc(), OddStep { capacity })?;
-    assert!(&rt; table.enter(&mut pass, key_of(&rt, 5)) == Answer::Number(0));
-    assert!(&rt; table.capacity().slots() == 2);
-    table.mark(&mut pass, 0, 7);
-    table.mark(&mut pass, 0, 3);
-    table.mark(&mut pass, 0, 5);
-    assert!(&rt; table.first(&mut pass, 0) == Some(3));
-    assert!(&rt; table.first(&mut pass, 1) == None);
+    assert!(&rt; is_least_first(&table, &mut pass));
     Ok(())
 }
 
-#[test]
-fn a_mark_is_at_its_number_alone(rt: HostRuntime) -> Result<(), Fail> {
-    let capacity = capacity_of(&rt, 1);
-    let (table, mut pass) = SlotTable::new(rt.alloc(), Linear { capacity })?;
-    assert!(&rt; table.capacity().slots() == 2);
-    assert!(&rt; table.first(&mut pass, 0) == None);
-    table.mark(&mut pass, 1, 4);
-    assert!(&rt; table.first(&mut pass, 0) == None);
-    assert!(&rt; table.first(&mut pass, 1) == Some(4));
-    table.mark(&mut pass, 0, 9);
-    table.mark(&mut pass, 1, 2);
-    assert!(&rt; table.first(&mut pass, 0) == Some(9));
-    assert!(&rt; table.first(&mut pass, 1) == Some(2));
-    Ok(())
+/// Whether in an empty table of two slots a game that is noted at a slot changes no key, and a new
+/// key changes no game that is noted.
+fn leave_each_other<O: ProbeOrder>(
+    table: &SlotTable<O>,
+    pass: &mut Pass<O>,
+    five: Key,
+    six: Key,
+) -> bool
+    requires { IsPassOf table.now pass.old }
+{
+    if table.capacity().slots() != 2 {
+        return false;
+    }
+    let first = table.enter(pass, five);
+    table.mark(pass, 0, 3);
+    table.mark(pass, 1, 8);
+    let words = (table.word_at(pass, 0), table.word_at(pass, 1));
+    let second = table.enter(pass, six);
+    let games = (table.first(pass, 0), table.first(pass, 1));
+    (first, second) == (Answer::Number(0), Answer::Number(1))
+        && words == (Some(five), None)
+        && games == (Some(3), Some(8))
 }
 
-/// A game that is noted at a slot changes no key, and a new key changes no game that is noted.
 #[test]
 fn marks_and_keys_leave_each_other(rt: HostRuntime) -> Result<(), Fail> {
+    let (five, six) = (key_of(&rt, 5), key_of(&rt, 6));
     let capacity = capacity_of(&rt, 1);
     let (table, mut pass) = SlotTable::new(rt.alloc(), OddStep { capacity })?;
-    let (five, six) = (key_of(&rt, 5), key_of(&rt, 6));
-    assert!(&rt; table.capacity().slots() == 2);
-    assert!(&rt; table.enter(&mut pass, five) == Answer::Number(0));
-    table.mark(&mut pass, 0, 3);
-    table.mark(&mut pass, 1, 8);
-    assert!(&rt; table.word_at(&mut pass, 0) == Some(five));
-    assert!(&rt; table.word_at(&mut pass, 1) == None);
-    assert!(&rt; table.look_up(&mut pass, six) == Answer::Absent);
-    assert!(&rt; table.first(&mut pass, 1) == Some(8));
-    assert!(&rt; table.look_up(&mut pass, six) == Answer::Absent);
-    assert!(&rt; table.enter(&mut pass, six) == Answer::Number(1));
-    assert!(&rt; table.first(&mut pass, 0) == Some(3));
-    assert!(&rt; table.enter(&mut pass, five) == Answer::Number(0));
+    assert!(&rt; leave_each_other(&table, &mut pass, five, six));
     Ok(())
+}
+
+/// Whether in an empty table of two slots a key that was entered by a pass split off `pass` is
+/// found by `pass`, once it has that one again.
+fn comes_back<O: ProbeOrder>(table: &SlotTable<O>, pass: &mut Pass<O>, five: Key, six: Key) -> bool
+    requires { IsPassOf table.now pass.old }
+{
+    let first = table.enter(pass, five);
+    let mut other = table.split(pass);
+    let second = table.enter(&mut other, six);
+    table.absorb(pass, other);
+    (first, second) == (Answer::Number(0), Answer::Number(1))
+        && table.look_up(pass, six) == second
+        && table.look_up(pass, five) == first
 }
 
 #[test]
 fn a_split_pass_comes_back(rt: HostRuntime) -> Result<(), Fail> {
+    let (five, six) = (key_of(&rt, 5), key_of(&rt, 6));
     let capacity = capacity_of(&rt, 1);
     let (table, mut pass) = SlotTable::new(rt.alloc(), Linear { capacity })?;
-    let (five, six) = (key_of(&rt, 5), key_of(&rt, 6));
-    assert!(&rt; table.enter(&mut pass, five) == Answer::Number(0));
-    let mut other = table.split(&mut pass);
-    assert!(&rt; table.enter(&mut other, six) == Answer::Number(1));
-    table.absorb(&mut pass, other);
-    assert!(&rt; table.look_up(&mut pass, six) == Answer::Number(1));
-    assert!(&rt; table.look_up(&mut pass, five) == Answer::Number(0));
+    assert!(&rt; comes_back(&table, &mut pass, five, six));
     Ok(())
+}
+
+/// Whether the last slot of an empty table of 2^22 is free and takes a game, which is not at slot
+/// 0, and `zero` gets slot 0.
+fn has_a_last_slot<O: ProbeOrder>(table: &SlotTable<O>, pass: &mut Pass<O>, zero: Key) -> bool
+    requires { IsPassOf table.now pass.old }
+{
+    let last = 4_194_303;
+    if table.capacity().slots() != 4_194_304 {
+        return false;
+    }
+    let word = table.word_at(pass, last);
+    table.mark(pass, last, 6);
+    let games = (table.first(pass, last), table.first(pass, 0));
+    word == None && games == (Some(6), None) && table.enter(pass, zero) == Answer::Number(0)
 }
 
 #[test]
 fn the_largest_table_is_made(rt: HostRuntime) -> Result<(), Fail> {
+    let zero = key_of(&rt, 0);
     let capacity = capacity_of(&rt, 22);
     let (table, mut pass) = SlotTable::new(rt.alloc(), Linear { capacity })?;
-    let last = 4_194_303;
-    assert!(&rt; table.capacity().slots() == 4_194_304);
-    assert!(&rt; table.word_at(&mut pass, last) == None);
-    table.mark(&mut pass, last, 6);
-    assert!(&rt; table.first(&mut pass, last) == Some(6));
-    assert!(&rt; table.first(&mut pass, 0) == None);
-    assert!(&rt; table.enter(&mut pass, key_of(&rt, 0)) == Answer::Number(0));
-    assert!(&rt; table.word_at(&mut pass, 0) == Some(key_of(&rt, 0)));
+    assert!(&rt; has_a_last_slot(&table, &mut pass, zero));
     Ok(())
 }
 
@@ -366,21 +399,29 @@ fn enter_each<O: ProbeOrder + Send + Sync, R: Threads + Abort + Sync>(
     )
 }
 
+/// How many of the answers are this one.
+fn count_of(answers: &[Answer], wanted: Answer) -> usize {
+    answers.iter().filter(|answer| **answer == wanted).count()
+}
+
+/// Lets 64 threads each enter a key of its own into a table of one slot, and returns how many get
+/// the slot, and how many find the table full.
+fn enter_into_one<R: Threads + Abort + Sync>(
+    rt: &R,
+    alloc: Global,
+    order: Linear,
+) -> Result<(usize, usize), SlotFault> {
+    let (table, mut pass) = SlotTable::new(alloc, order)?;
+    let jobs = jobs_of(alloc, &table, &mut pass, 64)?;
+    let answers = enter_each(rt, &table, jobs)?;
+    let number = count_of(answers.as_slice(), Answer::Number(0));
+    Ok((number, count_of(answers.as_slice(), Answer::Full)))
+}
+
 #[test]
 fn one_slot_has_one_key(rt: HostRuntime) -> Result<(), Fail> {
     let capacity = capacity_of(&rt, 0);
-    let (table, mut pass) = SlotTable::new(rt.alloc(), Linear { capacity })?;
-    let jobs = jobs_of(rt.alloc(), &table, &mut pass, 64)?;
-    let answers = enter_each(&rt, &table, jobs)?;
-    let first = answers
-        .iter()
-        .filter(|answer| **answer == Answer::Number(0))
-        .count();
-    let full = answers
-        .iter()
-        .filter(|answer| **answer == Answer::Full)
-        .count();
-    assert!(&rt; first == 1 && full == 63);
+    assert!(&rt; enter_into_one(&rt, rt.alloc(), Linear { capacity }) == Ok((1, 63)));
     Ok(())
 }
 

@@ -24,12 +24,16 @@ fn odd(rt: &impl Abort, k: u32) -> OddStep {
     }
 }
 
+fn key_of(rt: &impl Abort, bits: u64) -> Key {
+    Key::new(bits).expect(rt, "a key below 2^51")
+}
+
 fn enter(rt: &impl Abort, key: u64) -> Call {
-    Call::Enter(Key::new(key).expect(rt, "a key below 2^51"))
+    Call::Enter(key_of(rt, key))
 }
 
 fn look_up(rt: &impl Abort, key: u64) -> Call {
-    Call::LookUp(Key::new(key).expect(rt, "a key below 2^51"))
+    Call::LookUp(key_of(rt, key))
 }
 
 fn ended(caller: usize, call: Call, answer: Answer, begun: usize, ended: usize) -> Finished {
@@ -238,20 +242,24 @@ fn a_world_of_no_callers_stays_empty(rt: HostRuntime) -> Result<(), Fail> {
     assert_nobody(&rt, rt.alloc(), odd(&rt, 1))
 }
 
-/// Asserts that in a table of two slots the keys 5 and 6 get a slot each, and key 7 finds the table
-/// full.
+/// Whether in an empty table of two slots the keys 5 and 6 get a slot each, and key 7 finds the
+/// table full.
+fn gives_two_numbers<O: ProbeOrder>(table: &mut SoloTable<O>, keys: [Key; 3]) -> bool {
+    let [five, six, seven] = keys;
+    table.look_up(five) == Answer::Absent
+        && table.enter(five) == Answer::Number(0)
+        && table.enter(six) == Answer::Number(1)
+        && table.enter(five) == Answer::Number(0)
+        && table.enter(seven) == Answer::Full
+        && table.look_up(seven) == Answer::Full
+        && table.look_up(six) == Answer::Number(1)
+}
+
+/// Asserts that a table of two slots gives them to the keys 5 and 6.
 fn assert_solo<O: ProbeOrder>(rt: &impl Abort, alloc: Global, order: O) -> Result<(), Fail> {
-    let five = Key::new(5).ok_or("a key below 2^51")?;
-    let six = Key::new(6).ok_or("a key below 2^51")?;
-    let seven = Key::new(7).ok_or("a key below 2^51")?;
+    let keys = [key_of(rt, 5), key_of(rt, 6), key_of(rt, 7)];
     let mut table = SoloTable::new(alloc, order)?;
-    assert!(rt; table.look_up(five) == Answer::Absent);
-    assert!(rt; table.enter(five) == Answer::Number(0));
-    assert!(rt; table.enter(six) == Answer::Number(1));
-    assert!(rt; table.enter(five) == Answer::Number(0));
-    assert!(rt; table.enter(seven) == Answer::Full);
-    assert!(rt; table.look_up(seven) == Answer::Full);
-    assert!(rt; table.look_up(six) == Answer::Number(1));
+    assert!(rt; gives_two_numbers(&mut table, keys));
     Ok(())
 }
 
@@ -261,12 +269,15 @@ fn one_user_gets_these_numbers(rt: HostRuntime) -> Result<(), Fail> {
     assert_solo(&rt, rt.alloc(), odd(&rt, 1))
 }
 
+/// Whether the fault has this text.
+fn says(alloc: Global, fault: ProbeFault, wanted: &str) -> Result<bool, Fail> {
+    Ok(format!(in alloc; "{fault}")?.as_str() == wanted)
+}
+
 #[test]
 fn faults_have_texts(rt: HostRuntime) -> Result<(), Fail> {
-    let memory = format!(in rt.alloc(); "{}", ProbeFault::Memory)?;
-    assert_eq!(rt; memory.as_str(), "P1 no memory");
-    let too_long = format!(in rt.alloc(); "{}", ProbeFault::TooLong)?;
-    assert_eq!(rt; too_long.as_str(), "P2 too many events");
+    assert!(rt; says(rt.alloc(), ProbeFault::Memory, "P1 no memory")?);
+    assert!(rt; says(rt.alloc(), ProbeFault::TooLong, "P2 too many events")?);
     Ok(())
 }
 
