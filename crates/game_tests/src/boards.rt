@@ -75,24 +75,36 @@ fn shows(board: &Board, cells: &[u8]) -> bool {
     cells.len() == size.area()
 }
 
-/// Sets stones on an empty `board` of three columns and two rows, of which a move captures one.
-/// Returns whether the board has one removed stone, and its copy has the stones that are left and
-/// no removed one. None if a point is off the board, or memory for the copy was refused.
-fn is_copied(alloc: Global, board: &mut Board) -> Option<bool> {
+/// Whether the copy of a board has the stones that these letters show, and no removed one. None if
+/// memory for it was refused.
+fn is_copied(alloc: Global, board: &Board, cells: &[u8]) -> Option<bool> {
+    let copied = board.copied(alloc).ok()?;
+    Some(copied.removed().is_empty() && shows(&copied, cells))
+}
+
+/// Sets stones on an empty board of three columns and two rows. Returns whether a move takes one of
+/// them.
+fn take_one(board: &mut Board) -> bool {
     set(board, Stone::White, 0, 0);
     set(board, Stone::Black, 1, 0);
-    play(board, Colour::Black, 0, 1)?;
+    let played = play(board, Colour::Black, 0, 1);
     set(board, Stone::White, 2, 1);
-    let removed = board.removed().len();
-    let copied = board.copied(alloc).ok()?;
-    Some(removed == 1 && copied.removed().is_empty() && shows(&copied, b".X.X.O"))
+    played == Some(ONE) && board.removed().len() == 1
+}
+
+/// Whether the copy of a board on which a move took a stone has the stones that are left, and no
+/// removed one. None if memory was refused.
+fn copy_after_a_capture(alloc: Global) -> Option<bool> {
+    let mut board = board_of(alloc, 3, 2)?;
+    if !take_one(&mut board) {
+        return Some(false);
+    }
+    is_copied(alloc, &board, b".X.X.O")
 }
 
 #[test]
-fn copied_board_has_the_stones(rt: HostRuntime) -> Result<(), Fail> {
-    let mut board = board_of(rt.alloc(), 3, 2).ok_or("no board")?;
-    assert!(rt; is_copied(rt.alloc(), &mut board) == Some(true));
-    Ok(())
+fn copied_board_has_the_stones(rt: HostRuntime) {
+    assert!(rt; copy_after_a_capture(rt.alloc()) == Some(true));
 }
 
 #[test]
@@ -130,11 +142,15 @@ fn stay(board: &mut Board) -> bool {
         && shows(board, b"...OX....")
 }
 
+/// The same on a new board. None if memory for it was refused.
+fn two_stones_stay(alloc: Global) -> Option<bool> {
+    let mut board = board_of(alloc, 3, 3)?;
+    Some(stay(&mut board))
+}
+
 #[test]
-fn stones_with_liberties_stay(rt: HostRuntime) -> Result<(), Fail> {
-    let mut board = board_of(rt.alloc(), 3, 3).ok_or("no board")?;
-    assert!(rt; stay(&mut board));
-    Ok(())
+fn stones_with_liberties_stay(rt: HostRuntime) {
+    assert!(rt; two_stones_stay(rt.alloc()) == Some(true));
 }
 
 /// Whether a move of `colour` in this column, on a board of one row, takes one stone of the
@@ -154,11 +170,15 @@ fn take_in_turn(board: &mut Board) -> bool {
         && shows(board, b".O")
 }
 
+/// The same on a new board. None if memory for it was refused.
+fn stones_are_taken_in_turn(alloc: Global) -> Option<bool> {
+    let mut board = board_of(alloc, 2, 1)?;
+    Some(take_in_turn(&mut board))
+}
+
 #[test]
-fn each_move_captures_before_its_own_stone_is_judged(rt: HostRuntime) -> Result<(), Fail> {
-    let mut board = board_of(rt.alloc(), 2, 1).ok_or("no board")?;
-    assert!(rt; take_in_turn(&mut board));
-    Ok(())
+fn each_move_captures_before_its_own_stone_is_judged(rt: HostRuntime) {
+    assert!(rt; stones_are_taken_in_turn(rt.alloc()) == Some(true));
 }
 
 /// Plays a black stone on an empty board of one point. Returns whether the move takes it off
@@ -167,11 +187,15 @@ fn takes_itself_off(board: &mut Board) -> bool {
     play(board, Colour::Black, 0, 0) == Some(OWN) && shows(board, b".")
 }
 
+/// The same on a new board. None if memory for it was refused.
+fn one_stone_is_taken_off(alloc: Global) -> Option<bool> {
+    let mut board = board_of(alloc, 1, 1)?;
+    Some(takes_itself_off(&mut board))
+}
+
 #[test]
-fn a_stone_alone_takes_itself_off(rt: HostRuntime) -> Result<(), Fail> {
-    let mut board = board_of(rt.alloc(), 1, 1).ok_or("no board")?;
-    assert!(rt; takes_itself_off(&mut board));
-    Ok(())
+fn a_stone_alone_takes_itself_off(rt: HostRuntime) {
+    assert!(rt; one_stone_is_taken_off(rt.alloc()) == Some(true));
 }
 
 /// Plays a move by `play_move` of the trait `Replayable`, and returns what it takes.
@@ -212,28 +236,10 @@ fn field_takes(alloc: Global) -> Option<bool> {
     Some(take_by_trait(&mut pair))
 }
 
-/// Returns what a black move on a new board of one point takes. None if memory for the board was
-/// refused.
-fn board_of_one_takes(alloc: Global) -> Option<Played> {
-    let mut single = Board::new(alloc, Size::new(1, 1)?).ok()?;
-    let point = Point { column: 0, row: 0 };
-    Some(play_by_trait(&mut single, Colour::Black, point))
-}
-
-/// Returns what a black move on a new field (a board that keeps pattern words) of one point takes.
-/// None if memory for the field was refused.
-fn field_of_one_takes(alloc: Global) -> Option<Played> {
-    let mut single = Field::with_kinds(alloc, Size::new(1, 1)?, Kinds::Both).ok()?;
-    let point = Point { column: 0, row: 0 };
-    Some(play_by_trait(&mut single, Colour::Black, point))
-}
-
 #[test]
 fn moves_by_the_trait_say_what_they_take(rt: HostRuntime) {
     assert!(rt; board_takes(rt.alloc()) == Some(true));
     assert!(rt; field_takes(rt.alloc()) == Some(true));
-    assert!(rt; board_of_one_takes(rt.alloc()) == Some(OWN));
-    assert!(rt; field_of_one_takes(rt.alloc()) == Some(OWN));
 }
 
 /// Sets on a board of three columns and three rows a black row at the edge and a white row next to
@@ -250,11 +256,15 @@ fn stays_without_liberties(board: &mut Board) -> bool {
         && shows(board, b"XXXOOO.X.")
 }
 
+/// The same on a new board. None if memory for it was refused.
+fn setup_stays(alloc: Global) -> Option<bool> {
+    let mut board = board_of(alloc, 3, 3)?;
+    Some(stays_without_liberties(&mut board))
+}
+
 #[test]
-fn setup_captures_nothing(rt: HostRuntime) -> Result<(), Fail> {
-    let mut board = board_of(rt.alloc(), 3, 3).ok_or("no board")?;
-    assert!(rt; stays_without_liberties(&mut board));
-    Ok(())
+fn setup_captures_nothing(rt: HostRuntime) {
+    assert!(rt; setup_stays(rt.alloc()) == Some(true));
 }
 
 /// Returns what a move of `colour` at the last free point takes on the largest board, if Black has

@@ -36,11 +36,6 @@ fn reads(
 #[test]
 fn trees_and_faults(rt: HostRuntime) {
     let alloc = rt.alloc();
-    let open = b"(;SZ[1];C[a\\]";
-    assert!(rt; reads(alloc, open, &[], Err(SgfFault::Truncated(0))) == Ok(true));
-    let second = b"(;SZ[1];B[aa])(;SZ[1";
-    assert!(rt; reads(alloc, second, &[(0, 14)], Err(SgfFault::Truncated(14))) == Ok(true));
-    assert!(rt; reads(alloc, b"(;SZ;B[aa])", &[], Err(SgfFault::NoValue(4))) == Ok(true));
     let after = b"(;SZ[1](;B[aa]);W[aa])";
     assert!(rt; reads(alloc, after, &[], Err(SgfFault::BadByte(15))) == Ok(true));
     let mail = b"mail (c) text (;SZ[1]C[a\\]b;B\\\\];B[aa]) end";
@@ -63,34 +58,6 @@ fn a_fault_stays(rt: HostRuntime) -> Result<(), SgfFault> {
     let mut trees = Trees::new(b"(;SZ[1];B[aa])(;SZ[1")?;
     assert!(rt; is_kept(rt.alloc(), &mut trees));
     Ok(())
-}
-
-/// Whether the properties of a tree have these names.
-fn are_named(tree: &Tree<'_>, names: &[&[u8]]) -> bool {
-    let mut place = 0;
-    for mark in tree.marks() {
-        if let Mark::Prop(property) = mark {
-            if place >= names.len() || !property.is(names[place]) {
-                return false;
-            }
-            place += 1;
-        }
-    }
-    place == names.len()
-}
-
-/// Whether names with small letters are read as those of capitals alone.
-fn are_older_names(alloc: Global) -> Result<bool, SgfFault> {
-    let mut trees = Trees::new(b"(;GaMe[1]SiZe[1];Black[aa])")?;
-    match trees.next_tree(alloc)? {
-        Some(tree) => Ok(are_named(&tree, &[b"GM", b"SZ", b"B"])),
-        None => Ok(false),
-    }
-}
-
-#[test]
-fn names_of_older_formats(rt: HostRuntime) {
-    assert!(rt; are_older_names(rt.alloc()) == Ok(true));
 }
 
 /// All 256 bytes as a value, with a backslash before `]` and before the backslash.

@@ -316,10 +316,9 @@ fn field_from_scratch(rt: HostRuntime) {
     assert!(rt; play_along(rt.alloc(), 52, 52) == Some(true));
 }
 
-/// A field of squares with three columns and three rows.
-fn small_field(alloc: Global) -> Result<Field, Fail> {
-    let size = Size::new(3, 3).ok_or("a size from 1 to 52")?;
-    Ok(Field::with_kinds(alloc, size, Kinds::Squares)?)
+/// A field of squares with three columns and three rows. None if memory for it was refused.
+fn small_field(alloc: Global) -> Option<Field> {
+    Field::with_kinds(alloc, Size::new(3, 3)?, Kinds::Squares).ok()
 }
 
 /// The corner of a field, and its middle if it has three columns and three rows.
@@ -345,19 +344,25 @@ fn at_corner(field: &Field) -> Option<(Stone, Word)> {
 
 /// Whether the copy of a field with a white stone at its corner has the stone, its word, and the
 /// corner in its set of changed points.
-fn is_copied(alloc: Global, field: &Field) -> Result<bool, Fail> {
-    let mut copied = field.copied(alloc)?;
+fn is_copied(alloc: Global, field: &Field) -> Option<bool> {
+    let mut copied = field.copied(alloc).ok()?;
     let corner = at_corner(&copied).map(|(cell, _)| cell);
     let is_same = at_corner(&copied) == at_corner(field) && corner == Some(Stone::White);
-    Ok(is_marked(alloc, &mut copied, CORNER)? && is_same)
+    let marked = is_marked(alloc, &mut copied, CORNER).ok()?;
+    Some(marked && is_same)
+}
+
+/// Whether the copy of a field with a white stone at its corner has that stone. None if memory for
+/// either was refused.
+fn copy_with_a_stone(alloc: Global) -> Option<bool> {
+    let mut field = small_field(alloc)?;
+    set(&mut field, CORNER, Stone::White);
+    is_copied(alloc, &field)
 }
 
 #[test]
-fn copied_field_has_the_stones(rt: HostRuntime) -> Result<(), Fail> {
-    let mut field = small_field(rt.alloc())?;
-    set(&mut field, CORNER, Stone::White);
-    assert!(rt; is_copied(rt.alloc(), &field)?);
-    Ok(())
+fn copied_field_has_the_stones(rt: HostRuntime) {
+    assert!(rt; copy_with_a_stone(rt.alloc()) == Some(true));
 }
 
 /// Whether the square of the corner has these glyphs.
@@ -378,9 +383,13 @@ fn is_changed(alloc: Global, field: &mut Field) -> Result<bool, AllocError> {
     Ok(has_stone && marked && is_at_corner(field, b"############...##...##..."))
 }
 
+/// The same on a new field. None if memory was refused.
+fn changed_by_a_stone(alloc: Global) -> Option<bool> {
+    let mut field = small_field(alloc)?;
+    is_changed(alloc, &mut field).ok()
+}
+
 #[test]
-fn set_stones_change_words(rt: HostRuntime) -> Result<(), Fail> {
-    let mut field = small_field(rt.alloc())?;
-    assert!(rt; is_changed(rt.alloc(), &mut field) == Ok(true));
-    Ok(())
+fn set_stones_change_words(rt: HostRuntime) {
+    assert!(rt; changed_by_a_stone(rt.alloc()) == Some(true));
 }

@@ -1,9 +1,8 @@
 //! Records of trees, with sizes, actions and faults worked out by the reading of SGF.
 use go_board::{Colour, Point, Stone};
 use go_record::{Action, Kind, RecordFault, read_record};
-use sgf_core::Trees;
+use sgf_core::{Tree, Trees};
 use std::alloc::Global;
-use std::test::Fail;
 
 /// What reading a tree has to give: None if it is of another game, else the columns, the rows and
 /// the actions; or a fault.
@@ -24,25 +23,37 @@ const fn set(low: Point, high: Point, stone: Stone) -> Action {
     Action::Set { low, high, stone }
 }
 
-/// Whether reading the record of the first tree gives `wanted`.
-fn is_recorded(alloc: Global, bytes: &[u8], wanted: Wanted<'_>) -> Result<bool, Fail> {
-    let mut trees = Trees::new(bytes)?;
-    let Some(tree) = trees.next_tree(alloc)? else {
-        return Ok(false);
-    };
-    Ok(match (read_record(alloc, &tree), wanted) {
-        (Ok(Kind::Go(game)), Ok(Some((columns, rows, actions)))) => {
+/// Whether a tree is of another game, if `wanted` is None, or else of a game with these columns,
+/// rows and actions.
+fn is_kind(kind: &Kind, wanted: Option<(u8, u8, &[Action])>) -> bool {
+    match (kind, wanted) {
+        (Kind::Go(game), Some((columns, rows, actions))) => {
             let size = game.size();
             size.columns() == columns && size.rows() == rows && game.actions() == actions
         }
-        (Ok(Kind::Other), Ok(None)) => true,
-        (Err(found), Err(fault)) => found == fault,
+        (Kind::Other, None) => true,
         _ => false,
-    })
+    }
+}
+
+/// Whether reading the record of a tree gives `wanted`.
+fn is_of(alloc: Global, tree: &Tree<'_>, wanted: Wanted<'_>) -> bool {
+    match read_record(alloc, tree) {
+        Ok(kind) => wanted.is_ok_and(|wanted| is_kind(&kind, wanted)),
+        Err(fault) => wanted.err() == Some(fault),
+    }
+}
+
+/// Whether reading the record of the first tree gives `wanted`. None if there is no tree, or memory
+/// for it was refused.
+fn is_recorded(alloc: Global, bytes: &[u8], wanted: Wanted<'_>) -> Option<bool> {
+    let mut trees = Trees::new(bytes).ok()?;
+    let tree = trees.next_tree(alloc).ok()??;
+    Some(is_of(alloc, &tree, wanted))
 }
 
 #[test]
-fn trees_have_these_records(rt: HostRuntime) -> Result<(), Fail> {
+fn trees_have_these_records(rt: HostRuntime) {
     let black = Colour::Black;
     let rows: [(&[u8], Wanted<'_>); 12] = [
         (b"(;)", Ok(Some((19, 19, &[])))),
@@ -81,7 +92,9 @@ fn trees_have_these_records(rt: HostRuntime) -> Result<(), Fail> {
         (b"(;SZ[9]AB[aa:jj];W[a])", Err(RecordFault::OffBoard(10))),
     ];
     for (bytes, wanted) in &rows {
-        assert!(rt; is_recorded(rt.alloc(), bytes, *wanted)?, "{bytes:?}");
+        assert!(rt;
+            is_recorded(rt.alloc(), bytes, *wanted) == Some(true),
+            "{bytes:?}"
+        );
     }
-    Ok(())
 }

@@ -11,47 +11,6 @@ use tally_core::{Report, Settings, TallyFault, has_diamonds};
 /// A game of one black and one white move, on a board of two points.
 pub(crate) const TWO_STONES: &[u8] = b"(;SZ[2:1];B[aa];W[ba])";
 
-/// Inputs, the texts of their dictionaries (text 1, squares alone), and their reports: how many
-/// games of Go, trees of other games and refused trees they have.
-const COLLECTIONS: [(&[u8], &str, (u64, u64, u64)); 8] = [
-    (
-        b"(;SZ[1];B[aa])",
-        "shapes 1 games 1 moves 1 patterns 1\n3fffffcffffff 1 1\n",
-        (1, 0, 0),
-    ),
-    (
-        b"(;SZ[2:1];B[aa](;W[ba])(;W[]))",
-        "shapes 1 games 1 moves 2 patterns 2\n3fff3fcffffff 2 1\n3fffbfcffffff 1 1\n",
-        (1, 0, 0),
-    ),
-    (
-        b"(;SZ[1]AB[aa];W[aa])",
-        "shapes 1 games 1 moves 0 patterns 0\n",
-        (1, 0, 0),
-    ),
-    (
-        b"(;SZ[20];B[tt])",
-        "shapes 1 games 1 moves 1 patterns 6\n0000000000000 256 0\n00000000003ff 64 0\n00000000fffff 64 0\n00300c0300fff 4 0\n00300c03fffff 8 0\n00f03c0ffffff 4 1\n",
-        (1, 0, 0),
-    ),
-    (
-        b"(;SZ[9];B[jj])(;SZ[1];B[aa])",
-        "shapes 1 games 1 moves 1 patterns 1\n3fffffcffffff 1 1\n",
-        (1, 0, 1),
-    ),
-    (
-        b"(;GM[2];B[aa])",
-        "shapes 1 games 0 moves 0 patterns 0\n",
-        (0, 1, 0),
-    ),
-    (
-        b"(;SZ[2];B[aa];W[bb])",
-        "shapes 1 games 1 moves 2 patterns 3\n3ffc3f0ffffff 4 1\n3ffc3f8ffffff 2 0\n3ffe3f0ffffff 1 1\n",
-        (1, 0, 0),
-    ),
-    (b"", "shapes 1 games 0 moves 0 patterns 0\n", (0, 0, 0)),
-];
-
 /// Returns the record of a tree. None if it is of another game, or has a fault, or memory was
 /// refused.
 fn record_of(alloc: Global, tree: &Tree<'_>) -> Option<Record> {
@@ -135,64 +94,26 @@ fn is_written(
     Ok(written.as_slice() == wanted.as_bytes())
 }
 
-/// Whether counting patterns of these `kinds` in `input` gives a dictionary whose text 1 (squares
-/// alone) is `wanted`, and the report `trees`: how many games of Go, trees of other games and
-/// refused trees there are.
-fn counts(
-    alloc: Global,
-    kinds: Kinds,
-    input: &[u8],
-    wanted: &str,
-    trees: (u64, u64, u64),
-) -> Result<bool, Fail> {
-    let counted = count_plain(alloc, kinds, input)?;
-    let Report {
-        games,
-        others,
-        refused,
-    } = counted.report;
+/// Whether counting patterns of both kinds in `input` gives the dictionary whose text 3 is
+/// `wanted`, and the report `trees`.
+fn is_counted(alloc: Global, input: &[u8], wanted: &str, trees: Report) -> Result<bool, Fail> {
+    let counted = count_plain(alloc, Kinds::Both, input)?;
+    let is_reported = counted.report == trees;
     let dictionary = counted.dictionary.into_dictionary(alloc)?;
-    let has_diamonds = dictionary.counts_diamonds();
-    if (games, others, refused) != trees || has_diamonds != (kinds == Kinds::Both) {
-        return Ok(false);
-    }
-    is_written(alloc, &dictionary, Text::One, wanted)
-}
-
-/// Whether counting `input` gives a dictionary whose text 1 (squares alone) is `wanted`, and the
-/// report `trees`: how many games of Go, trees of other games and refused trees there are. It is
-/// counted twice: with squares alone and with squares and diamonds.
-fn counts_either_way(
-    alloc: Global,
-    input: &[u8],
-    wanted: &str,
-    trees: (u64, u64, u64),
-) -> Result<bool, Fail> {
-    let squares = counts(alloc, Kinds::Squares, input, wanted, trees)?;
-    let both = counts(alloc, Kinds::Both, input, wanted, trees)?;
-    Ok(squares && both)
-}
-
-#[test]
-fn collections_give_their_dictionaries(rt: HostRuntime) -> Result<(), Fail> {
-    for (input, wanted, trees) in &COLLECTIONS {
-        assert!(rt;
-            counts_either_way(rt.alloc(), input, wanted, *trees)?,
-            "{wanted}"
-        );
-    }
-    Ok(())
+    Ok(is_written(alloc, &dictionary, Text::Three, wanted)? && is_reported)
 }
 
 #[test]
 fn first_games_and_diamonds(rt: HostRuntime) -> Result<(), Fail> {
-    let alloc = rt.alloc();
-    let input = b"(;SZ[1];B[aa])(;GM[2])(;SZ[2:1];B[aa];W[ba])";
+    let input = b"(;SZ[1];B[aa])(;GM[2])(;SZ[9];B[jj])(;SZ[2:1];B[aa];W[ba])";
     let wanted =
         "shapes 3 games 2 moves 3 squares 3 diamonds 3\n3fff3fcffffff 2 1 1\n3fffbfcffffff 1 1 1\n3fffffcffffff 1 1 0\n7ffcffcffffff 2 1 1\n7ffeffcffffff 1 1 1\n7fffffcffffff 1 1 0\n";
-    let counted = count_plain(alloc, Kinds::Both, input)?;
-    let dictionary = counted.dictionary.into_dictionary(alloc)?;
-    assert!(rt; is_written(alloc, &dictionary, Text::Three, wanted)?);
+    let trees = Report {
+        games: 2,
+        others: 1,
+        refused: 1,
+    };
+    assert!(rt; is_counted(rt.alloc(), input, wanted, trees)?);
     Ok(())
 }
 
