@@ -22,7 +22,6 @@ use Rattle.tally_core.specs.Collection.{AreReplayed}
 use Rattle.tally_core.specs.Counted.{IsCounted}
 use Rattle.game_core.specs.declared.reports.Report.{Report}
 use Rattle.tally_core.specs.Inner.Entries.{shapes_of}
-use Rattle.tally_core.proofs.RisingEntries.{each_is_found}
 use Rattle.game_core.specs.Games.{HasReadAll}
 use Rattle.game_core.proofs.OneGame.{games_of, one_game}
 use Rattle.gather_core.specs.Gathering.{AreWithin, HaveGames, IsGathered, all_added, replayed_at, replayed_games}
@@ -178,10 +177,3 @@ harvested bytes kinds shares report contents worked read covers gathered =
       dictionary = dictionary_of_shares kinds report.games all.0 shares all.1 contents gathered;
       reported = read.reported;
     }
-
--- ---- the patterns of the dictionary
--- each pattern of a dictionary is found in it
-pub entry_found : (entries : List Entry) → IsStrictlyIncreasing (shapes_of entries) → (entry : Entry) → Contains entries entry → entry_of entry.shape entries ≡ Some entry
-entry_found entries rises entry among =
-    let found = All-from_recursion (λ (e : Entry). entry_of e.shape entries ≡ Some e) entries (each_is_found entries rises) in
-    All-contains (λ (e : Entry). entry_of e.shape entries ≡ Some e) entries entry found among

@@ -3,4 +3,3 @@ pub mod Threads
 pub mod Dealt
 pub mod Reading
 pub mod Working
-pub mod TooMany

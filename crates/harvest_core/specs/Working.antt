@@ -2,16 +2,10 @@
 use Rattle.std.specs.Prelude.{◌≡◌, ℕ, List, All, Contains}
 use Rattle.go_record.specs.Actions.{Actions}
 use Rattle.shape_core.specs.declared.words.Kinds.{Kinds}
-use Rattle.game_core.specs.Games.{IsGameOf}
+pub use Rattle.beyond_core.specs.Games.{IsGame}
 use Rattle.job_core.specs.Rising.{Rising, past}
 use Rattle.gather_core.specs.declared.rows.Row.{Row}
 use Rattle.gather_core.specs.Shares.{Held, Added, IsShareOf, IsPatternOf}
-
--- these bytes have a game of this number with this record
-pub record IsGame (bytes : List ℕ) (game : ℕ) (actions : Actions) : Type 0 where
-  pub at : ℕ
-  pub end : ℕ
-  pub is_of : IsGameOf bytes game at end actions
 
 -- a pattern of the game of this number
 pub record IsPatternOfGame (bytes : List ℕ) (kinds : Kinds) (game shape : ℕ) : Type 0 where

@@ -5,10 +5,8 @@ mod gates;
 mod gathering;
 mod numberings;
 mod own_tables;
-mod reaching;
 mod reading;
 mod threads;
-mod too_many;
 mod workers;
 
 pub use gates::{FreeGate, Gate};

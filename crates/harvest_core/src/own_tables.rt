@@ -11,7 +11,7 @@ ghost use Rattle.harvest_core.specs.Harvest.{IsCountedWithin, IsCountRefused, Is
 use crate::gates::Gate;
 use crate::gathering::{Harvested, count_in_threads};
 use crate::numberings::{Numbering, numbering_of};
-use crate::too_many::first_too_many;
+use beyond_core::first_too_many;
 use gather_core::number_entries;
 use harvest_faults::HarvestFault;
 use probe_core::{Capacity, ProbeOrder};

@@ -23,7 +23,7 @@ use Rattle.gather_core.specs.Gathering.{all_rows, IsGathered, gathered_entry}
 use Rattle.table_shares.specs.Checking.{Stand}
 use Rattle.gather_core.specs.Shares.{Held}
 use Rattle.table_shares.proofs.Ordered.{there_some}
-use Rattle.harvest_core.proofs.Harvested.{entry_found}
+use Rattle.tally_core.proofs.RisingEntries.{entry_found}
 
 gathered_some : (rows : List Row) (shape : ℕ) (entry : Entry) → gathered_entry rows shape ≡ Some entry → 0 < there_of rows shape
 gathered_some rows shape entry is =

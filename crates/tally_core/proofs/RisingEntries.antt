@@ -1,10 +1,10 @@
 -- Entries whose shapes rise: each is that of its shape, and no shape comes twice.
-use Rattle.std.proofs.Common.{◌≡◌, ℕ, suc, ◌+◌, ◌<◌, ◌≤◌, ◌==◌, true, false, cond, List, [], ◌∷◌, length, Some, None, ap, ◌∙◌, arith, add-one, zero-add, All, refl}
+use Rattle.std.proofs.Common.{◌≡◌, ℕ, suc, ◌+◌, ◌<◌, ◌≤◌, ◌==◌, true, false, cond, List, [], ◌∷◌, length, Some, None, ap, ◌∙◌, arith, add-one, zero-add, All, Contains, refl}
 use Rattle.std.specs.Prelude.{count_by}
 use Rattle.std.specs.List.{AllByRecursion}
 use Rattle.std.specs.List.Sorted.{IsStrictlyIncreasing}
 use Rattle.std.proofs.lemmas.Bool.Decides.{nat_tests}
-use Rattle.std.proofs.lemmas.List.Elements.{All-nil, All-cons, All-weaker, recursion_from_All}
+use Rattle.std.proofs.lemmas.List.Elements.{All-nil, All-cons, All-contains, All-weaker, recursion_from_All}
 use Rattle.shape_dict.specs.declared.entries.Entry.{Entry}
 use Rattle.shape_dict.specs.Contents.{entry_of}
 use Rattle.tally_core.specs.Inner.Entries.{shapes_of}
@@ -109,3 +109,8 @@ each_is_found entries rises =
     recursion_from_All (λ (e : Entry). entry_of e.shape entries ≡ Some e) entries
     (All-weaker (λ (e : Entry). (0 ≤ e.shape) × (entry_of e.shape entries ≡ Some e)) (λ (e : Entry). entry_of e.shape entries ≡ Some e) (λ e is. is.1)
     entries (each_from 0 entries (rises_from_increasing (shapes_of entries) rises)))
+
+pub entry_found : (entries : List Entry) → IsStrictlyIncreasing (shapes_of entries) → (entry : Entry) → Contains entries entry → entry_of entry.shape entries ≡ Some entry
+entry_found entries rises entry among =
+    (All-contains (λ (e : Entry). (0 ≤ e.shape) × (entry_of e.shape entries ≡ Some e)) entries entry
+    (each_from 0 entries (rises_from_increasing (shapes_of entries) rises)) among).1

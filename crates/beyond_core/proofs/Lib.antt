@@ -1,0 +1,8 @@
+mod Apart
+mod Places
+mod FirstGames
+mod Halved
+mod Sifted
+mod Reread
+mod OneOrder
+mod TooMany

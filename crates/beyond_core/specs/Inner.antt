@@ -1,0 +1,2 @@
+-- What serves the contracts of private functions, and invariants: nothing here has to be believed.
+pub mod TooMany
