@@ -3,6 +3,7 @@ pub mod Swapping
 pub mod Dealt
 pub mod Climbing
 pub mod Joining
+pub mod SmallSums
 pub mod ByWords
 pub mod Apart
 pub mod Ways

@@ -1,5 +1,5 @@
 -- What a list of entries counts of each pattern, all its entries of the pattern together: the sums, and the least first game.
-use Rattle.std.specs.Prelude.{ℕ, ◌+◌, ◌==◌, if◌then◌else◌, min, List, [], ◌∷◌, Option, Some, None}
+use Rattle.std.specs.Prelude.{ℕ, ◌+◌, ◌<◌, ◌^◌, ◌==◌, if◌then◌else◌, min, List, [], ◌∷◌, Option, Some, None}
 use Rattle.std.specs.List.{flat_map}
 use Rattle.shape_dict.specs.declared.entries.Entry.{Entry}
 
@@ -55,6 +55,10 @@ played_of (Some total) = total.played
 abbrev pub first_of : Option Total → Option ℕ
 first_of None = None
 first_of (Some total) = total.first
+
+-- what the entries count of each pattern, together, is below 2 ^ 64: so no sum of them is too large for 64 bits
+abbrev pub HaveSmallSums : List Entry → Type 0
+HaveSmallSums entries = (shape : ℕ) → there_of (total_of shape entries) + played_of (total_of shape entries) < 2 ^ 64
 
 -- the entry of a pattern with this total
 unfoldable pub entered : ℕ → Option Total → Option Entry

@@ -98,7 +98,7 @@ impl EntryList {
     }
 
     /// Removes all entries. The memory stays.
-    pub fn clear(&mut self)
+    pub(crate) fn clear(&mut self)
         ensures { self.new ≡ [] }
     {
         self.entries.clear();

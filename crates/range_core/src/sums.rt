@@ -172,7 +172,7 @@ impl Sums {
     /// # Errors
     ///
     /// `AllocError` if memory was refused: some may have been appended then.
-    pub fn append_to(&self, list: &mut EntryList) -> Result<(), AllocError>
+    pub(crate) fn append_to(&self, list: &mut EntryList) -> Result<(), AllocError>
         ensures { OnOk result (list.new ≡ list.old ++ self.now) }
     {
         for row in self.rows.as_slice() {
