@@ -1,5 +1,5 @@
 -- Where sums of all entries are below 2 ^ 64, so are those of some of them.
-use Rattle.std.proofs.Common.{◌≡◌, ℕ, ◌+◌, ◌<◌, ◌^◌, List, [], ◌∷◌, ◌++◌, take, drop, refl, ap, sym, subst, ◌∙◌, arith}
+use Rattle.std.proofs.Common.{◌≡◌, ℕ, ◌+◌, ◌<◌, ◌^◌, List, [], ◌∷◌, ◌++◌, take, drop, refl, ap, ap₂, sym, subst, ◌∙◌, arith}
 use Rattle.std.proofs.lemmas.Bool.Decides.{nat_tests}
 use Rattle.std.proofs.lemmas.List.{take-append-drop}
 use Rattle.std.proofs.lemmas.List.Concat.{flat_map-append}
@@ -32,6 +32,13 @@ pub small_lists : (low high : List (List Entry)) → HaveSmallSums (all_of (low 
 small_lists low high small =
     let both = subst HaveSmallSums (flat_map-append (λ (l : List Entry). l) low high) small in
     (small_front (all_of low) (all_of high) both, small_back (all_of low) (all_of high) both)
+
+-- the two parts that lists are split into
+pub small_parts : (all low high : List (List Entry)) (n : ℕ) → low ≡ take n all → high ≡ drop n all → HaveSmallSums (all_of all) →
+    HaveSmallSums (all_of low) × HaveSmallSums (all_of high)
+small_parts all low high n front back small =
+    let together : low ++ high ≡ all = ap₂ (λ (a b : List (List Entry)). a ++ b) front back ∙ take-append-drop n all in
+    small_lists low high (subst (λ (l : List (List Entry)). HaveSmallSums (all_of l)) (sym together) small)
 
 -- two entries of one pattern
 there_own : (x : Entry) (shape : ℕ) → x.shape ≡ shape → there_of (count_at shape x) ≡ x.there
