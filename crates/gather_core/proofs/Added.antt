@@ -1,6 +1,7 @@
 -- Shares to which a game was added.
 use Rattle.std.proofs.Common.{◌≡◌, ℕ, ◌==◌, cond, List, [], ◌∷◌, ◌++◌, length, Option, None, refl, ap, sym, ◌∙◌, arith}
 use Rattle.gather_core.proofs.Common.{map-append, sum_by_push, Actions, Kinds, kinds_of, there_in, played_in, Row, first_of, earlier, Held, Added, replayed_of, game_of, first_in, IsShareOf, IsShare, IsAdded}
+use Rattle.go_board.specs.Extent.{IsExtent}
 use Rattle.tally_core.specs.Occasions.{AreOccasions}
 use Rattle.gather_core.proofs.Calls.{both_all}
 
@@ -36,6 +37,7 @@ share_of_more added game actions old new h share =
     let played = λ (shape : ℕ) (a : Added). played_in (kinds_of old.kinds) (replayed_of a) shape in
     record {
       replays = both_all (λ (a : Added). AreOccasions a.actions a.occasions) added (one ∷ []) share.replays (h.replayed, tt);
+      sized = both_all (λ (a : Added). IsExtent a.actions.size) added (one ∷ []) share.sized (h.sized, tt);
       games = h.games ∙ ap (λ (gs : List ℕ). gs ++ game ∷ []) share.games
           ∙ sym (map-append (λ (a : Added). a.game) added (one ∷ []));
       moves = omega (arith, h.moves, share.moves, sum_by_push (λ (a : Added). length a.occasions) added one);

@@ -2,6 +2,7 @@ mod Common
 pub mod Calls
 mod Numbered
 pub mod Added
+pub mod Few
 mod WordRows
 mod Taken
 mod OfRows

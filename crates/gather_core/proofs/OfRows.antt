@@ -4,12 +4,12 @@ use Rattle.std.proofs.lemmas.List.Concat.{flat_map-append}
 use Rattle.gather_core.proofs.Common.{nat_tests, Entry, entry_of, Row, there_of, played_of, first_of, ArePlayedThere, gathered_entry, append-nil, map-append, Held, all_rows}
 use Rattle.range_core.specs.Entries.{IsCountedEntry}
 use Rattle.range_core.specs.Rising.{Rises}
-use Rattle.range_core.specs.Totals.{Total, total_of, all_of, everything, entered}
+use Rattle.range_core.specs.Totals.{Total, total_of, all_of, everything, entered, HaveSmallSums}
 use Rattle.range_core.specs.Totals as total
 use Rattle.range_core.proofs.Climbing.{Counts, climbs_entry, counted_total}
 use Rattle.gather_core.proofs.WordRows.{rows_there, rows_played, rows_first}
 use Rattle.gather_core.specs.WordShares.{unnumbered}
-use Rattle.gather_core.specs.Inner.Words.{IsOfRows}
+use Rattle.gather_core.specs.Inner.Words.{IsOfRows, HaveSmallCounts}
 
 module _ (rows : List Row) (entries : List Entry) (of : IsOfRows rows entries) where
   there_is : (shape : ℕ) → there_of rows shape ≡ total.there_of (total_of shape entries)
@@ -32,6 +32,10 @@ module _ (rows : List Row) (entries : List Entry) (of : IsOfRows rows entries) w
       let first : first_of rows shape ≡ t.first = first_is shape ∙ ap total.first_of is in
       let some : 0 < t.there = omega (arith, counts, among shape, there, played) in
       Prim.grind (arith, nat_tests, there, played, first, some)
+
+  -- they have small sums where the rows have small counts
+  pub small_entries : HaveSmallCounts rows → HaveSmallSums entries
+  small_entries small shape = omega (arith, small shape, there_is shape, played_is shape)
 
   -- each pattern has the entry that the rows make together
   pub entry_is : Rises entries → All IsCountedEntry entries → ArePlayedThere rows → (shape : ℕ) → entry_of shape entries ≡ gathered_entry rows shape

@@ -1,5 +1,5 @@
 -- Entries of patterns as rows without numbers, and what one game more adds to them.
-use Rattle.std.proofs.Common.{◌≡◌, ℕ, ◌+◌, ◌<◌, ◌==◌, nat_lt, Bool, true, false, cond, List, [], ◌∷◌, ◌++◌, length, map, take, get_or, Option, Some, None, refl, ap, ap₂, sym, ◌∙◌, arith, inl, append_assoc}
+use Rattle.std.proofs.Common.{◌≡◌, ℕ, ◌+◌, ◌*◌, ◌^◌, ◌<◌, ◌==◌, nat_lt, Bool, true, false, cond, List, [], ◌∷◌, ◌++◌, length, map, take, get_or, Option, Some, None, refl, ap, ap₂, sym, ◌∙◌, arith, append_assoc}
 use Rattle.gather_core.proofs.Common.{nat_tests, sum_by, sum_by-cons, take_more, append-nil, Actions, Kinds, kinds_of, there_in, Row, earlier, first_of, Held, Meeting, there_among, IsWalk, IsAdded}
 use Rattle.shape_dict.specs.declared.entries.Entry.{Entry}
 use Rattle.range_core.specs.Totals.{Total, together, count_at, total_of}
@@ -11,8 +11,10 @@ use Rattle.tally_core.specs.declared.faults.TallyFault.TheVariants as tally
 use Rattle.tally_core.specs.Faults.{IsTallyFault}
 use Rattle.tally_core.specs.Walk.{played_among, IsAmong}
 use Rattle.harvest_faults.specs.Faults.{same_fault}
+use Rattle.harvest_faults.specs.declared.faults.HarvestFault.TheVariants as fault
+use Rattle.go_board.specs.Extent.{IsExtent}
 use Rattle.gather_core.specs.Rows.{there_of, played_of}
-use Rattle.gather_core.specs.WordShares.{unnumbered, IsWordFault}
+use Rattle.gather_core.specs.WordShares.{unnumbered}
 use Rattle.gather_core.specs.Inner.Met.{met_entry, met_entries}
 
 -- ---- what rows of entries count is what the entries do
@@ -128,11 +130,12 @@ words_of worker kinds games moves entries =
 
 -- a game was added to it
 pub words_added : (worker : ℕ) (kinds : Kinds) (games : List ℕ) (sum : ℕ) (before after : List Entry) (actions : Actions) (game moves : ℕ) (meetings : List Meeting) →
-    (walk : IsWalk kinds actions meetings moves) → IsAmong meetings → ((shape : ℕ) → total_of shape after ≡ together (total_of shape before) (total_of shape (met_entries game meetings))) →
+    IsExtent actions.size → (walk : IsWalk kinds actions meetings moves) → IsAmong meetings → ((shape : ℕ) → total_of shape after ≡ together (total_of shape before) (total_of shape (met_entries game meetings))) →
     IsAdded game actions (words_of worker kinds games sum before) (words_of worker kinds (games ++ game ∷ []) (sum + moves) after)
-words_added worker kinds games sum before after actions game moves meetings walk among added = record {
+words_added worker kinds games sum before after actions game moves meetings extent walk among added = record {
   occasions = walk.occasions;
   replayed = walk.replayed;
+  sized = extent;
   worker = refl;
   kinds = refl;
   games = refl;
@@ -155,9 +158,9 @@ words_added worker kinds games sum before after actions game moves meetings walk
       ∙ ap₂ earlier (sym (rows_first before shape)) (met_first game meetings shape ∙ same);
 }
 
--- a game was refused
-pub words_fault : (words : Held) (actions : Actions) (found : TallyFault) → IsTallyFault actions found → IsWordFault actions words (same_fault found)
-words_fault words actions tally.Memory h = tt
-words_fault words actions tally.Overflow h = inl (0, omega (arith, h))
-words_fault words actions tally.BadSettings h = absurd h
-words_fault words actions (tally.Sgf found) h = absurd h
+-- a game of few actions was refused
+pub words_fault : (actions : Actions) (found : TallyFault) → 5410 * length actions.actions < 2 ^ 64 → IsTallyFault actions found → same_fault found ≡ fault.Memory
+words_fault actions tally.Memory few h = refl
+words_fault actions tally.Overflow few h = absurd (omega (arith, few, h))
+words_fault actions tally.BadSettings few h = absurd h
+words_fault actions (tally.Sgf found) few h = absurd h

@@ -1,5 +1,6 @@
 -- What adding a game to a share does.
 use Rattle.std.specs.Prelude.{◌≡◌, ℕ, ◌+◌, ◌≤◌, List, [], ◌∷◌, ◌++◌, length}
+use Rattle.go_board.specs.Extent.{IsExtent}
 use Rattle.go_record.specs.Actions.{Actions}
 use Rattle.tally_core.specs.Occasions.{Occasion, AreOccasions}
 use Rattle.tally_core.specs.Counts.{kinds_of, there_in, played_in}
@@ -10,6 +11,7 @@ use Rattle.gather_core.specs.Shares.{Held, game_of}
 pub record IsAdded (game : ℕ) (actions : Actions) (old new : Held) : Type 0 where
   pub occasions : List Occasion
   pub replayed : AreOccasions actions occasions
+  pub sized : IsExtent actions.size
   pub worker : new.worker ≡ old.worker
   pub kinds : new.kinds ≡ old.kinds
   pub games : new.games ≡ old.games ++ game ∷ []

@@ -1,6 +1,7 @@
 -- What a share holds, and of which games it is: for each pattern its rows have, added up, what these games count of it.
 use Rattle.std.specs.Prelude.{◌≡◌, ℕ, ◌<◌, nat_lt, if◌then◌else◌, List, [], ◌∷◌, length, map, sum_by, Option, Some, None}
 use Rattle.std.specs.List.{AllByRecursion}
+use Rattle.go_board.specs.Extent.{IsExtent}
 use Rattle.go_record.specs.Actions.{Actions}
 use Rattle.shape_core.specs.declared.words.Kinds.{Kinds}
 use Rattle.tally_core.specs.Occasions.{Occasion, AreOccasions}
@@ -36,9 +37,10 @@ abbrev pub first_in : Kinds → List Added → ℕ → Option ℕ
 first_in kinds [] shape = None
 first_in kinds (one ∷ added) shape = earlier (game_of kinds one shape) (first_in kinds added shape)
 
--- a share is of these games: they are its games, and their counts are its rows' sums
+-- a share is of these games, on boards of sides from 1 to 52: they are its games, and their counts are its rows' sums
 pub record IsShareOf (added : List Added) (held : Held) : Type 0 where
   pub replays : AllByRecursion (λ one. AreOccasions one.actions one.occasions) added
+  pub sized : AllByRecursion (λ one. IsExtent one.actions.size) added
   pub games : held.games ≡ map (λ one. one.game) added
   pub moves : held.moves ≡ sum_by (λ one. length one.occasions) added
   pub there : (shape : ℕ) → there_of held.rows shape ≡ sum_by (λ one. there_in (kinds_of held.kinds) (replayed_of one) shape) added

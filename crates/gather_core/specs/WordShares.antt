@@ -1,6 +1,5 @@
 -- What a worker has counted by words, and how patterns get their numbers.
-use Rattle.std.specs.Prelude.{◌≡◌, ℕ, ◌+◌, ◌*◌, ◌^◌, ◌≤◌, ◌⊎◌, List, length, Some, Contains, IfSome}
-use Rattle.go_record.specs.Actions.{Actions}
+use Rattle.std.specs.Prelude.{◌≡◌, ℕ, List, Some, Contains, IfSome}
 use Rattle.shape_dict.specs.declared.entries.Entry.{Entry}
 use Rattle.probe_core.specs.declared.calls.Answer.{Answer}
 use Rattle.probe_core.specs.Sequential.{IsNumber, IsAbsent, IsFull}
@@ -9,21 +8,10 @@ use Rattle.slot_table.specs.History.{content_of, least_at, IsAtMost}
 use Rattle.gather_core.specs.declared.rows.Row.{Row}
 use Rattle.harvest_faults.specs.declared.faults.HarvestFault.{HarvestFault}
 use Rattle.harvest_faults.specs.declared.faults.HarvestFault.TheVariants as fault
-use Rattle.gather_core.specs.Rows.{there_of, played_of}
-use Rattle.gather_core.specs.Shares.{Held}
 
 -- what was counted of a pattern, as a row: its pattern has no number yet, and 0 stands there
 abbrev pub unnumbered : Entry → Row
 unnumbered entry = record { number = 0; shape = entry.shape; there = entry.there; played = entry.played; first = entry.first }
-
--- why a game was not added: memory was wanting; or with the game the count of a pattern, or that of the moves, might pass
--- 2 ^ 64 - 1
-abbrev pub IsWordFault : Actions → Held → HarvestFault → Type 0
-IsWordFault actions before fault.Memory = Unit {0}
-IsWordFault actions before fault.Overflow =
-    ((shape : ℕ) × (2 ^ 64 ≤ there_of before.rows shape + played_of before.rows shape + 5410 * length actions.actions))
-    ⊎ (2 ^ 64 ≤ before.moves + length actions.actions)
-IsWordFault actions before found = ⊥
 
 -- the pattern of an entry has a number after a history of a table of n numbers, at which its first game is marked, or an earlier one
 pub record IsSettled (n : ℕ) (seen : List Happened) (entry : Entry) : Type 0 where

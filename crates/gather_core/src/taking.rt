@@ -1,10 +1,9 @@
 //! Threads take ranges of patterns by places (slots of a hash table): each range is added up, its
 //! patterns get their numbers (indices of slots of a table) and are dealt to ranges of words.
-ghost use Rattle.std.specs.Prelude.{◌≡◌, ◌++◌, ◌∷◌, [], true, List, length, IfOk, IfErr, IfSome};
-ghost use Rattle.std.specs.Prelude.{OnOk};
-ghost use Rattle.std.specs.Bool.{OnTrue};
+ghost use Rattle.std.specs.Prelude.{◌≡◌, ◌++◌, ◌∷◌, [], true, List, length, IfOk, IfErr, OnOk};
 ghost use Rattle.std.specs.Thread.{IsSync};
 ghost use Rattle.shape_dict.specs.declared.entries.Entry.{Entry};
+ghost use Rattle.range_core.specs.Totals.{all_of, HaveSmallSums};
 ghost use Rattle.range_core.specs.Words.{word_ranges};
 ghost use Rattle.slot_table.specs.History.{Keeps};
 ghost use Rattle.slot_table.specs.Passes.{IsPassOf};
@@ -77,7 +76,7 @@ fn number_more<O: ProbeOrder>(
 }
 
 /// Adds a range up, gives its patterns numbers while any are free, and deals them to the ranges of
-/// words in `work`. Returns false if a sum passes 2^64 - 1, else true.
+/// words in `work`. What its entries count of each pattern together must be below 2^64.
 ///
 /// # Errors
 ///
@@ -87,32 +86,27 @@ fn take_range<O: ProbeOrder>(
     pass: &mut Pass<O>,
     work: &mut Workspace,
     range: Range,
-) -> Result<bool, HarvestFault>
-    requires { (ranges : List (List Entry))
+) -> Result<(), HarvestFault>
+    requires taken { (ranges : List (List Entry))
         × AreTaken numbering.now ranges pass.old work.old.numbered (work.old.words ∷ []) }
+    requires small { HaveSmallSums range }
     ensures pass { IsPassOf numbering.now.table.now pass.new }
     ensures len { OnOk result (length work.new.words ≡ word_ranges) }
     ensures taken { (ranges : List (List Entry))
         → AreTaken numbering.now ranges pass.old work.old.numbered (work.old.words ∷ [])
-        → IfOk result (λ added. OnTrue added (AreTaken numbering.now (range ∷ ranges) pass.new
-        work.new.numbered (work.new.words ∷ []))) }
+        → OnOk result (AreTaken numbering.now (range ∷ ranges) pass.new
+        work.new.numbered (work.new.words ∷ [])) }
     ensures fault { IfErr result (λ found. found ≡ fault.Memory) }
 {
-    if !range.sum_up(&mut work.sums)? {
-        return Ok(false);
-    }
-    // Its memory serves again for what comes after it.
-    drop(range);
-    work.entries.clear();
-    work.sums.append_to(&mut work.entries)?;
+    range.sum_to(numbering.alloc, &mut work.sums, &mut work.entries)?;
     let entries = work.entries.as_slice();
     work.numbered = number_more(numbering.table, pass, entries, work.numbered);
     work.words.deal(numbering.cuts, &work.entries)?;
-    Ok(true)
+    Ok(())
 }
 
 /// Adds up one range after another in this thread, and returns their entries by ranges of words.
-/// Returns None if a sum passes 2^64 - 1.
+/// What the entries of each pattern count together must be below 2^64.
 ///
 /// # Errors
 ///
@@ -121,9 +115,10 @@ fn take_alone<O: ProbeOrder>(
     numbering: &Numbering<'_, O>,
     pass: Pass<O>,
     ranges: Vec<Range>,
-) -> Result<Option<Taken<O>>, HarvestFault>
-    requires { IsPassOf numbering.now.table.now pass }
-    ensures taken { IfOk result (λ found. IfSome found (IsTaken numbering.now ranges.items)) }
+) -> Result<Taken<O>, HarvestFault>
+    requires pass { IsPassOf numbering.now.table.now pass }
+    requires small { HaveSmallSums (all_of ranges.items) }
+    ensures taken { IfOk result (IsTaken numbering.now ranges.items) }
     ensures fault { IfErr result (λ found. found ≡ fault.Memory) }
 {
     let mut pass = pass;
@@ -135,9 +130,7 @@ fn take_alone<O: ProbeOrder>(
         numbered: true,
     };
     while let Some(range) = ranges.pop() {
-        if !take_range(numbering, &mut pass, &mut work, range)? {
-            return Ok(None);
-        }
+        take_range(numbering, &mut pass, &mut work, range)?;
     }
     let Workspace {
         words,
@@ -146,34 +139,31 @@ fn take_alone<O: ProbeOrder>(
     } = work;
     let mut lists = Vec::new(numbering.alloc);
     lists.push(words)?;
-    Ok(Some(Taken {
+    Ok(Taken {
         pass,
         lists,
         numbered,
-    }))
+    })
 }
 
 /// Puts together what two threads have made of their ranges: all patterns are numbered if those of
-/// both are. Returns None if one of the two is None. The pass gets the calls of both.
+/// both are. The pass gets the calls of both.
 ///
 /// # Errors
 ///
 /// `Memory` if memory was refused.
 fn both_taken<O: ProbeOrder>(
     numbering: &Numbering<'_, O>,
-    low: Option<Taken<O>>,
-    high: Option<Taken<O>>,
-) -> Result<Option<Taken<O>>, HarvestFault>
-    requires low { (ranges : List (List Entry)) × IfSome low (IsTaken numbering.now ranges) }
-    requires high { (ranges : List (List Entry)) × IfSome high (IsTaken numbering.now ranges) }
-    ensures taken { (front back : List (List Entry)) → IfSome low (IsTaken numbering.now front)
-        → IfSome high (IsTaken numbering.now back)
-        → IfOk result (λ found. IfSome found (IsTaken numbering.now (front ++ back))) }
+    low: Taken<O>,
+    high: Taken<O>,
+) -> Result<Taken<O>, HarvestFault>
+    requires low { (ranges : List (List Entry)) × IsTaken numbering.now ranges low }
+    requires high { (ranges : List (List Entry)) × IsTaken numbering.now ranges high }
+    ensures taken { (front back : List (List Entry)) → IsTaken numbering.now front low
+        → IsTaken numbering.now back high
+        → IfOk result (IsTaken numbering.now (front ++ back)) }
     ensures fault { IfErr result (λ found. found ≡ fault.Memory) }
 {
-    let (Some(low), Some(high)) = (low, high) else {
-        return Ok(None);
-    };
     let Taken {
         mut pass,
         mut lists,
@@ -186,11 +176,11 @@ fn both_taken<O: ProbeOrder>(
     } = high;
     numbering.table.absorb(&mut pass, theirs);
     lists.append(&mut more)?;
-    Ok(Some(Taken {
+    Ok(Taken {
         pass,
         lists,
         numbered: numbered && also,
-    }))
+    })
 }
 
 /// Makes of the ranges `low` and `high` what `take_ranges` makes of all, each of the two in a
@@ -203,26 +193,27 @@ fn take_both<R: Threads + Sync, O: ProbeOrder + Send + Sync>(
     pass: Pass<O>,
     low: Vec<Range>,
     high: Vec<Range>,
-) -> Result<Option<Taken<O>>, HarvestFault>
-    requires { IsPassOf numbering.now.table.now pass }
-    ensures taken { IfOk result (λ found. IfSome found
-        (IsTaken numbering.now (low.items ++ high.items))) }
+) -> Result<Taken<O>, HarvestFault>
+    requires pass { IsPassOf numbering.now.table.now pass }
+    requires low { HaveSmallSums (all_of low.items) }
+    requires high { HaveSmallSums (all_of high.items) }
+    ensures taken { IfOk result (IsTaken numbering.now (low.items ++ high.items)) }
     ensures fault { IfErr result (λ found. found ≡ fault.Memory) }
 {
     let mut pass = pass;
     let theirs = numbering.table.split(&mut pass);
     let (low, high) = join(
         rt,
-        || -> Result<Option<Taken<O>>, HarvestFault>
-            requires { IsSync R.row × IsPassOf numbering.now.table.now pass }
-            ensures taken { IfOk result (λ found. IfSome found
-                (IsTaken numbering.entry.now low.items)) }
+        || -> Result<Taken<O>, HarvestFault>
+            requires pass { IsSync R.row × IsPassOf numbering.now.table.now pass }
+            requires small { HaveSmallSums (all_of low.items) }
+            ensures taken { IfOk result (IsTaken numbering.entry.now low.items) }
             ensures fault { IfErr result (λ found. found ≡ fault.Memory) }
         { take_ranges(rt, numbering, depth, pass, low) },
-        || -> Result<Option<Taken<O>>, HarvestFault>
-            requires { IsSync R.row × IsPassOf numbering.now.table.now theirs }
-            ensures taken { IfOk result (λ found. IfSome found
-                (IsTaken numbering.entry.now high.items)) }
+        || -> Result<Taken<O>, HarvestFault>
+            requires pass { IsSync R.row × IsPassOf numbering.now.table.now theirs }
+            requires small { HaveSmallSums (all_of high.items) }
+            ensures taken { IfOk result (IsTaken numbering.entry.now high.items) }
             ensures fault { IfErr result (λ found. found ≡ fault.Memory) }
         { take_ranges(rt, numbering, depth, theirs, high) },
     );
@@ -231,8 +222,8 @@ fn take_both<R: Threads + Sync, O: ProbeOrder + Send + Sync>(
 
 /// Adds up ranges by places, gives their patterns numbers in the table, and returns their entries
 /// in lists by ranges of words. The two halves of the ranges are in threads of their own if these
-/// can be started, and each is halved again, `depth` times in all. Returns None if a sum passes
-/// 2^64 - 1.
+/// can be started, and each is halved again, `depth` times in all. What the entries of each pattern
+/// count together must be below 2^64.
 ///
 /// A pattern for which no number is free is taken without one, and then not all are numbered. The
 /// pass must be of the table. It takes memory for the entries of each pattern once more, and gives
@@ -248,9 +239,10 @@ pub(crate) fn take_ranges<R: Threads + Sync, O: ProbeOrder + Send + Sync>(
     depth: usize,
     pass: Pass<O>,
     ranges: Vec<Range>,
-) -> Result<Option<Taken<O>>, HarvestFault>
-    requires { IsPassOf numbering.now.table.now pass }
-    ensures taken { IfOk result (λ found. IfSome found (IsTaken numbering.now ranges.items)) }
+) -> Result<Taken<O>, HarvestFault>
+    requires pass { IsPassOf numbering.now.table.now pass }
+    requires small { HaveSmallSums (all_of ranges.items) }
+    ensures taken { IfOk result (IsTaken numbering.now ranges.items) }
     ensures fault { IfErr result (λ found. found ≡ fault.Memory) }
 {
     if depth == 0 {

@@ -62,11 +62,12 @@ pub struct WordShare {
     walk: Walk,
     lists: PlaceLists,
     games: Vec<u64>,
-    moves: u64,
+    /// The moves of the games: each has fewer than 2^64.
+    moves: u128,
 }
 
 impl Model for WordShare {
-    ghost use Rattle.std.specs.Prelude.{map};
+    ghost use Rattle.std.specs.Prelude.{map, length, ◌*◌, ◌^◌, ◌≤◌};
     ghost use Rattle.range_core.specs.Totals.{all_of};
     ghost use Rattle.gather_core.specs.Shares.{Held};
     ghost use Rattle.gather_core.specs.WordShares.{unnumbered};
@@ -80,17 +81,21 @@ impl Model for WordShare {
       moves = w.moves;
       rows = map unnumbered (all_of w.lists);
     } };
+
+    ghost invariant = { λ w. w.moves ≤ 2 ^ 64 * length w.games.items };
 }
 
 impl WordShare {
-    ghost use Rattle.std.specs.Prelude.{◌≡◌, ◌<◌, [], length, map, IfOk, OnOk, IfErr};
+    ghost use Rattle.std.specs.Prelude.{◌≡◌, ◌+◌, ◌*◌, ◌^◌, ◌<◌, ◌≤◌, [], length, map};
+    ghost use Rattle.std.specs.Prelude.{IfOk, OnOk, IfErr};
     ghost use Rattle.sgf_core.specs.Limit.{most_bytes};
+    ghost use Rattle.harvest_faults.specs.declared.faults.HarvestFault.TheVariants as fault;
     ghost use Rattle.range_core.specs.Totals.{all_of};
     ghost use Rattle.range_core.specs.Ranges.{AreDealtBy};
     ghost use Rattle.range_core.specs.Places.{place_ranges, range_of_place};
     ghost use Rattle.gather_core.specs.Shares.{IsShare};
     ghost use Rattle.gather_core.specs.Adding.{IsAdded};
-    ghost use Rattle.gather_core.specs.WordShares.{unnumbered, IsWordFault};
+    ghost use Rattle.gather_core.specs.WordShares.{unnumbered};
 
     /// Makes an empty share (what a worker has counted) for the worker with this number, which
     /// counts these kinds of pattern. Each of its lists, one for each range of places, has room for
@@ -124,28 +129,29 @@ impl WordShare {
     }
 
     /// Replays the game `game_record`, whose number is `game`, and counts its patterns into the
-    /// share. It uses no table of numbers. It takes memory for the game's board, and when a list is
-    /// full.
+    /// share. The game must have fewer than 2^64 / 5410 actions, as each game of an input has. It
+    /// uses no table of numbers. It takes memory for the game's board, and when a list is full.
     ///
     /// # Errors
     ///
-    /// `Memory` if memory was refused; `Overflow` if the share's moves might pass 2^64 - 1, or if
-    /// the game has more actions than any input. After either some of the game's patterns may be
-    /// counted, so nothing is known of the sums any more.
+    /// `Memory` if memory was refused. After it some of the game's patterns may be counted, so
+    /// nothing is known of the sums any more.
     pub fn add(&mut self, game: u64, game_record: &Record) -> Result<(), HarvestFault>
         requires share { IsShare self.old }
         requires game { game < most_bytes }
+        requires few { 5410 * length game_record.now.actions < 2 ^ 64 }
         ensures added { OnOk result (IsAdded game game_record.now self.old self.new) }
+        ensures moves { OnOk result
+            (self.new.moves ≤ self.old.moves + length game_record.now.actions) }
         ensures share { OnOk result (IsShare self.new) }
-        ensures fault { IfErr result (IsWordFault game_record.now self.old) }
+        ensures fault { IfErr result (λ found. found ≡ fault.Memory) }
     {
+        // For the proof alone: the sides of a board are at most 52.
+        let _ = game_record.size().columns();
         let moves = self.walk.walk(game_record)?;
-        let Some(moves) = self.moves.checked_add(moves) else {
-            return Err(HarvestFault::Overflow);
-        };
         append_all(&mut self.lists, self.walk.meetings(), game)?;
         self.games.push(game)?;
-        self.moves = moves;
+        self.moves += u128::from(moves);
         Ok(())
     }
 
@@ -157,7 +163,7 @@ impl WordShare {
     }
 
     /// Returns the number of moves onto empty points in the games.
-    pub fn moves(&self) -> u64
+    pub fn moves(&self) -> u128
         ensures { result ≡ self.now.moves }
     {
         self.moves

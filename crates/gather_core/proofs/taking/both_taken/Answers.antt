@@ -10,18 +10,16 @@ use Rattle.gather_core.proofs.taking.both_taken.Goals.{then-numbered, else-numbe
 use Rattle.gather_core.proofs.taking.both_taken.Goals as goal
 
 pub returns-clause-taken : goal.returns-clause-taken
-returns-clause-taken g c front back low high =
-    let one = rw c.in-Some-Some.is-0 at low in
-    let other = rw c.in-Some-Some.is-1 at high in
-    let some = c.in-Some-Some.low.lists.items in
-    let more = c.in-Some-Some.high.lists.items in
+returns-clause-taken g c front back one other =
+    let some = c.args.low.lists.items in
+    let more = c.args.high.lists.items in
     let items = c.in_ok-append.ensures.items in
     let met = c.absorb.ensures.met in
     let n = c.args.numbering.now.table.now.slots in
     let seen = c.absorb.new.pass.seen in
     let Long = λ (lists : List (List Entry)). length lists ≡ word_ranges in
     let Dealt = AreDealtBy (range_of_word c.args.numbering.now.cuts.now) in
-    let both : c.if-numbered.result ≡ true → (c.in-Some-Some.low.numbered ≡ true) × (c.in-Some-Some.high.numbered ≡ true) =
+    let both : c.if-numbered.result ≡ true → (c.args.low.numbered ≡ true) × (c.args.high.numbered ≡ true) =
     λ told. elim c.if-numbered.branch [
       | then-numbered w ↦ (w.if-numbered.true, sym w.result-is ∙ told)
       | else-numbered w ↦ absurd (cc)

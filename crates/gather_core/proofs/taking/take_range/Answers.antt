@@ -1,8 +1,6 @@
-use Rattle.std.proofs.Common.{◌≡◌, ℕ, List, [], ◌++◌, length, ap, subst, ◌∙◌}
-use Rattle.std.proofs.lemmas.Bool.{OnTrue_at}
+use Rattle.std.proofs.Common.{◌≡◌, List, [], length, subst}
 use Rattle.std.proofs.lemmas.List.Elements.{All-head}
 use Rattle.gather_core.proofs.Common.{Entry}
-use Rattle.range_core.specs.Totals.{total_of}
 use Rattle.range_core.specs.Ranges.{AreDealtBy}
 use Rattle.range_core.specs.Words.{word_ranges, range_of_word}
 use Rattle.gather_core.specs.Numbering.{AreNumbered}
@@ -11,23 +9,20 @@ use Rattle.gather_core.proofs.taking.take_range.Goals as goal
 
 pub deal-requires-clause-len : goal.deal-requires-clause-len
 deal-requires-clause-len g c =
-    All-head (λ (words : List (List Entry)). length words ≡ word_ranges) c.args.work.now.words [] c.requires.1.long
+    All-head (λ (words : List (List Entry)). length words ≡ word_ranges) c.args.work.now.words [] c.requires.taken.1.long
 
 pub deal-requires-clause-dealt : goal.deal-requires-clause-dealt
 deal-requires-clause-dealt g c =
-    All-head (AreDealtBy (range_of_word c.args.numbering.now.cuts.now)) c.args.work.now.words [] c.requires.1.dealt
+    All-head (AreDealtBy (range_of_word c.args.numbering.now.cuts.now)) c.args.work.now.words [] c.requires.taken.1.dealt
 
 pub returns-clause-taken : goal.returns-clause-taken
 returns-clause-taken g c ranges had =
     let numbering = c.args.numbering.now in
-    let entries = c.append_to.new.list in
+    let entries = c.sum_to.new.entries in
     let known = c.number_more-work.new.pass in
     let all = c.number_more-work.result in
     let more = c.number_more-work.ensures in
-    let same : (shape : ℕ) → total_of shape entries ≡ total_of shape c.args.range =
-    λ shape. ap (total_of shape) (c.in_ok-append_to.ensures ∙ ap (λ (l : List Entry). l ++ c.sum_up.new.sums) c.clear.ensures)
-    ∙ OnTrue_at c.if-not-branch.false c.in_ok-sum_up.ensures shape in
     one_taken numbering ranges c.args.range entries c.args.pass.now known c.args.work.now.numbered all c.args.work.now.words c.deal.new.self
     had more.pass more.keeps more.before
     (λ told. subst (AreNumbered numbering.table.now.slots known.seen) c.as_slice-entries.ensures.value (more.numbered told))
-    c.in_ok-deal.ensures.len c.in_ok-deal.ensures.dealt c.in_ok-deal.ensures.totals same
+    c.in_ok-deal.ensures.len c.in_ok-deal.ensures.dealt c.in_ok-deal.ensures.totals c.in_ok-sum_to.ensures

@@ -8,6 +8,7 @@ no_games worker kinds = record {
   added = [];
   is_of = record {
     replays = tt;
+    sized = tt;
     games = refl;
     moves = refl;
     there = λ shape. refl;
