@@ -1,4 +1,5 @@
 pub mod Harvested
+pub mod FewMoves
 pub mod ByWords
 mod Dealt
 mod Joined

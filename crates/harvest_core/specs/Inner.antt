@@ -1,5 +1,4 @@
 -- What serves the contracts of private functions, and invariants: nothing here has to be believed.
 pub mod Threads
 pub mod Dealt
-pub mod Reading
 pub mod Working

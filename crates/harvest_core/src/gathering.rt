@@ -1,7 +1,7 @@
 //! Several threads count a collection by words (the codes of patterns), and one dictionary is made
 //! of what they have met.
 ghost use Rattle.std.specs.Prelude.{◌≡◌, ◌⊎◌, ◌<◌, ◌≤◌, ℕ, List, length, IfOk, IfErr};
-ghost use Rattle.std.specs.Prelude.{IfSome, IsErrAnd};
+ghost use Rattle.std.specs.Prelude.{IsErrAnd};
 ghost use Rattle.sgf_core.specs.Limit.{most_bytes};
 ghost use Rattle.sgf_core.specs.declared.faults.SgfFault.TheVariants as sgf;
 ghost use Rattle.tally_core.specs.Counted.{IsCounted};
@@ -10,7 +10,6 @@ ghost use Rattle.job_core.specs.Rule.{all_parts};
 ghost use Rattle.slot_table.specs.Passes.{IsPassOf};
 ghost use Rattle.harvest_core.specs.Inner.Threads.{reader_of, AreThreadCounts};
 ghost use Rattle.harvest_core.specs.Harvest.{IsCountRefused};
-ghost use Rattle.harvest_core.specs.Inner.Reading.{IsThreadFault};
 
 use crate::gates::Gate;
 use crate::numberings::{Numbering, numbering_of};
@@ -54,7 +53,7 @@ fn threads_for<R: Threads>(rt: &R, asked: u8) -> u8 {
 }
 
 /// Makes the dictionary of `counts`, what all threads have counted by words, and gives its patterns
-/// numbers in the table of `numbering`. Returns None if a sum passes 2^64 - 1.
+/// numbers in the table of `numbering`.
 ///
 /// # Errors
 ///
@@ -65,27 +64,23 @@ fn dictionary_of<R: Threads + Sync>(
     kinds: Kinds,
     numbering: Numbering,
     counts: ThreadCounts,
-) -> Result<Option<Harvested>, HarvestFault>
+) -> Result<Harvested, HarvestFault>
     requires pass { IsPassOf numbering.table numbering.pass }
     requires counts { (bytes : List ℕ) × AreThreadCounts bytes kinds counts }
-    ensures counted { (bytes : List ℕ) → AreThreadCounts bytes kinds counts → IfOk result
-        (λ found. IfSome found (λ harvested. IsCounted kinds bytes harvested.counted)) }
+    ensures counted { (bytes : List ℕ) → AreThreadCounts bytes kinds counts
+        → IfOk result (λ harvested. IsCounted kinds bytes harvested.counted) }
     ensures fault { IfErr result (λ found. found ≡ fault.Memory) }
 {
     let Numbering { table, mut pass } = numbering;
     let ThreadCounts { shares, report } = counts;
-    let found = gather_words(rt, alloc, kinds, report.games, &table, &mut pass, shares)?;
-    let Some(gathered) = found else {
-        return Ok(None);
-    };
     let GatheredWords {
         dictionary,
         numbered,
-    } = gathered;
-    Ok(Some(Harvested {
+    } = gather_words(rt, alloc, kinds, report.games, &table, &mut pass, shares)?;
+    Ok(Harvested {
         counted: Counted { dictionary, report },
         numbered,
-    }))
+    })
 }
 
 /// Returns the table and what was counted while it was made, unless one of them failed.
@@ -101,11 +96,11 @@ fn both_of(
     requires pass { IfOk made (λ numbering. IsPassOf numbering.table numbering.pass) }
     requires refused { IfErr made (λ found. found ≡ fault.Memory) }
     requires counts { IfOk counts (AreThreadCounts shared.now.bytes.now shared.now.kinds) }
-    requires fault { IfErr counts (IsThreadFault shared.now.bytes.now) }
+    requires fault { IfErr counts (IsCountRefused shared.now.bytes.now) }
     ensures pass { IfOk result (λ both. IsPassOf both.0.table both.0.pass) }
     ensures counts { IfOk result
         (λ both. AreThreadCounts shared.now.bytes.now shared.now.kinds both.1) }
-    ensures fault { IfErr result (IsThreadFault shared.now.bytes.now) }
+    ensures fault { IfErr result (IsCountRefused shared.now.bytes.now) }
 {
     // For the proof alone: the contract speaks of `shared`.
     let _ = shared;
@@ -132,7 +127,7 @@ fn count_beside_table<'q, 'a, R: Threads + Wait + Sync, G: Gate>(
     ensures pass { IfOk result (λ both. IsPassOf both.0.table both.0.pass) }
     ensures counts { IfOk result
         (λ both. AreThreadCounts shared.now.bytes.now shared.now.kinds both.1) }
-    ensures fault { IfErr result (IsThreadFault shared.now.bytes.now) }
+    ensures fault { IfErr result (IsCountRefused shared.now.bytes.now) }
 {
     let alloc = shared.alloc;
     let (made, counts) = thread::join(
@@ -146,66 +141,24 @@ fn count_beside_table<'q, 'a, R: Threads + Wait + Sync, G: Gate>(
             requires games { (games.bytes ≡ shared.now.bytes.now) × (games.report.games ≡ 0) }
             ensures counts { IfOk result
                 (AreThreadCounts shared.entry.now.bytes.now shared.entry.now.kinds) }
-            ensures fault { IfErr result (IsThreadFault shared.entry.now.bytes.now) }
+            ensures fault { IfErr result (IsCountRefused shared.entry.now.bytes.now) }
         { count_all(rt, shared, gate, games, endpoint) },
     );
     both_of(shared, made, counts)
 }
 
 /// Counts the collection `bytes` by words in several threads, and returns its dictionary, and how
-/// many of its trees are games, of other games, or refused. Returns None if a sum of all threads
-/// passes 2^64 - 1.
+/// many of its trees are games, of other games, or refused.
 ///
 /// As many threads count as there are workers, and this one, but no more than there are processors,
 /// and at least two. This thread reads, and puts a job for each game into a queue, from which the
 /// others draw. It counts what the queue has no room for, and draws too when all is read. The
 /// patterns get numbers, the indices of slots, in one new table of 2^exponent slots, which one more
-/// thread makes meanwhile. `gate` is called before each game is counted.
+/// thread makes meanwhile. More than 2^exponent patterns are no fault: they are all counted, and
+/// `numbered` is false. `gate` is called before each game is counted.
 ///
 /// It takes memory for the queue, for the records of the games in it, for the table, for each
 /// thread for what its games meet and for the board, and for the dictionary.
-///
-/// # Errors
-///
-/// `Sgf` with `TooLarge` (S4) if the input has more than 2^28 bytes, else with its first fault of
-/// syntax; `Overflow` if a count of one thread might be too large; `Memory` if memory was refused.
-pub(crate) fn count_by_words<R: Threads + Wait + Sync, G: Gate>(
-    rt: &R,
-    alloc: Global,
-    kinds: Kinds,
-    workers: u8,
-    exponent: u32,
-    bytes: &[u8],
-    gate: &G,
-) -> Result<Option<Harvested>, HarvestFault>
-    requires { exponent ≤ 22 }
-    ensures large { most_bytes < length bytes.now
-        → IsErrAnd result (λ found. found ≡ fault.Sgf sgf.TooLarge) }
-    ensures counted { IfOk result (λ found. IfSome found
-        (λ harvested. IsCounted kinds bytes.now harvested.counted)) }
-    ensures fault { IfErr result (IsThreadFault bytes.now) }
-{
-    let Some(capacity) = Capacity::new(exponent) else {
-        return Err(HarvestFault::BadSettings);
-    };
-    let games = Games::new(bytes)?;
-    // `seat` is the right of this thread to call the queue.
-    let (queue, seat) = new_queue(alloc, PLACES)?;
-    let shared = Shared {
-        alloc,
-        kinds,
-        workers: threads_for(rt, workers),
-        bytes,
-        queue: &queue,
-    };
-    let endpoint = Endpoint::open(&queue, seat, bytes);
-    let (numbering, counts) = count_beside_table(rt, &shared, gate, capacity, games, endpoint)?;
-    dictionary_of(rt, alloc, kinds, numbering, counts)
-}
-
-/// Counts as `count_by_words` does, but if a sum passes 2^64 - 1, or might, this thread counts all
-/// again alone, and gives no numbers. More than 2^exponent patterns are no fault: they are all
-/// counted. In both cases `numbered` is false.
 ///
 /// # Errors
 ///
@@ -226,13 +179,20 @@ pub(crate) fn count_in_threads<R: Threads + Wait + Sync, G: Gate>(
     ensures counted { IfOk result (λ harvested. IsCounted kinds bytes.now harvested.counted) }
     ensures fault { IfErr result (IsCountRefused bytes.now) }
 {
-    match count_by_words(rt, alloc, kinds, workers, exponent, bytes, gate) {
-        Ok(Some(harvested)) => Ok(harvested),
-        // No input is so large; but no clause says so here.
-        Ok(None) | Err(HarvestFault::Overflow) => Ok(Harvested {
-            counted: count_plain(alloc, kinds, bytes)?,
-            numbered: false,
-        }),
-        Err(fault) => Err(fault),
-    }
+    let Some(capacity) = Capacity::new(exponent) else {
+        return Err(HarvestFault::BadSettings);
+    };
+    let games = Games::new(bytes)?;
+    // `seat` is the right of this thread to call the queue.
+    let (queue, seat) = new_queue(alloc, PLACES)?;
+    let shared = Shared {
+        alloc,
+        kinds,
+        workers: threads_for(rt, workers),
+        bytes,
+        queue: &queue,
+    };
+    let endpoint = Endpoint::open(&queue, seat, bytes);
+    let (numbering, counts) = count_beside_table(rt, &shared, gate, capacity, games, endpoint)?;
+    dictionary_of(rt, alloc, kinds, numbering, counts)
 }

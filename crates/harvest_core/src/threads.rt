@@ -2,11 +2,11 @@
 ghost use Rattle.std.specs.Prelude.{◌≡◌, ◌+◌, [], All, length, IfOk, IfErr};
 ghost use Rattle.job_core.specs.Which.{id_of};
 ghost use Rattle.job_core.specs.Rule.{all_parts};
-ghost use Rattle.harvest_core.specs.Inner.Working.{IsDropFault};
+ghost use Rattle.harvest_faults.specs.declared.faults.HarvestFault.TheVariants as fault;
 ghost use Rattle.harvest_core.specs.Inner.Dealt.{IsReadingOf};
 ghost use Rattle.harvest_core.specs.Inner.Threads.{reader_of, IsFresh, IsBackOf, HasTaken};
 ghost use Rattle.harvest_core.specs.Inner.Threads.{IsJoinable, AreThreadCounts};
-ghost use Rattle.harvest_core.specs.Inner.Reading.{IsThreadFault};
+ghost use Rattle.harvest_core.specs.Harvest.{IsCountRefused};
 
 use crate::gates::Gate;
 use crate::reading::{Reading, read};
@@ -85,7 +85,7 @@ fn count_beside<'q, 'a, R: Threads + Wait + Sync, G: Gate>(
 ///
 /// # Errors
 ///
-/// The fault of a worker that could not count a game; `Memory` if memory was refused.
+/// `Memory` if memory was refused, here or to a worker that could not count a game then.
 fn take_up<'q, 'a>(
     shared: &Shared<'q, 'a>,
     endpoint: &mut Endpoint<'q, 'a>,
@@ -95,7 +95,7 @@ fn take_up<'q, 'a>(
     requires back { All (IsBackOf shared.now) all.items }
     ensures taken { IfOk result (λ shares. HasTaken shared.now endpoint.old (length all.entry.items)
         [] endpoint.new shares.items) }
-    ensures fault { IfErr result IsDropFault }
+    ensures fault { IfErr result (λ found. found ≡ fault.Memory) }
 {
     let mut shares = Vec::new(shared.alloc);
     for back in all {
@@ -115,8 +115,7 @@ fn take_up<'q, 'a>(
 ///
 /// # Errors
 ///
-/// `Sgf` with the input's first fault of syntax; `Overflow` if a count might be too large; `Memory`
-/// if memory was refused.
+/// `Sgf` with the input's first fault of syntax; `Memory` if memory was refused.
 fn joined<'q, 'a>(
     shared: &Shared<'q, 'a>,
     reading: Reading<'q, 'a>,
@@ -125,7 +124,7 @@ fn joined<'q, 'a>(
     requires reading { IsJoinable shared.now (length all.items) reading }
     requires back { All (IsBackOf shared.now) all.items }
     ensures counts { IfOk result (AreThreadCounts shared.now.bytes.now shared.now.kinds) }
-    ensures fault { IfErr result (IsThreadFault shared.now.bytes.now) }
+    ensures fault { IfErr result (IsCountRefused shared.now.bytes.now) }
 {
     let Reading {
         own,
@@ -151,8 +150,7 @@ fn joined<'q, 'a>(
 ///
 /// # Errors
 ///
-/// `Sgf` with the input's first fault of syntax; `Overflow` if a count might be too large; `Memory`
-/// if memory was refused.
+/// `Sgf` with the input's first fault of syntax; `Memory` if memory was refused.
 pub(crate) fn count_all<'q, 'a, R: Threads + Wait + Sync, G: Gate>(
     rt: &R,
     shared: &Shared<'q, 'a>,
@@ -163,7 +161,7 @@ pub(crate) fn count_all<'q, 'a, R: Threads + Wait + Sync, G: Gate>(
     requires endpoint { endpoint ≡ reader_of shared.now all_parts }
     requires games { (games.bytes ≡ shared.now.bytes.now) × (games.report.games ≡ 0) }
     ensures counts { IfOk result (AreThreadCounts shared.now.bytes.now shared.now.kinds) }
-    ensures fault { IfErr result (IsThreadFault shared.now.bytes.now) }
+    ensures fault { IfErr result (IsCountRefused shared.now.bytes.now) }
 {
     let mut endpoint = endpoint;
     let seats = worker_seats(shared, &mut endpoint)?;

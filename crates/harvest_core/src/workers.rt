@@ -1,5 +1,8 @@
 //! A worker: it draws jobs (a game's number and record) from the queue and counts their games by
 //! words (the codes of patterns), until it draws an end (the sign that no job is left).
+ghost use Rattle.std.specs.Prelude.{◌≤◌, length};
+ghost use Rattle.sgf_core.specs.Limit.{most_bytes};
+
 use crate::gates::Gate;
 use gather_core::WordShare;
 use harvest_faults::HarvestFault;
@@ -22,6 +25,7 @@ pub(crate) struct Shared<'q, 'a> {
     pub bytes: &'a [u8],
     /// The queue of the input's games.
     pub queue: &'q Jobs<'a>,
+    ghost small: { length bytes.now ≤ most_bytes },
 }
 
 /// What one thread counts with: its number, its endpoint of the queue and its share.
@@ -72,8 +76,7 @@ impl<'q, 'a> Worker<'q, 'a> {
 
     /// Counts the game of a job, after it has called the gate. If an earlier game could not be
     /// counted, the job is dropped. It takes memory for the patterns of the game, and for its board
-    /// and walk. If that is refused, or a count might be too large, `counted` is the fault from
-    /// then on.
+    /// and walk. If that is refused, `counted` is `Memory` from then on.
     pub(crate) fn count<G: Gate>(&mut self, shared: &Shared<'_, '_>, gate: &G, job: &Job<'_>)
         requires job { job.now.bytes ≡ shared.now.bytes.now }
         requires counted { (games : List ℕ) × HasCounted shared.now games self.old.counted }

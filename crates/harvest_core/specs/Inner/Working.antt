@@ -7,20 +7,14 @@ use Rattle.harvest_core.specs.Working.{IsOfInput}
 use Rattle.harvest_core.specs.declared.workers.Shared.{Shared}
 use Rattle.harvest_core.specs.declared.workers.Worker.{Worker}
 
--- why a game was not counted: memory was refused, or a count might be too large
-abbrev pub IsDropFault : HarvestFault → Type 0
-IsDropFault fault.Memory = Unit {0}
-IsDropFault fault.Overflow = Unit {0}
-IsDropFault found = ⊥
-
 -- a share is of the input's games of these numbers, in this order
 pub record IsShareOfGames (shared : Shared) (games : List ℕ) (share : Held) : Type 0 where
   pub of_input : IsOfInput shared.bytes.now shared.kinds share
   pub games_are : share.games ≡ games
 
--- what was counted where these games were to be: they, or why not all of them
+-- what was counted where these games were to be: they, or memory was refused for one of them
 abbrev pub HasCounted : Shared → List ℕ → Result Held HarvestFault → Type 0
-HasCounted shared games counted = IfOk counted (IsShareOfGames shared games) × IfErr counted IsDropFault
+HasCounted shared games counted = IfOk counted (IsShareOfGames shared games) × IfErr counted (λ found. found ≡ fault.Memory)
 
 -- a thread has counted some games, and then all that it has drawn
 pub record IsAtWork (shared : Shared) (worker : Worker) : Type 0 where

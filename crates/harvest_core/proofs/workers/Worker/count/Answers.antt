@@ -1,11 +1,24 @@
-use Rattle.std.proofs.Common.{ℕ, List, [], ◌∷◌, ◌++◌, IfOk, ap, subst, ◌∙◌}
+use Rattle.std.proofs.Common.{ℕ, List, [], ◌∷◌, ◌++◌, length, IfOk, ap, subst, ◌∙◌, arith}
 use Rattle.go_record.specs.Actions.{Actions}
 use Rattle.game_core.specs.Games.{IsGameOf}
 use Rattle.gather_core.specs.Adding.{IsAdded}
 use Rattle.harvest_core.specs.Working.{IsGame}
 use Rattle.harvest_core.specs.Inner.Working.{IsShareOfGames}
 use Rattle.harvest_core.proofs.ByWords.{counted_more}
+use Rattle.harvest_core.proofs.FewMoves.{game_few}
 use Rattle.harvest_core.proofs.workers.Worker.count.Goals as goal
+
+pub add-requires-clause-few : goal.add-requires-clause-few
+add-requires-clause-few g c =
+    let shared = c.args.shared.now in
+    let job = c.args.job.now in
+    omega (
+      arith,
+      shared.small,
+      game_few job.bytes job.game job.at job.end job.actions c.record.ensures.game,
+      ap (λ (bytes : List ℕ). length bytes) c.requires.job,
+      ap (λ (a : Actions). length a.actions) c.record.ensures.value,
+    )
 
 pub returns-in_default-add-clause-counted : goal.returns-in_default-add-clause-counted
 returns-in_default-add-clause-counted g c games h =
