@@ -18,7 +18,6 @@ use crate::workers::Shared;
 use gather_core::{GatheredWords, gather_words};
 use harvest_faults::HarvestFault;
 use job_core::{Endpoint, Games, new_queue};
-use plain_core::count_plain;
 use probe_core::Capacity;
 use shape_core::Kinds;
 use std::alloc::Global;
