@@ -1,6 +1,7 @@
 -- Shares over a table to which a game was added, or that refused it, and what the table has then.
 use Rattle.std.proofs.Common.{◌≡◌, ℕ, ◌+◌, ◌<◌, ◌==◌, cond, suc, List, [], ◌∷◌, ◌++◌, length, Some, None, refl, ap, ap₂, ◌∙◌, arith, inl, inr, ⊎_elim, All}
 use Rattle.table_shares.proofs.Common.{sum_by, cases_eq, nat_tests, map-append, All-head, All-tail, Contains-get_or, sum_by-cons, Actions, Kinds, Answer, IsNumber, Happened, content_of, Keeps, Known, Meeting, kinds_of, there_in, IsWalk, there_among, Row, HarvestFault, row_at, blank, first_of, earlier, numbered_of, weight_of, CallsOnly, EntersOnly, Held, Added, game_of, IsShareOf, IsShare, IsAdded, HasGrown, IsKept, IsMarked, IsAddFault, IsEntryOf, IsRowed, IsRowedAfter, IsMarkOf, HasFresh, IsPrepared, AreMarked, MarksOnly, IsMarkAmong, IsOf, answer_at, game_met, meeting_at, AreRaised}
+use Rattle.go_board.specs.Extent.{IsExtent}
 use Rattle.probe_core.specs.declared.calls.Answer.TheVariants as answer
 use Rattle.harvest_faults.specs.declared.faults.HarvestFault.TheVariants as fault
 use Rattle.table_shares.specs.Inner.Ledgers.{Totals, CountsIn, IsCountFault}
@@ -41,6 +42,7 @@ still_of added held fresh h share =
     let played = count_same held.rows fresh refl h (λ (r : Row). r.played) (λ _ _. refl) in
     record {
       replays = share.replays;
+      sized = share.sized;
       games = share.games;
       moves = share.moves;
       there = λ shape. there shape ∙ share.there shape;
@@ -189,10 +191,11 @@ module _ {n game moves : ℕ} {seen : List Happened} {actions : Actions} {meetin
     {old mid : Held} {after : Totals} (kept : IsKept n seen actions old mid)
     (ready : IsPrepared n seen old.kinds actions meetings answers mid.rows moves)
     (counts : CountsIn game moves meetings answers (totals_of mid) after) where
-  pub counted : IsAdded game actions old (held_as mid.worker mid.kinds after)
-  counted = record {
+  pub counted : IsExtent actions.size → IsAdded game actions old (held_as mid.worker mid.kinds after)
+  counted extent = record {
     occasions = ready.walked.occasions;
     replayed = ready.walked.replayed;
+    sized = extent;
     worker = ap (λ (h : Held). h.worker) kept.same;
     kinds = ap (λ (h : Held). h.kinds) kept.same;
     games = counts.games ∙ ap (λ (h : Held). h.games ++ game ∷ []) kept.same;
@@ -227,11 +230,11 @@ module _ {n game moves : ℕ} {seen : List Happened} {actions : Actions} {meetin
         (counts.rows.others place);
   }
 
-  pub marked : {history : List Happened} → Keeps n seen history → AreMarked history game answers (length answers) →
+  pub marked : IsExtent actions.size → {history : List Happened} → Keeps n seen history → AreMarked history game answers (length answers) →
       IsMarked n history game actions old (held_as mid.worker mid.kinds after)
   unfolding counted
-  marked keeps marks = (
-    counted,
+  marked extent keeps marks = (
+    counted extent,
     λ shape some.
         let met = met_at meetings shape (omega (arith, some, ready.walked.there shape)) in
         let low : met.0 < length answers = omega (arith, met.1, ready.rowed.long) in

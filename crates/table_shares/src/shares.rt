@@ -186,6 +186,8 @@ impl Share {
         ensures fault { IfErr result
             (IsAddFault table.now.slots pass.new.seen game game_record.now self.old self.new) }
     {
+        // For the proof alone: the sides of a board are at most 52.
+        let _ = game_record.size().columns();
         let ledger = &mut self.ledger;
         let moves = self
             .workings

@@ -1,5 +1,6 @@
 use Rattle.table_shares.proofs.Common.{err_from_is_err_and, IsKept, IsPrepared}
-use Rattle.std.proofs.Common.{ap}
+use Rattle.std.proofs.Common.{ap, subst}
+use Rattle.go_board.specs.Extent.{IsExtent}
 use Rattle.table_shares.specs.Inner.Ledgers.{Totals, totals_of}
 use Rattle.table_shares.proofs.Added.{held_as, prepared, kept_share, counted, grown, marked, calls_for, count_fault, entered_after}
 use Rattle.gather_core.proofs.Added.{share_with}
@@ -58,13 +59,13 @@ pub returns-clause-added : goal.returns-clause-added
 returns-clause-added g c =
     let kept = kept-as g (goal.at.returns-clause-added g c).After-prepare in
     rw (← c.self.view_is)
-    (counted kept (ready-as g (goal.at.returns-clause-added g c).After-as_slice-answers) c.in_ok-count.ensures.ok)
+    (counted kept (ready-as g (goal.at.returns-clause-added g c).After-as_slice-answers) c.in_ok-count.ensures.ok (subst IsExtent c.size.ensures c.columns.ensures.size))
 
 pub invariant_of-self-2 : goal.invariant_of-self-2
 invariant_of-self-2 g c =
     let kept = kept-as g (goal.at.invariant_of-self-2 g c).After-prepare in
     share_with
-    (counted kept (ready-as g (goal.at.invariant_of-self-2 g c).After-as_slice-answers) c.in_ok-count.ensures.ok) c.self.invariant
+    (counted kept (ready-as g (goal.at.invariant_of-self-2 g c).After-as_slice-answers) c.in_ok-count.ensures.ok (subst IsExtent c.size.ensures c.columns.ensures.size)) c.self.invariant
 
 pub returns-clause-grown : goal.returns-clause-grown
 returns-clause-grown g c =
@@ -77,7 +78,7 @@ returns-clause-marked g c =
     let kept = kept-as g (goal.at.returns-clause-marked g c).After-prepare in
     let ready = ready-as g (goal.at.returns-clause-marked g c).After-as_slice-answers in
     rw (← c.self.view_is)
-    (marked kept ready c.in_ok-count.ensures.ok c.mark_all.ensures.marks.later.keeps c.mark_all.ensures.marked)
+    (marked kept ready c.in_ok-count.ensures.ok (subst IsExtent c.size.ensures c.columns.ensures.size) c.mark_all.ensures.marks.later.keeps c.mark_all.ensures.marked)
 
 pub returns-clause-calls : goal.returns-clause-calls
 returns-clause-calls g c =
