@@ -17,7 +17,7 @@ use Rattle.table_shares.specs.Confirming.{HasShape}
 use Rattle.gather_core.specs.Entering.{CallsOnly}
 use Rattle.probe_core.specs.declared.calls.Answer.{Answer}
 use Rattle.slot_table.specs.Passes.{Known}
-use Rattle.job_core.specs.Rising.{Rising, past}
+use Rattle.job_core.specs.Rising.{past}
 use Rattle.table_shares.proofs.Raised.{same_shape, same_length}
 use Rattle.table_shares.proofs.Added.{still_of}
 use Rattle.gather_core.proofs.Added.{share_of_more}

@@ -1,5 +1,5 @@
 -- All that a share's rows count together, and all that a game's meetings do, is at most 5410 for each action of the games.
-use Rattle.std.proofs.Common.{◌≡◌, ℕ, zero, suc, ◌+◌, ◌*◌, ◌^◌, ◌≤◌, ◌==◌, Bool, true, false, cond, List, [], ◌∷◌, length, length-append, filter, refl, ap, ◌∙◌, arith, ⊎_elim}
+use Rattle.std.proofs.Common.{◌≡◌, ℕ, zero, suc, ◌+◌, ◌*◌, ◌^◌, ◌≤◌, ◌==◌, Bool, true, false, cond, List, [], ◌∷◌, length, length-append, filter, refl, ◌∙◌, arith, ⊎_elim}
 use Rattle.std.specs.Prelude.{sum_by}
 use Rattle.std.specs.List.{AllByRecursion, flat_map}
 use Rattle.std.proofs.Math.Nat.{mul-le-mul_right, suc-mul}
@@ -10,12 +10,10 @@ use Rattle.go_board.specs.Position.{Position}
 use Rattle.go_board.specs.declared.points.Point.{Point}
 use Rattle.go_board.specs.declared.points.Colour.{Colour}
 use Rattle.go_record.specs.Actions.{Actions}
-use Rattle.go_record.specs.declared.actions.Action.{Action}
-use Rattle.go_record.specs.declared.actions.Action.TheVariants as action
 use Rattle.shape_core.specs.declared.words.Kinds.{Kinds}
 use Rattle.shape_core.specs.declared.words.Kinds.TheVariants as which
 use Rattle.shape_core.specs.Word.{count_from}
-use Rattle.tally_core.specs.Occasions.{Occasion, AreOccasions, HasOccasions, is_empty, occasion_of}
+use Rattle.tally_core.specs.Occasions.{Occasion, AreOccasions, is_empty}
 use Rattle.tally_core.specs.Counts.{Replayed, kinds_of, row_of, points_of, patterns_at, patterns_there, patterns_played}
 use Rattle.tally_core.specs.Walk.{IsWalk}
 use Rattle.tally_core.specs.declared.meetings.Meeting.{Meeting}
@@ -24,29 +22,8 @@ use Rattle.gather_core.specs.declared.rows.Row.{Row}
 use Rattle.table_shares.specs.Raising.{weight_of, weight_among}
 use Rattle.gather_core.specs.Shares.{Held, Added, replayed_of, IsShareOf}
 use Rattle.table_shares.specs.Adding.{IsTooLarge}
+use Rattle.gather_core.proofs.Few.{few_occasions}
 use Rattle.table_harvest.proofs.Keyed.{sum_both, sum_by_keys}
-
--- ---- a game has no more occasions than actions
-few_first : (before : Position) (one : Action) → length (occasion_of before one) ≤ 1
-few_first before (action.Set low high stone) = omega arith
-few_first before (action.Pass mover) = omega arith
-few_first before (action.Move mover at) =
-    let here : Occasion = record { position = before; mover = mover; at = at } in
-    elim (is_empty (before at)) as (λ b. length (cond b (here ∷ []) []) ≤ 1) [ true ↦ omega arith | false ↦ omega arith ]
-
-few_from : (size : Extent) (actions : List Action) (before : Position) (occasions : List Occasion) → HasOccasions size actions before occasions → length occasions ≤ length actions
-few_from size [] before occasions is = omega (arith, ap (λ (os : List Occasion). length os) is)
-few_from size (one ∷ actions) before occasions is =
-    omega (
-      arith,
-      ap (λ (os : List Occasion). length os) is.4,
-      length-append (occasion_of before one) is.1,
-      few_first before one,
-      few_from size actions is.0 is.1 is.3,
-    )
-
-pub few_occasions : (actions : Actions) (occasions : List Occasion) → AreOccasions actions occasions → length occasions ≤ length actions.actions
-few_occasions actions occasions is = few_from actions.size actions.actions is.start occasions is.replayed
 
 -- ---- at an occasion at most twice 52 * 52 patterns are there, and two are played
 few_at : (kinds : Kinds) (size : Extent) (position : Position) (mover : Colour) (point : Point) → length (patterns_at (kinds_of kinds) size position mover point) ≤ 2
@@ -128,7 +105,7 @@ abbrev pub actions_of : List Added → ℕ
 actions_of added = sum_by (λ (one : Added). length one.actions.actions) added
 
 -- each game's board has sides from 1 to 52
-abbrev pub AreSized : List Added → Type 0
+abbrev AreSized : List Added → Type 0
 AreSized added = AllByRecursion (λ (one : Added). IsExtent one.actions.size) added
 
 abbrev AreReplays : List Added → Type 0
@@ -149,8 +126,8 @@ added_few kinds (one ∷ added) sized replays =
       added_few kinds added sized.1 replays.1,
     )
 
-pub rows_few : (added : List Added) (held : Held) → AreSized added → IsShareOf added held → weight_of held.rows ≤ 5410 * actions_of added
-rows_few added held sized is =
+pub rows_few : (added : List Added) (held : Held) → IsShareOf added held → weight_of held.rows ≤ 5410 * actions_of added
+rows_few added held is =
     let there = λ (a : Added). all_there held.kinds (replayed_of a) in
     let played = λ (a : Added). all_played held.kinds (replayed_of a) in
     let rows_there = sum_by_keys (λ (row : Row). row.shape) (λ (row : Row). row.there) held.rows (λ (c : ℕ). c) (λ (c : ℕ). 1) (flat_map there added)
@@ -164,7 +141,7 @@ rows_few added held sized is =
       sum_both (λ (row : Row). row.there) (λ (row : Row). row.played) held.rows,
       sum-ones (λ (c : ℕ). 1) (flat_map there added) (λ c. refl),
       sum-ones (λ (c : ℕ). 1) (flat_map played added) (λ c. refl),
-      added_few held.kinds added sized is.replays,
+      added_few held.kinds added is.sized is.replays,
     )
 
 moves_of_few : (added : List Added) → AreReplays added → sum_by (λ (one : Added). length one.occasions) added ≤ actions_of added
@@ -179,11 +156,11 @@ moves_of_few (one ∷ added) replays =
     )
 
 -- so counts of a share and of a game are not too large together where both have as many actions as an input at most
-pub not_too_large : (added : List Added) (held : Held) (actions : Actions) → AreSized added → IsShareOf added held → IsExtent actions.size →
+pub not_too_large : (added : List Added) (held : Held) (actions : Actions) → IsShareOf added held → IsExtent actions.size →
     actions_of added ≤ 2 ^ 28 → length actions.actions ≤ 2 ^ 28 → IsTooLarge actions held → ⊥
-not_too_large added held actions sized is extent few short large = ⊎_elim
+not_too_large added held actions is extent few short large = ⊎_elim
     (λ (heavy : 2 ^ 64 ≤ weight_of held.rows + weight_among large.meetings).
-    let rows = rows_few added held sized is in
+    let rows = rows_few added held is in
     let meetings = meetings_few held.kinds actions large.meetings large.moves extent large.walked in
     absurd (omega (arith, heavy, rows, meetings, few, short)))
     (λ (many : 2 ^ 64 ≤ held.moves + large.moves).
