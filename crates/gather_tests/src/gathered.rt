@@ -6,6 +6,7 @@ ghost use Rattle.slot_table.specs.Passes.{IsPassOf};
 ghost use Rattle.sgf_core.specs.Limit.{most_bytes};
 ghost use Rattle.gather_core.specs.Shares.{IsShare};
 ghost use Rattle.gather_core.specs.Covering.{all_games};
+ghost use Rattle.gather_core.specs.Gathering.{all_moves};
 
 use gather_core::{GatheredWords, WordShare, gather_words};
 use go_record::Record;
@@ -201,6 +202,7 @@ fn shares_by_words(
     ensures within { IfOk result
         (λ shares. All (λ share. All (λ game. game < 2) share.games) shares.items) }
     ensures games { IfOk result (λ shares. all_games shares.items ≡ 0 ∷ 1 ∷ []) }
+    ensures few { IfOk result (λ shares. all_moves shares.items ≤ 200) }
 {
     let mut shares = Vec::new(alloc);
     shares.push(words_of(alloc, first, second)?)?;
@@ -209,14 +211,14 @@ fn shares_by_words(
 }
 
 /// Joins what two workers have counted by words of two games, and enters the patterns into a table
-/// of 2^`exponent` slots. None if a sum passes 2^64 - 1, which two such games can't reach.
+/// of 2^`exponent` slots.
 fn gathered_by_words<R: Threads + Sync>(
     rt: &R,
     alloc: Global,
     first: &Record,
     second: &Record,
     exponent: u32,
-) -> Result<Option<GatheredWords>, HarvestFault> {
+) -> Result<GatheredWords, HarvestFault> {
     let Some((table, mut pass)) = table_of(alloc, exponent) else {
         return Err(HarvestFault::Memory);
     };
@@ -236,9 +238,7 @@ fn are_numbered<R: Threads + Sync>(
     else {
         return Err(HarvestFault::Memory);
     };
-    let Some(words) = gathered_by_words(rt, alloc, &first, &second, exponent)? else {
-        return Ok(None);
-    };
+    let words = gathered_by_words(rt, alloc, &first, &second, exponent)?;
     let wanted = [
         entry_of(EMPTY, 2, 1, 0),
         entry_of(TAKEN, 1, 1, 0),

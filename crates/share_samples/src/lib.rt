@@ -2,7 +2,7 @@
 //! shares.
 #![tactic(auto)]
 
-ghost use Rattle.std.specs.Prelude.{◌≡◌, ◌^◌, ◌<◌, ◌∷◌, [], Some, SomeIff};
+ghost use Rattle.std.specs.Prelude.{◌≡◌, ◌^◌, ◌<◌, ◌≤◌, ◌∷◌, [], Some, SomeIff};
 ghost use Rattle.std.specs.Prelude.{IfOk, IfErr, OnOk, IfSome, IfNone};
 ghost use Rattle.sgf_core.specs.Limit.{most_bytes};
 ghost use Rattle.go_record.specs.Actions.{Actions};
@@ -29,6 +29,9 @@ pub const ONE_POINT: &[u8] = b"(;SZ[1];B[aa])";
 
 /// A game of two moves on a board of two points: it has two patterns.
 pub const TWO_POINTS: &[u8] = b"(;SZ[2:1];B[aa];W[ba])";
+
+/// A game that `words_of` counts has no more actions than this.
+const MOST_ACTIONS: usize = 100;
 
 /// The word of the pattern of `ONE_POINT`.
 pub const ALONE: u64 = 0x3fffffcffffff;
@@ -157,12 +160,17 @@ pub fn add_written<O: ProbeOrder>(
 }
 
 /// Returns a `WordShare` (what one worker has counted, by pattern words) of these two games, with
-/// the numbers 0 and 1, of worker 2 and squares alone; or why a game was refused.
+/// the numbers 0 and 1, of worker 2 and squares alone; or why a game was refused. `Overflow` if one
+/// of them has more than `MOST_ACTIONS` actions.
 pub fn words_of(alloc: Global, first: &Record, second: &Record) -> Result<WordShare, HarvestFault>
     ensures share { IfOk result IsShare }
     ensures kinds { IfOk result (λ words. words.kinds ≡ kinds.Squares) }
     ensures games { IfOk result (λ words. words.games ≡ 0 ∷ 1 ∷ []) }
+    ensures few { IfOk result (λ words. words.moves ≤ 200) }
 {
+    if first.actions().len() > MOST_ACTIONS || second.actions().len() > MOST_ACTIONS {
+        return Err(HarvestFault::Overflow);
+    }
     let mut words = WordShare::begin(alloc, 2, Kinds::Squares, 1)?;
     words.add(0, first)?;
     words.add(1, second)?;

@@ -19,7 +19,11 @@ fn gather_by_words<R: Threads + Sync>(
     alloc: Global,
     order: OddStep,
     record: &Record,
-) -> Result<Option<(usize, bool)>, HarvestFault> {
+) -> Result<(usize, bool), HarvestFault> {
+    // No game of an input has so many.
+    if record.actions().len() > 1 << 28 {
+        return Err(HarvestFault::Overflow);
+    }
     let Ok((table, mut pass)) = SlotTable::new(alloc, order) else {
         return Err(HarvestFault::Memory);
     };
@@ -27,8 +31,8 @@ fn gather_by_words<R: Threads + Sync>(
     share.add(0, record)?;
     let mut shares = Vec::new(alloc);
     shares.push(share)?;
-    let gathered = gather_words(rt, alloc, Kinds::Squares, 1, &table, &mut pass, shares)?;
-    Ok(gathered.map(|words| (words.dictionary.len(), words.numbered)))
+    let words = gather_words(rt, alloc, Kinds::Squares, 1, &table, &mut pass, shares)?;
+    Ok((words.dictionary.len(), words.numbered))
 }
 
 #[test]
@@ -37,7 +41,7 @@ fn gather_core(rt: HostRuntime) -> Result<(), Fail> {
     let mut games = Games::new(b"(;SZ[2:1];B[aa];W[ba])")?;
     let job = games.next_job(rt.alloc())?.ok_or("no game")?;
     let found = gather_by_words(&rt, rt.alloc(), OddStep { capacity }, job.record());
-    assert!(rt; found == Ok(Some((2, true))));
+    assert!(rt; found == Ok((2, true)));
     Ok(())
 }
 
