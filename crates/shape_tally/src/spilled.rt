@@ -3,10 +3,11 @@
 use merge_core::Sources;
 use std::alloc::{AllocError, Global};
 use std::fs::{self, File};
-use std::io::{self, ErrorKind, Read, Write};
+use std::io::{self, ErrorKind, Read};
 use std::os::unix::fs::{FileExt, OpenOptionsExt};
 use std::process;
 use std::sync::Arc;
+use std::thread::{Threads, map_vec};
 use tally_parts::Spills;
 
 /// How many names are tried for the file.
@@ -21,12 +22,12 @@ struct Place {
 
 /// Stores texts of dictionaries one after another in a temporary file in `folder`. The file's name
 /// is removed as soon as the file is made. So nobody else can open it, and it is gone when the
-/// process ends, however that comes. The file is made when the first text is begun.
+/// process ends, however that comes. The file is made when the first text is stored.
 #[derive(Drop)]
 pub struct Spilled<'a> {
     rt: &'a HostRuntime,
     folder: &'a str,
-    /// The file; None before the first text is begun.
+    /// The file; None before the first text is stored.
     file: Option<Arc<File, Global>>,
     /// Where each text is that was kept, in their order.
     places: Vec<Place>,
@@ -34,13 +35,11 @@ pub struct Spilled<'a> {
     end: u64,
 }
 
-/// Writes one more text into the file, after all texts that `keep` has added. Only one may be
-/// written at a time: a second one would overwrite it.
+/// Bytes that are to be written into the file, from the byte index `start` on.
 #[derive(Drop)]
-pub struct Spilling {
-    file: Arc<File, Global>,
-    /// Where the text is in the file; its length is that of what was written so far.
-    place: Place,
+struct Stretch<'a> {
+    bytes: &'a [u8],
+    start: u64,
 }
 
 /// Reads one text of the file, at a byte index of its own, which no other reader moves.
@@ -79,6 +78,54 @@ fn unnamed_in(rt: &HostRuntime, folder: &str) -> io::Result<File> {
         }
     }
     Err(ErrorKind::AlreadyExists.into())
+}
+
+/// Returns `parts` as stretches of the file that lie one after another from the byte index `start`
+/// on, and the index after the last of them. `AllocError` if memory was refused.
+fn stretches_from(
+    alloc: Global,
+    start: u64,
+    parts: &[Vec<u8>],
+) -> Result<(Vec<Stretch<'_>>, u64), AllocError> {
+    let mut stretches = Vec::with_capacity(alloc, parts.len())?;
+    let mut end = start;
+    for part in parts {
+        stretches.push(Stretch {
+            bytes: part.as_slice(),
+            start: end,
+        })?;
+        end = end.saturating_add(part.len() as u64);
+    }
+    Ok((stretches, end))
+}
+
+/// Writes a stretch whole into the file, in as many writes as it takes. The kind of the system's
+/// error if one fails; `WriteZero` if one writes nothing.
+fn write_stretch(file: &File, stretch: &Stretch<'_>) -> Result<(), ErrorKind> {
+    match file.write_all_at(stretch.bytes, stretch.start) {
+        Ok(()) => Ok(()),
+        Err(error) => Err(error.kind()),
+    }
+}
+
+/// Writes all stretches into the file, each in a thread of its own if one can be started, and waits
+/// for all. An error of the system if one was not written; `OutOfMemory` if memory was refused.
+fn write_stretches<R: Threads + Sync>(
+    rt: &R,
+    file: &File,
+    stretches: Vec<Stretch<'_>>,
+) -> io::Result<()> {
+    let outcomes = map_vec(
+        rt,
+        stretches,
+        &|stretch: Stretch<'_>| { write_stretch(file, &stretch) },
+    )?;
+    for outcome in outcomes.as_slice() {
+        if let Err(kind) = outcome {
+            return Err((*kind).into());
+        }
+    }
+    Ok(())
 }
 
 impl<'a> Spilled<'a> {
@@ -152,39 +199,16 @@ impl Sources for Spilled<'_> {
 }
 
 impl Spills for Spilled<'_> {
-    ghost use Rattle.std.specs.Prelude.{refl};
-
-    type Draft = Spilling;
-
-    ghost known_alike = { λ _ _ _. refl };
-
-    fn begin(&mut self) -> io::Result<Spilling> {
+    fn keep<R: Threads + Sync>(&mut self, rt: &R, parts: &[Vec<u8>]) -> io::Result<()> {
         let file = self.file()?;
-        Ok(Spilling {
-            file,
-            place: Place {
-                start: self.end,
-                length: 0,
-            },
-        })
-    }
-
-    fn keep(&mut self, draft: Spilling) -> Result<(), AllocError> {
-        self.places.push(draft.place)?;
-        self.end = draft.place.start.saturating_add(draft.place.length);
-        Ok(())
-    }
-}
-
-impl Write for Spilling {
-    fn write(&mut self, bytes: &[u8]) -> io::Result<usize> {
-        let Place { start, length } = self.place;
-        let count = self.file.write_at(bytes, start.saturating_add(length))?;
-        self.place.length = length.saturating_add(count as u64);
-        Ok(count)
-    }
-
-    fn flush(&mut self) -> io::Result<()> {
+        let start = self.end;
+        let (stretches, end) = stretches_from(self.rt.alloc(), start, parts)?;
+        write_stretches(rt, &file, stretches)?;
+        self.places.push(Place {
+            start,
+            length: end.saturating_sub(start),
+        })?;
+        self.end = end;
         Ok(())
     }
 }

@@ -1,7 +1,7 @@
--- What is known of a draft that was just begun.
-use Rattle.std.specs.Prelude.{◌≡◌, ℕ, List, [], Option, Some, None}
+-- What is known of a text that was stored.
+use Rattle.std.specs.Prelude.{◌≡◌, ℕ, List, Option, Some, None}
 
--- it is empty, where it is known what it has
-abbrev pub IsEmptyIfKnown : Option (List ℕ) → Type 0
-IsEmptyIfKnown None = Unit {0}
-IsEmptyIfKnown (Some bytes) = bytes ≡ []
+-- it has these bytes, where it is known what it has
+abbrev pub HasBytesIfKnown : Option (List ℕ) → List ℕ → Type 0
+HasBytesIfKnown None bytes = Unit {0}
+HasBytesIfKnown (Some kept) bytes = kept ≡ bytes

@@ -10,7 +10,6 @@ use crate::faults::PartsFault;
 use crate::plans::{Plan, kinds_for};
 use crate::spills::Spills;
 use batch_core::games_of_joined;
-use engine_core::write_parts;
 use harvest_core::{FreeGate, harvest_all};
 use shape_dict::{Entry, PieceDictionary, Text};
 use std::alloc::Global;
@@ -99,7 +98,7 @@ pub(crate) fn count_part<R: Threads + Wait + Sync>(
 ///
 /// # Errors
 ///
-/// `Memory` if memory for the text was refused; `Spill` if it could not be written or stored.
+/// `Memory` if memory for the text was refused; `Spill` if it could not be stored.
 pub(crate) fn spill<R: Threads + Sync, S: Spills>(
     rt: &R,
     alloc: Global,
@@ -114,13 +113,7 @@ pub(crate) fn spill<R: Threads + Sync, S: Spills>(
     let Ok(parts) = dictionary.parts(rt, alloc, Text::Three, threads_for(plan)) else {
         return Err(PartsFault::Memory);
     };
-    let Ok(mut draft) = spills.begin() else {
-        return Err(PartsFault::Spill);
-    };
-    let Ok(()) = write_parts(&mut draft, parts.as_slice()) else {
-        return Err(PartsFault::Spill);
-    };
-    match spills.keep(draft) {
+    match spills.keep(rt, parts.as_slice()) {
         Ok(()) => Ok(()),
         Err(_) => Err(PartsFault::Spill),
     }

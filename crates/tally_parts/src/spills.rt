@@ -1,42 +1,29 @@
 //! Spills: a store for texts of dictionaries until they are joined.
 use merge_core::Sources;
-use std::alloc::AllocError;
 use std::io;
-use std::io::Write;
+use std::thread::Threads;
 
-/// A store of texts of dictionaries, which are written one after another, and then read as often as
+/// A store of texts of dictionaries, which are added one after another, and then read as often as
 /// is asked for.
 pub trait Spills: Sources {
-    ghost use Rattle.std.specs.Prelude.{◌≡◌, ◌+◌, ◌<◌, ℕ, None, OnOk, IfOk};
-    ghost use Rattle.tally_parts.specs.Spills.{IsEmptyIfKnown};
+    ghost use Rattle.std.specs.Prelude.{◌≡◌, ◌+◌, ◌<◌, ℕ, OnOk, IfErr};
+    ghost use Rattle.std.specs.Thread.{IsSync};
+    ghost use Rattle.shape_dict.specs.Parts.{joined};
+    ghost use Rattle.tally_parts.specs.Spills.{HasBytesIfKnown};
 
-    /// A writer for the bytes of one text. The text isn't in the store until `keep` is called.
-    type Draft: Write + Drop;
-
-    /// Returns a new draft, which is empty.
+    /// Adds the text that `parts` are, one after another, to the store, as the last of its texts.
+    /// A store may write the parts side by side in threads; it waits for all of them.
     ///
     /// # Errors
     ///
-    /// An error of the system, if the draft can't be made.
-    fn begin(&mut self) -> io::Result<Self::Draft>
-        ensures number { Self.number self.new ≡ Self.number self.old }
-        ensures bytes { Self.bytes self.new ≡ Self.bytes self.old }
-        ensures empty { IfOk result (λ draft. IsEmptyIfKnown (Self.Draft.contents draft)) };
-
-    /// Adds what was written to `draft` to the store, as the last of its texts.
-    ///
-    /// # Errors
-    ///
-    /// `AllocError` if memory was refused. The draft is lost then, and the other texts are as they
-    /// were.
-    fn keep(&mut self, draft: Self::Draft) -> Result<(), AllocError>
+    /// An error of the system, if the text can't be stored, or `OutOfMemory` if memory was refused.
+    /// The text isn't in the store then. The other texts are always as they were.
+    fn keep<R: Threads + Sync>(&mut self, rt: &R, parts: &[Vec<u8>]) -> io::Result<()>
+        requires sync { IsSync R.row }
         ensures number { OnOk result (Self.number self.new ≡ Self.number self.old + 1) }
+        ensures refused { IfErr result (λ _. Self.number self.new ≡ Self.number self.old) }
         ensures others { (n : ℕ) → n < Self.number self.old
-            → OnOk result (Self.bytes self.new n ≡ Self.bytes self.old n) }
+            → Self.bytes self.new n ≡ Self.bytes self.old n }
         ensures last { OnOk result
-            (Self.bytes self.new (Self.number self.old) ≡ Self.Draft.contents draft) };
-
-    /// Used in proofs only: contracts give the bytes of all drafts, or of none.
-    ghost known_alike: { (one other : Self.Draft) → Self.Draft.contents one ≡ None
-        → Self.Draft.contents other ≡ None };
+            (HasBytesIfKnown (Self.bytes self.new (Self.number self.old)) (joined parts.now)) };
 }
