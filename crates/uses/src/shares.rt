@@ -20,7 +20,7 @@ fn gather_by_words<R: Threads + Sync>(
     order: OddStep,
     record: &Record,
 ) -> Result<(usize, bool), HarvestFault> {
-    // No game of an input has so many.
+    // No game of an input has more than 2^28.
     if record.actions().len() > 1 << 28 {
         return Err(HarvestFault::Overflow);
     }
