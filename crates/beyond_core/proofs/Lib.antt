@@ -4,5 +4,4 @@ mod FirstGames
 mod Halved
 mod Sifted
 mod Reread
-mod OneOrder
 mod TooMany

@@ -25,6 +25,7 @@ use Rattle.tally_core.specs.declared.faults.TallyFault.{TallyFault}
 use Rattle.tally_core.specs.declared.faults.TallyFault.TheVariants as tally
 use Rattle.tally_core.proofs.Games.{first_of, first-some, replayed-length}
 use Rattle.tally_core.proofs.GamesMet.{patterns_of_game}
+use Rattle.tally_core.proofs.OneBeyond.{one-order}
 use Rattle.tally_core.proofs.SamePositions.{HaveOneResult}
 use Rattle.tally_core.proofs.Once.{has, has-is}
 use Rattle.harvest_faults.specs.Faults.{same_fault}
@@ -32,7 +33,6 @@ use Rattle.beyond_core.specs.Refused.{IsCountRefused}
 use Rattle.beyond_core.specs.Inner.TooMany.{is_below, entries_before, new_words, HasGame, IsFoundBy, IsNewAt}
 use Rattle.beyond_core.proofs.FirstGames.{before_are, word_found}
 use Rattle.tally_core.proofs.RisingEntries.{entry_found}
-use Rattle.beyond_core.proofs.OneOrder.{one-order}
 
 -- ---- faults
 

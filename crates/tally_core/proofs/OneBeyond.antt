@@ -79,7 +79,7 @@ module _ (one_result : HaveOneResult) (which : List PatternKind) where
       ∙ sym (ap patterns k.4)
 
   -- a game has
-  one-order : (game : Actions) (one other : Replayed) → AreOnBoard game → one.size ≡ game.size → other.size ≡ game.size →
+  pub one-order : (game : Actions) (one other : Replayed) → AreOnBoard game → one.size ≡ game.size → other.size ≡ game.size →
       AreOccasions game one.occasions → AreOccasions game other.occasions →
       flat_map (patterns_there which one.size) one.occasions ≡ flat_map (patterns_there which other.size) other.occasions
   one-order game one other on sized sized_too h k =

@@ -6,7 +6,7 @@ use Rattle.shape_dict.specs.Contents.{Contents}
 use Rattle.shape_dict.specs.Text.{IsSmall}
 use Rattle.tally_parts.specs.Parts.{AreGood, IsDictionaryOfTexts}
 use Rattle.tally_parts.specs.Inner.Filling.{IsFilled, waiting_of}
-use Rattle.tally_parts.specs.Inner.Joining.{AreOfParts, IsTextThere, AreTextsThere, IsKept, ArePartsKept, IsSpilled, IsSpilledSoFar}
+use Rattle.tally_parts.specs.Inner.Joining.{AreOfParts, IsTextThere, AreTextsThere, IsKept, ArePartsKept, IsSpilled, IsSpilledButPart, IsSpilledSoFar}
 use Rattle.tally_parts.specs.declared.filling.Feed.{Feed}
 use Rattle.tally_parts.proofs.Good.{good_append}
 use Rattle.tally_parts.proofs.Filled.{begun_none, waiting_none}
@@ -71,13 +71,22 @@ spilled_more kinds all before feed number after bytes bytes_after part next h f 
   kept = kept_more kinds h.in_parts f.in_part number after bytes bytes_after next h.kept is small k;
 }
 
--- the first part is kept
-pub first_spilled : (kinds : Kinds) (all : List (List ℕ)) (before feed : Feed) (number after : ℕ) (bytes bytes_after : ℕ → Option (List ℕ)) (part : List ℕ) (next : Contents) →
-    before.next ≡ 0 → before.waits ≡ false → number ≡ 0 → (f : IsFilled all before feed part) → IsDictionaryOfTexts kinds f.in_part next → IsSmall next → IsKept number bytes after bytes_after next →
+-- the first part is filled, and nothing is kept
+pub first_filled : (kinds : Kinds) (all : List (List ℕ)) (before feed : Feed) (number : ℕ) (bytes : ℕ → Option (List ℕ)) (part : List ℕ) →
+    before.next ≡ 0 → before.waits ≡ false → number ≡ 0 → IsFilled all before feed part → IsSpilledButPart kinds all feed part number bytes
+first_filled kinds all before feed number bytes part first waits none f = record {
+  before = before;
+  spilled = spilled_none kinds all before number bytes first waits none;
+  filled = f;
+}
+
+-- the part is kept
+pub part_spilled : (kinds : Kinds) (all : List (List ℕ)) (feed : Feed) (number after : ℕ) (bytes bytes_after : ℕ → Option (List ℕ)) (part : List ℕ) (next : Contents) →
+    (h : IsSpilledButPart kinds all feed part number bytes) → IsDictionaryOfTexts kinds h.filled.in_part next → IsSmall next → IsKept number bytes after bytes_after next →
     IsSpilledSoFar kinds all feed after bytes_after
-first_spilled kinds all before feed number after bytes bytes_after part next first waits none f is small k = record {
-  spilled = spilled_more kinds all before feed number after bytes bytes_after part next (spilled_none kinds all before number bytes first waits none) f is small k;
-  ended = f.ended;
+part_spilled kinds all feed number after bytes bytes_after part next h is small k = record {
+  spilled = spilled_more kinds all h.before feed number after bytes bytes_after part next h.spilled h.filled is small k;
+  ended = h.filled.ended;
 }
 
 -- where all was read, the good ones are all in parts

@@ -1,6 +1,7 @@
 //! Collections of any number and size, counted in parts (texts of games that are counted together).
 #![tactic(auto)]
 
+mod ahead;
 mod counting;
 mod faults;
 mod filling;

@@ -6,9 +6,10 @@ ghost use Rattle.std.specs.Io.KnownBytes.{Appends};
 ghost use Rattle.merge_core.specs.Merge.{AreInputs};
 ghost use Rattle.shape_dict.specs.Text.{text_of};
 ghost use Rattle.tally_parts.specs.Parts.{IsTallyText, IsFrontOut, kinds_for};
-ghost use Rattle.tally_parts.specs.Inner.Joining.{ArePartsKept, IsSpilledSoFar, IsCut};
+ghost use Rattle.tally_parts.specs.Inner.Joining.{ArePartsKept, IsSpilledButPart, IsSpilledSoFar, IsCut};
 ghost use Rattle.tally_parts.specs.Inner.Joining.{IsTextOut, IsTextCut};
 
+use crate::ahead::count_and_fill;
 use crate::counting::{count_part, spill, threads_for};
 use crate::faults::PartsFault;
 use crate::filling::{Feed, fill};
@@ -21,6 +22,7 @@ use merge_core::{Form, run_merge};
 use shape_dict::{PieceDictionary, texts_are_distinct};
 use std::alloc::Global;
 use std::io::Write;
+use std::mem::swap;
 use std::sync::Wait;
 use std::thread::Threads;
 use tally_core::dictionaries_join;
@@ -53,13 +55,51 @@ fn write_alone<R: Threads + Sync, W: Write>(
     }
 }
 
-/// Counts the second part and all others: while a text waits in `feed`, it fills `part`, counts it,
-/// and stores its dictionary in `spills`.
+/// Counts the parts while a text waits in `feed`, which did not fit into the last of them: it counts
+/// `part`, fills `next` meanwhile, stores the dictionary of `part` in `spills`, and goes on with
+/// `next`. At the end `part` has the last texts, which are not counted yet.
 ///
 /// # Errors
 ///
-/// Those of `fill`, `count_part` and `spill`.
-fn spill_more<R: Threads + Wait + Sync, T: Texts, S: Spills>(
+/// Those of `count_and_fill` and `spill`.
+fn spill_full<R: Threads + Wait + Sync, T: Texts, S: Spills>(
+    rt: &R,
+    alloc: Global,
+    plan: Plan,
+    texts: &mut T,
+    spills: &mut S,
+    feed: &mut Feed,
+    part: &mut Vec<u8>,
+) -> Result<(), PartsFault>
+    requires within { feed.old.next ≤ T.number texts.old }
+    ensures number { T.number texts.new ≡ T.number texts.old }
+    ensures bytes { T.bytes texts.new ≡ T.bytes texts.old }
+    ensures wanted { IfErr result (λ found. found ≢ fault.Unwanted) }
+    ensures ended { OnOk result (feed.new.waits ≡ false) }
+    ensures spilled { (all : List (List ℕ)) → AreInputs (T.bytes texts.old) 0 all
+        → length all ≡ T.number texts.old
+        → IsSpilledButPart (kinds_for plan.text) all feed.old part.old.items (S.number spills.old)
+        (S.bytes spills.old)
+        → OnOk result (IsSpilledButPart (kinds_for plan.text) all feed.new part.new.items
+        (S.number spills.new) (S.bytes spills.new)) }
+{
+    let mut next = Vec::new(alloc);
+    'part: while feed.waits {
+        next.clear();
+        let dictionary = count_and_fill(rt, alloc, plan, part.as_slice(), texts, feed, &mut next)?;
+        spill(rt, alloc, plan, &dictionary, spills)?;
+        swap(part, &mut next);
+    }
+    Ok(())
+}
+
+/// Counts `part` and all parts after it, where a text waits in `feed` that did not fit into `part`,
+/// and stores the dictionary of each in `spills`.
+///
+/// # Errors
+///
+/// Those of `spill_full`, `count_part` and `spill`.
+fn spill_all<R: Threads + Wait + Sync, T: Texts, S: Spills>(
     rt: &R,
     alloc: Global,
     plan: Plan,
@@ -73,18 +113,14 @@ fn spill_more<R: Threads + Wait + Sync, T: Texts, S: Spills>(
     ensures ended { OnOk result (feed.new.waits ≡ false) }
     ensures spilled { (all : List (List ℕ)) → AreInputs (T.bytes texts.old) 0 all
         → length all ≡ T.number texts.old
-        → IsSpilledSoFar (kinds_for plan.text) all feed.old (S.number spills.old)
+        → IsSpilledButPart (kinds_for plan.text) all feed.old part.old.items (S.number spills.old)
         (S.bytes spills.old)
         → OnOk result (IsSpilledSoFar (kinds_for plan.text) all feed.new (S.number spills.new)
         (S.bytes spills.new)) }
 {
-    'part: while feed.waits {
-        part.clear();
-        fill(alloc, texts, feed, plan.most, part)?;
-        let dictionary = count_part(rt, alloc, plan, part.as_slice())?;
-        spill(rt, alloc, plan, &dictionary, spills)?;
-    }
-    Ok(())
+    spill_full(rt, alloc, plan, texts, spills, feed, part)?;
+    let last = count_part(rt, alloc, plan, part.as_slice())?;
+    spill(rt, alloc, plan, &last, spills)
 }
 
 /// Joins the parts' dictionaries, which are stored in `spills`, and writes the joined dictionary.
@@ -133,10 +169,11 @@ fn write_joined<R: Threads + Sync, S: Spills + Sync, W: Write>(
 ///
 /// The texts are counted in parts. A part has as many texts as `plan.most` bytes allow, or one text
 /// that is larger. `harvest_all` counts a part by `plan.workers` workers; its comment says on how
-/// many threads. If there is more than one part, the dictionary of each is stored in `spills`,
-/// which must be empty at first, and `run_merge` joins them. What is written is the same for each
-/// `plan.workers` and `plan.most`. It takes memory for one part and one text more, and for what
-/// `harvest_all` and `run_merge` take. The method is this project's own.
+/// many threads. While a part is counted the texts of the next one are read. If there is more than one
+/// part, the dictionary of each is stored in `spills`, which must be empty at first, and `run_merge`
+/// joins them. What is written is the same for each `plan.workers` and `plan.most`. It takes memory
+/// for two parts and one text more, and for what `harvest_all` and `run_merge` take. The method is
+/// this project's own.
 ///
 /// # Errors
 ///
@@ -169,16 +206,14 @@ pub fn run_tally<R: Threads + Wait + Sync, T: Texts, S: Spills + Sync, W: Write>
     let mut feed = Feed::new(alloc);
     let mut part = Vec::new(alloc);
     fill(alloc, texts, &mut feed, plan.most, &mut part)?;
-    let first = count_part(rt, alloc, plan, part.as_slice())?;
     if !feed.waits {
+        let only = count_part(rt, alloc, plan, part.as_slice())?;
         if !texts.is_wanted() {
             return Err(PartsFault::Unwanted);
         }
-        return write_alone(rt, alloc, plan, &first, writer);
+        return write_alone(rt, alloc, plan, &only, writer);
     }
-    spill(rt, alloc, plan, &first, spills)?;
-    drop(first);
-    spill_more(rt, alloc, plan, texts, spills, &mut feed, &mut part)?;
+    spill_all(rt, alloc, plan, texts, spills, &mut feed, &mut part)?;
     if !texts.is_wanted() {
         return Err(PartsFault::Unwanted);
     }

@@ -7,7 +7,7 @@ use Rattle.shape_dict.specs.Text.{text_of, IsSmall}
 use Rattle.shape_dict.specs.declared.entries.Text.{Text}
 use Rattle.shape_dict.specs.declared.entries.Text.TheVariants as text
 use Rattle.tally_parts.specs.Parts.{IsGood, AreGood, IsDictionaryOfTexts, kinds_for}
-use Rattle.tally_parts.specs.Inner.Filling.{IsBegun, waiting_of}
+use Rattle.tally_parts.specs.Inner.Filling.{IsBegun, IsFilled, waiting_of}
 use Rattle.tally_parts.specs.declared.filling.Feed.{Feed}
 
 -- all of the texts can be read
@@ -55,7 +55,13 @@ pub record IsSpilled (kinds : Kinds) (all : List (List ℕ)) (feed : Feed) (numb
   pub parted : good ≡ in_parts ++ waiting_of feed
   pub kept : ArePartsKept kinds in_parts number bytes
 
--- the same, and only where one waits are texts left
+-- the same but for the texts in the part that was filled last
+pub record IsSpilledButPart (kinds : Kinds) (all : List (List ℕ)) (feed : Feed) (part : List ℕ) (number : ℕ) (bytes : ℕ → Option (List ℕ)) : Type 0 where
+  pub before : Feed
+  pub spilled : IsSpilled kinds all before number bytes
+  pub filled : IsFilled all before feed part
+
+-- the same of all parts, and only where one waits are texts left
 pub record IsSpilledSoFar (kinds : Kinds) (all : List (List ℕ)) (feed : Feed) (number : ℕ) (bytes : ℕ → Option (List ℕ)) : Type 0 where
   pub spilled : IsSpilled kinds all feed number bytes
   pub ended : feed.waits ≡ false → feed.next ≡ length all
