@@ -40,7 +40,9 @@ fn visit(size: Size, stones: &[Stone], group: &mut PointSet, stone: Stone, point
 }
 
 /// Returns whether the group of the stone on `point` has a liberty. `group` is cleared and used to
-/// collect the stones: if there is no liberty, it has the whole group afterwards.
+/// collect the stones: if there is no liberty, it has the whole group afterwards. It is out of line,
+/// so that `remove_if_dead` can be inlined.
+#[inline(never)]
 pub(crate) fn is_alive(size: Size, stones: &[Stone], group: &mut PointSet, point: Point) -> bool
     requires on_board { IsOn size point }
     requires board { length stones.now ≡ size.columns * size.rows }
@@ -85,7 +87,8 @@ fn remove(size: Size, stones: &mut [Stone], group: &PointSet, removed: &mut Poin
 
 /// Removes the group of `point` from the board, and adds its points to `removed`, if `stone` stands
 /// there and the group has no liberty. `group` is used to collect the stones, and has no meaning
-/// afterwards.
+/// afterwards. It is inlined, since most neighbours of a move have no such stone.
+#[inline(always)]
 pub(crate) fn remove_if_dead(
     size: Size,
     stones: &mut [Stone],
