@@ -1,7 +1,7 @@
 mod Apart
 mod Places
 mod FirstGames
-mod Halved
+mod Reached
 mod Sifted
 mod Reread
 mod TooMany

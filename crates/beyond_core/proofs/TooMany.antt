@@ -1,5 +1,5 @@
 -- The pattern with which a counted collection's patterns are first more than some number, by its dictionary and one walk.
-use Rattle.std.proofs.Common.{◌≡◌, ℕ, zero, suc, ◌+◌, ◌-◌, ◌<◌, ◌≤◌, nat_lt, Bool, true, false, cond, List, [], ◌∷◌, ◌++◌, length, take, All, Contains, Option, Some, None, Result, Ok, Err, IfOk, refl, ap, sym, subst, ◌∙◌, inl, inr, arith}
+use Rattle.std.proofs.Common.{◌≡◌, ℕ, zero, suc, ◌+◌, ◌-◌, ◌<◌, ◌≤◌, nat_lt, Bool, true, false, cond, List, [], ◌∷◌, ◌++◌, length, take, All, Contains, Option, Some, None, refl, ap, sym, subst, ◌∙◌, inl, inr, arith}
 use Rattle.std.specs.Prelude.{slice_get, filter}
 use Rattle.std.proofs.lemmas.Bool.{cases_lt}
 use Rattle.std.proofs.lemmas.Bool.Decides.{nat_tests}
@@ -42,10 +42,6 @@ count_refused bytes tally.BadSettings is = is
 count_refused bytes tally.Memory is = tt
 count_refused bytes (tally.Sgf found) is = is
 count_refused bytes tally.Overflow is = is
-
-pub found_later : {T E : Type 0} {P Q : T → Type 0} (r : Result T E) → ((x : T) → P x → Q x) → IfOk r P → IfOk r Q
-found_later (Ok x) more h = more x h
-found_later (Err e) more h = tt
 
 -- what a set has instead of a test changes nothing
 pub found_new : (kinds : Kinds) (bytes : List ℕ) (entries : List Entry) (game place : ℕ) (t : ℕ → Bool) (found : Option ℕ) → ((w : ℕ) → t w ≡ has w (new_words game entries)) →

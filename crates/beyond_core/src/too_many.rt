@@ -9,8 +9,8 @@ ghost use Rattle.tally_core.specs.Beyond.{IsFirstBeyond};
 ghost use Rattle.tally_core.specs.Counted.{IsCounted};
 ghost use Rattle.tally_core.specs.Walk.{once_each, shapes_of};
 ghost use Rattle.beyond_core.specs.Refused.{IsCountRefused, IsHarvestRefused};
-ghost use Rattle.beyond_core.specs.Inner.TooMany.{is_game, new_words, IsNewAt};
-ghost use Rattle.beyond_core.specs.Inner.TooMany.{HasGame, HasMet, HasPut, HasWords, IsFoundBy};
+ghost use Rattle.beyond_core.specs.Inner.TooMany.{new_words, IsNewAt};
+ghost use Rattle.beyond_core.specs.Inner.TooMany.{HasGame, HasMet, HasPut, HasWords};
 
 use crate::reaching::game_of;
 use game_core::{Games, Job};
@@ -32,16 +32,6 @@ struct FirstBeyond {
     game: u64,
 }
 
-/// Whether a pattern's first game is known and is `game`.
-fn is_new(entry: &Entry, game: u64) -> bool
-    ensures { result ≡ is_game game entry.now.first }
-{
-    match entry.first.get() {
-        Some(first) => first == game,
-        None => false,
-    }
-}
-
 /// Puts into `words` the words (the codes) of those patterns of a list which `game` is the first
 /// game to have.
 fn put_new(words: &mut HashSet<u64>, entries: &[Entry], game: u64) -> Result<(), HarvestFault>
@@ -49,7 +39,7 @@ fn put_new(words: &mut HashSet<u64>, entries: &[Entry], game: u64) -> Result<(),
     ensures fault { IfErr result (λ found. found ≡ fault.Memory) }
 {
     for entry in entries {
-        if is_new(entry, game) {
+        if entry.first.get() == Some(game) {
             words.insert(entry.shape.word().bits())?;
         }
     }
@@ -121,26 +111,6 @@ fn shape_at(words: &mut HashSet<u64>, meetings: &[Meeting], place: usize) -> Opt
     None
 }
 
-/// Replays game `game` of the input, and returns the pattern at index `place`, from 0, among its
-/// patterns whose words are in `words`, in the order in which they are first met. None if there are
-/// fewer.
-fn shape_of(
-    alloc: Global,
-    walk: &mut Walk,
-    words: &mut HashSet<u64>,
-    bytes: &[u8],
-    game: u64,
-    place: usize,
-) -> Result<Option<Shape>, HarvestFault>
-    requires { HasGame bytes.now game }
-    ensures found { IfOk result
-        (IsFoundBy (contains nat_eq words.old) walk.old.kinds bytes.now game place) }
-    ensures fault { IfErr result (IsCountRefused bytes.now) }
-{
-    walk_game(alloc, walk, bytes, game)?;
-    Ok(shape_at(words, walk.meetings(), place))
-}
-
 /// Returns the pattern at index `place`, from 0, among those that `game` is the first game to have,
 /// in the order in which its walk meets them. None if there are fewer.
 fn new_at(
@@ -157,7 +127,8 @@ fn new_at(
 {
     let mut words = new_of(alloc, pieces, game)?;
     let mut walk = Walk::begin(alloc, kinds);
-    shape_of(alloc, &mut walk, &mut words, bytes, game, place)
+    walk_game(alloc, &mut walk, bytes, game)?;
+    Ok(shape_at(&mut words, walk.meetings(), place))
 }
 
 /// Returns the pattern with which a counted collection first has more patterns than `most`, and its
@@ -192,8 +163,9 @@ fn first_of(
 /// `bytes`, and must have more than `most` patterns of `kinds`. The method is this project's own:
 /// the first games in the dictionary tell the game, and that game alone is walked again.
 ///
-/// It takes memory for the largest tree of the games up to that one and its record, and for the
-/// board and the patterns of the one that is walked. If memory is refused, the answer is `Memory`.
+/// It takes memory for a count of each game, for the largest tree of the games up to that one and
+/// its record, and for the board and the patterns of the one that is walked. If memory is refused,
+/// the answer is `Memory`.
 pub fn first_too_many(
     alloc: Global,
     kinds: Kinds,

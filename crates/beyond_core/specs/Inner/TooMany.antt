@@ -1,5 +1,5 @@
 -- A dictionary's patterns by their first games, and a game of an input that is walked again.
-use Rattle.std.specs.Prelude.{◌≡◌, ℕ, ◌+◌, ◌<◌, ◌==◌, ◌||◌, nat_eq, nat_lt, Bool, false, List, length, get_or, filter, slice_get, Option, Some, None}
+use Rattle.std.specs.Prelude.{◌≡◌, ℕ, ◌<◌, ◌==◌, ◌||◌, nat_eq, nat_lt, Bool, false, List, length, get_or, filter, slice_get, Option, Some, None}
 use Rattle.std.specs.HashSet.{HashSet, contains}
 use Rattle.std.specs.List.{list_any}
 use Rattle.go_record.specs.Actions.{Actions}
@@ -30,9 +30,9 @@ entries_before game entries = filter (λ e. is_below game e.first) entries
 abbrev pub new_count : ℕ → List Entry → ℕ
 new_count game entries = length (filter (λ e. is_game game e.first) entries)
 
--- how many have each of the games from this one on as their first
-abbrev pub AreCounts : List ℕ → ℕ → List Entry → Type 0
-AreCounts counts low entries = (i : ℕ) → i < length counts → get_or counts i 0 ≡ new_count (low + i) entries
+-- how many have each of the games from 0 on as their first
+abbrev pub AreCounts : List ℕ → List Entry → Type 0
+AreCounts counts entries = (i : ℕ) → i < length counts → get_or counts i 0 ≡ new_count i entries
 
 -- the words of those whose first game is this one
 abbrev pub new_words : ℕ → List Entry → List ℕ

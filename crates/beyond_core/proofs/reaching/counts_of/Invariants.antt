@@ -6,6 +6,6 @@ use Rattle.beyond_core.proofs.reaching.counts_of.Given as goal
 -- the entries of the lists before this one are counted
 abbrev pub invariant-loop-piece : goal.invariant-loop-piece
 invariant-loop-piece l = record {
-  long : length l.counts.items ≡ l.many;
-  counted : AreCounts l.counts.items l.low (entries_in (take l.piece-index l.pieces));
+  long : length l.counts.items ≡ l.fn.dictionary.games;
+  counted : AreCounts l.counts.items (entries_in (take l.piece-index l.piece-items));
 }
