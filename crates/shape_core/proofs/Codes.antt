@@ -29,7 +29,7 @@ pub kind_above : (w : ℕ) → 2 ^ 50 ≤ w → kind_of w ≡ kind.Diamond
 kind_above w h = rw (le-ltb w (2 ^ 50) h) refl
 
 -- a word is that of its kind and its codes
-word_is : (w : ℕ) → w < 2 ^ 51 → word_of (kind_of w) (digits 25 w) ≡ w
+pub word_is : (w : ℕ) → w < 2 ^ 51 → word_of (kind_of w) (digits 25 w) ≡ w
 word_is w h =
     let whole = sum_of-digits 25 w in
     ⊎_elim

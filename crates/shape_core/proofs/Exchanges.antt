@@ -1,17 +1,18 @@
 -- The exchange of colours: it undoes itself, and commutes with each image.
-use Rattle.std.proofs.Common.{◌≡◌, ℕ, zero, suc, ◌+◌, ◌*◌, ◌^◌, ◌<◌, List, ◌++◌, map, get_or, Bool, true, max, min, ◌/◌, ◌%◌, ◌-◌, ◌≤◌, bit_and, bit_or, bit_xor, sym, refl, ap, ap₂, ◌∙◌, arith}
+use Rattle.std.proofs.Common.{◌≡◌, ℕ, zero, suc, ◌+◌, ◌*◌, ◌^◌, ◌<◌, List, ◌++◌, map, get_or, Bool, true, max, ◌/◌, ◌%◌, bit_and, sym, refl, ap, ◌∙◌, arith, All, [], ◌∷◌}
 use Rattle.std.specs.Int.{bit_at}
-use Rattle.std.proofs.lemmas.Nat.{xor_lt, and_le_r}
-use Rattle.std.proofs.lemmas.Nat.Bits.{bit_at-lt, bit_at_and, bit_at_or, bit_at_xor, same_from_bits_below}
+use Rattle.std.specs.Int.Bits.{and_zero_r}
+use Rattle.std.proofs.lemmas.Nat.{and_block, and_mask}
+use Rattle.std.proofs.lemmas.Nat.Bits.{bit_at-lt}
 use Rattle.std.proofs.lemmas.List.{length-map, get_or-map}
-use Rattle.std.proofs.lemmas.List.Elements.{All-from_get_or}
+use Rattle.std.proofs.lemmas.List.Elements.{All-from_get_or, All-head, All-tail}
 use Rattle.shape_core.specs.declared.words.Kind.TheVariants as kind
 use Rattle.shape_core.specs.declared.symmetries.Symmetry.{Symmetry}
-use Rattle.shape_core.specs.Word.{word_of, kind_of, code_at, count_from}
+use Rattle.shape_core.specs.Word.{sum_of, mark_of, word_of, kind_of, code_at, count_from}
 use Rattle.shape_core.specs.Symmetry.{image_of, exchange_of, exchanged_code}
-use Rattle.shape_core.proofs.Digits.{digits, code_at-lt, length-digits, get_or-digits}
-use Rattle.shape_core.proofs.Codes.{AreCodes, codes_as_digits, word_of-lt, kind_of-word_of, code_at-word_of, same_words}
-use Rattle.shape_core.proofs.Moves.{Moves, whole, masked, joined, swap, made_of, comes_from, pairs, above, made-lt, kind_of-made, code_at-made, code_bits, bit_at-lowered, bit_at-raised, bit_at-raised_low}
+use Rattle.shape_core.proofs.Digits.{digits, digits-lt, code_at-lt, length-digits, get_or-digits}
+use Rattle.shape_core.proofs.Codes.{AreCodes, word_is, codes_as_digits, word_of-lt, kind_of-word_of, code_at-word_of, same_words}
+use Rattle.shape_core.proofs.Moves.{Moves, made_of, comes_from, pairs, above, made-lt, kind_of-made, code_at-made, code_bits}
 use Rattle.shape_core.proofs.Images.{sources, image_of_small, kind_of-image, code_at-image, cell-lt, count_from-at, low_bit, high_bit}
 
 exchanged-lt : (c : ℕ) → c < 4 → exchanged_code c < 4
@@ -101,92 +102,45 @@ made_exchange e w test small =
     ∙ ap exchanged_code (sym (code_bits w i))
     ∙ sym (code_at-exchange w i h))
 
--- ---- the same by differences: both bits of a cell are changed where they differ
+-- ---- the same by sums: twice an exchanged code is the code and three times its lower bit
 
--- the lower bit of each cell
-abbrev pub lower_bits : ℕ
-lower_bits = 0x1555555555555
+-- the lower bits of n cells
+lower_bits : ℕ → ℕ
+lower_bits zero = 0
+lower_bits (suc n) = lower_bits n * 2 ^ 2 + 1
 
--- the lower bits of the cells whose two bits differ
-abbrev pub differing_bits : ℕ → ℕ
-differing_bits w = bit_and (bit_xor w (w / 2 ^ 1)) lower_bits
+-- the lower bits of codes
+abbrev halves : List ℕ → List ℕ
+halves codes = map (λ c. c % 2) codes
 
--- a bit next to the one above it and the one below it: exactly one of the three masks has it
-one_bit : (a b p m l k : ℕ) → a < 2 → b < 2 → p < 2 → m + l + k ≡ 1 →
-    ((a + min ((a + b) % 2) m) % 2 + min ((p + a) % 2) l) % 2 ≡ max (min a k) (max (min p l) (min b m))
-one_bit a b p zero zero (suc zero) x y z e = omega arith
-one_bit a b p zero (suc zero) zero x y z e = omega arith
-one_bit a b p (suc zero) zero zero x y z e = omega arith
-one_bit a b p zero zero zero x y z e = absurd (omega arith)
-one_bit a b p (suc (suc m)) l k x y z e = absurd (omega arith)
-one_bit a b p m (suc (suc l)) k x y z e = absurd (omega arith)
-one_bit a b p m l (suc (suc k)) x y z e = absurd (omega arith)
-one_bit a b p (suc m) (suc l) k x y z e = absurd (omega arith)
-one_bit a b p (suc m) l (suc k) x y z e = absurd (omega arith)
-one_bit a b p m (suc l) (suc k) x y z e = absurd (omega arith)
+and_lower_bits : (n w : ℕ) → bit_and w (lower_bits n) ≡ sum_of (halves (digits n w))
+unfolding lower_bits digits
+and_lower_bits zero w = and_zero_r w
+and_lower_bits (suc n) w =
+    let whole : w / 4 * 2 ^ 2 + w % 4 ≡ w = omega arith in
+    let block = and_block 2 (w / 4) (lower_bits n) (w % 4) 1 (omega arith) (omega arith) in
+    ap (λ x. bit_and x (lower_bits n * 2 ^ 2 + 1)) (sym whole) ∙ block ∙ omega (arith, and_mask (w % 4) 1, and_lower_bits n (w / 4))
 
--- how many of the masks have the bit after this one
-abbrev masks_with : ℕ → ℕ
-masks_with i = bit_at lower_bits (suc i) + bit_at lower_bits i + bit_at 0x4000000000000 (suc i)
+twice_code : (c : ℕ) → c < 4 → 2 * exchanged_code c ≡ c + 3 * (c % 2)
+twice_code zero h = refl
+twice_code (suc zero) h = refl
+twice_code (suc (suc zero)) h = refl
+twice_code (suc (suc (suc zero))) h = refl
+twice_code (suc (suc (suc (suc c)))) h = absurd (omega arith)
 
-each_once : map masks_with (count_from 0 50) ≡ map (λ i. 1) (count_from 0 50)
-each_once = refl
+twice_codes : (codes : List ℕ) → All (λ c. c < 4) codes → 2 * sum_of (map exchanged_code codes) ≡ sum_of codes + 3 * sum_of (halves codes)
+twice_codes [] h = refl
+twice_codes (c ∷ codes) h =
+    omega (arith, twice_code c (All-head (λ c. c < 4) c codes h), twice_codes codes (All-tail (λ c. c < 4) c codes h))
 
-in_one_mask : (i : ℕ) → i < 50 → masks_with i ≡ 1
-in_one_mask i h =
-    ap masks_with (sym (count_from-at 50 0 i h ∙ (omega arith)))
-    ∙ sym (get_or-map masks_with (count_from 0 50) i 0 0 h)
-    ∙ ap (λ xs. get_or xs i 0) each_once
-    ∙ get_or-map (λ i. 1) (count_from 0 50) i 0 0 h
+-- the lower bits of all cells
+abbrev pub lower_of : ℕ → ℕ
+lower_of w = bit_and w 0x1555555555555
 
-differing_bit : (w i : ℕ) → bit_at (differing_bits w) i ≡ min ((bit_at w i + bit_at w (suc i)) % 2) (bit_at lower_bits i)
-differing_bit w i =
-    bit_at_and (bit_xor w (w / 2 ^ 1)) lower_bits i
-    ∙ ap (λ b. min b (bit_at lower_bits i)) (bit_at_xor w (w / 2 ^ 1) i ∙ ap (λ b. (bit_at w i + b) % 2) (bit_at-lowered w 1 i ∙ ap (bit_at w) (omega arith)))
-
-changed_bit : (w i : ℕ) → bit_at (bit_xor w (differing_bits w)) i ≡ (bit_at w i + min ((bit_at w i + bit_at w (suc i)) % 2) (bit_at lower_bits i)) % 2
-changed_bit w i = bit_at_xor w (differing_bits w) i ∙ ap (λ b. (bit_at w i + b) % 2) (differing_bit w i)
-
--- the bits of the joined moves
-moved_bit : (w i : ℕ) → bit_at (made_of (joined (masked whole 0x4000000000000) (swap lower_bits 1)) w) i
-    ≡ max (min (bit_at w i) (bit_at 0x4000000000000 i)) (max (bit_at (bit_and w lower_bits * 2 ^ 1 % 2 ^ 64) i) (min (bit_at w (suc i)) (bit_at lower_bits i)))
-moved_bit w i =
-    bit_at_or (bit_and w 0x4000000000000) (bit_or (bit_and w lower_bits * 2 ^ 1 % 2 ^ 64) (bit_and (w / 2 ^ 1) lower_bits)) i
-    ∙ ap₂ max
-    (bit_at_and w 0x4000000000000 i)
-    (bit_at_or (bit_and w lower_bits * 2 ^ 1 % 2 ^ 64) (bit_and (w / 2 ^ 1) lower_bits) i
-    ∙ ap (max (bit_at (bit_and w lower_bits * 2 ^ 1 % 2 ^ 64) i))
-    (bit_at_and (w / 2 ^ 1) lower_bits i ∙ ap (λ b. min b (bit_at lower_bits i)) (bit_at-lowered w 1 i ∙ ap (bit_at w) (omega arith))))
-
-same_bit : (w i : ℕ) → i < 51 →
-    bit_at (bit_xor (bit_xor w (differing_bits w)) (differing_bits w * 2 ^ 1 % 2 ^ 64)) i
-    ≡ bit_at (made_of (joined (masked whole 0x4000000000000) (swap lower_bits 1)) w) i
-same_bit w zero h =
-    let none : 0 ≡ min ((0 + bit_at w 0) % 2) 0 = omega arith in
-    let no_more : 0 ≡ min 0 0 = refl in
-    bit_at_xor (bit_xor w (differing_bits w)) (differing_bits w * 2 ^ 1 % 2 ^ 64) 0
-    ∙ ap₂ (λ x y. (x + y) % 2) (changed_bit w 0) (bit_at-raised_low (differing_bits w) 1 0 (omega arith) (omega arith))
-    ∙ ap (λ x. ((bit_at w 0 + min ((bit_at w 0 + bit_at w 1) % 2) 1) % 2 + x) % 2) none
-    ∙ one_bit (bit_at w 0) (bit_at w 1) 0 1 0 0 (bit_at-lt w 0) (bit_at-lt w 1) (omega arith) refl
-    ∙ sym (moved_bit w 0 ∙ ap (λ x. max (min (bit_at w 0) 0) (max x (min (bit_at w 1) 1))) (bit_at-raised_low (bit_and w lower_bits) 1 0 (omega arith) (omega arith) ∙ no_more))
-same_bit w (suc i) h =
-    let below : suc i - 1 ≡ i = omega arith in
-    bit_at_xor (bit_xor w (differing_bits w)) (differing_bits w * 2 ^ 1 % 2 ^ 64) (suc i)
-    ∙ ap₂ (λ x y. (x + y) % 2) (changed_bit w (suc i)) (bit_at-raised (differing_bits w) 1 (suc i) (omega arith) (omega arith) ∙ ap (bit_at (differing_bits w)) below ∙ differing_bit w i)
-    ∙ one_bit (bit_at w (suc i)) (bit_at w (suc (suc i))) (bit_at w i) (bit_at lower_bits (suc i)) (bit_at lower_bits i) (bit_at 0x4000000000000 (suc i))
-    (bit_at-lt w (suc i)) (bit_at-lt w (suc (suc i))) (bit_at-lt w i) (in_one_mask i (omega arith))
-    ∙ sym (moved_bit w (suc i) ∙ ap (λ x. max (min (bit_at w (suc i)) (bit_at 0x4000000000000 (suc i))) (max x (min (bit_at w (suc (suc i))) (bit_at lower_bits (suc i)))))
-    (bit_at-raised (bit_and w lower_bits) 1 (suc i) (omega arith) (omega arith) ∙ ap (bit_at (bit_and w lower_bits)) below ∙ bit_at_and w lower_bits i))
-
-pub exchanged_by_differences : (w : ℕ) → w < 2 ^ 51 → bit_xor (bit_xor w (differing_bits w)) ((differing_bits w + differing_bits w) % 2 ^ 64) ≡ exchange_of w
-exchanged_by_differences w small =
-    let d = differing_bits w in
-    let few : d ≤ lower_bits = and_le_r (bit_xor w (w / 2 ^ 1)) lower_bits in
-    let e = joined (masked whole 0x4000000000000) (swap lower_bits 1) in
-    let is : made_of e w ≡ exchange_of w = made_exchange e w refl small in
-    ap (bit_xor (bit_xor w d)) (omega arith)
-    ∙ same_from_bits_below 51 (bit_xor (bit_xor w d) (d * 2 ^ 1 % 2 ^ 64)) (made_of e w)
-    (xor_lt 51 (bit_xor w d) (d * 2 ^ 1 % 2 ^ 64) (xor_lt 51 w d small (omega arith)) (omega arith))
-    (omega (arith, is, exchange_of_small w))
-    (same_bit w)
-    ∙ is
+pub twice_exchange : (w : ℕ) → w < 2 ^ 51 → 2 * exchange_of w ≡ w + 3 * lower_of w + mark_of (kind_of w)
+unfolding exchanged_codes lower_bits
+twice_exchange w small =
+    let is = exchange_is w in
+    let codes = twice_codes (digits 25 w) (digits-lt 25 w) in
+    let lower : lower_of w ≡ sum_of (halves (digits 25 w)) = and_lower_bits 25 w in
+    omega (arith, is, codes, lower, word_is w small)

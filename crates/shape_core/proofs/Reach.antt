@@ -10,12 +10,13 @@ use Rattle.go_board.specs.declared.points.Point.{Point}
 use Rattle.go_board.specs.declared.points.Stone.{Stone}
 use Rattle.go_board.specs.declared.points.Stone.TheVariants as stone
 use Rattle.shape_core.specs.declared.words.Kind.{Kind}
+use Rattle.shape_core.specs.declared.words.Kind.TheVariants as kind
 use Rattle.shape_core.specs.Offset.{Offset, offsets_of}
 use Rattle.shape_core.specs.Inner.Table.{less_three, offset_of}
-use Rattle.shape_core.specs.Word.{word_of}
+use Rattle.shape_core.specs.Word.{word_of, kind_of}
 use Rattle.shape_core.specs.Around.{shifted, stone_code, code_there, code_around, word_around}
 use Rattle.shape_core.specs.Inner.Table.{Sees}
-use Rattle.shape_core.proofs.Codes.{AreCodes}
+use Rattle.shape_core.proofs.Codes.{AreCodes, kind_of-word_of}
 
 shifted_there : (n a m : ℕ) → m + 3 ≡ n + a → shifted n (less_three a) ≡ Some m
 shifted_there n a m e =
@@ -101,6 +102,15 @@ AreCodes-codes_round size position p offsets count =
 pub word_around_is : (k : Kind) (size : Extent) (position : Position) (p : Point) → word_around k size position p ≡ word_of k (codes_round size position p (offsets_of k))
 unfolding word_around codes_round
 word_around_is k size position p = refl
+
+offsets_count : (k : Kind) → length (offsets_of k) ≡ 25
+offsets_count kind.Square = refl
+offsets_count kind.Diamond = refl
+
+pub kind_of-word_around : (k : Kind) (size : Extent) (position : Position) (p : Point) → kind_of (word_around k size position p) ≡ k
+kind_of-word_around k size position p =
+    let codes = codes_round size position p (offsets_of k) in
+    ap kind_of (word_around_is k size position p) ∙ kind_of-word_of k codes (AreCodes-codes_round size position p (offsets_of k) (offsets_count k))
 
 -- the point at a distance from another, or that there is none on the board
 pub point_away : (size : Extent) (p : Point) (away : ℕ × ℕ) →

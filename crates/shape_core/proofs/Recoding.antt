@@ -1,11 +1,9 @@
 -- A code changed in a word is changed in each of its images.
-use Rattle.std.proofs.Common.{◌≡◌, ℕ, zero, suc, ◌+◌, ◌-◌, ◌*◌, ◌/◌, ◌%◌, ◌^◌, ◌<◌, ◌≤◌, List, [], ◌∷◌, map, get_or, min, bit_and, bit_xor, sym, refl, ap, ap₂, subst, ◌∙◌, arith, ⊎_elim}
-use Rattle.std.specs.Int.{bit_at}
-use Rattle.std.proofs.lemmas.Bool.{cases_eq, cases_lt}
+use Rattle.std.proofs.Common.{◌≡◌, ℕ, ◌+◌, ◌*◌, ◌/◌, ◌%◌, ◌^◌, ◌<◌, List, [], ◌∷◌, map, get_or, bit_xor, sym, refl, ap, ap₂, subst, ◌∙◌, arith, ⊎_elim}
+use Rattle.std.proofs.lemmas.Bool.{cases_eq}
 use Rattle.std.proofs.lemmas.List.{get_or-map}
-use Rattle.std.proofs.lemmas.Nat.{and_mask, pow_pos, xor_block, xor_lt}
+use Rattle.std.proofs.lemmas.Nat.{pow_pos, xor_block, xor_lt}
 use Rattle.std.specs.Int.Bits.{xor_zero_r, xor_zero_l, xor_assoc, xor_self}
-use Rattle.std.proofs.lemmas.Nat.Bits.{bit_at_and, bit_at_cat_low, bit_at_cat_high, bit_at-zero, same_from_bits}
 use Rattle.shape_core.specs.declared.words.Kind.{Kind}
 use Rattle.shape_core.specs.declared.words.Kind.TheVariants as kind
 use Rattle.shape_core.specs.declared.symmetries.Symmetry.{Symmetry}
@@ -13,10 +11,10 @@ use Rattle.shape_core.specs.declared.symmetries.Symmetry.TheVariants as symmetry
 use Rattle.shape_core.specs.Symmetry.{image_of}
 use Rattle.shape_core.specs.Word.{kind_of, code_at, count_from}
 use Rattle.shape_core.specs.Inner.Word.{recoded, with_change}
-use Rattle.shape_core.specs.Inner.Images.{AreImages, bits_of_cell}
+use Rattle.shape_core.specs.Inner.Images.{AreImages, code_in}
 use Rattle.shape_core.proofs.Codes.{same_words, recoded_small, kind_of-recoded, recoded_here, recoded_other, recoded_sum}
 use Rattle.shape_core.proofs.Images.{sources, length-sources, image_of_small, kind_of-image, code_at-image, cell-lt, count_from-at}
-use Rattle.shape_core.proofs.Moves.{four_pow, bit_at-lowered}
+use Rattle.shape_core.proofs.Moves.{four_pow}
 
 -- a symmetry that, made twice, moves nothing
 abbrev pub ComesBack : Kind → Symmetry → Type 0
@@ -69,48 +67,6 @@ image-recoded s w i c back l h =
 
 -- ---- the bits of a cell
 
--- two bits next to one another, taken out of a number
-pub and_code : (w k : ℕ) → bit_and w (3 * 2 ^ k) ≡ w / 2 ^ k % 4 * 2 ^ k
-and_code w k =
-    same_from_bits (bit_and w (3 * 2 ^ k)) (w / 2 ^ k % 4 * 2 ^ k)
-    (λ i. ⊎_elim
-    (λ (low : i < k).
-    bit_at_and w (3 * 2 ^ k) i
-    ∙ ap (min (bit_at w i)) (ap (λ n. bit_at n i) (omega arith) ∙ bit_at_cat_low 3 k 0 i low ∙ bit_at-zero i)
-    ∙ (omega arith)
-    ∙ sym (ap (λ n. bit_at n i) (omega arith) ∙ bit_at_cat_low (w / 2 ^ k % 4) k 0 i low ∙ bit_at-zero i))
-    (λ (high : k ≤ i).
-    bit_at_and w (3 * 2 ^ k) i
-    ∙ ap₂ min
-    (ap (bit_at w) (omega arith) ∙ sym (bit_at-lowered w k (i - k)))
-    (ap (λ n. bit_at n i) (omega arith) ∙ bit_at_cat_high 3 k 0 i (pow_pos k) high)
-    ∙ sym (bit_at_and (w / 2 ^ k) 3 (i - k))
-    ∙ ap (λ n. bit_at n (i - k)) (and_mask (w / 2 ^ k) 2)
-    ∙ sym (ap (λ n. bit_at n i) (omega arith) ∙ bit_at_cat_high (w / 2 ^ k % 4) k 0 i (pow_pos k) high))
-    (cases_lt i k))
-
--- this code in each of the 25 cells
-abbrev pub filled : ℕ → ℕ
-filled code = code * 0x1555555555555
-
-all_filled : (c : ℕ) → c < 4 → map (code_at (filled c)) (count_from 0 25) ≡ map (λ t. c) (count_from 0 25)
-all_filled zero h = refl
-all_filled (suc zero) h = refl
-all_filled (suc (suc zero)) h = refl
-all_filled (suc (suc (suc zero))) h = refl
-all_filled (suc (suc (suc (suc c)))) h = absurd (omega arith)
-
-filled_codes : (c t : ℕ) → c < 4 → t < 25 → code_at (filled c) t ≡ c
-filled_codes c t h l =
-    let at : get_or (count_from 0 25) t 0 ≡ t = count_from-at 25 0 t l ∙ (omega arith) in
-    ap (code_at (filled c)) (sym at)
-    ∙ sym (get_or-map (code_at (filled c)) (count_from 0 25) t 0 0 l)
-    ∙ ap (λ xs. get_or xs t 0) (all_filled c h)
-    ∙ get_or-map (λ t. c) (count_from 0 25) t 0 0 l
-
-and_cell : (w t : ℕ) → bit_and w (bits_of_cell t) ≡ code_at w t * 4 ^ t
-and_cell w t = rw (four_pow t) (and_code w (2 * t))
-
 -- bits of a code changed in a number are changed there and nowhere else
 xor_high : (w k d : ℕ) → d < 4 → bit_xor w (d * 2 ^ k) + w / 2 ^ k % 4 * 2 ^ k ≡ w + bit_xor (w / 2 ^ k % 4) d * 2 ^ k
 xor_high w k d h =
@@ -142,12 +98,15 @@ changed_twice a b = sym (xor_assoc a a b) ∙ ap (λ x. bit_xor x b) (xor_self a
 pub changed_small : (w t d : ℕ) → d < 4 → bit_xor (code_at w t) d < 4
 changed_small w t d h = xor_lt 2 (code_at w t) d (omega arith) h
 
--- the word with the bits of a cell changed where a code has them
-pub changed_code : (w t d : ℕ) → w < 2 ^ 51 → t < 25 → d < 4 → bit_xor w (bit_and (filled d) (bits_of_cell t)) ≡ with_change w t d
+-- a changed code leaves the kind
+pub kind_of-changed : (w t d : ℕ) → d < 4 → kind_of (with_change w t d) ≡ kind_of w
+kind_of-changed w t d h = kind_of-recoded w t (bit_xor (code_at w t) d) (changed_small w t d h)
+
+-- the word with a code changed in a cell's bits
+pub changed_code : (w t d : ℕ) → w < 2 ^ 51 → t < 25 → d < 4 → bit_xor w (code_in d t) ≡ with_change w t d
 changed_code w t d small l h =
     let sum = recoded_sum w t (bit_xor (code_at w t) d) small l in
-    let put = and_cell (filled d) t ∙ ap (λ x. x * 4 ^ t) (filled_codes d t h l) in
-    ap (bit_xor w) put ∙ omega (arith, sum.0, sum.1, xor_code w t d h)
+    omega (arith, sum.0, sum.1, xor_code w t d h)
 
 -- ---- the four pairs
 
@@ -204,9 +163,9 @@ AreImages-recoded k w i c pair flipped turned both e l h is_pair is_flipped is_t
       both_is = is_both ∙ ap₂ (λ x y. x ∷ y ∷ []) (sym both_w) (sym both_d);
     }
 
--- two words, each with the bits of a cell changed where that cell has this code
+-- two words, each with the code of a cell changed that has this code
 pub changed_pair : (a b i j c d : ℕ) → a < 2 ^ 51 → b < 2 ^ 51 → i < 25 → j < 25 → d < 4 → code_at a i ≡ c → code_at b j ≡ c → (words : List ℕ) →
-    words ≡ bit_xor a (bit_and (filled d) (bits_of_cell i)) ∷ bit_xor b (bit_and (filled d) (bits_of_cell j)) ∷ [] →
+    words ≡ bit_xor a (code_in d i) ∷ bit_xor b (code_in d j) ∷ [] →
     words ≡ recoded a i (bit_xor c d) ∷ recoded b j (bit_xor c d) ∷ []
 changed_pair a b i j c d small_a small_b within_i within_j h of_a of_b words is =
     is ∙ ap₂ (λ x y. x ∷ y ∷ [])

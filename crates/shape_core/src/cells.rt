@@ -1,10 +1,11 @@
 //! Where the cells of a pattern lie round a point.
-ghost use Rattle.std.specs.Prelude.{◌≡◌, ◌≢◌, ◌<◌, ◌≤◌, ◌+◌, ℕ, MatchOption};
+ghost use Rattle.std.specs.Prelude.{◌≡◌, ◌≢◌, ◌<◌, ◌≤◌, ◌+◌, ℕ, length, get_or, take, MatchOption};
 ghost use Rattle.go_board.specs.declared.points.Point.{Point};
 ghost use Rattle.go_board.specs.Extent.{IsExtent};
 ghost use Rattle.go_board.specs.Point.{IsOn};
-ghost use Rattle.shape_core.specs.Inner.Table.{Sees};
+ghost use Rattle.shape_core.specs.Inner.Table.{Sees, cells_of, rows_of};
 
+use crate::words::Kind;
 use go_board::{Point, Size};
 
 /// How far a cell lies from the middle: columns to the right and rows down, each with three added
@@ -41,13 +42,40 @@ pub const DIAMOND_CELLS: [Away; 25] = [
 /// below the middle it lies, with three added so that none is below 0.
 pub type AwayRow = (u8, u8);
 
-/// The rows of a square, from the top. A row (a, b) has a cells to each side of the middle column,
-/// and lies b - 3 rows below the middle.
-pub const SQUARE_ROWS: [AwayRow; 5] = [(2, 1), (2, 2), (2, 3), (2, 4), (2, 5)];
+/// The rows of a diamond, from the top, each with the number of its first cell.
+const DIAMOND_ROWS: [(AwayRow, usize); 7] = [
+    ((0, 0), 0),
+    ((1, 1), 1),
+    ((2, 2), 4),
+    ((3, 3), 9),
+    ((2, 4), 16),
+    ((1, 5), 21),
+    ((0, 6), 24),
+];
 
-/// The rows of a diamond, from the top. A row (a, b) has a cells to each side of the middle column,
-/// and lies b - 3 rows below the middle.
-pub const DIAMOND_ROWS: [AwayRow; 7] = [(0, 0), (1, 1), (2, 2), (3, 3), (2, 4), (1, 5), (0, 6)];
+/// Returns how many rows a pattern of this `kind` has.
+pub fn row_count(kind: Kind) -> usize
+    ensures { result ≡ length (rows_of kind) }
+{
+    match kind {
+        Kind::Square => 5,
+        Kind::Diamond => 7,
+    }
+}
+
+/// Returns a row of a pattern of this `kind`, and the number of its first cell. `index` counts the
+/// rows from the top, from 0.
+pub fn row_at(kind: Kind, index: usize) -> (AwayRow, usize)
+    requires { index < length (rows_of kind) }
+    ensures row { result.0 ≡ get_or (rows_of kind) index (0, 0) }
+    ensures first { result.1 ≡ length (cells_of (take index (rows_of kind))) }
+{
+    match kind {
+        // No table, so that what is the same in all rows of a square is found once for all.
+        Kind::Square => ((2, 1 + index as u8), 5 * index),
+        Kind::Diamond => DIAMOND_ROWS[index],
+    }
+}
 
 /// Returns the point that lies `away` from `point`, or None if that is off the board. `away` has
 /// three added to its columns and rows, as `Away` says.
@@ -75,6 +103,7 @@ pub fn row_seeing(size: Size, point: Point, down: u8) -> Option<u8>
         ((q : Point) → IsOn size q → q.row + down ≢ point.row + 3)
         (λ row. (row < size.rows) × (row + down ≡ point.row + 3)) }
 {
-    let row = (point.row + 3).checked_sub(down)?;
+    // A row above the board wraps to more than any board has.
+    let row = (point.row + 3).wrapping_sub(down);
     (row < size.rows()).then_some(row)
 }

@@ -3,7 +3,7 @@ use crate::empty_points::EmptyPoints;
 use crate::kept::KeptWords;
 use crate::marks::move_marks;
 use crate::shapes::{Shape, least_seen};
-use crate::words::{Kinds, Word};
+use crate::words::{Kind, Kinds, Word};
 use go_board::{Board, BoardFault, Colour, Played, Point, Replayable, Size, Stone};
 use std::alloc::Global;
 use std::marker::Model;
@@ -196,7 +196,8 @@ impl Field {
             (word_around kind.Square self.now.board.size (position_of self.now.board) point)
             mover }
     {
-        least_seen(self.kept.squares[self.kept.size.index(point)], mover)
+        let word = self.kept.squares[self.kept.size.index(point)];
+        least_seen(word, Kind::Square, mover)
     }
 
     /// Returns the canonical pattern of a point's diamond with `mover` to move: the least of its
@@ -209,7 +210,8 @@ impl Field {
             (word_around kind.Diamond self.now.board.size (position_of self.now.board) point)
             mover }
     {
-        least_seen(self.kept.diamonds[self.kept.size.index(point)], mover)
+        let word = self.kept.diamonds[self.kept.size.index(point)];
+        least_seen(word, Kind::Diamond, mover)
     }
 
     /// Adds the marked points, whose words have changed since the last call, to both sets `first`

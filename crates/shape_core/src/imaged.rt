@@ -1,12 +1,13 @@
 //! Pattern words together with their images under the symmetries, so that the least is at hand.
-ghost use Rattle.std.specs.Prelude.{◌≡◌, ◌<◌, ℕ, [], ◌∷◌, bit_and, bit_xor};
+ghost use Rattle.std.specs.Prelude.{◌≡◌, ◌<◌, ℕ, [], ◌∷◌, bit_xor};
 ghost use Rattle.shape_core.specs.Inner.Word.{with_change};
+ghost use Rattle.shape_core.specs.Word.{kind_of};
 ghost use Rattle.shape_core.specs.Symmetry.{least_image, exchange_of};
 
 use crate::cell_bits::cell_bits;
-use crate::lanes::{exchanged, left_right, lesser, top_bottom};
+use crate::lanes::{left_right, lesser, top_bottom, twice_exchanged};
 use crate::masks::diagonal;
-use crate::words::Word;
+use crate::words::{Kind, Word};
 use std::marker::Model;
 use std::simd::prelude::*;
 
@@ -42,17 +43,12 @@ impl Model for ImagedWord {
     } };
 }
 
-/// The number with code 1 in each of the 25 cells (a code is the two bits for what stands there).
-/// Multiplied by a code, it has that code in each cell.
-const ONES: u64 = 0x1555555555555;
-
-/// Changes both words (one in each lane of the vector) by exclusive or with `changes`, but only in
-/// the bits that are set in `bits`.
-fn changed(words: u64x2, bits: u64x2, changes: u64x2) -> u64x2
-    ensures { (a b m n p : ℕ) → words ≡ a ∷ b ∷ [] → bits ≡ m ∷ n ∷ [] → changes ≡ p ∷ p ∷ []
-        → result ≡ bit_xor a (bit_and p m) ∷ bit_xor b (bit_and p n) ∷ [] }
+/// Changes the two words, one in each lane of the vector, by exclusive or with `one` and `other`.
+fn changed(words: u64x2, one: u64, other: u64) -> u64x2
+    ensures { (a b : ℕ) → words ≡ a ∷ b ∷ [] → result
+        ≡ bit_xor a one ∷ bit_xor b other ∷ [] }
 {
-    words ^ (changes & bits)
+    words ^ u64x2::from_array([one, other])
 }
 
 impl ImagedWord {
@@ -80,33 +76,21 @@ impl ImagedWord {
         Word::of_bits(word)
     }
 
-    /// Returns the word, with its images, after the code of one `cell` is changed by exclusive or
-    /// with `change`.
+    /// Returns the word, which is of this `kind`, with its images, after the code of one `cell` is
+    /// changed by exclusive or with `change`.
     #[inline(always)]
-    pub fn with_change(self, cell: usize, change: u8) -> ImagedWord
+    pub fn with_change(self, kind: Kind, cell: usize, change: u8) -> ImagedWord
+        requires kind { kind_of self ≡ kind }
         requires cell { cell < 25 }
         requires change { change < 4 }
         ensures { result ≡ with_change self cell change }
     {
-        let bits = cell_bits(self.word().kind(), cell);
-        let changes = u64x2::splat(u64::from(change) * ONES);
+        let bits = cell_bits(kind, change, cell);
         ImagedWord {
-            pair: changed(self.pair, u64x2::from_array([bits[0], bits[1]]), changes),
-            flipped: changed(self.flipped, u64x2::from_array([bits[2], bits[3]]), changes),
-            turned: changed(self.turned, u64x2::from_array([bits[4], bits[5]]), changes),
-            both: changed(self.both, u64x2::from_array([bits[6], bits[7]]), changes),
-        }
-    }
-
-    /// Returns the word with the colours exchanged, with its images.
-    pub fn exchanged(self) -> ImagedWord
-        ensures { result ≡ exchange_of self }
-    {
-        ImagedWord {
-            pair: exchanged(self.pair),
-            flipped: exchanged(self.flipped),
-            turned: exchanged(self.turned),
-            both: exchanged(self.both),
+            pair: changed(self.pair, bits[0], bits[1]),
+            flipped: changed(self.flipped, bits[2], bits[3]),
+            turned: changed(self.turned, bits[4], bits[5]),
+            both: changed(self.both, bits[6], bits[7]),
         }
     }
 
@@ -120,5 +104,23 @@ impl ImagedWord {
         let least = lesser(least, self.turned);
         let [one, other] = lesser(least, self.both).to_array();
         Word::of_bits(one.min(other))
+    }
+
+    /// Returns the least of the word, which is of this `kind`, and its images, after the colours
+    /// are exchanged. The least of their doubles is halved, so that only one number is shifted.
+    #[inline(always)]
+    pub fn least_exchanged(self, kind: Kind) -> Word
+        requires { kind_of self ≡ kind }
+        ensures value { result ≡ least_image (exchange_of self) }
+        ensures least { least_image result ≡ result }
+    {
+        let pair = twice_exchanged(self.pair, kind);
+        let flipped = twice_exchanged(self.flipped, kind);
+        let turned = twice_exchanged(self.turned, kind);
+        let both = twice_exchanged(self.both, kind);
+        let least = lesser(pair, flipped);
+        let least = lesser(least, turned);
+        let [one, other] = lesser(least, both).to_array();
+        Word::of_bits(one.min(other) / 2)
     }
 }

@@ -8,9 +8,8 @@ ghost use Rattle.go_board.specs.Point.{IsOn};
 ghost use Rattle.go_board.specs.Position.{Position, placed};
 ghost use Rattle.shape_core.specs.Around.{word_around};
 ghost use Rattle.shape_core.specs.Field.{IsMarked, MarksNear, reach_of};
-ghost use Rattle.shape_core.specs.Inner.KeptLists.{AreWords, emptied};
+ghost use Rattle.shape_core.specs.Inner.KeptLists.{AreWords, AreOfKind, emptied};
 
-use crate::cells::{DIAMOND_ROWS, SQUARE_ROWS};
 use crate::imaged::ImagedWord;
 use crate::keeping::recode;
 use crate::surroundings::{around, code_of, diamond};
@@ -104,7 +103,7 @@ impl KeptWords {
                 self.size,
                 &mut self.squares,
                 &mut self.changed,
-                &SQUARE_ROWS,
+                Kind::Square,
                 point,
                 change,
             );
@@ -113,7 +112,7 @@ impl KeptWords {
                     self.size,
                     &mut self.diamonds,
                     &mut self.changed,
-                    &DIAMOND_ROWS,
+                    Kind::Diamond,
                     point,
                     change,
                 );
@@ -151,8 +150,9 @@ fn list_of<T: Copy>(alloc: Global, items: &[T]) -> Result<Vec<T>, AllocError>
 /// Returns the words of this kind, with their images, of all points of a board: row by row from the
 /// top, each row from the left. It takes memory for each point; `AllocError` if that is refused.
 fn words_of(alloc: Global, board: &Board, kind: Kind) -> Result<Vec<ImagedWord>, AllocError>
-    ensures { IfOk result (λ words. AreWords kind board.now.size (position_of board.now)
+    ensures words { IfOk result (λ words. AreWords kind board.now.size (position_of board.now)
         words.items) }
+    ensures kinds { IfOk result (λ words. AreOfKind kind words.items) }
 {
     let size = board.size();
     let mut words = Vec::with_capacity(alloc, size.area())?;

@@ -1,12 +1,12 @@
 //! Symmetries and the exchange of colours for two words of one kind at once. Each word is in one
 //! lane of a vector, that is, one of its two numbers.
-ghost use Rattle.std.specs.Prelude.{◌≡◌, ◌<◌, ◌*◌, ◌/◌, ◌%◌, ◌^◌, ℕ, [], ◌∷◌, bit_and, bit_or, bit_xor, min};
+ghost use Rattle.std.specs.Prelude.{◌≡◌, ◌<◌, ◌*◌, ◌/◌, ◌%◌, ◌^◌, ℕ, [], ◌∷◌, bit_and, bit_or, min};
 ghost use Rattle.shape_core.specs.Word.{kind_of};
 ghost use Rattle.shape_core.specs.Symmetry.{image_of, exchange_of};
 ghost use Rattle.shape_core.specs.declared.words.Kind.TheVariants as kind;
 ghost use Rattle.shape_core.specs.declared.symmetries.Symmetry.TheVariants as symmetry;
 
-use crate::words::Kind;
+use crate::words::{DIAMOND, Kind};
 use std::simd::prelude::*;
 
 /// Exchanges, in each of the two words, the bits that are set in `mask` with the bits that are
@@ -92,32 +92,27 @@ pub fn top_bottom(words: u64x2, kind: Kind) -> u64x2
     }
 }
 
-/// Returns, for each of the two words, a mask of the cells whose two bits differ: 1 at the lower
-/// bit of each such cell, and 0 everywhere else.
-fn differing(words: u64x2) -> u64x2
-    ensures { (a b : ℕ) → words ≡ a ∷ b ∷ [] → result
-        ≡ bit_and (bit_xor a (a / 2 ^ 1)) 0x1555555555555
-        ∷ bit_and (bit_xor b (b / 2 ^ 1)) 0x1555555555555 ∷ [] }
-{
-    (words ^ (words >> u64x2::splat(1))) & u64x2::splat(0x1555555555555)
-}
-
-/// Returns two words with black for white and white for black. The two bits of a cell are
-/// exchanged: both are flipped if they differ.
-pub fn exchanged(words: u64x2) -> u64x2
+/// Returns twice each of two words of this `kind` with black for white and white for black. Twice
+/// an exchanged code is the code and three times its lower bit, so that no bits have to be moved.
+pub fn twice_exchanged(words: u64x2, kind: Kind) -> u64x2
     ensures { (a b : ℕ) → words ≡ a ∷ b ∷ [] → a < 2 ^ 51 → b < 2 ^ 51
-        → result ≡ exchange_of a ∷ exchange_of b ∷ [] }
+        → kind_of a ≡ kind → kind_of b ≡ kind
+        → result ≡ 2 * exchange_of a ∷ 2 * exchange_of b ∷ [] }
 {
-    let lower = differing(words);
-    words ^ lower ^ (lower + lower)
+    let lower = words & u64x2::splat(0x1555555555555);
+    let mark = match kind {
+        Kind::Square => 0,
+        Kind::Diamond => DIAMOND,
+    };
+    words + lower + (lower + lower) + u64x2::splat(mark)
 }
 
 /// Returns, for each of the two lanes, the lesser of the word in `words` and the word in `others`.
-/// All words are below 2^51. If the first is less, the difference wraps and has the top bit set.
+/// All are below 2^52. If the first is less, the difference wraps and has the top bit set.
 /// One instruction selects by that bit alone, where comparing numbers without a sign takes several.
 pub fn lesser(words: u64x2, others: u64x2) -> u64x2
     ensures { (a b c d : ℕ) → words ≡ a ∷ b ∷ [] → others ≡ c ∷ d ∷ []
-        → a < 2 ^ 51 → b < 2 ^ 51 → c < 2 ^ 51 → d < 2 ^ 51
+        → a < 2 ^ 52 → b < 2 ^ 52 → c < 2 ^ 52 → d < 2 ^ 52
         → result ≡ min a c ∷ min b d ∷ [] }
 {
     let differences = words - others;

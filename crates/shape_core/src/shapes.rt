@@ -1,10 +1,11 @@
 //! Shapes: canonical patterns, the words that are the least of their eight images under the
 //! symmetries.
 ghost use Rattle.std.specs.Prelude.{◌≡◌, ◌<◌, ◌^◌, SomeIff};
+ghost use Rattle.shape_core.specs.Word.{kind_of};
 ghost use Rattle.shape_core.specs.Symmetry.{least_image, canonical_of};
 
 use crate::imaged::ImagedWord;
-use crate::words::Word;
+use crate::words::{Kind, Word};
 use go_board::Colour;
 use std::marker::Model;
 
@@ -57,18 +58,19 @@ impl Shape {
 pub fn canonical(word: Word, mover: Colour) -> Shape
     ensures { result ≡ canonical_of word mover }
 {
-    least_seen(ImagedWord::new(word), mover)
+    least_seen(ImagedWord::new(word), word.kind(), mover)
 }
 
-/// Returns the canonical pattern of a word that comes with its images, with `mover` to move: the
-/// least of the images, for White after the colours are exchanged.
+/// Returns the canonical pattern of a word of this `kind` that comes with its images, with `mover`
+/// to move: the least of the images, for White after the colours are exchanged.
 #[inline(always)]
-pub fn least_seen(word: ImagedWord, mover: Colour) -> Shape
+pub fn least_seen(word: ImagedWord, kind: Kind, mover: Colour) -> Shape
+    requires { kind_of word ≡ kind }
     ensures { result ≡ canonical_of word mover }
 {
-    let seen = match mover {
-        Colour::Black => word,
-        Colour::White => word.exchanged(),
+    let word = match mover {
+        Colour::Black => word.least(),
+        Colour::White => word.least_exchanged(kind),
     };
-    Shape { word: seen.least() }
+    Shape { word }
 }

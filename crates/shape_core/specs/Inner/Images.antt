@@ -32,22 +32,22 @@ pub record AreImages (w : ℕ) (pair flipped turned both : List ℕ) : Type 0 wh
   pub turned_is : turned ≡ turned_of w
   pub both_is : both ≡ both_of w
 
--- the two bits of a cell
-abbrev pub bits_of_cell : ℕ → ℕ
-bits_of_cell cell = 3 * 4 ^ cell
+-- a code in a cell
+abbrev pub code_in : ℕ → ℕ → ℕ
+code_in code cell = code * 4 ^ cell
 
 -- the cell that a symmetry moves to a cell
 abbrev pub cell_from : Kind → Symmetry → ℕ → ℕ
 cell_from kind s cell = slice_index (map (source_cell kind s) (offsets_of kind)) cell
 
--- the bits of a cell in the eight words of a kind, in the order of the pairs. Each of the three symmetries, made twice,
--- moves nothing, so the cell that one moves to a cell is also the one to which it moves that cell.
-unfoldable pub bits_row : Kind → ℕ → List ℕ
-bits_row kind cell =
+-- a code in a cell's places in the eight words of a kind, in the order of the pairs. Each of the three symmetries, made
+-- twice, moves nothing, so the cell that one moves to a cell is also the one to which it moves that cell.
+unfoldable pub bits_row : Kind → ℕ → ℕ → List ℕ
+bits_row kind code cell =
     let falling = cell_from kind symmetry.FallingDiagonal cell in
     let left_right = cell_from kind symmetry.LeftRight cell in
     let falling_left_right = cell_from kind symmetry.LeftRight falling in
-    bits_of_cell cell ∷ bits_of_cell falling
-    ∷ bits_of_cell left_right ∷ bits_of_cell falling_left_right
-    ∷ bits_of_cell (cell_from kind symmetry.TopBottom cell) ∷ bits_of_cell (cell_from kind symmetry.TopBottom falling)
-    ∷ bits_of_cell (cell_from kind symmetry.TopBottom left_right) ∷ bits_of_cell (cell_from kind symmetry.TopBottom falling_left_right) ∷ []
+    code_in code cell ∷ code_in code falling
+    ∷ code_in code left_right ∷ code_in code falling_left_right
+    ∷ code_in code (cell_from kind symmetry.TopBottom cell) ∷ code_in code (cell_from kind symmetry.TopBottom falling)
+    ∷ code_in code (cell_from kind symmetry.TopBottom left_right) ∷ code_in code (cell_from kind symmetry.TopBottom falling_left_right) ∷ []

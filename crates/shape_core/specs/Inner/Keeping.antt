@@ -12,13 +12,15 @@ use Rattle.shape_core.specs.Field.{IsMarked}
 use Rattle.shape_core.specs.KeptLists.{AreMarks}
 use Rattle.shape_core.specs.declared.empty_points.EmptyPoints.{EmptyPoints}
 use Rattle.shape_core.specs.Inner.EmptyPoints.{AreEmpty}
-use Rattle.shape_core.specs.Inner.KeptLists.{AreWords, DifferingAreMarked}
+use Rattle.shape_core.specs.Inner.KeptLists.{AreWords, AreOfKind, DifferingAreMarked}
 
--- a word and a mark for each point of a board
+-- a word of each kept kind and a mark for each point of a board
 pub record HasRoom (kept : KeptWords) : Type 0 where
   pub extent : IsExtent kept.size
   pub squares_count : length kept.squares.items ≡ kept.size.columns * kept.size.rows
   pub diamonds_count : kept.kinds ≡ which.Both → length kept.diamonds.items ≡ kept.size.columns * kept.size.rows
+  pub squares_kind : AreOfKind kind.Square kept.squares.items
+  pub diamonds_kind : kept.kinds ≡ which.Both → AreOfKind kind.Diamond kept.diamonds.items
   pub marks : AreMarks kept.size kept.changed.items
 
 -- the words of the kinds that are kept are those of a position

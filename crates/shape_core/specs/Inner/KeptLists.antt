@@ -1,11 +1,12 @@
 -- Definitions that private contracts alone use, beside those of `KeptLists`.
-use Rattle.std.specs.Prelude.{◌≡◌, ℕ, ◌*◌, ◌⊎◌, List, [], ◌∷◌, length, slice_index}
+use Rattle.std.specs.Prelude.{◌≡◌, ℕ, ◌*◌, ◌⊎◌, List, [], ◌∷◌, All, length, slice_index}
 use Rattle.go_board.specs.Extent.{Extent}
 use Rattle.go_board.specs.Point.{IsOn, index_of}
 use Rattle.go_board.specs.Position.{Position, placed}
 use Rattle.go_board.specs.declared.points.Point.{Point}
 use Rattle.go_board.specs.declared.points.Stone.TheVariants as stone
 use Rattle.shape_core.specs.declared.words.Kind.{Kind}
+use Rattle.shape_core.specs.Word.{kind_of}
 use Rattle.shape_core.specs.Around.{word_around}
 use Rattle.shape_core.specs.Field.{IsMarked}
 
@@ -13,6 +14,10 @@ use Rattle.shape_core.specs.Field.{IsMarked}
 pub record AreWords (kind : Kind) (size : Extent) (position : Position) (words : List ℕ) : Type 0 where
   pub count : length words ≡ size.columns * size.rows
   pub each : (q : Point) → IsOn size q → slice_index words (index_of size q) ≡ word_around kind size position q
+
+-- each word is of this kind
+abbrev pub AreOfKind : Kind → List ℕ → Type 0
+AreOfKind kind words = All (λ w. kind_of w ≡ kind) words
 
 -- the position with these points emptied
 unfoldable pub emptied : Position → List Point → Position

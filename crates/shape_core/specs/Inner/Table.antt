@@ -1,7 +1,9 @@
 -- Offsets as pairs of numbers, each part three more: those of the program's tables.
-use Rattle.std.specs.Prelude.{◌≡◌, ℕ, ◌+◌, ◌-◌, ◌*◌, ◌<◌, ◌≤◌, ℤ, pos, negsuc, nat_lt, Bool, ◌&&◌, List, map, if◌then◌else◌}
+use Rattle.std.specs.Prelude.{◌≡◌, ℕ, ◌+◌, ◌-◌, ◌*◌, ◌<◌, ◌≤◌, ℤ, pos, negsuc, nat_lt, Bool, ◌&&◌, List, [], ◌∷◌, map, if◌then◌else◌}
 use Rattle.std.specs.List.{flat_map}
 use Rattle.go_board.specs.declared.points.Point.{Point}
+use Rattle.shape_core.specs.declared.words.Kind.{Kind}
+use Rattle.shape_core.specs.declared.words.Kind.TheVariants as kind
 use Rattle.shape_core.specs.Offset.{Offset}
 use Rattle.shape_core.specs.Word.{count_from}
 
@@ -30,6 +32,11 @@ cells_in row = map (λ k. (3 - row.0 + k, row.1)) (count_from 0 (2 * row.0 + 1))
 -- the cells of rows, one after another
 abbrev pub cells_of : List (ℕ × ℕ) → List (ℕ × ℕ)
 cells_of rows = flat_map cells_in rows
+
+-- the rows of a kind of pattern, from the top
+abbrev pub rows_of : Kind → List (ℕ × ℕ)
+rows_of kind.Square = (2, 1) ∷ (2, 2) ∷ (2, 3) ∷ (2, 4) ∷ (2, 5) ∷ []
+rows_of kind.Diamond = (0, 0) ∷ (1, 1) ∷ (2, 2) ∷ (3, 3) ∷ (2, 4) ∷ (1, 5) ∷ (0, 6) ∷ []
 
 -- a cell of p in this row is at q
 abbrev pub SeesInRow : Point → ℕ × ℕ → Point → Type 0

@@ -17,6 +17,8 @@ invariant_of-self c =
         extent = room.extent;
         squares_count = room.squares_count;
         diamonds_count = room.diamonds_count;
+        squares_kind = room.squares_kind;
+        diamonds_kind = room.diamonds_kind;
         marks =
             subst (AreMarks kept.size) (sym (with_items_is kept.changed c.move_marks.new.changed same))
             (AreMarks-none kept.size c.move_marks.new.changed (c.move_marks.auto.changed ∙ ap length c.deref_mut.ensures.value ∙ room.marks.rows) c.move_marks.ensures.taken);

@@ -12,7 +12,7 @@ unfolding flips
 is_least c =
     let w = slice_index c.self.inside.pair 0 in
     let is = c.self.invariant in
-    let small : (s : Symmetry) (v : ℕ) → image_of s v < 2 ^ 51 = image_of_small in
+    let small : (s : Symmetry) (v : ℕ) → image_of s v < 2 ^ 52 = λ s v. omega (arith, image_of_small s v) in
     let d = image_of symmetry.FallingDiagonal w in
     let left = image_of symmetry.LeftRight w in
     let left_d = image_of symmetry.LeftRight d in
@@ -22,11 +22,11 @@ is_least c =
     let of_left_d = small symmetry.LeftRight d in
     let of_top = small symmetry.TopBottom w in
     let of_top_d = small symmetry.TopBottom d in
-    let once : min w left < 2 ^ 51 = omega (arith, of_left) in
-    let once_d : min d left_d < 2 ^ 51 = omega (arith, of_left_d) in
-    let twice : min (min w left) top < 2 ^ 51 = omega (arith, of_top) in
-    let twice_d : min (min d left_d) top_d < 2 ^ 51 = omega (arith, of_top_d) in
-    let two = c.lesser-least.ensures w d left left_d is.pair_is is.flipped_is is.small (small symmetry.FallingDiagonal w) of_left of_left_d in
+    let once : min w left < 2 ^ 52 = omega (arith, of_left) in
+    let once_d : min d left_d < 2 ^ 52 = omega (arith, of_left_d) in
+    let twice : min (min w left) top < 2 ^ 52 = omega (arith, of_top) in
+    let twice_d : min (min d left_d) top_d < 2 ^ 52 = omega (arith, of_top_d) in
+    let two = c.lesser-least.ensures w d left left_d is.pair_is is.flipped_is (omega (arith, is.small)) (small symmetry.FallingDiagonal w) of_left of_left_d in
     let three = c.lesser-least-2.ensures (min w left) (min d left_d) top top_d two is.turned_is once once_d of_top of_top_d in
     let four = c.lesser.ensures _ _ _ _ three is.both_is twice twice_d (small symmetry.TopBottom left) (small symmetry.TopBottom left_d) in
     least_by_two w (image_of symmetry.FallingDiagonal w) c.min.result is.small refl

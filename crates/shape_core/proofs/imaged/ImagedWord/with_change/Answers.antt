@@ -1,5 +1,5 @@
 -- Each pair has the code of its cells changed.
-use Rattle.std.proofs.Common.{◌<◌, ◌*◌, ◌^◌, ℕ, [], ◌∷◌, slice_index, get_or, bit_xor, refl, ap, sym, subst, ◌∙◌}
+use Rattle.std.proofs.Common.{◌<◌, ◌^◌, ℕ, [], ◌∷◌, slice_index, get_or, bit_xor, refl, ap, sym, subst, ◌∙◌}
 use Rattle.shape_core.specs.declared.symmetries.Symmetry.{Symmetry}
 use Rattle.shape_core.specs.declared.symmetries.Symmetry.TheVariants as symmetry
 use Rattle.shape_core.specs.Symmetry.{image_of}
@@ -24,15 +24,20 @@ pairs c =
     let is = c.self.invariant in
     let top = symmetry.TopBottom in
     let left = symmetry.LeftRight in
+    let left_w = image_of left w in
+    let left_d = image_of left d in
+    let top_w = image_of top w in
+    let top_d = image_of top d in
+    let both_w = image_of top left_w in
+    let both_d = image_of top left_d in
     let f = get_or (sources k symmetry.FallingDiagonal) cell 0 in
     let m = get_or (sources k left) cell 0 in
     let n = get_or (sources k left) f 0 in
     let f_small = cell-lt k symmetry.FallingDiagonal cell l in
     let m_small = cell-lt k left cell l in
     let n_small = cell-lt k left f f_small in
-    let row = c.cell_bits-bits.ensures ∙ ap (λ q. bits_row q cell) (c.kind.ensures ∙ ap kind_of (c.word.ensures ∙ sym c.self.view_is)) in
+    let row = c.cell_bits-bits.ensures ∙ ap (λ q. bits_row q change cell) (sym c.requires.kind ∙ ap kind_of (sym c.self.view_is)) in
     let small : (s : Symmetry) (v : ℕ) → image_of s v < 2 ^ 51 = image_of_small in
-    let changes = ap (λ x. x * 0x1555555555555 ∷ x * 0x1555555555555 ∷ []) c.from.ensures in
     let of_d = kind_of-image symmetry.FallingDiagonal w in
     let of_left = kind_of-image left w in
     let of_left_d = kind_of-image left d ∙ of_d in
@@ -41,19 +46,19 @@ pairs c =
     let code_left_d = code_followed k left d f of_d (left_right_back k) f_small ∙ code_d in
     let code_top = code_followed k top w cell refl (top_bottom_back k) l in
     let code_top_d = code_followed k top d f of_d (top_bottom_back k) f_small ∙ code_d in
-    let code_both = code_followed k top (image_of left w) m of_left (top_bottom_back k) m_small ∙ code_left in
-    let code_both_d = code_followed k top (image_of left d) n of_left_d (top_bottom_back k) n_small ∙ code_left_d in
+    let code_both = code_followed k top left_w m of_left (top_bottom_back k) m_small ∙ code_left in
+    let code_both_d = code_followed k top left_d n of_left_d (top_bottom_back k) n_small ∙ code_left_d in
     AreImages-recoded k w cell (bit_xor code change) c.changed.result c.changed-2.result c.changed-3.result c.changed-4.result refl l (changed_small w cell change h)
     (changed_pair w d cell f code change is.small (small symmetry.FallingDiagonal w) l f_small h refl code_d c.changed.result
-    (c.changed.ensures w d _ _ _ is.pair_is (ap (λ bits. get_or bits 0 0 ∷ get_or bits 1 0 ∷ []) row) changes))
-    (changed_pair (image_of left w) (image_of left d) m n code change (small left w) (small left d) m_small n_small h code_left code_left_d c.changed-2.result
-    (c.changed-2.ensures (image_of left w) (image_of left d) _ _ _ is.flipped_is (ap (λ bits. get_or bits 2 0 ∷ get_or bits 3 0 ∷ []) row) changes))
-    (changed_pair (image_of top w) (image_of top d) (get_or (sources k top) cell 0) (get_or (sources k top) f 0) code change (small top w) (small top d)
+    (c.changed.ensures _ _ is.pair_is ∙ ap (λ bits. bit_xor w (get_or bits 0 0) ∷ bit_xor d (get_or bits 1 0) ∷ []) row))
+    (changed_pair left_w left_d m n code change (small left w) (small left d) m_small n_small h code_left code_left_d c.changed-2.result
+    (c.changed-2.ensures _ _ is.flipped_is ∙ ap (λ bits. bit_xor left_w (get_or bits 2 0) ∷ bit_xor left_d (get_or bits 3 0) ∷ []) row))
+    (changed_pair top_w top_d (get_or (sources k top) cell 0) (get_or (sources k top) f 0) code change (small top w) (small top d)
     (cell-lt k top cell l) (cell-lt k top f f_small) h code_top code_top_d c.changed-3.result
-    (c.changed-3.ensures (image_of top w) (image_of top d) _ _ _ is.turned_is (ap (λ bits. get_or bits 4 0 ∷ get_or bits 5 0 ∷ []) row) changes))
-    (changed_pair (image_of top (image_of left w)) (image_of top (image_of left d)) (get_or (sources k top) m 0) (get_or (sources k top) n 0) code change
-    (small top (image_of left w)) (small top (image_of left d)) (cell-lt k top m m_small) (cell-lt k top n n_small) h code_both code_both_d c.changed-4.result
-    (c.changed-4.ensures (image_of top (image_of left w)) (image_of top (image_of left d)) _ _ _ is.both_is (ap (λ bits. get_or bits 6 0 ∷ get_or bits 7 0 ∷ []) row) changes))
+    (c.changed-3.ensures _ _ is.turned_is ∙ ap (λ bits. bit_xor top_w (get_or bits 4 0) ∷ bit_xor top_d (get_or bits 5 0) ∷ []) row))
+    (changed_pair both_w both_d (get_or (sources k top) m 0) (get_or (sources k top) n 0) code change
+    (small top left_w) (small top left_d) (cell-lt k top m m_small) (cell-lt k top n n_small) h code_both code_both_d c.changed-4.result
+    (c.changed-4.ensures _ _ is.both_is ∙ ap (λ bits. bit_xor both_w (get_or bits 6 0) ∷ bit_xor both_d (get_or bits 7 0) ∷ []) row))
 
 pub invariant_of-result : goal.invariant_of-result
 invariant_of-result c =

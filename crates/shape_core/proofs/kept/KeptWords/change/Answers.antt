@@ -28,10 +28,10 @@ returns-in-Both-clause-follow c = λ position old.
     record {
       squares_follow =
           subst (λ ws. AreWords kind.Square size after ws) (sym (with_items_is squares c.recode.new.words (c.recode.auto.words ∙ c.deref_mut.ensures.len)))
-          (c.recode.ensures.follow kind.Square position c.args.stone refl change (rw c.deref_mut.ensures.value old.squares_follow));
+          (c.recode.ensures.follow position c.args.stone change (rw c.deref_mut.ensures.value old.squares_follow));
       diamonds_follow = λ both.
           subst (λ ws. AreWords kind.Diamond size after ws) (sym (with_items_is diamonds c.recode-in-Both.new.words (c.recode-in-Both.auto.words ∙ c.deref_mut-in-Both.ensures.len)))
-          (c.recode-in-Both.ensures.follow kind.Diamond position c.args.stone refl change (rw c.deref_mut-in-Both.ensures.value (old.diamonds_follow both)));
+          (c.recode-in-Both.ensures.follow position c.args.stone change (rw c.deref_mut-in-Both.ensures.value (old.diamonds_follow both)));
     }
 
 pub returns-in_default-clause-follow : goal.returns-in_default-clause-follow
@@ -48,7 +48,7 @@ returns-in_default-clause-follow c = λ position old.
     record {
       squares_follow =
           subst (λ ws. AreWords kind.Square size after ws) (sym (with_items_is squares c.recode.new.words (c.recode.auto.words ∙ c.deref_mut.ensures.len)))
-          (c.recode.ensures.follow kind.Square position c.args.stone refl change (rw c.deref_mut.ensures.value old.squares_follow));
+          (c.recode.ensures.follow position c.args.stone change (rw c.deref_mut.ensures.value old.squares_follow));
       diamonds_follow = λ both. absurd (c.in_default.not-Both both);
     }
 

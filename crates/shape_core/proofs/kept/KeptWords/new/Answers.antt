@@ -10,10 +10,15 @@ returns-clause-room c =
     let size = c.size-size.ensures.value in
     record {
       extent = rw size c.size-size.ensures.board.extent;
-      squares_count = rw size c.in_ok-squares.ensures.count;
+      squares_count = rw size c.in_ok-squares.ensures.words.count;
       diamonds_count = λ both. elim c.match-kinds.branch [
         | in-Squares w ↦ let squares = w.in-Squares.is in cc
-        | in-Both+in_ok-diamonds-in-Both w ↦ rw size (ap (λ v. length v.items) w.diamonds-is ∙ w.in_ok-diamonds-in-Both.ensures.count)
+        | in-Both+in_ok-diamonds-in-Both w ↦ rw size (ap (λ v. length v.items) w.diamonds-is ∙ w.in_ok-diamonds-in-Both.ensures.words.count)
+      ];
+      squares_kind = c.in_ok-squares.ensures.kinds;
+      diamonds_kind = λ both. elim c.match-kinds.branch [
+        | in-Squares w ↦ let squares = w.in-Squares.is in cc
+        | in-Both+in_ok-diamonds-in-Both w ↦ rw (ap (λ v. v.items) w.diamonds-is) w.in_ok-diamonds-in-Both.ensures.kinds
       ];
       marks =
           let items = c.in_ok-changed.ensures.items_if_clones_equal (λ y e. e) in
