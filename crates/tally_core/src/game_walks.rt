@@ -65,6 +65,8 @@ impl GameWalk {
     ///
     /// `Memory` if memory was refused; the counts are wrong then, so the walk must not be used
     /// again.
+    // It is out of line, so that its loops have the processor's registers for themselves.
+    #[inline(never)]
     pub fn count(&mut self, action: Action) -> Result<u64, TallyFault>
         requires on_board { IsActionOn self.old.field.board.size action }
         requires sides { AreSides self.old }
@@ -80,13 +82,16 @@ impl GameWalk {
         if self.field.cell(at) != Stone::Empty {
             return Ok(0);
         }
+        // What counts is inlined for each colour as a constant: no point asks for it again.
         match colour {
-            Colour::Black => self
-                .black
-                .count(&mut self.meetings, &self.field, colour, at)?,
-            Colour::White => self
-                .white
-                .count(&mut self.meetings, &self.field, colour, at)?,
+            Colour::Black => {
+                self.black
+                    .count(&mut self.meetings, &self.field, Colour::Black, at)?
+            }
+            Colour::White => {
+                self.white
+                    .count(&mut self.meetings, &self.field, Colour::White, at)?
+            }
         }
         Ok(1)
     }

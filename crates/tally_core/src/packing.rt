@@ -1,13 +1,16 @@
 //! Packs the square and the diamond that a point has, both since the same move, in three numbers.
-ghost use Rattle.std.specs.Prelude.{◌≡◌, None};
+ghost use Rattle.std.specs.Prelude.{◌≡◌, ◌<◌, ◌^◌, None};
 ghost use Rattle.tally_core.specs.Inner.Packing.{stay_of, BeginsAt};
 
 use crate::stays::{Stay, Stays};
 use std::marker::Model;
 
+/// From this number on, `square` does not say all: `diamond` is to be read too.
+const MORE: usize = 1 << 63;
+
 /// Stands for no pattern, in place of an index in the list of the game's patterns: no list is that
 /// long.
-const NOTHING: usize = usize::MAX;
+const NOTHING: usize = MORE - 1;
 
 /// What one point of the board has for one colour to move: its square, its diamond, and how many
 /// moves onto empty points this colour had made in this game when the point got both. A walk of a
@@ -15,9 +18,11 @@ const NOTHING: usize = usize::MAX;
 /// colours, of a board of 19 by 19, fit a processor's first cache.
 #[derive(Drop, Clone)]
 pub struct PackedStays {
-    /// The index of the square in the list of the game's patterns, or `NOTHING`.
+    /// The index of the square in the list of the game's patterns, if the point has a square alone.
+    /// Else `MORE` is added to it, or to `NOTHING` if the point has no square.
     square: usize,
-    /// The index of the diamond in the list of the game's patterns, or `NOTHING`.
+    /// The index of the diamond in the list of the game's patterns, or `NOTHING`. It is of no
+    /// meaning if the point has a square alone, so that it is neither read nor written then.
     diamond: usize,
     /// How many moves onto empty points the colour to move had made when the point got both.
     since: u64,
@@ -48,7 +53,8 @@ fn stay_at(at: usize, since: u64) -> Option<Stay>
 /// `stay` is None. `since` is for the contract alone: the stay must have begun then.
 fn index_of(stay: Option<Stay>, since: u64) -> usize
     requires { BeginsAt since stay }
-    ensures { stay_of result since ≡ stay }
+    ensures stay { stay_of result since ≡ stay }
+    ensures small { result < 2 ^ 63 }
 {
     let _ = since;
     match stay {
@@ -63,7 +69,7 @@ impl PackedStays {
         ensures { result ≡ record { square = None; diamond = None } }
     {
         PackedStays {
-            square: NOTHING,
+            square: MORE + NOTHING,
             diamond: NOTHING,
             since: 0,
         }
@@ -77,7 +83,7 @@ impl PackedStays {
         ensures { result ≡ record { square = square; diamond = diamond } }
     {
         PackedStays {
-            square: index_of(square, since),
+            square: MORE + index_of(square, since),
             diamond: index_of(diamond, since),
             since,
         }
@@ -89,9 +95,31 @@ impl PackedStays {
     pub fn get(&self) -> Stays
         ensures { result ≡ self.now }
     {
+        if self.square < MORE {
+            return Stays {
+                square: Some(Stay {
+                    meeting: self.square,
+                    since: self.since,
+                }),
+                diamond: None,
+            };
+        }
         Stays {
-            square: stay_at(self.square, self.since),
+            square: stay_at(self.square - MORE, self.since),
             diamond: stay_at(self.diamond, self.since),
         }
+    }
+
+    /// Replaces the value by that for a point that has this `square` alone, which must have begun
+    /// at `since`, unless it is None.
+    pub fn put_square(&mut self, square: Option<Stay>, since: u64)
+        requires { BeginsAt since square }
+        ensures { self.new ≡ record { square = square; diamond = None } }
+    {
+        match square {
+            Some(stay) => self.square = stay.meeting,
+            None => *self = PackedStays::none(),
+        }
+        self.since = since;
     }
 }

@@ -1,14 +1,19 @@
 //! Counts a move of one colour onto an empty point (an occasion): only the points that have changed
 //! since the last one are looked at. A field is a board that keeps the pattern words of its points.
-ghost use Rattle.std.specs.Prelude.{◌≡◌, ◌+◌, ◌<◌, ◌^◌, ℕ, [], length, slice_index, IfErr, OnOk};
+ghost use Rattle.std.specs.Prelude.{◌≡◌, ◌+◌, ◌<◌, ◌^◌, ◌∷◌, ℕ, [], length, slice_index};
+ghost use Rattle.std.specs.Prelude.{IfOk, IfErr, OnOk};
 ghost use Rattle.go_board.specs.Point.{IsOn};
 ghost use Rattle.go_board.specs.Board.{position_of};
 ghost use Rattle.go_board.specs.declared.points.Point.{Point};
+ghost use Rattle.shape_core.specs.declared.words.Kinds.TheVariants as Kinds;
 ghost use Rattle.tally_core.specs.Walk.{shapes_of, played_among};
-ghost use Rattle.tally_core.specs.Inner.Meeting.{Meets};
-ghost use Rattle.tally_core.specs.Inner.Standing.{AreStays, there_with, patterns_staying, AreStanding};
+ghost use Rattle.tally_core.specs.Inner.Meeting.{Meets, CountsStay};
+ghost use Rattle.tally_core.specs.Inner.Packing.{BeginsAt};
+ghost use Rattle.tally_core.specs.Inner.Standing.{IsStay, AreStays, there_with, AreStanding};
+ghost use Rattle.tally_core.specs.Inner.Standing.{patterns_of, patterns_staying, waits};
 ghost use Rattle.tally_core.specs.Inner.Sight.{Fit, there_at, PlayedStays, StaysAt, HasLooked};
-ghost use Rattle.tally_core.specs.Inner.Sight.{AllFilled, points_in, changed_in, here_on, seen_on, played_on};
+ghost use Rattle.tally_core.specs.Inner.Sight.{AllFilled, points_in, changed_in, here_on};
+ghost use Rattle.tally_core.specs.Inner.Sight.{diamond_on, seen_on, played_on};
 ghost use Rattle.tally_core.specs.Inner.Sight.{IsSideOn, IsSeenOn, AddsThere, AddsPlayed};
 ghost use Rattle.tally_core.specs.declared.faults.TallyFault.TheVariants as fault;
 ghost use Rattle.go_board.specs.declared.points.Stone.TheVariants as stone;
@@ -17,14 +22,45 @@ use crate::faults::TallyFault;
 use crate::meetings::Meetings;
 use crate::packing::PackedStays;
 use crate::sides::Side;
-use crate::stays::{begin, play, settle_point};
+use crate::stays::{Stay, begin, play, settle_point};
 use go_board::{Colour, Point};
 use shape_core::{Field, Kinds};
+
+/// Finds the diamond of a `point`, with `mover` to move, in `meetings`, or adds it, as `begin` does
+/// for a shape. It is out of line, so that the loop over points has enough registers of the
+/// processor where squares alone are counted.
+#[cold]
+#[inline(never)]
+fn begin_diamond(
+    meetings: &mut Meetings,
+    field: &Field,
+    mover: Colour,
+    point: Point,
+    occasions: u64,
+) -> Result<Option<Stay>, TallyFault>
+    requires on_board { IsOn field.now.board.size point }
+    requires kept { field.now.kinds ≡ Kinds.Both }
+    ensures stay { IfOk result (IsStay (length (shapes_of meetings.new)) occasions) }
+    ensures begins { IfOk result (BeginsAt occasions) }
+    ensures pattern { IfOk result (λ stay. patterns_of (shapes_of meetings.new) stay
+        ≡ diamond_on field.now mover point ∷ []) }
+    ensures waits { IfOk result (λ stay. (other : ℕ) →
+        waits (shapes_of meetings.new) occasions stay other ≡ 0) }
+    ensures meets { OnOk result (Meets (shapes_of meetings.old)
+        (diamond_on field.now mover point ∷ [])
+        (shapes_of meetings.new)) }
+    ensures counts { OnOk result (CountsStay meetings.old meetings.new) }
+    ensures fault { IfErr result (λ found. found ≡ fault.Memory) }
+{
+    begin(meetings, field.canonical_diamond(point, mover), occasions)
+}
 
 /// Looks again at an empty `point` that has changed: adds to `meetings` how often the patterns in
 /// `stays` were there, and replaces `stays` by the square that the point has now, and its diamond
 /// if diamonds are counted. `occasions` is how many moves onto empty points `mover` has made
-/// before. `TallyFault::Memory` if memory was refused.
+/// before. `TallyFault::Memory` if memory was refused. It is inlined, as what calls it is, up to
+/// where `mover` is a constant.
+#[inline(always)]
 fn see_point(
     meetings: &mut Meetings,
     stays: &mut PackedStays,
@@ -50,9 +86,9 @@ fn see_point(
     settle_point(meetings, stays.get(), occasions);
     let square = begin(meetings, field.canonical(point, mover), occasions)?;
     match field.kinds() {
-        Kinds::Squares => *stays = PackedStays::new(square, None, occasions),
+        Kinds::Squares => stays.put_square(square, occasions),
         Kinds::Both => {
-            let diamond = begin(meetings, field.canonical_diamond(point, mover), occasions)?;
+            let diamond = begin_diamond(meetings, field, mover, point, occasions)?;
             *stays = PackedStays::new(square, diamond, occasions);
         }
     }
@@ -97,6 +133,7 @@ impl Side {
     /// now ends, and its counts are added in `meetings`. Then the pattern of each point that is
     /// empty now, from the left, is found and begins. A point that had a stone and has one still
     /// has no pattern, so it is not looked at. `TallyFault::Memory` if memory was refused.
+    #[inline(always)]
     fn see_row(
         &mut self,
         meetings: &mut Meetings,
@@ -145,6 +182,7 @@ impl Side {
     /// the points that have changed since the last such move, row by row from the top, and counts
     /// the patterns of `at` as played. The board is that before the move. `TallyFault::Memory` if
     /// memory was refused.
+    #[inline(always)]
     pub(crate) fn count(
         &mut self,
         meetings: &mut Meetings,

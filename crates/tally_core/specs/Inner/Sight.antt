@@ -11,6 +11,9 @@ use Rattle.go_board.specs.declared.points.Point.{Point}
 use Rattle.go_board.specs.declared.points.Colour.{Colour}
 use Rattle.go_record.specs.declared.actions.Action.{Action}
 use Rattle.shape_core.specs.Field.{Kept}
+use Rattle.shape_core.specs.Around.{word_around}
+use Rattle.shape_core.specs.Symmetry.{canonical_of}
+use Rattle.shape_core.specs.declared.words.Kind.TheVariants as kind
 use Rattle.tally_core.specs.Occasions.{occasion_of}
 use Rattle.tally_core.specs.Counts.{kinds_of, patterns_at, row_of}
 use Rattle.tally_core.specs.Inner.Times.{times_in}
@@ -46,6 +49,10 @@ StaysWith before side after new = (shape : ℕ) → there_with after new shape �
 -- the patterns of a point of a field
 abbrev pub here_on : Kept → Colour → Point → List ℕ
 here_on field mover point = patterns_here field.kinds field.board.size (position_of field.board) mover point
+
+-- the diamond of a point of a field
+abbrev pub diamond_on : Kept → Colour → Point → ℕ
+diamond_on field mover point = canonical_of (word_around kind.Diamond field.board.size (position_of field.board) point) mover
 
 -- the patterns of all points of a field
 abbrev pub seen_on : Kept → Colour → List ℕ

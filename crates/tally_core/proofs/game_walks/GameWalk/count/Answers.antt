@@ -6,7 +6,6 @@ use Rattle.go_board.specs.declared.points.Colour.TheVariants as colour
 use Rattle.go_record.specs.declared.actions.Action.TheVariants as deed
 use Rattle.tally_core.specs.Walk.{shapes_of}
 use Rattle.tally_core.specs.Inner.Standing.{CountsOccasions}
-use Rattle.tally_core.specs.Inner.Sight.{IsSeenOn}
 use Rattle.tally_core.specs.declared.game_walks.GameWalk.{GameWalk}
 use Rattle.tally_core.proofs.OneOccasion.{IsOccasion, side-extended, side-seen, occasion-done, occasion-none, nothing-counted, black-counted, white-counted}
 use Rattle.tally_core.proofs.game_walks.GameWalk.count.Goals as goal
@@ -20,12 +19,12 @@ returns-in_ok-count-in-Black-clause-counted c =
     let e = c.in_ok-count-in-Black.ensures in
     let empty : position at ≡ stone.Empty = search rules in
     let after : GameWalk = record walk { meetings = c.count.new.meetings; black = c.count.new.self } in
-    let counted : IsOccasion field c.in-Move.colour at walk.meetings after.meetings walk.black after.black =
+    let counted : IsOccasion field colour.Black at walk.meetings after.meetings walk.black after.black =
     record { occasions = e.occasions; there = e.there; played = e.played; meets = e.meets } in
     black-counted walk after at _
     (occasion-done position c.args.action colour.Black at (c.in-Move.is ∙ ap (λ (mover : Colour). deed.Move mover at) c.in-Black.is) empty)
     c.requires.sides.white refl
-    (subst (λ (mover : Colour). IsOccasion field mover at walk.meetings after.meetings walk.black after.black) c.in-Black.is counted)
+    counted
 
 pub returns-in_ok-count-in-Black-clause-sides : goal.returns-in_ok-count-in-Black-clause-sides
 returns-in_ok-count-in-Black-clause-sides c =
@@ -34,8 +33,7 @@ returns-in_ok-count-in-Black-clause-sides c =
     let position = position_of field.board in
     let e = c.in_ok-count-in-Black.ensures in
     record {
-      black = side-seen field.kinds field.board.size position colour.Black (shapes_of c.count.new.meetings) c.count.new.self
-          (subst (λ (mover : Colour). IsSeenOn field mover c.count.new.meetings c.count.new.self) c.in-Black.is e.seen);
+      black = side-seen field.kinds field.board.size position colour.Black (shapes_of c.count.new.meetings) c.count.new.self e.seen;
       white = side-extended field.kinds field.board.size position colour.White (shapes_of walk.meetings) (shapes_of c.count.new.meetings) walk.white e.meets.extends c.requires.sides.white;
     }
 
@@ -48,12 +46,12 @@ returns-in_ok-count-in-White-clause-counted c =
     let e = c.in_ok-count-in-White.ensures in
     let empty : position at ≡ stone.Empty = search rules in
     let after : GameWalk = record walk { meetings = c.count-in-White.new.meetings; white = c.count-in-White.new.self } in
-    let counted : IsOccasion field c.in-Move.colour at walk.meetings after.meetings walk.white after.white =
+    let counted : IsOccasion field colour.White at walk.meetings after.meetings walk.white after.white =
     record { occasions = e.occasions; there = e.there; played = e.played; meets = e.meets } in
     white-counted walk after at _
     (occasion-done position c.args.action colour.White at (c.in-Move.is ∙ ap (λ (mover : Colour). deed.Move mover at) c.in-White.is) empty)
     c.requires.sides.black refl
-    (subst (λ (mover : Colour). IsOccasion field mover at walk.meetings after.meetings walk.white after.white) c.in-White.is counted)
+    counted
 
 pub returns-in_ok-count-in-White-clause-sides : goal.returns-in_ok-count-in-White-clause-sides
 returns-in_ok-count-in-White-clause-sides c =
@@ -62,8 +60,7 @@ returns-in_ok-count-in-White-clause-sides c =
     let position = position_of field.board in
     let e = c.in_ok-count-in-White.ensures in
     record {
-      white = side-seen field.kinds field.board.size position colour.White (shapes_of c.count-in-White.new.meetings) c.count-in-White.new.self
-          (subst (λ (mover : Colour). IsSeenOn field mover c.count-in-White.new.meetings c.count-in-White.new.self) c.in-White.is e.seen);
+      white = side-seen field.kinds field.board.size position colour.White (shapes_of c.count-in-White.new.meetings) c.count-in-White.new.self e.seen;
       black = side-extended field.kinds field.board.size position colour.Black (shapes_of walk.meetings) (shapes_of c.count-in-White.new.meetings) walk.black e.meets.extends c.requires.sides.black;
     }
 
