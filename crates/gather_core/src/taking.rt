@@ -14,7 +14,7 @@ ghost use Rattle.gather_core.specs.Numbering.{AreNumbered};
 use crate::numbering::number_entries;
 use harvest_faults::HarvestFault;
 use probe_core::ProbeOrder;
-use range_core::{Cuts, EntryList, Lists, Range, Sums, WORD_RANGES};
+use range_core::{Cuts, Lists, PLACE_LISTS, Range, Sums, WORD_RANGES};
 use shape_dict::Entry;
 use slot_table::{Pass, SlotTable};
 use std::alloc::Global;
@@ -47,15 +47,16 @@ struct Workspace {
     /// The sums of the range that is added up.
     sums: Sums,
     /// The summed entries of that range.
-    entries: EntryList,
+    entries: Vec<Entry>,
     /// The entries of all ranges so far, in a list for each range of words.
     words: Lists,
     /// Whether each pattern so far has its number in the table.
     numbered: bool,
 }
 
-/// Gives the patterns of `entries` numbers in the table, unless `numbered` is false: the numbers
-/// ran out before. Returns whether they have lasted so far.
+/// Gives the patterns of `entries`, those of a range, numbers in the table. It gives none if
+/// `numbered` is false, since a pattern before them has none, or if the range has too many: to fill
+/// a table to its last slot takes long. Returns whether all patterns have numbers so far.
 fn number_more<O: ProbeOrder>(
     table: &SlotTable<O>,
     pass: &mut Pass<O>,
@@ -68,8 +69,9 @@ fn number_more<O: ProbeOrder>(
     ensures before { result ≡ true → numbered ≡ true }
     ensures numbered { result ≡ true → AreNumbered table.now.slots pass.new.seen entries.now }
 {
-    // Once a pattern has no number, numbers for others are of no use and cost time.
-    if !numbered {
+    // A range twice as large as its part of the table tells that all ranges have more patterns than
+    // there are slots, since a hash parts them; and once one has no number, others are of no use.
+    if !numbered || entries.len() > table.capacity().slots() / PLACE_LISTS * 2 + 64 {
         return false;
     }
     number_entries(table, pass, entries).is_ok()
@@ -101,7 +103,7 @@ fn take_range<O: ProbeOrder>(
     range.sum_to(numbering.alloc, &mut work.sums, &mut work.entries)?;
     let entries = work.entries.as_slice();
     work.numbered = number_more(numbering.table, pass, entries, work.numbered);
-    work.words.deal(numbering.cuts, &work.entries)?;
+    work.words.deal(numbering.cuts, entries)?;
     Ok(())
 }
 
@@ -125,7 +127,7 @@ fn take_alone<O: ProbeOrder>(
     let mut ranges = ranges;
     let mut work = Workspace {
         sums: Sums::new(numbering.alloc),
-        entries: EntryList::new(numbering.alloc),
+        entries: Vec::new(numbering.alloc),
         words: Lists::empty(numbering.alloc, WORD_RANGES, numbering.room)?,
         numbered: true,
     };
@@ -143,43 +145,6 @@ fn take_alone<O: ProbeOrder>(
         pass,
         lists,
         numbered,
-    })
-}
-
-/// Puts together what two threads have made of their ranges: all patterns are numbered if those of
-/// both are. The pass gets the calls of both.
-///
-/// # Errors
-///
-/// `Memory` if memory was refused.
-fn both_taken<O: ProbeOrder>(
-    numbering: &Numbering<'_, O>,
-    low: Taken<O>,
-    high: Taken<O>,
-) -> Result<Taken<O>, HarvestFault>
-    requires low { (ranges : List (List Entry)) × IsTaken numbering.now ranges low }
-    requires high { (ranges : List (List Entry)) × IsTaken numbering.now ranges high }
-    ensures taken { (front back : List (List Entry)) → IsTaken numbering.now front low
-        → IsTaken numbering.now back high
-        → IfOk result (IsTaken numbering.now (front ++ back)) }
-    ensures fault { IfErr result (λ found. found ≡ fault.Memory) }
-{
-    let Taken {
-        mut pass,
-        mut lists,
-        numbered,
-    } = low;
-    let Taken {
-        pass: theirs,
-        lists: mut more,
-        numbered: also,
-    } = high;
-    numbering.table.absorb(&mut pass, theirs);
-    lists.append(&mut more)?;
-    Ok(Taken {
-        pass,
-        lists,
-        numbered: numbered && also,
     })
 }
 
@@ -217,7 +182,23 @@ fn take_both<R: Threads + Sync, O: ProbeOrder + Send + Sync>(
             ensures fault { IfErr result (λ found. found ≡ fault.Memory) }
         { take_ranges(rt, numbering, depth, theirs, high) },
     );
-    both_taken(numbering, low?, high?)
+    let Taken {
+        mut pass,
+        mut lists,
+        numbered,
+    } = low?;
+    let Taken {
+        pass: theirs,
+        lists: mut more,
+        numbered: also,
+    } = high?;
+    numbering.table.absorb(&mut pass, theirs);
+    lists.append(&mut more)?;
+    Ok(Taken {
+        pass,
+        lists,
+        numbered: numbered && also,
+    })
 }
 
 /// Adds up ranges by places, gives their patterns numbers in the table, and returns their entries

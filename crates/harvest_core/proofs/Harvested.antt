@@ -1,11 +1,10 @@
 -- Shares that were worked from an input and have each of its games once: they give its dictionary.
-use Rattle.std.proofs.Common.{◌≡◌, ℕ, ◌+◌, ◌<◌, ◌≤◌, ◌==◌, true, false, cond, suc, List, [], ◌∷◌, ◌++◌, length, map, Some, refl, ap, ap₂, sym, subst, ◌∙◌, arith, add-zero, All, Contains}
+use Rattle.std.proofs.Common.{◌≡◌, ℕ, ◌+◌, ◌<◌, ◌≤◌, ◌==◌, true, false, cond, suc, List, [], ◌∷◌, ◌++◌, length, map, Some, refl, ap, ap₂, sym, subst, ◌∙◌, arith, add-zero, All}
 use Rattle.std.specs.Prelude.{slice_get}
 use Rattle.std.specs.List.{AllByRecursion, AllZip}
-use Rattle.std.specs.List.Sorted.{IsStrictlyIncreasing}
 use Rattle.std.proofs.lemmas.Bool.Decides.{nat_tests}
 use Rattle.std.proofs.lemmas.List.{map-append}
-use Rattle.std.proofs.lemmas.List.Elements.{All-from_recursion, recursion_from_All, All-contains}
+use Rattle.std.proofs.lemmas.List.Elements.{All-from_recursion, recursion_from_All}
 use Rattle.std.proofs.lemmas.List.Sums.{sum_by-cons}
 use Rattle.std.proofs.lemmas.Option.{same_Some, slice_get_within}
 use Rattle.sgf_core.specs.Tree.{GameTree}
@@ -13,15 +12,13 @@ use Rattle.sgf_core.specs.Next.{HasNoTree}
 use Rattle.go_record.specs.Actions.{Actions}
 use Rattle.shape_core.specs.declared.words.Kinds.{Kinds}
 use Rattle.shape_core.specs.Word.{count_from}
-use Rattle.shape_dict.specs.declared.entries.Entry.{Entry}
-use Rattle.shape_dict.specs.Contents.{Contents, entry_of}
+use Rattle.shape_dict.specs.Contents.{Contents}
 use Rattle.tally_core.specs.Occasions.{AreOccasions}
 use Rattle.tally_core.specs.Counts.{Replayed}
 use Rattle.game_core.specs.Collection.{AreTrees}
 use Rattle.tally_core.specs.Collection.{AreReplayed}
 use Rattle.tally_core.specs.Counted.{IsCounted}
 use Rattle.game_core.specs.declared.reports.Report.{Report}
-use Rattle.tally_core.specs.Inner.Entries.{shapes_of}
 use Rattle.game_core.specs.Games.{HasReadAll}
 use Rattle.game_core.proofs.OneGame.{games_of, one_game}
 use Rattle.gather_core.specs.Gathering.{AreWithin, HaveGames, IsGathered, all_added, replayed_at, replayed_games}

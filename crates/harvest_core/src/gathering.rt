@@ -82,31 +82,6 @@ fn dictionary_of<R: Threads + Sync>(
     })
 }
 
-/// Returns the table and what was counted while it was made, unless one of them failed.
-///
-/// # Errors
-///
-/// The fault of the count; else `Memory` if memory for the table was refused.
-fn both_of(
-    shared: &Shared<'_, '_>,
-    made: Result<Numbering, HarvestFault>,
-    counts: Result<ThreadCounts, HarvestFault>,
-) -> Result<(Numbering, ThreadCounts), HarvestFault>
-    requires pass { IfOk made (λ numbering. IsPassOf numbering.table numbering.pass) }
-    requires refused { IfErr made (λ found. found ≡ fault.Memory) }
-    requires counts { IfOk counts (AreThreadCounts shared.now.bytes.now shared.now.kinds) }
-    requires fault { IfErr counts (IsCountRefused shared.now.bytes.now) }
-    ensures pass { IfOk result (λ both. IsPassOf both.0.table both.0.pass) }
-    ensures counts { IfOk result
-        (λ both. AreThreadCounts shared.now.bytes.now shared.now.kinds both.1) }
-    ensures fault { IfErr result (IsCountRefused shared.now.bytes.now) }
-{
-    // For the proof alone: the contract speaks of `shared`.
-    let _ = shared;
-    let counts = counts?;
-    Ok((made?, counts))
-}
-
 /// Counts all games of an input, and makes a table of this capacity (number of slots) meanwhile, in
 /// one more thread if one can be started. Returns the table and what all threads have counted.
 ///
@@ -143,7 +118,8 @@ fn count_beside_table<'q, 'a, R: Threads + Wait + Sync, G: Gate>(
             ensures fault { IfErr result (IsCountRefused shared.entry.now.bytes.now) }
         { count_all(rt, shared, gate, games, endpoint) },
     );
-    both_of(shared, made, counts)
+    let counts = counts?;
+    Ok((made?, counts))
 }
 
 /// Counts the collection `bytes` by words in several threads, and returns its dictionary, and how

@@ -148,7 +148,7 @@ pub fn harvest<R: Threads + Wait + Sync, G: Gate>(
         gate,
     )?;
     let counted = within(alloc, kinds, most, bytes, counted)?;
-    if !numbered && likely < k {
+    if !numbered {
         number_again(alloc, k, &counted.dictionary)?;
     }
     Ok(counted)

@@ -1,13 +1,25 @@
 -- What rows count of each pattern, where each pattern has one row at most.
-use Rattle.std.proofs.Common.{◌≡◌, ◌≢◌, ℕ, zero, suc, ◌+◌, ◌<◌, true, false, cond, List, [], ◌∷◌, ◌++◌, length, take, get_or, slice_set, Option, Some, None, refl, ap, ap₂, sym, ◌∙◌, arith, ⊎_elim}
+use Rattle.std.proofs.Common.{◌≡◌, ◌≢◌, ℕ, zero, suc, ◌+◌, ◌<◌, true, false, cond, List, [], ◌∷◌, ◌++◌, length, take, get_or, slice_set, Option, Some, None, All, refl, ap, ap₂, sym, ◌∙◌, arith, ⊎_elim}
 use Rattle.std.proofs.lemmas.Bool.{cases_eq}
 use Rattle.std.proofs.lemmas.Bool.Decides.{nat_tests}
+use Rattle.std.proofs.lemmas.List.Elements.{All-nil, All-cons, All-head, All-tail}
+use Rattle.range_core.specs.Entries.{IsShape, IsCountedEntry}
 use Rattle.shape_dict.specs.declared.entries.Entry.{Entry}
 use Rattle.range_core.specs.Totals.{Total, earlier, together, count_at, total_of}
 use Rattle.range_core.specs.Rows.{is_taken, taken_of, row_at, IsFound}
 use Rattle.range_core.specs.Inner.Sums.{summed_row}
 use Rattle.std.proofs.lemmas.List.{take_more}
 use Rattle.range_core.proofs.Adding.{together_none, together_assoc, count_other}
+
+-- rows that are taken count something
+pub taken_counted : (rows : List Entry) → All IsShape rows → All IsCountedEntry (taken_of rows)
+taken_counted [] shapes = All-nil IsCountedEntry
+taken_counted (row ∷ rows) shapes =
+    let rest = taken_counted rows (All-tail IsShape row rows shapes) in
+    elim (is_taken row) as (λ b. is_taken row ≡ b → All IsCountedEntry (cond b (row ∷ taken_of rows) (taken_of rows))) [
+      | true ↦ λ taken. All-cons IsCountedEntry row (taken_of rows) (All-head IsShape row rows shapes, let some : 0 < row.there + row.played = Prim.grind (arith, nat_tests) in some) rest
+      | false ↦ λ free. rest
+    ] refl
 
 -- no row but that of one place is of a pattern
 abbrev pub StandsOnlyAt : List Entry → ℕ → ℕ → Type 0

@@ -4,7 +4,6 @@
 
 mod cuts;
 mod dealing;
-mod entry_lists;
 mod lists;
 mod ordering;
 mod pieces;
@@ -16,7 +15,6 @@ mod records;
 mod sums;
 
 pub use cuts::{Cuts, WORD_RANGES};
-pub use entry_lists::EntryList;
 pub use lists::Lists;
 pub use ordering::in_order;
 pub use pieces::pieces_in_order;

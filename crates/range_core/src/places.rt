@@ -2,7 +2,7 @@
 //! addressing from place to next place.
 ghost use Rattle.std.specs.Prelude.{◌≡◌, ◌+◌, ◌<◌, ℕ, [], not, length, IfSome, OnOk};
 ghost use Rattle.range_core.specs.Entries.{IsShape};
-ghost use Rattle.range_core.specs.Places.{mixed_of, home_of};
+ghost use Rattle.range_core.specs.Places.{home_of};
 ghost use Rattle.range_core.specs.Rows.{next_place, is_taken, taken_of, AreRows, IsFound};
 
 use go_board::Colour;
@@ -14,14 +14,6 @@ use std::alloc::AllocError;
 /// for the first places of the shared table. So each range of patterns has its part of that table.
 pub const MULTIPLIER: u64 = 0x9E37_79B9_7F4A_7C15;
 
-/// Returns the product of a pattern's word and `factor`, from which its first place is taken.
-#[inline(always)]
-fn mixed(factor: u64, shape: Shape) -> u64
-    ensures { result ≡ mixed_of factor shape }
-{
-    shape.word().bits().wrapping_mul(factor)
-}
-
 /// Returns the place, counted from 0, at which a search for a pattern begins among `places` places.
 /// `factor` is the number by which its word is multiplied for that, such as `MULTIPLIER`.
 #[inline(always)]
@@ -30,7 +22,8 @@ pub fn home(factor: u64, shape: Shape, places: usize) -> usize
     ensures value { result ≡ home_of factor places shape }
     ensures within { result < places }
 {
-    ((u128::from(mixed(factor, shape)) * places as u128) >> 64) as usize
+    let mixed = shape.word().bits().wrapping_mul(factor);
+    ((u128::from(mixed) * places as u128) >> 64) as usize
 }
 
 /// Returns the place after `place`; the first of the `places` places comes after the last.

@@ -4,7 +4,6 @@ ghost use Rattle.std.specs.Prelude.{◌≡◌, ◌+◌, ◌^◌, ◌≤◌, IfSo
 ghost use Rattle.range_core.specs.Totals.{earlier};
 ghost use Rattle.range_core.specs.Inner.Sums.{summed_row};
 
-use crate::entry_lists::EntryList;
 use crate::place_lists::PLACE_LISTS;
 use crate::places::{MULTIPLIER, find, free_rows, is_free};
 use crate::record_lists::RecordList;
@@ -94,6 +93,7 @@ impl Sums {
     ghost use Rattle.std.specs.Prelude.{◌≡◌, ◌++◌, ◌+◌, ◌<◌, ℕ, [], All, IfOk, OnOk};
     ghost use Rattle.std.specs.Bool.{OnTrue};
     ghost use Rattle.shape_dict.specs.declared.entries.Entry.{Entry};
+    ghost use Rattle.range_core.specs.Entries.{IsCountedEntry};
     ghost use Rattle.range_core.specs.Totals.{count_at, together, total_of};
 
     /// Makes an empty map. It takes no memory.
@@ -172,8 +172,9 @@ impl Sums {
     /// # Errors
     ///
     /// `AllocError` if memory was refused: some may have been appended then.
-    pub(crate) fn append_to(&self, list: &mut EntryList) -> Result<(), AllocError>
-        ensures { OnOk result (list.new ≡ list.old ++ self.now) }
+    pub(crate) fn append_to(&self, list: &mut Vec<Entry>) -> Result<(), AllocError>
+        ensures entries { OnOk result (list.new.items ≡ list.old.items ++ self.now) }
+        ensures counted { OnOk result (All IsCountedEntry self.now) }
     {
         for row in self.rows.as_slice() {
             if !is_free(row) {
