@@ -40,8 +40,8 @@ fn visit(size: Size, stones: &[Stone], group: &mut PointSet, stone: Stone, point
 }
 
 /// Returns whether the group of the stone on `point` has a liberty. `group` is cleared and used to
-/// collect the stones: if there is no liberty, it has the whole group afterwards. It is out of line,
-/// so that `remove_if_dead` can be inlined.
+/// collect the stones: if there is no liberty, it has the whole group afterwards. It is out of
+/// line, so that `remove_if_dead` can be inlined.
 #[inline(never)]
 pub(crate) fn is_alive(size: Size, stones: &[Stone], group: &mut PointSet, point: Point) -> bool
     requires on_board { IsOn size point }

@@ -55,9 +55,9 @@ fn write_alone<R: Threads + Sync, W: Write>(
     }
 }
 
-/// Counts the parts while a text waits in `feed`, which did not fit into the last of them: it counts
-/// `part`, fills `next` meanwhile, stores the dictionary of `part` in `spills`, and goes on with
-/// `next`. At the end `part` has the last texts, which are not counted yet.
+/// Counts the parts while a text waits in `feed`, which did not fit into the last of them. It
+/// counts `part`, fills `next` meanwhile, stores the dictionary of `part` in `spills`, and goes on
+/// with `next`. At the end `part` has the last texts, which are not counted yet.
 ///
 /// # Errors
 ///
@@ -169,11 +169,11 @@ fn write_joined<R: Threads + Sync, S: Spills + Sync, W: Write>(
 ///
 /// The texts are counted in parts. A part has as many texts as `plan.most` bytes allow, or one text
 /// that is larger. `harvest_all` counts a part by `plan.workers` workers; its comment says on how
-/// many threads. While a part is counted the texts of the next one are read. If there is more than one
-/// part, the dictionary of each is stored in `spills`, which must be empty at first, and `run_merge`
-/// joins them. What is written is the same for each `plan.workers` and `plan.most`. It takes memory
-/// for two parts and one text more, and for what `harvest_all` and `run_merge` take. The method is
-/// this project's own.
+/// many threads. While a part is counted the texts of the next one are read. If there is more than
+/// one part, the dictionary of each is stored in `spills`, which must be empty at first, and
+/// `run_merge` joins them. What is written is the same for each `plan.workers` and `plan.most`. It
+/// takes memory for two parts and one text more, and for what `harvest_all` and `run_merge` take.
+/// The method is this project's own.
 ///
 /// # Errors
 ///
