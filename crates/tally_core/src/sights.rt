@@ -1,16 +1,14 @@
 //! Counts a move of one colour onto an empty point (an occasion): only the points that have changed
 //! since the last one are looked at. A field is a board that keeps the pattern words of its points.
-ghost use Rattle.std.specs.Prelude.{◌≡◌, ◌+◌, ◌<◌, ◌^◌, ◌∷◌, ℕ, [], length, slice_index};
+ghost use Rattle.std.specs.Prelude.{◌≡◌, ◌+◌, ◌-◌, ◌<◌, ◌^◌, ◌∷◌, ℕ, [], length, slice_index};
 ghost use Rattle.std.specs.Prelude.{IfOk, IfErr, OnOk};
 ghost use Rattle.go_board.specs.Point.{IsOn};
 ghost use Rattle.go_board.specs.Board.{position_of};
 ghost use Rattle.go_board.specs.declared.points.Point.{Point};
 ghost use Rattle.shape_core.specs.declared.words.Kinds.TheVariants as Kinds;
 ghost use Rattle.tally_core.specs.Walk.{shapes_of, played_among};
-ghost use Rattle.tally_core.specs.Inner.Meeting.{Meets, CountsStay};
-ghost use Rattle.tally_core.specs.Inner.Packing.{BeginsAt};
-ghost use Rattle.tally_core.specs.Inner.Standing.{IsStay, AreStays, there_with, AreStanding};
-ghost use Rattle.tally_core.specs.Inner.Standing.{patterns_of, patterns_staying, waits};
+ghost use Rattle.tally_core.specs.Inner.Meeting.{Meets, CountsStay, IsMet};
+ghost use Rattle.tally_core.specs.Inner.Standing.{AreStays, there_with, patterns_staying, AreStanding};
 ghost use Rattle.tally_core.specs.Inner.Sight.{Fit, there_at, PlayedStays, StaysAt, HasLooked};
 ghost use Rattle.tally_core.specs.Inner.Sight.{AllFilled, points_in, changed_in, here_on};
 ghost use Rattle.tally_core.specs.Inner.Sight.{diamond_on, seen_on, played_on};
@@ -25,34 +23,29 @@ use crate::sides::Side;
 use crate::stays::{Stay, begin, play, settle_point};
 use go_board::{Colour, Point};
 use shape_core::{Field, Kinds};
+use std::alloc::AllocError;
 
-/// Finds the diamond of a `point`, with `mover` to move, in `meetings`, or adds it, as `begin` does
-/// for a shape. It is out of line, so that the loop over points has enough registers of the
-/// processor where squares alone are counted.
+/// Returns the index in `meetings` of the diamond of a `point`, with `mover` to move, as
+/// `Meetings::meet` does. It is out of line, so that the loop over points has enough registers of
+/// the processor where squares alone are counted.
 #[cold]
 #[inline(never)]
-fn begin_diamond(
+fn meet_diamond(
     meetings: &mut Meetings,
     field: &Field,
     mover: Colour,
     point: Point,
-    occasions: u64,
-) -> Result<Option<Stay>, TallyFault>
+) -> Result<usize, AllocError>
     requires on_board { IsOn field.now.board.size point }
     requires kept { field.now.kinds ≡ Kinds.Both }
-    ensures stay { IfOk result (IsStay (length (shapes_of meetings.new)) occasions) }
-    ensures begins { IfOk result (BeginsAt occasions) }
-    ensures pattern { IfOk result (λ stay. patterns_of (shapes_of meetings.new) stay
-        ≡ diamond_on field.now mover point ∷ []) }
-    ensures waits { IfOk result (λ stay. (other : ℕ) →
-        waits (shapes_of meetings.new) occasions stay other ≡ 0) }
+    ensures met { IfOk result (IsMet (shapes_of meetings.new) (diamond_on field.now mover point)) }
+    ensures small { IfOk result (λ at. at < 2 ^ 63 - 1) }
     ensures meets { OnOk result (Meets (shapes_of meetings.old)
         (diamond_on field.now mover point ∷ [])
         (shapes_of meetings.new)) }
     ensures counts { OnOk result (CountsStay meetings.old meetings.new) }
-    ensures fault { IfErr result (λ found. found ≡ fault.Memory) }
 {
-    begin(meetings, field.canonical_diamond(point, mover), occasions)
+    meetings.meet(field.canonical_diamond(point, mover))
 }
 
 /// Looks again at an empty `point` that has changed: adds to `meetings` how often the patterns in
@@ -88,8 +81,9 @@ fn see_point(
     match field.kinds() {
         Kinds::Squares => stays.put_square(square, occasions),
         Kinds::Both => {
-            let diamond = begin_diamond(meetings, field, mover, point, occasions)?;
-            *stays = PackedStays::new(square, diamond, occasions);
+            let meeting = meet_diamond(meetings, field, mover, point)?;
+            let since = occasions;
+            *stays = PackedStays::new(square, Some(Stay { meeting, since }), occasions);
         }
     }
     Ok(())
