@@ -6,11 +6,16 @@ use harvest_faults::HarvestFault;
 use sgf_core::SgfFault;
 use shape_core::{GlyphFault, Word};
 use shape_dict::DictFault;
+use std::alloc::{AllocError, Global};
 use std::test::Fail;
+
+/// Whether the fault has this line and this status.
+fn says(alloc: Global, fault: RunFault, line: &str, status: u8) -> Result<bool, AllocError> {
+    Ok(fault.to_string(alloc)?.as_str() == line && status_of(&fault) == status)
+}
 
 #[test]
 fn faults_have_lines_and_statuses(rt: HostRuntime) -> Result<(), Fail> {
-    let alloc = rt.alloc();
     let dict = |n, fault| RunFault::Dict { n, fault };
     for (fault, line, status) in [
         (
@@ -92,8 +97,7 @@ fn faults_have_lines_and_statuses(rt: HostRuntime) -> Result<(), Fail> {
         ),
         (RunFault::Memory, "M1 no memory", 5),
     ] {
-        assert!(rt; fault.to_string(alloc)?.as_str() == line);
-        assert!(rt; status_of(&fault) == status);
+        assert!(rt; says(rt.alloc(), fault, line, status)?, "{line}");
     }
     Ok(())
 }
@@ -155,8 +159,7 @@ fn faults_of_games_have_lines_and_statuses(rt: HostRuntime) -> Result<(), Fail> 
             3,
         ),
     ] {
-        assert!(rt; fault.to_string(rt.alloc())?.as_str() == line);
-        assert!(rt; status_of(&fault) == status);
+        assert!(rt; says(rt.alloc(), fault, line, status)?, "{line}");
     }
     Ok(())
 }

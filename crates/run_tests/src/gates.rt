@@ -88,30 +88,54 @@ fn two_at_once() -> TwoAtOnce {
     }
 }
 
+/// Whether two of ten games were in work at once while this number of workers counted them, and the
+/// dictionary is theirs.
+fn is_together<R: Threads + Wait + Sync>(
+    rt: &R,
+    alloc: Global,
+    workers: u8,
+    bytes: &[u8],
+) -> Result<bool, Fail> {
+    let gate = two_at_once();
+    let text = text_of_harvest(rt, alloc, workers, bytes, &gate)?;
+    Ok(text.as_slice() == OF_10.as_bytes() && was_together(&gate))
+}
+
 #[test]
 fn gate_two_at_once(rt: HostRuntime) -> Result<(), Fail> {
-    let alloc = rt.alloc();
-    let bytes = collection(alloc, 5)?;
+    let bytes = collection(rt.alloc(), 5)?;
     for workers in [2, 7, 64] {
-        let gate = two_at_once();
-        let text = text_of_harvest(&rt, alloc, workers, &bytes, &gate)?;
-        assert!(rt; text.as_slice() == OF_10.as_bytes(), "{workers} workers");
-        assert!(rt; was_together(&gate), "{workers} workers");
+        assert!(rt;
+            is_together(&rt, rt.alloc(), workers, &bytes)?,
+            "{workers} workers"
+        );
     }
     Ok(())
 }
 
+/// Whether two of ten games were in work at once while this number of workers counted them over a
+/// table, and the dictionary is theirs.
+fn is_together_over<R: Threads + Wait + Sync>(
+    rt: &R,
+    alloc: Global,
+    order: OddStep,
+    workers: u8,
+    bytes: &[u8],
+) -> Result<bool, Fail> {
+    let gate = two_at_once();
+    let text = text_over_new(rt, alloc, order, workers, bytes, &gate)?;
+    Ok(text.as_slice() == OF_10.as_bytes() && was_together(&gate))
+}
+
 #[test]
 fn gate_two_at_once_over_a_table(rt: HostRuntime) -> Result<(), Fail> {
-    let alloc = rt.alloc();
-    let bytes = collection(alloc, 5)?;
-    let capacity = capacity_of(&rt, 2);
+    let order = OddStep {
+        capacity: capacity_of(&rt, 2),
+    };
+    let bytes = collection(rt.alloc(), 5)?;
     // A single worker has all of so few games: the queue has room for them.
     for workers in [2, 7, 64] {
-        let gate = two_at_once();
-        let text = text_over_new(&rt, alloc, OddStep { capacity }, workers, &bytes, &gate)?;
-        assert!(rt; text.as_slice() == OF_10.as_bytes(), "{workers} workers");
-        assert!(rt; was_together(&gate), "{workers} workers");
+        assert!(rt; is_together_over(&rt, rt.alloc(), order, workers, &bytes)?);
     }
     Ok(())
 }
@@ -158,19 +182,34 @@ fn has_helped(gate: &ReaderHelps) -> bool {
     gate.helped.load(Ordering::SeqCst) > 0 && gate.given_up.load(Ordering::SeqCst) == 0
 }
 
+/// Whether the thread that reads counts some of 300 games while the workers wait for that, and the
+/// dictionary is theirs.
+fn is_helped<R: Threads + Wait + Sync>(
+    rt: &R,
+    alloc: Global,
+    order: OddStep,
+    workers: u8,
+    bytes: &[u8],
+) -> Result<bool, Fail> {
+    let gate = ReaderHelps {
+        helped: AtomicU64::new(0),
+        given_up: AtomicU64::new(0),
+    };
+    let text = text_over_new(rt, alloc, order, workers, bytes, &gate)?;
+    Ok(text.as_slice() == OF_300.as_bytes() && has_helped(&gate))
+}
+
 #[test]
 fn reader_helps(rt: HostRuntime) -> Result<(), Fail> {
-    let alloc = rt.alloc();
-    let bytes = collection(alloc, 150)?;
-    let capacity = capacity_of(&rt, 2);
+    let order = OddStep {
+        capacity: capacity_of(&rt, 2),
+    };
+    let bytes = collection(rt.alloc(), 150)?;
     for workers in CREWS {
-        let gate = ReaderHelps {
-            helped: AtomicU64::new(0),
-            given_up: AtomicU64::new(0),
-        };
-        let text = text_over_new(&rt, alloc, OddStep { capacity }, workers, &bytes, &gate)?;
-        assert!(rt; text.as_slice() == OF_300.as_bytes(), "{workers} workers");
-        assert!(rt; has_helped(&gate), "{workers} workers");
+        assert!(rt;
+            is_helped(&rt, rt.alloc(), order, workers, &bytes)?,
+            "{workers} workers"
+        );
     }
     Ok(())
 }
@@ -193,19 +232,12 @@ impl Gate for Notes {
     }
 }
 
-/// Returns what a `Notes` gate has counted after three workers counted the collection `bytes`:
-/// first its calls for the games 0 to 9, with those for game g in the bits 4g to 4g + 3, and then
-/// all others.
-fn noted<R: Threads + Wait + Sync>(
-    rt: &R,
-    alloc: Global,
-    bytes: &[u8],
-) -> Result<(u64, u64), Fail> {
-    let gate = Notes {
-        told: AtomicU64::new(0),
-        strange: AtomicU64::new(0),
+/// Whether `count` by three workers of the collection `bytes` writes a dictionary, and calls `gate`
+/// meanwhile.
+fn is_written<R: Threads + Wait + Sync>(rt: &R, alloc: Global, gate: &Notes, bytes: &[u8]) -> bool {
+    let Ok(settings) = Settings::new(3, 2) else {
+        return false;
     };
-    let settings = Settings::new(3, 2)?;
     let mut reader = Bytes { left: bytes };
     let mut writer = Full {
         got: Vec::new(alloc),
@@ -216,18 +248,30 @@ fn noted<R: Threads + Wait + Sync>(
         alloc,
         settings,
         Text::One,
-        &gate,
+        gate,
         &mut reader,
         &mut writer,
-    )?;
+    )
+    .is_ok()
+}
+
+/// Returns what a `Notes` gate has counted after three workers counted the collection `bytes`:
+/// first its calls for the games 0 to 9, with those for game g in the bits 4g to 4g + 3, and then
+/// all others. None if the count failed.
+fn noted<R: Threads + Wait + Sync>(rt: &R, alloc: Global, bytes: &[u8]) -> Option<(u64, u64)> {
+    let gate = Notes {
+        told: AtomicU64::new(0),
+        strange: AtomicU64::new(0),
+    };
+    let is_counted = is_written(rt, alloc, &gate, bytes);
     let told = gate.told.load(Ordering::SeqCst);
-    Ok((told, gate.strange.load(Ordering::SeqCst)))
+    let strange = gate.strange.load(Ordering::SeqCst);
+    is_counted.then_some((told, strange))
 }
 
 #[test]
 fn a_gate_is_told_each_game(rt: HostRuntime) -> Result<(), Fail> {
-    let alloc = rt.alloc();
-    let bytes = collection(alloc, 5)?;
-    assert_eq!(rt; noted(&rt, alloc, &bytes)?, (0x11_1111_1111, 0));
+    let bytes = collection(rt.alloc(), 5)?;
+    assert!(rt; noted(&rt, rt.alloc(), &bytes) == Some((0x11_1111_1111, 0)));
     Ok(())
 }

@@ -11,7 +11,7 @@ use plain_core::count_plain;
 use probe_core::{Capacity, Linear, OddRuns, OddStep, ProbeOrder};
 use sgf_core::SgfFault;
 use shape_core::{Kinds, Word};
-use shape_dict::{PieceDictionary, Text};
+use shape_dict::{Entry, PieceDictionary, Text};
 use slot_table::{Pass, SlotTable};
 use std::alloc::{AllocError, Global};
 use std::process::Abort;
@@ -84,19 +84,55 @@ fn report_of(games: u64, others: u64, refused: u64) -> Report {
 const OF_300: &str =
     "shapes 3 games 300 moves 450 squares 3 diamonds 3\n3fff3fcffffff 300 150 1\n3fffbfcffffff 150 150 1\n3fffffcffffff 150 150 0\n7ffcffcffffff 300 150 1\n7ffeffcffffff 150 150 1\n7fffffcffffff 150 150 0\n";
 
-#[test]
-fn any_number_of_workers_counts_the_same(rt: HostRuntime) -> Result<(), Fail> {
-    let alloc = rt.alloc();
-    let bytes = collection(alloc, 150)?;
-    let plain = count_plain(alloc, Kinds::Both, &bytes)?;
-    assert!(rt; text_of(alloc, plain.dictionary)?.as_slice() == OF_300.as_bytes());
+/// Whether a dictionary has this text in format 3.
+fn is_text(alloc: Global, counted: PieceDictionary, wanted: &str) -> Result<bool, Fail> {
+    let text = text_of(alloc, counted)?;
+    Ok(text.as_slice() == wanted.as_bytes())
+}
+
+/// Whether counting a collection on one thread gives this report and a dictionary of this text.
+fn is_plain(
+    alloc: Global,
+    kinds: Kinds,
+    bytes: &[u8],
+    report: Report,
+    wanted: &str,
+) -> Result<bool, Fail> {
+    let counted = count_plain(alloc, kinds, bytes)?;
+    let is_reported = counted.report == report;
+    Ok(is_text(alloc, counted.dictionary, wanted)? && is_reported)
+}
+
+/// Whether `harvest` gives of a collection this report and a dictionary of this text.
+fn is_harvest<R: Threads + Wait + Sync>(
+    rt: &R,
+    alloc: Global,
+    settings: Settings,
+    bytes: &[u8],
+    report: Report,
+    wanted: &str,
+) -> Result<bool, Fail> {
+    let counted = harvest(rt, alloc, settings, bytes, &FreeGate)?;
+    let is_reported = counted.report == report;
+    Ok(is_text(alloc, counted.dictionary, wanted)? && is_reported)
+}
+
+/// Whether each crew counts these squares and diamonds of a collection of 300 games.
+fn is_of_300<R: Threads + Wait + Sync>(rt: &R, alloc: Global, bytes: &[u8]) -> Result<bool, Fail> {
+    let report = report_of(300, 0, 0);
     for workers in CREWS {
         let settings = Settings::new(workers, 3)?.with(Kinds::Both);
-        let counted = harvest(&rt, alloc, settings, &bytes, &FreeGate)?;
-        assert!(rt; counted.report == report_of(300, 0, 0), "{workers} workers");
-        let text = text_of(alloc, counted.dictionary)?;
-        assert_eq!(rt; text.as_slice(), OF_300.as_bytes());
+        if !is_harvest(rt, alloc, settings, bytes, report, OF_300)? {
+            return Ok(false);
+        }
     }
+    is_plain(alloc, Kinds::Both, bytes, report, OF_300)
+}
+
+#[test]
+fn any_number_of_workers_counts_the_same(rt: HostRuntime) -> Result<(), Fail> {
+    let bytes = collection(rt.alloc(), 150)?;
+    assert!(rt; is_of_300(&rt, rt.alloc(), bytes.as_slice())?);
     Ok(())
 }
 
@@ -122,46 +158,44 @@ pub(crate) fn counted_on<R: Threads + Wait + Sync, O: ProbeOrder + Send + Sync, 
 const OF_20: &str =
     "shapes 3 games 20 moves 30 squares 3 diamonds -\n3fff3fcffffff 20 10 1\n3fffbfcffffff 10 10 1\n3fffffcffffff 10 10 0\n";
 
-/// Asserts that `counted` has the report and the dictionary that one thread counts of the twenty
-/// games in `bytes`, and that the text of that dictionary is `OF_20`.
-fn assert_20(rt: &impl Abort, alloc: Global, bytes: &[u8], counted: Counted) -> Result<(), Fail> {
-    let plain = count_plain(alloc, Kinds::Squares, bytes)?;
-    assert!(rt; counted.report == report_of(20, 0, 0) && counted.report == plain.report);
-    for dictionary in [counted.dictionary, plain.dictionary] {
-        let text = text_of(alloc, dictionary)?;
-        assert!(rt; text.as_slice() == OF_20.as_bytes());
+/// Whether a count over a new table that tries slots in this `order`, by this number of workers,
+/// has the report and the dictionary of the twenty games in `bytes`.
+fn is_of_20<R: Threads + Wait + Sync, O: ProbeOrder + Send + Sync>(
+    rt: &R,
+    alloc: Global,
+    order: O,
+    workers: u8,
+    bytes: &[u8],
+) -> Result<bool, Fail> {
+    let settings = Settings::new(workers, 0)?;
+    let counted = counted_on(rt, alloc, order, settings, bytes, &FreeGate)?;
+    let is_reported = counted.report == report_of(20, 0, 0);
+    Ok(is_text(alloc, counted.dictionary, OF_20)? && is_reported)
+}
+
+/// Whether each crew counts the twenty games in `bytes` over a table of each order.
+fn is_of_20_in_each_order<R: Threads + Wait + Sync>(
+    rt: &R,
+    alloc: Global,
+    capacity: Capacity,
+    bytes: &[u8],
+) -> Result<bool, Fail> {
+    for workers in CREWS {
+        if !is_of_20(rt, alloc, OddStep { capacity }, workers, bytes)?
+            || !is_of_20(rt, alloc, Linear { capacity }, workers, bytes)?
+            || !is_of_20(rt, alloc, OddRuns { capacity }, workers, bytes)?
+        {
+            return Ok(false);
+        }
     }
-    Ok(())
+    Ok(true)
 }
 
 #[test]
 fn any_order_of_probes_counts_the_same(rt: HostRuntime) -> Result<(), Fail> {
-    let alloc = rt.alloc();
-    let bytes = collection(alloc, 10)?;
     let capacity = capacity_of(&rt, 2);
-    for workers in CREWS {
-        let settings = Settings::new(workers, 0)?;
-        let odd = counted_on(
-            &rt,
-            alloc,
-            OddStep { capacity },
-            settings,
-            &bytes,
-            &FreeGate,
-        )?;
-        assert_20(&rt, alloc, &bytes, odd)?;
-        let linear = counted_on(&rt, alloc, Linear { capacity }, settings, &bytes, &FreeGate)?;
-        assert_20(&rt, alloc, &bytes, linear)?;
-        let runs = counted_on(
-            &rt,
-            alloc,
-            OddRuns { capacity },
-            settings,
-            &bytes,
-            &FreeGate,
-        )?;
-        assert_20(&rt, alloc, &bytes, runs)?;
-    }
+    let bytes = collection(rt.alloc(), 10)?;
+    assert!(rt; is_of_20_in_each_order(&rt, rt.alloc(), capacity, bytes.as_slice())?);
     Ok(())
 }
 
@@ -285,112 +319,169 @@ fn is_third(fault: &HarvestFault) -> bool {
     }
 }
 
+/// Returns the fault with which `harvest` refuses a collection, for a table of two slots.
+fn fault_of<R: Threads + Wait + Sync>(
+    rt: &R,
+    alloc: Global,
+    workers: u8,
+    bytes: &[u8],
+) -> Option<HarvestFault> {
+    let settings = Settings::new(workers, 1).ok()?;
+    harvest(rt, alloc, settings, bytes, &FreeGate).err()
+}
+
+/// Whether `harvest` says F1 of 2 * `pairs` games for a table of two slots.
+fn is_too_small<R: Threads + Wait + Sync>(
+    rt: &R,
+    alloc: Global,
+    workers: u8,
+    pairs: u64,
+) -> Result<bool, AllocError> {
+    let bytes = collection(alloc, pairs)?;
+    Ok(fault_of(rt, alloc, workers, bytes.as_slice()).is_some_and(|fault| is_third(&fault)))
+}
+
 #[test]
 fn a_table_too_small_by_one_pattern(rt: HostRuntime) -> Result<(), Fail> {
-    let alloc = rt.alloc();
     for (workers, pairs) in [(1, 1), (2, 5), (3, 5), (4, 5), (7, 150), (64, 150)] {
-        let bytes = collection(alloc, pairs)?;
-        let settings = Settings::new(workers, 1)?;
-        let counted = harvest(&rt, alloc, settings, &bytes, &FreeGate);
-        let fault = counted.err().ok_or("three patterns of two numbers")?;
-        assert!(rt; is_third(&fault), "{workers} workers");
+        assert!(rt;
+            is_too_small(&rt, rt.alloc(), workers, pairs)?,
+            "{workers} workers"
+        );
     }
     Ok(())
 }
 
+/// Whether `harvest` says of 2 * `pairs` games and a tree that is cut off that the tree is, though
+/// a table of two slots is too small for the games.
+fn is_cut_off<R: Threads + Wait + Sync>(
+    rt: &R,
+    alloc: Global,
+    workers: u8,
+    pairs: u64,
+) -> Result<bool, AllocError> {
+    let mut bytes = collection(alloc, pairs)?;
+    let at = bytes.len();
+    bytes.extend_from_slice(b"(;B[aa]")?;
+    let truncated = HarvestFault::Sgf(SgfFault::Truncated(at));
+    Ok(fault_of(rt, alloc, workers, bytes.as_slice()) == Some(truncated))
+}
+
 #[test]
 fn a_fault_of_the_input_is_told_before_a_full_table(rt: HostRuntime) -> Result<(), Fail> {
-    let alloc = rt.alloc();
     for (workers, pairs) in [(1, 1), (2, 5), (7, 150), (64, 150)] {
-        let mut bytes = collection(alloc, pairs)?;
-        let at = bytes.len();
-        bytes.extend_from_slice(b"(;B[aa]")?;
-        let settings = Settings::new(workers, 1)?;
-        let fault = harvest(&rt, alloc, settings, &bytes, &FreeGate).err();
-        let truncated = HarvestFault::Sgf(SgfFault::Truncated(at));
-        assert!(rt; fault == Some(truncated), "{workers} workers");
+        assert!(rt;
+            is_cut_off(&rt, rt.alloc(), workers, pairs)?,
+            "{workers} workers"
+        );
     }
     Ok(())
 }
 
 #[test]
 fn a_bad_move_refuses_its_game_alone(rt: HostRuntime) -> Result<(), Fail> {
-    let alloc = rt.alloc();
     let bytes = b"(;SZ[1];B[aa])(;SZ[9];B[jj])(;GM[2])(;SZ[1];B[aa])";
+    let wanted = "shapes 3 games 2 moves 2 squares 1 diamonds -\n3fffffcffffff 2 2 0\n";
+    let report = report_of(2, 1, 1);
     for workers in CREWS {
         let settings = Settings::new(workers, 0)?;
-        let counted = harvest(&rt, alloc, settings, bytes, &FreeGate)?;
-        assert!(rt; counted.report == report_of(2, 1, 1), "{workers} workers");
-        let text = text_of(alloc, counted.dictionary)?;
-        let wanted = "shapes 3 games 2 moves 2 squares 1 diamonds -\n3fffffcffffff 2 2 0\n";
-        assert_eq!(rt; text.as_slice(), wanted.as_bytes());
+        assert!(rt; is_harvest(&rt, rt.alloc(), settings, bytes, report, wanted)?);
     }
     Ok(())
 }
 
+/// Counts a collection by two workers over a table, which may have numbers already. Returns how
+/// many patterns it has.
+fn patterns_on<R: Threads + Wait + Sync>(
+    rt: &R,
+    alloc: Global,
+    table: &SlotTable<OddStep>,
+    pass: &mut Pass<OddStep>,
+    bytes: &[u8],
+) -> Result<usize, HarvestFault>
+    requires { IsPassOf table.now pass.old }
+    ensures { IsPassOf table.now pass.new }
+{
+    let Ok(settings) = Settings::new(2, 0) else {
+        return Err(HarvestFault::BadSettings);
+    };
+    let counted = harvest_on(rt, alloc, settings, table, pass, bytes, &FreeGate)?;
+    Ok(counted.dictionary.len())
+}
+
+/// What a count over a table of one slot returns of `ONE_POINT`; then, over the same table, of
+/// `TWO_POINTS`; and then of a game of one point after a game without a pattern.
+fn on_one_slot<R: Threads + Wait + Sync>(
+    rt: &R,
+    alloc: Global,
+    order: OddStep,
+) -> Option<[Result<usize, HarvestFault>; 3]> {
+    let (table, mut pass) = SlotTable::new(alloc, order).ok()?;
+    let first = patterns_on(rt, alloc, &table, &mut pass, ONE_POINT);
+    let other = patterns_on(rt, alloc, &table, &mut pass, TWO_POINTS);
+    let later = b"(;SZ[1]AB[aa])(;SZ[1];B[aa])";
+    let marked = patterns_on(rt, alloc, &table, &mut pass, later);
+    Some([first, other, marked])
+}
+
 #[test]
-fn a_table_of_another_input_disagrees(rt: HostRuntime) -> Result<(), Fail> {
-    let alloc = rt.alloc();
-    let settings = Settings::new(2, 0)?;
-    let capacity = capacity_of(&rt, 0);
-    let (table, mut pass) = SlotTable::new(alloc, OddStep { capacity })?;
-    let first = harvest_on(
-        &rt, alloc, settings, &table, &mut pass, ONE_POINT, &FreeGate,
-    )?;
-    assert_eq!(rt; first.dictionary.len(), 1);
-    let other = harvest_on(
-        &rt, alloc, settings, &table, &mut pass, TWO_POINTS, &FreeGate,
-    );
+fn a_table_of_another_input_disagrees(rt: HostRuntime) {
     let stranger = HarvestFault::Stranger {
         number: 0,
         of_share: None,
         of_table: Some(word_of(&rt, ALONE)),
     };
-    assert!(rt; other.err() == Some(stranger));
-    let later = b"(;SZ[1]AB[aa])(;SZ[1];B[aa])";
-    let marked = harvest_on(&rt, alloc, settings, &table, &mut pass, later, &FreeGate);
     let marks = HarvestFault::Marks {
         number: 0,
         of_shares: Some(1),
         of_table: Some(0),
     };
-    assert!(rt; marked.err() == Some(marks));
-    Ok(())
+    let capacity = capacity_of(&rt, 0);
+    let found = on_one_slot(&rt, rt.alloc(), OddStep { capacity });
+    assert!(rt; found == Some([Ok(1), Err(stranger), Err(marks)]));
+}
+
+/// Adds to these sums the words, both counts and the first games of entries.
+fn add_up(sums: (u64, u64, u64, u64), entries: &[Entry]) -> (u64, u64, u64, u64) {
+    let (mut words, mut there, mut played, mut first) = sums;
+    for entry in entries {
+        words = words.wrapping_add(entry.shape.word().bits());
+        there = there.wrapping_add(entry.there);
+        played = played.wrapping_add(entry.played);
+        first = first.wrapping_add(entry.first.get().unwrap_or(100));
+    }
+    (words, there, played, first)
+}
+
+/// The sums of the words, of both counts and of the first games of all entries.
+fn sums_of(dictionary: &PieceDictionary) -> (u64, u64, u64, u64) {
+    let mut sums = (0, 0, 0, 0);
+    for piece in dictionary.pieces() {
+        sums = add_up(sums, piece.as_slice());
+    }
+    sums
+}
+
+/// Counts a game of one point and one of two by two workers. Returns how many games, moves and
+/// patterns the dictionary has, and the sums over its entries.
+fn harvested<R: Threads + Wait + Sync>(
+    rt: &R,
+    alloc: Global,
+    settings: Settings,
+) -> Result<(u64, u64, usize, (u64, u64, u64, u64)), HarvestFault> {
+    let bytes = b"(;SZ[1];B[aa])(;SZ[2:1];B[aa];W[ba])";
+    let dictionary = harvest(rt, alloc, settings, bytes, &FreeGate)?.dictionary;
+    let (games, moves) = (dictionary.games(), dictionary.moves());
+    Ok((games, moves, dictionary.len(), sums_of(&dictionary)))
 }
 
 /// With memory refused at any request, `harvest` returns the dictionary or the fault for out of
 /// memory, and all threads end.
 #[test]
 fn memory_is_found_or_named(rt: HostRuntime) -> Result<(), Fail> {
-    let alloc = rt.alloc();
-    let settings = Settings::new(2, 4)?;
-    match harvest(
-        &rt,
-        alloc,
-        settings,
-        b"(;SZ[1];B[aa])(;SZ[2:1];B[aa];W[ba])",
-        &FreeGate,
-    ) {
-        Ok(counted) => {
-            // Memory for this list of all entries is requested by the test, not by `harvest`.
-            let Ok(dictionary) = counted.dictionary.into_dictionary(alloc) else {
-                return Ok(());
-            };
-            let entries = dictionary.entries();
-            assert_eq!(rt; (dictionary.games(), dictionary.moves()), (2, 3));
-            assert_eq!(rt; entries.len(), 3);
-            for (entry, (bits, there, played, first)) in entries
-                .iter()
-                .zip([(EMPTY, 2, 1, 1), (TAKEN, 1, 1, 1), (ALONE, 1, 1, 0)])
-            {
-                assert_eq!(rt; entry.shape.word().bits(), bits);
-                assert_eq!(rt;
-                    (entry.there, entry.played, entry.first.get()),
-                    (there, played, Some(first))
-                );
-            }
-        }
-        Err(fault) => assert!(rt; fault == HarvestFault::Memory),
-    }
+    let found = harvested(&rt, rt.alloc(), Settings::new(2, 4)?);
+    // `EMPTY` was there twice, and each of the three was played once; the first games are 1, 1, 0.
+    let sums = (EMPTY + TAKEN + ALONE, 4, 3, 2);
+    assert!(rt; found == Ok((2, 3, 3, sums)) || found == Err(HarvestFault::Memory));
     Ok(())
 }
