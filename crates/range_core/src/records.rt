@@ -1,10 +1,11 @@
 //! Packs an entry into a record of 16 bytes, if its counts and first game are small enough for
 //! that.
-ghost use Rattle.std.specs.Prelude.{◌≡◌, IfSome};
+ghost use Rattle.std.specs.Prelude.{◌≡◌, map, IfSome, IfOk};
 ghost use Rattle.range_core.specs.Inner.Records.{entry_of};
 
 use shape_core::Shape;
 use shape_dict::{Entry, FirstGame};
+use std::alloc::{AllocError, Global};
 
 /// A record has room for a first game below this.
 const GAMES: u64 = 1 << 28;
@@ -19,7 +20,7 @@ const THERES: u64 = 1 << 24;
 /// its first game, which is known, in one number.
 #[derive(Clone, Copy)]
 pub(crate) struct Record {
-    shape: Shape,
+    pub(crate) shape: Shape,
     /// From the highest bits down: how often it was there, how often it was played (12 bits), and
     /// its first game (28 bits).
     sums: u64,
@@ -53,4 +54,20 @@ pub(crate) fn unpacked(one: Record) -> Entry
         played: counts % PLAYS,
         first: FirstGame::new(Some(one.sums % GAMES)),
     }
+}
+
+/// Returns the entries that were packed into records, in the order of these. It takes memory for
+/// the entries.
+///
+/// # Errors
+///
+/// `AllocError` if memory was refused.
+pub(crate) fn entries_of(alloc: Global, records: &[Record]) -> Result<Vec<Entry>, AllocError>
+    ensures { IfOk result (λ entries. entries.items ≡ map entry_of records.now) }
+{
+    let mut entries = Vec::with_capacity(alloc, records.len())?;
+    for one in records {
+        entries.push(unpacked(*one))?;
+    }
+    Ok(entries)
 }
