@@ -1,5 +1,5 @@
 -- Words of which each number has two: reading and writing one of them.
-use Rattle.std.proofs.Common.{◌≡◌, ℕ, zero, suc, ◌+◌, ◌*◌, ◌≤◌, List, [], ◌∷◌, length, replicate, slice_set, slice_index_or, refl, sym, ◌∙◌, ap, arith}
+use Rattle.std.proofs.Common.{◌≡◌, ℕ, zero, suc, ◌+◌, ◌*◌, ◌≤◌, List, [], ◌∷◌, ◌++◌, append_assoc, length, replicate, slice_set, slice_index_or, refl, sym, ◌∙◌, ap, arith}
 use Rattle.std.specs.List.{repeat}
 use Rattle.slot_table.specs.Rule.{slot_words, mark_words}
 
@@ -81,3 +81,23 @@ marks_behind (suc n) slot mark = ap (λ (ws : List ℕ). mark ∷ ws) (marks_beh
 pub marks_repeated : (n slot mark : ℕ) → mark_words (repeat n (slot ∷ mark ∷ [])) ≡ replicate n mark
 marks_repeated zero slot mark = refl
 marks_repeated (suc n) slot mark = marks_behind n slot mark
+
+-- a list repeated a number of times, and then some times more
+
+one_more : (a b : ℕ) → suc a + b ≡ suc (a + b)
+one_more a b = omega arith
+
+repeat_more : (a b : ℕ) (xs : List ℕ) → repeat (a + b) xs ≡ repeat a xs ++ repeat b xs
+repeat_more zero b xs = ap (λ (k : ℕ). repeat k xs) (omega arith)
+repeat_more (suc a) b xs =
+    ap (λ (k : ℕ). repeat k xs) (one_more a b)
+    ∙ ap (λ (l : List ℕ). xs ++ l) (repeat_more a b xs)
+    ∙ sym (append_assoc xs (repeat a xs) (repeat b xs))
+
+pub repeat_runs : (q m r : ℕ) (xs : List ℕ) → repeat q (repeat m xs) ++ repeat r xs ≡ repeat (q * m + r) xs
+repeat_runs zero m r xs = ap (λ (k : ℕ). repeat k xs) (omega arith)
+repeat_runs (suc q) m r xs =
+    append_assoc (repeat m xs) (repeat q (repeat m xs)) (repeat r xs)
+    ∙ ap (λ (l : List ℕ). repeat m xs ++ l) (repeat_runs q m r xs)
+    ∙ sym (repeat_more m (q * m + r) xs)
+    ∙ ap (λ (k : ℕ). repeat k xs) (omega arith)

@@ -54,6 +54,9 @@ impl<O: ProbeOrder> Model for SlotTable<O> {
         × (2 ^ O.exponent t.order ≤ 2 ^ 22) };
 }
 
+/// The words of this many slots are made one by one, and those of all others are copied from them.
+const COPIED_SLOTS: usize = 1024;
+
 /// Returns the words of a table with `slots` slots in which no slot is taken and no game is marked.
 /// The two words of a slot lie side by side: that of its key, and then that of its least game.
 /// `AllocError` if memory was refused.
@@ -61,7 +64,12 @@ fn free_words(alloc: Global, slots: usize) -> Result<Vec<u64>, AllocError>
     ensures length { IfOk result (λ v. length v.items ≡ 2 * slots) }
     ensures items { IfOk result (λ v. v.items ≡ repeat slots (0 ∷ 0xFFFF_FFFF_FFFF_FFFF ∷ [])) }
 {
-    [0, u64::MAX].repeat(alloc, slots)
+    let free = [0, u64::MAX];
+    let run = free.repeat(alloc, COPIED_SLOTS)?;
+    let mut words = run.as_slice().repeat(alloc, slots / COPIED_SLOTS)?;
+    let mut rest = free.repeat(alloc, slots % COPIED_SLOTS)?;
+    words.append(&mut rest)?;
+    Ok(words)
 }
 
 impl<O: ProbeOrder> SlotTable<O> {
