@@ -1,9 +1,9 @@
-//! Probes (calls on a table, step by step), worlds (models in which many callers take such steps),
-//! and the shared table, tried from outside.
+//! Threads at one table, and worlds (models in which several callers of a table take steps in
+//! turn), tried from outside.
 #![tactic(auto)]
 
 #[cfg(test)]
-mod probes;
+mod faults;
 #[cfg(test)]
 mod tables;
 #[cfg(test)]
