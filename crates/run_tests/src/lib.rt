@@ -1,4 +1,5 @@
-//! Jobs, harvests, the engines' faults, sheets and listings, tried from outside.
+//! Harvests (counts of a collection by several threads), and the texts of faults that no program
+//! prints, tried from outside.
 #![tactic(auto)]
 
 #[cfg(test)]
@@ -7,11 +8,3 @@ mod faults;
 mod gates;
 #[cfg(test)]
 mod harvests;
-#[cfg(test)]
-mod jobs;
-#[cfg(test)]
-mod listings;
-#[cfg(test)]
-mod parts;
-#[cfg(test)]
-mod sheets;
