@@ -39,10 +39,13 @@ pub(crate) struct Worker<'q, 'a> {
     pub counted: Result<WordShare, HarvestFault>,
 }
 
+/// The most entries that a worker's lists have room for at first, all together: 80 MiB.
+const MOST_ROOM: usize = 5 << 20;
+
 /// Returns how many patterns games of this many bytes mostly meet, where a pattern counts once for
-/// each game that has it: three a byte, but no more than 2^22.
+/// each game that has it: three a byte, but no more than `MOST_ROOM`.
 fn likely_meetings(bytes: usize) -> usize {
-    bytes.saturating_mul(3).min(1 << 22)
+    bytes.saturating_mul(3).min(MOST_ROOM)
 }
 
 impl<'q, 'a> Worker<'q, 'a> {
