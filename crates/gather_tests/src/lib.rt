@@ -4,8 +4,6 @@
 #[cfg(test)]
 mod confirmed;
 #[cfg(test)]
-mod deals;
-#[cfg(test)]
 mod gathered;
 #[cfg(test)]
 mod memory;
