@@ -2,7 +2,7 @@
 //! shares.
 #![tactic(auto)]
 
-ghost use Rattle.std.specs.Prelude.{◌≡◌, ◌^◌, ◌<◌, ◌≤◌, ◌∷◌, [], Some, SomeIff};
+ghost use Rattle.std.specs.Prelude.{◌≡◌, ◌^◌, ◌<◌, ◌∷◌, [], Some, SomeIff};
 ghost use Rattle.std.specs.Prelude.{IfOk, IfErr, OnOk, IfSome, IfNone};
 ghost use Rattle.sgf_core.specs.Limit.{most_bytes};
 ghost use Rattle.go_record.specs.Actions.{Actions};
@@ -10,11 +10,9 @@ ghost use Rattle.shape_core.specs.declared.words.Kinds.TheVariants as kinds;
 ghost use Rattle.slot_table.specs.Passes.{IsPassOf};
 ghost use Rattle.gather_core.specs.Adding.{IsAdded};
 ghost use Rattle.table_shares.specs.Adding.{IsAddFault};
-ghost use Rattle.gather_core.specs.Shares.{IsShare};
 ghost use Rattle.share_samples.specs.Samples.{IsPattern, IsFirstGame, HasOneGame, IsRefused};
 
 use game_core::Games;
-use gather_core::WordShare;
 use go_record::Record;
 use harvest_faults::HarvestFault;
 use probe_core::{Capacity, OddStep, ProbeOrder};
@@ -29,9 +27,6 @@ pub const ONE_POINT: &[u8] = b"(;SZ[1];B[aa])";
 
 /// A game of two moves on a board of two points: it has two patterns.
 pub const TWO_POINTS: &[u8] = b"(;SZ[2:1];B[aa];W[ba])";
-
-/// A game that `words_of` counts has no more actions than this.
-const MOST_ACTIONS: usize = 100;
 
 /// The word of the pattern of `ONE_POINT`.
 pub const ALONE: u64 = 0x3fffffcffffff;
@@ -157,22 +152,4 @@ pub fn add_written<O: ProbeOrder>(
 {
     let game_record = record_of(alloc, bytes)?;
     Some(share.add(table, pass, game, &game_record))
-}
-
-/// Returns a `WordShare` (what one worker has counted, by pattern words) of these two games, with
-/// the numbers 0 and 1, of worker 2 and squares alone; or why a game was refused. `Overflow` if one
-/// of them has more than `MOST_ACTIONS` actions.
-pub fn words_of(alloc: Global, first: &Record, second: &Record) -> Result<WordShare, HarvestFault>
-    ensures share { IfOk result IsShare }
-    ensures kinds { IfOk result (λ words. words.kinds ≡ kinds.Squares) }
-    ensures games { IfOk result (λ words. words.games ≡ 0 ∷ 1 ∷ []) }
-    ensures few { IfOk result (λ words. words.moves ≤ 200) }
-{
-    if first.actions().len() > MOST_ACTIONS || second.actions().len() > MOST_ACTIONS {
-        return Err(HarvestFault::Overflow);
-    }
-    let mut words = WordShare::begin(alloc, 2, Kinds::Squares, 1)?;
-    words.add(0, first)?;
-    words.add(1, second)?;
-    Ok(words)
 }

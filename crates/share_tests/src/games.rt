@@ -6,7 +6,7 @@ ghost use Rattle.sgf_core.specs.Limit.{most_bytes};
 ghost use Rattle.slot_table.specs.Passes.{IsPassOf};
 
 use harvest_faults::HarvestFault;
-use probe_core::ProbeOrder;
+use probe_core::OddStep;
 use share_samples::{add_written, first_share};
 use slot_table::{Pass, SlotTable};
 use std::alloc::Global;
@@ -15,11 +15,11 @@ use table_shares::Share;
 /// Adds the first game in `bytes` to a share, with the number `game`, and returns what `Share::add`
 /// returned. `pass` is the right to call `table`. None if there is no such game, or memory for its
 /// record was refused.
-pub(crate) fn add<O: ProbeOrder>(
+pub(crate) fn add(
     alloc: Global,
     share: &mut Share,
-    table: &SlotTable<O>,
-    pass: &mut Pass<O>,
+    table: &SlotTable<OddStep>,
+    pass: &mut Pass<OddStep>,
     game: u64,
     bytes: &[u8],
 ) -> Option<Result<(), HarvestFault>>
@@ -33,10 +33,10 @@ pub(crate) fn add<O: ProbeOrder>(
 /// Returns a share (what one worker has counted) of the first game in `bytes` alone, which gets the
 /// number 0. Its patterns get slots in `table`, which is called by `pass` (the right to call it).
 /// None if there is no such game, or memory was refused, or the game was not added.
-pub(crate) fn first<O: ProbeOrder>(
+pub(crate) fn first(
     alloc: Global,
-    table: &SlotTable<O>,
-    pass: &mut Pass<O>,
+    table: &SlotTable<OddStep>,
+    pass: &mut Pass<OddStep>,
     bytes: &[u8],
 ) -> Option<Share>
     requires { IsPassOf table.now pass.old }

@@ -7,5 +7,3 @@ mod games;
 mod rows;
 #[cfg(test)]
 mod shares;
-#[cfg(test)]
-mod words;
