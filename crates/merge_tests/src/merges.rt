@@ -1,19 +1,22 @@
-//! Dictionaries joined line by line: against joins by hand, and with readers, writers and memory
-//! that fail.
+//! Dictionaries that are joined while their readers fail, or that change between the two readings
+//! of a join.
 use crate::readers::Drip;
 use merge_core::{Form, MergeFault, Sources, run_merge};
-use shape_dict::{DictFault, Text};
+use shape_dict::Text;
 use std::alloc::Global;
 use std::io;
-use std::io::Write;
-use std::process::Abort;
+use std::sync::atomic::{AtomicU64, Ordering};
 use std::thread::Threads;
 
 /// Texts in memory. A reader of one fails once it has given `most` bytes.
-#[derive(Clone, Copy)]
+#[derive(Drop)]
 struct Texts<'a> {
     texts: &'a [&'a [u8]],
+    /// What each text is from the second reading on, unless it stays.
+    then: Option<&'a [u8]>,
     most: usize,
+    /// How often a text was opened.
+    opened: AtomicU64,
 }
 
 impl<'a> Sources for Texts<'a> {
@@ -30,8 +33,13 @@ impl<'a> Sources for Texts<'a> {
     }
 
     fn open(&self, n: usize) -> io::Result<Drip<'a>> {
+        let opened = self.opened.fetch_add(1, Ordering::SeqCst);
+        let left = match self.then {
+            Some(then) if opened >= self.texts.len() as u64 => then,
+            _ => self.texts[n],
+        };
         Ok(Drip {
-            left: self.texts[n],
+            left,
             step: 7,
             most: self.most,
         })
@@ -51,128 +59,60 @@ impl<'a> Sources for Texts<'a> {
     }
 }
 
-/// A writer that takes `most` bytes in all, and then takes none: `write` returns 0.
-#[derive(Drop)]
-struct Full {
-    got: Vec<u8>,
-    most: usize,
-}
-
-impl Write for Full {
-    fn write(&mut self, bytes: &[u8]) -> io::Result<usize> {
-        let count = bytes.len().min(self.most.saturating_sub(self.got.len()));
-        self.got.extend_from_slice(&bytes[..count])?;
-        Ok(count)
-    }
-
-    fn flush(&mut self) -> io::Result<()> {
-        Ok(())
-    }
-}
-
 const ONE: &[u8] = b"shapes 1 games 1 moves 2 patterns 2\n3fff3fcffffff 2 1\n3fffbfcffffff 1 1\n";
 
 const TWO: &[u8] = b"shapes 3 games 3 moves 1 squares 1 diamonds -\n3fff3fcffffff 5 1 2\n";
 
-/// The count of the one pattern is the greatest that there is.
-const LARGE: &[u8] = b"shapes 1 games 3 moves 1 patterns 1\n3fff3fcffffff 18446744073709551615 1\n";
+/// The header of `ONE`, but for the number of patterns, and one of its patterns.
+const FEWER: &[u8] = b"shapes 1 games 1 moves 2 patterns 1\n3fff3fcffffff 2 2\n";
 
-const BOTH: &[u8] =
-    b"shapes 3 games 4 moves 3 squares 2 diamonds -\n3fff3fcffffff 7 2 -\n3fffbfcffffff 1 1 -\n";
-
-const OTHER: &[u8] =
-    b"shapes 3 games 4 moves 3 squares 2 diamonds -\n3fff3fcffffff 7 2 2\n3fffbfcffffff 1 1 -\n";
-
-const FIVE: &[u8] = b"shapes 1 games 9 moves 8 patterns 2\n3fff3fcffffff 16 5\n3fffbfcffffff 3 3\n";
-
-const MIXED: &[u8] = b"shapes 2 games 0 moves 0 squares 0 diamonds 0\n";
-
-/// Joins the texts, of which each reader fails once it has given `read` bytes, into a writer that
-/// takes at most `written` bytes in all. The join is written in the format `text`. Returns the
-/// join's result, and the bytes that were written.
+/// Joins these texts, of which each reader fails once it has given `most` bytes; in the second
+/// reading each text is `then`, unless that is None. Returns the join's result, and how many bytes
+/// it wrote.
 fn joined<T: Threads + Sync>(
     rt: &T,
     alloc: Global,
-    text: Text,
     texts: &[&[u8]],
-    read: usize,
-    written: usize,
-) -> (Result<(), MergeFault>, Vec<u8>) {
-    let sources = Texts { texts, most: read };
-    let mut out = Full {
-        got: Vec::new(alloc),
-        most: written,
+    then: Option<&[u8]>,
+    most: usize,
+) -> (Result<(), MergeFault>, usize) {
+    let sources = Texts {
+        texts,
+        then,
+        most,
+        opened: AtomicU64::new(0),
     };
-    let form = Form { text, least: None };
+    let mut out = Vec::new(alloc);
+    let form = Form {
+        text: Text::One,
+        least: None,
+    };
     let done = run_merge(rt, alloc, form, &sources, &mut out);
-    (done, out.got)
-}
-
-/// Asserts that the join of `texts`, written in the format `text`, is `wanted`.
-fn assert_joined(
-    rt: &(impl Abort + Threads + Sync),
-    alloc: Global,
-    text: Text,
-    texts: &[&[u8]],
-    wanted: &[u8],
-) {
-    let (done, got) = joined(rt, alloc, text, texts, 1000, 1000);
-    assert!(rt; done.is_ok());
-    assert!(rt; got.as_slice() == wanted);
-}
-
-/// Asserts that the join of the texts fails with `fault` at dictionary `n`, counted from 1, and
-/// that nothing is written.
-fn assert_fault(
-    rt: &(impl Abort + Threads + Sync),
-    alloc: Global,
-    texts: &[&[u8]],
-    n: usize,
-    fault: DictFault,
-) {
-    let (done, got) = joined(rt, alloc, Text::One, texts, 1000, 1000);
-    assert!(rt; done == Err(MergeFault::Dict { n, fault }));
-    assert!(rt; got.is_empty());
+    (done, out.len())
 }
 
 #[test]
-fn joins_by_hand(rt: HostRuntime) {
+fn a_failed_read_names_its_dictionary(rt: HostRuntime) {
     let alloc = rt.alloc();
-    assert_joined(&rt, alloc, Text::Three, &[ONE, TWO], BOTH);
-    assert_joined(&rt, alloc, Text::Three, &[TWO, ONE], OTHER);
-    assert_joined(&rt, alloc, Text::One, &[ONE], ONE);
-    assert_joined(&rt, alloc, Text::One, &[ONE, TWO, ONE, TWO, ONE], FIVE);
-}
-
-#[test]
-fn first_faults(rt: HostRuntime) {
-    let alloc = rt.alloc();
-    assert_fault(&rt, alloc, &[ONE, LARGE, b""], 2, DictFault::Overflow);
-    assert_fault(&rt, alloc, &[LARGE, b"", ONE], 2, DictFault::BadHeader);
-    assert_fault(&rt, alloc, &[LARGE, MIXED, ONE], 2, DictFault::MixedKinds);
-    assert_fault(&rt, alloc, &[ONE, TWO, LARGE], 3, DictFault::Overflow);
-    let (done, _) = joined(&rt, alloc, Text::One, &[], 1000, 1000);
-    assert!(rt; done == Err(MergeFault::Empty));
-}
-
-/// Joins the texts, of which each reader fails once it has given `read` bytes. Returns the number,
-/// from 1, of the dictionary whose reading failed, or None if the join ended otherwise or wrote
-/// something.
-fn unread<T: Threads + Sync>(rt: &T, alloc: Global, texts: &[&[u8]], read: usize) -> Option<usize> {
-    let (done, got) = joined(rt, alloc, Text::One, texts, read, 1000);
-    let is_empty = got.is_empty();
-    match done {
-        Err(MergeFault::Read { n, written: 0 }) if is_empty => Some(n),
-        _ => None,
+    for (texts, most, n) in [([ONE, TWO], 50, 1), ([TWO, ONE], 70, 2)] {
+        let unread = Err(MergeFault::Read { n, written: 0 });
+        assert!(rt;
+            joined(&rt, alloc, &texts, None, most) == (unread, 0),
+            "{n}"
+        );
     }
 }
 
 #[test]
-fn reads_and_writes_fail(rt: HostRuntime) {
+fn a_text_that_changes_is_told(rt: HostRuntime) {
     let alloc = rt.alloc();
-    assert!(rt; unread(&rt, alloc, &[ONE, TWO], 50) == Some(1));
-    assert!(rt; unread(&rt, alloc, &[TWO, ONE], 70) == Some(2));
-    let (cut, front) = joined(&rt, alloc, Text::Three, &[ONE, TWO], 1000, 20);
-    assert!(rt; cut == Err(MergeFault::Write { written: 20 }));
-    assert!(rt; front.as_slice() == b"shapes 3 games 4 mov".as_slice());
+    let changed = Err(MergeFault::Changed { written: 0 });
+    let unread = Err(MergeFault::Read { n: 1, written: 0 });
+    for (then, told) in [
+        (ONE, (Ok(()), ONE.len())),
+        (FEWER, (changed, 0)),
+        (&FEWER[..40], (unread, 0)),
+    ] {
+        assert!(rt; joined(&rt, alloc, &[ONE], Some(then), 1000) == told);
+    }
 }

@@ -1,9 +1,7 @@
 //! Dictionaries read line by line, from readers that give little at once or fail.
 use crate::readers::Drip;
-use shape_dict::DictFault;
 use std::alloc::Global;
 use std::io::Read;
-use std::process::Abort;
 use stream_core::{Lines, StreamFault};
 
 /// Reads all entries, and returns how often their patterns were there in all, or the first fault.
@@ -39,66 +37,27 @@ const FOUR: &[u8] = b"shapes 3 games 1 moves 2 squares 2 diamonds 2\n\
     3fff3fcffffff 2 1 0\n3fffbfcffffff 1 1 -\n7ffcffcffffff 2 1 0\n7ffeffcffffff 1 1 0\n";
 
 #[test]
-fn texts_come_in_any_steps(rt: HostRuntime) {
-    for step in [1, 2, 7, 100, 1000] {
+fn a_text_comes_in_any_steps_unless_a_read_fails(rt: HostRuntime) {
+    let unread = Err(StreamFault::Read);
+    for (step, most, told) in [
+        (1, 1000, Ok(6)),
+        (2, 1000, Ok(6)),
+        (7, 1000, Ok(6)),
+        (1000, 1000, Ok(6)),
+        (7, 0, unread),
+        (7, 20, unread),
+        (7, 46, unread),
+        (7, 60, unread),
+        (7, 126, unread),
+    ] {
         let reader = Drip {
             left: FOUR,
             step,
-            most: 1000,
-        };
-        assert!(rt; told_twice(rt.alloc(), reader) == Ok(6), "by {step}");
-    }
-}
-
-#[test]
-fn a_failed_read_is_told_again(rt: HostRuntime) {
-    for most in [0, 20, 46, 60, 126] {
-        let reader = Drip {
-            left: FOUR,
-            step: 7,
             most,
         };
         assert!(rt;
-            told_twice(rt.alloc(), reader) == Err(StreamFault::Read),
-            "after {most}"
+            told_twice(rt.alloc(), reader) == told,
+            "by {step} and at most {most}"
         );
     }
-}
-
-/// Asserts that `text`, read by steps of two bytes, has the fault `found`.
-fn assert_fault(rt: &impl Abort, alloc: Global, text: &[u8], found: DictFault) {
-    let reader = Drip {
-        left: text,
-        step: 2,
-        most: 1000,
-    };
-    assert!(rt;
-        told_twice(alloc, reader) == Err(StreamFault::Dict(found)),
-        "{found}"
-    );
-}
-
-#[test]
-fn first_faults_are_told(rt: HostRuntime) {
-    let alloc = rt.alloc();
-    assert_fault(
-        &rt,
-        alloc,
-        b"shapes 1 games 1 moves 1 patterns 1",
-        DictFault::BadHeader,
-    );
-    assert_fault(
-        &rt,
-        alloc,
-        b"shapes 1 games 1 moves 1 patterns 1\n",
-        DictFault::BadLine(2),
-    );
-    let followed = b"shapes 1 games 1 moves 1 patterns 1\n3fffffcffffff 1 1\n\n";
-    assert_fault(&rt, alloc, followed, DictFault::BadLine(3));
-    let equal = b"shapes 1 games 1 moves 2 patterns 2\n3fffffcffffff 1 1\n3fffffcffffff 1 1\n";
-    assert_fault(&rt, alloc, equal, DictFault::NotRising(3));
-    let turned = b"shapes 1 games 1 moves 1 patterns 1\n0000000000040 1 1\n";
-    assert_fault(&rt, alloc, turned, DictFault::NotCanonical(2));
-    let fewer = b"shapes 1 games 1 moves 2 patterns 1\n3fffffcffffff 1 1\n";
-    assert_fault(&rt, alloc, fewer, DictFault::WrongTotals);
 }
