@@ -12,14 +12,14 @@ ghost use Rattle.harvest_core.specs.Inner.Threads.{reader_of, AreThreadCounts};
 ghost use Rattle.harvest_core.specs.Harvest.{IsCountRefused};
 
 use crate::gates::Gate;
-use crate::numberings::{Numbering, numbering_of};
 use crate::threads::{ThreadCounts, count_all};
 use crate::workers::Shared;
 use gather_core::{GatheredWords, gather_words};
 use harvest_faults::HarvestFault;
 use job_core::{Endpoint, Games, new_queue};
-use probe_core::Capacity;
+use probe_core::{Capacity, OddRuns};
 use shape_core::Kinds;
+use slot_table::{Pass, SlotTable};
 use std::alloc::Global;
 use std::sync::Wait;
 use std::thread;
@@ -37,6 +37,28 @@ const PLACES: usize = 128;
 pub(crate) struct Harvested {
     pub counted: Counted,
     pub numbered: bool,
+}
+
+/// The table in which patterns get their numbers, the indices of its slots, and its first pass (the
+/// right to call it).
+#[derive(Drop)]
+pub(crate) struct Numbering {
+    pub table: SlotTable<OddRuns>,
+    pub pass: Pass<OddRuns>,
+}
+
+/// Makes a table of this capacity (number of slots) in which no number is taken, and its first
+/// pass.
+///
+/// # Errors
+///
+/// `Memory` if memory was refused.
+pub(crate) fn numbering_of(alloc: Global, capacity: Capacity) -> Result<Numbering, HarvestFault>
+    ensures pass { IfOk result (λ made. IsPassOf made.table made.pass) }
+    ensures fault { IfErr result (λ found. found ≡ fault.Memory) }
+{
+    let (table, pass) = SlotTable::new(alloc, OddRuns { capacity })?;
+    Ok(Numbering { table, pass })
 }
 
 /// Returns how many threads count if this many workers were asked for: the workers and the thread

@@ -3,7 +3,6 @@
 
 mod gates;
 mod gathering;
-mod numberings;
 mod own_tables;
 mod reading;
 mod threads;

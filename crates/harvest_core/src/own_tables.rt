@@ -9,8 +9,7 @@ ghost use Rattle.harvest_faults.specs.declared.faults.HarvestFault.TheVariants a
 ghost use Rattle.harvest_core.specs.Harvest.{IsCountedWithin, IsCountRefused, IsHarvestRefused};
 
 use crate::gates::Gate;
-use crate::gathering::{Harvested, count_in_threads};
-use crate::numberings::{Numbering, numbering_of};
+use crate::gathering::{Harvested, Numbering, count_in_threads, numbering_of};
 use beyond_core::first_too_many;
 use gather_core::number_entries;
 use harvest_faults::HarvestFault;

@@ -3,7 +3,6 @@
 #![tactic(auto)]
 
 mod cuts;
-mod dealing;
 mod lists;
 mod ordering;
 mod pieces;
