@@ -5,7 +5,7 @@ ghost use Rattle.range_core.specs.Totals.{total_of, together, count_at};
 use crate::lists::Lists;
 use crate::places::{MULTIPLIER, home};
 use crate::record_lists::RecordList;
-use crate::sums::{Sums, places_for};
+use crate::sums::{Sums, few_places};
 use shape_dict::Entry;
 use std::alloc::{AllocError, Global};
 use std::marker::Model;
@@ -13,9 +13,6 @@ use std::marker::Model;
 /// How many lists a worker's records are kept in, by place. A pattern's place is the slot of the
 /// shared table at which a search for it begins. Each list has the patterns of one range of places.
 pub const PLACE_LISTS: usize = 512;
-
-/// How many entries a list has room for at least, once it was full.
-const LEAST_ROOM: usize = 16;
 
 /// Makes a list of the entries of `sums`, with room for `room` entries at first.
 fn listed(alloc: Global, sums: &Sums, room: usize) -> Result<RecordList, AllocError>
@@ -27,28 +24,22 @@ fn listed(alloc: Global, sums: &Sums, room: usize) -> Result<RecordList, AllocEr
 }
 
 /// Makes room in a full list: the entries of each pattern become one, with their counts added up.
-/// If more than half is still filled then, the list's capacity is doubled. `sums` is memory to work
-/// in. If memory is refused, or a sum passes 2^64 - 1, the list is unchanged.
+/// `sums` is memory to work in. The list is unchanged if that would leave it more than half full,
+/// if memory is refused, or if a sum passes 2^64 - 1.
 #[inline(never)]
 fn make_room(alloc: Global, sums: &mut Sums, list: &mut RecordList)
     ensures { (shape : ℕ) → total_of shape list.new ≡ total_of shape list.old }
 {
-    if sums.clear(places_for(list.len())).is_err() || !list.sum_to(sums) {
+    if sums.clear(few_places(list.len())).is_err() || !list.sum_to(sums) {
         return;
     }
-    let room = list.room();
-    let wanted = if sums.len() > room / 2 {
-        room.saturating_mul(2)
-    } else {
-        room
-    };
-    if let Ok(more) = listed(alloc, sums, wanted.max(LEAST_ROOM)) {
-        *list = more;
+    if let Ok(added_up) = listed(alloc, sums, list.room()) {
+        *list = added_up;
     }
 }
 
 /// Appends `entry`, one of whose counts must be above 0, to `list`. If the list is full, room is
-/// made first, with `sums` as memory to work in.
+/// made first, with `sums` as memory to work in; where none can be made, the list grows.
 #[inline(always)]
 fn append_to(
     alloc: Global,
@@ -115,9 +106,9 @@ impl PlaceLists {
     }
 
     /// Appends an entry, one of whose counts must be above 0, to the list of its pattern's range.
-    /// It takes memory if that list is full: its entries are first added up into a new list, which
-    /// has twice the room if they then fill more than half. If memory for that is refused, or a sum
-    /// passes 2^64 - 1, the old list grows instead. An entry that doesn't fit in 16 bytes may take
+    /// It takes memory if that list is full: its entries are first added up into a new list. The
+    /// old list grows instead if they would fill more than half of the new one, if memory for that
+    /// is refused, or if a sum passes 2^64 - 1. An entry that doesn't fit in 16 bytes may take
     /// memory too.
     ///
     /// # Errors

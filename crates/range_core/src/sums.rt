@@ -59,6 +59,12 @@ fn summed(row: &Entry, entry: &Entry) -> Option<Entry>
     joined(row, entry)
 }
 
+/// Returns a number of places with which `Sums::add` finds a place for each pattern of `entries`
+/// entries, if a pattern has two or more. Fewer places than that stay in a near cache.
+pub(crate) fn few_places(entries: usize) -> usize {
+    entries / 8 * 5
+}
+
 /// Returns a number of places with which `Sums::add` finds a place for each of `entries` entries.
 pub(crate) fn places_for(entries: usize) -> usize {
     entries.saturating_add(entries / 3).saturating_add(8)
