@@ -49,3 +49,7 @@ pub record IsFound (factor : ℕ) (rows : List Entry) (shape place : ℕ) : Type
   pub reached : IsReached factor rows shape place
   pub same : is_taken (row_at rows place) ≡ true → (row_at rows place).shape ≡ shape
   pub only : (other : ℕ) → is_taken (row_at rows other) ≡ true → (row_at rows other).shape ≡ shape → other ≡ place
+
+-- no place is left for a pattern: each is taken by another one
+abbrev pub HasNoPlace : List Entry → ℕ → Type 0
+HasNoPlace rows shape = (place : ℕ) → place < length rows → IsOther rows shape place

@@ -1,9 +1,11 @@
 //! Finds the row of a pattern in a list of rows (an entry for each pattern, or a free one), by open
 //! addressing from place to next place.
-ghost use Rattle.std.specs.Prelude.{◌≡◌, ◌+◌, ◌<◌, ℕ, [], not, length, IfSome, OnOk};
+ghost use Rattle.std.specs.Prelude.{◌≡◌, ◌+◌, ◌<◌, ℕ, [], not, length, IfSome, IfNone};
+ghost use Rattle.std.specs.Prelude.{OnOk, OnErr};
 ghost use Rattle.range_core.specs.Entries.{IsShape};
 ghost use Rattle.range_core.specs.Places.{home_of};
-ghost use Rattle.range_core.specs.Rows.{next_place, is_taken, taken_of, AreRows, IsFound};
+ghost use Rattle.range_core.specs.Rows.{next_place, is_taken, taken_of, AreRows};
+ghost use Rattle.range_core.specs.Rows.{IsFound, HasNoPlace};
 
 use go_board::Colour;
 use shape_core::{Shape, Word, canonical};
@@ -50,7 +52,8 @@ pub fn is_free(row: &Entry) -> bool
 #[inline(always)]
 pub fn find(factor: u64, rows: &[Entry], shape: Shape) -> Option<usize>
     requires { AreRows factor rows.now }
-    ensures { IfSome result (IsFound factor rows.now shape) }
+    ensures found { IfSome result (IsFound factor rows.now shape) }
+    ensures none { IfNone result (HasNoPlace rows.now shape) }
 {
     let places = rows.len();
     if places == 0 {
@@ -94,6 +97,8 @@ fn free_row() -> Entry
 pub fn free_rows(rows: &mut Vec<Entry>, places: usize) -> Result<(), AllocError>
     ensures rows { (factor : ℕ) → AreRows factor rows.new.items }
     ensures free { taken_of rows.new.items ≡ [] }
+    ensures places { OnOk result (length rows.new.items ≡ places) }
+    ensures none { OnErr result (rows.new.items ≡ []) }
 {
     rows.clear();
     rows.resize(places, free_row())?;

@@ -126,11 +126,6 @@ impl Sums {
         free_rows(&mut self.rows, places)
     }
 
-    /// How many places there are.
-    pub(crate) fn places(&self) -> usize {
-        self.rows.len()
-    }
-
     /// How many patterns there are.
     pub(crate) fn len(&self) -> usize {
         self.taken

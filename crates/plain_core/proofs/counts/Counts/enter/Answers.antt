@@ -29,7 +29,7 @@ found_row factor rows list shape place row same found read =
 pub returns-in_default-counted-clause-fault : goal.returns-in_default-counted-clause-fault
 returns-in_default-counted-clause-fault c =
     let rows = c.self.inside.rows.items in
-    let f = found_row place_factor rows c.as_slice.result.now c.args.entry.now.shape c.in-Some.place c.index.result.now c.as_slice.ensures.value c.in-Some.ensures c.index.ensures in
+    let f = found_row place_factor rows c.as_slice.result.now c.args.entry.now.shape c.in-Some.place c.index.result.now c.as_slice.ensures.value c.in-Some.ensures.found c.index.ensures in
     rw (sym c.self.view_is) (put_fault rows c.in-Some.place c.args.entry.now f.0 (rw (← f.1) c.in_default-counted.ensures.none))
 
 pub overflow_add-self : goal.overflow_add-self
@@ -38,7 +38,7 @@ overflow_add-self c = omega (arith, taken_few c.self.inside.rows.items, one_at_m
 pub returns-clause-ok : goal.returns-clause-ok
 returns-clause-ok c =
     let rows = c.self.inside.rows.items in
-    let f = found_row place_factor rows c.as_slice.result.now c.args.entry.now.shape c.in-Some.place c.index.result.now c.as_slice.ensures.value c.in-Some.ensures c.index.ensures in
+    let f = found_row place_factor rows c.as_slice.result.now c.args.entry.now.shape c.in-Some.place c.index.result.now c.as_slice.ensures.value c.in-Some.ensures.found c.index.ensures in
     rw (sym c.self.view_is)
     (put_counts rows c.in-Some.place c.args.entry.now c.index.result.now c.in-Some-counted.more f.0 (counts_some c.args.entry.now c.is_free.result c.is_free.ensures c.if-is_free.false) f.1 c.in-Some-counted.ensures.some)
 
@@ -47,7 +47,7 @@ invariant_of-self c =
     let rows = c.self.inside.rows.items in
     let place = c.in-Some.place in
     let more = c.in-Some-counted.more in
-    let f = found_row place_factor rows c.as_slice.result.now c.args.entry.now.shape place c.index.result.now c.as_slice.ensures.value c.in-Some.ensures c.index.ensures in
+    let f = found_row place_factor rows c.as_slice.result.now c.args.entry.now.shape place c.index.result.now c.as_slice.ensures.value c.in-Some.ensures.found c.index.ensures in
     let is = c.in-Some-counted.ensures.some in
     let taken = ap is_taken is ∙ counted_taken c.index.result.now c.args.entry.now (counts_some c.args.entry.now c.is_free.result c.is_free.ensures c.if-is_free.false) in
     let shape : more.shape ≡ c.args.entry.now.shape = ap (λ (e : Entry). e.shape) is in (

@@ -24,7 +24,7 @@ invariant_of-self c =
     let place = c.in-Some.place in
     let more = c.in-Some-summed.more in
     let entry = c.args.entry.now in
-    let f = found_row sums_factor rows c.as_slice.result.now entry.shape place c.index.result.now c.as_slice.ensures.value c.in-Some.ensures c.index.ensures in
+    let f = found_row sums_factor rows c.as_slice.result.now entry.shape place c.index.result.now c.as_slice.ensures.value c.in-Some.ensures.found c.index.ensures in
     let is = c.in-Some-summed.ensures in
     let some = counts_some entry c.is_free.result c.is_free.ensures c.if-is_free.false in
     let taken = ap is_taken is ∙ summed_taken c.index.result.now entry some in
@@ -36,6 +36,6 @@ returns c shape =
     let rows = c.self.inside.rows.items in
     let place = c.in-Some.place in
     let entry = c.args.entry.now in
-    let f = found_row sums_factor rows c.as_slice.result.now entry.shape place c.index.result.now c.as_slice.ensures.value c.in-Some.ensures c.index.ensures in
+    let f = found_row sums_factor rows c.as_slice.result.now entry.shape place c.index.result.now c.as_slice.ensures.value c.in-Some.ensures.found c.index.ensures in
     let some = counts_some entry c.is_free.result c.is_free.ensures c.if-is_free.false in
     rw (sym c.self.view_is) (put_sums rows place entry c.index.result.now c.in-Some-summed.more f.0 some f.1 c.in-Some-summed.ensures shape)
